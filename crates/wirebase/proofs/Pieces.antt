@@ -1,0 +1,81 @@
+-- Lemmas on parts of a list of bytes and on writes into it.
+use Rattle.std.proofs.Common.{◌≡◌, ℕ, ◌+◌, ◌-◌, ◌<◌, ◌≤◌, List, [], ◌∷◌, ◌++◌, length, take, drop, slice_index, slice_set, refl, sym, ap, ◌∙◌, arith, length-append, length-drop}
+use Rattle.std.proofs.lemmas.List.{append_assoc, append-nil, take_at, take-append-le, drop-append-le, drop_at, drop-drop, drop_all, take-append-drop, take_all, length-take-le, get_or-append_right, get_or_append_left}
+use Rattle.byteorder.specs.Endian.{big_bytes}
+use Rattle.byteorder.specs.Numbers.{length-bytes_high_first}
+use Rattle.wirebase.specs.Bytes.{part, splice, over}
+
+pub length-part : (xs : List ℕ) (i j : ℕ) → i ≤ j → j ≤ length xs → length (part xs i j) ≡ j - i
+unfolding part
+length-part xs i j h k = length-take-le (j - i) (drop i xs) (omega (arith, length-drop i xs))
+
+pub length-splice : (old w : List ℕ) (i j : ℕ) → i ≤ j → j ≤ length old → length w ≡ j - i → length (splice old i j w) ≡ length old
+unfolding splice
+length-splice old w i j h k e =
+    omega (arith, length-append (take i old) (w ++ drop j old), length-append w (drop j old), length-take-le i old (omega arith), length-drop j old)
+
+pub length-over : (old text : List ℕ) → length text ≤ length old → length (over old text) ≡ length old
+unfolding over
+length-over old text h = omega (arith, length-append text (drop (length text) old), length-drop (length text) old)
+
+pub length-big_bytes : (n x : ℕ) → length (big_bytes n x) ≡ n
+length-big_bytes n x = length-bytes_high_first n x
+
+-- a write at the front
+pub splice-front : (old w : List ℕ) (j : ℕ) → length w ≡ j → splice old 0 j w ≡ over old w
+unfolding splice over
+splice-front old w j e = ap (λ (k : ℕ). w ++ drop k old) (sym e)
+
+-- a write just after a text
+pub splice-over : (old text w : List ℕ) (i j : ℕ) → length text ≡ i → length text + length w ≡ j → splice (over old text) i j w ≡ over old (text ++ w)
+unfolding splice over
+splice-over old text w i j e f =
+    let rest : List ℕ = drop (length text) old in
+    let front : take i (text ++ rest) ≡ text = take_at text rest i e in
+    let count : j ≡ length text + length w = sym f in
+    let back : drop j (text ++ rest) ≡ drop (length w) rest = ap (λ (k : ℕ). drop k (text ++ rest)) count ∙ sym (drop-drop (length w) (length text) (text ++ rest)) ∙ ap (λ (l : List ℕ). drop (length w) l) (drop_at text rest (length text) refl) in
+    let more : drop (length w) rest ≡ drop (length (text ++ w)) old = drop-drop (length w) (length text) old ∙ ap (λ (k : ℕ). drop k old) (sym (length-append text w)) in
+    ap (λ (l : List ℕ). l ++ (w ++ drop j (text ++ rest))) front ∙ ap (λ (l : List ℕ). text ++ (w ++ l)) (back ∙ more) ∙ sym (append_assoc text w (drop (length (text ++ w)) old))
+
+-- a write inside a text, as a checksum that comes last
+pub splice-inside : (old text w : List ℕ) (i j : ℕ) → i ≤ j → j ≤ length text → length w ≡ j - i → splice (over old text) i j w ≡ over old (splice text i j w)
+unfolding splice over
+splice-inside old text w i j h k e =
+    let rest : List ℕ = drop (length text) old in
+    let front : take i (text ++ rest) ≡ take i text = take-append-le i text rest (omega arith) in
+    let back : drop j (text ++ rest) ≡ drop j text ++ rest = drop-append-le j text rest k in
+    let long : length (take i text ++ (w ++ drop j text)) ≡ length text = omega (arith, length-append (take i text) (w ++ drop j text), length-append w (drop j text), length-take-le i text (omega arith), length-drop j text) in
+    ap (λ (l : List ℕ). l ++ (w ++ drop j (text ++ rest))) front ∙ ap (λ (l : List ℕ). take i text ++ (w ++ l)) back
+    ∙ ap (λ (l : List ℕ). take i text ++ l) (sym (append_assoc w (drop j text) rest)) ∙ sym (append_assoc (take i text) (w ++ drop j text) rest)
+    ∙ ap (λ (n : ℕ). (take i text ++ (w ++ drop j text)) ++ drop n old) (sym long)
+
+-- a write of a single byte
+pub slice_set-one : (xs : List ℕ) (x : ℕ) → length xs ≡ 1 → slice_set xs 0 x ≡ x ∷ []
+slice_set-one [] x e = cc
+slice_set-one (y ∷ []) x e = refl
+slice_set-one (y ∷ z ∷ ys) x e = absurd (omega arith)
+
+-- the bytes of a write, one by one
+pub slice_index-splice : (old w : List ℕ) (i j k : ℕ) → i ≤ k → k < j → i ≤ length old → length w ≡ j - i → slice_index (splice old i j w) k ≡ slice_index w (k - i)
+unfolding splice
+slice_index-splice old w i j k h l m e =
+    let front : length (take i old) ≡ i = length-take-le i old m in
+    get_or-append_right (take i old) (w ++ drop j old) i k 0 front h ∙ get_or_append_left w (drop j old) 0 (k - i) (omega arith)
+
+-- the byte of a write of one byte
+pub slice_index-splice_one : (old : List ℕ) (x i j : ℕ) → i < length old → j ≡ i + 1 → slice_index (splice old i j (x ∷ [])) i ≡ x
+slice_index-splice_one old x i j h e =
+    let none : i - i ≡ 0 = omega arith in
+    slice_index-splice old (x ∷ []) i j i (omega arith) (omega arith) (omega arith) (omega arith) ∙ ap (λ (k : ℕ). slice_index (x ∷ []) k) none
+
+-- a write up to the end, and the bytes up to the end
+pub splice-tail : (old w : List ℕ) (i n : ℕ) → length old ≤ n → splice old i n w ≡ take i old ++ w
+unfolding splice
+splice-tail old w i n h = ap (λ (l : List ℕ). take i old ++ (w ++ l)) (drop_all n old h) ∙ ap (λ (l : List ℕ). take i old ++ l) (append-nil w)
+
+pub part-tail : (old : List ℕ) (i n : ℕ) → length old ≤ n → part old i n ≡ drop i old
+unfolding part
+part-tail old i n h = take_all (n - i) (drop i old) (omega (arith, length-drop i old))
+
+-- what the setters and the emitters need
+pub ruleset pieces = (length-part, length-splice, length-over, length-big_bytes, splice-front, splice-over, splice-inside, slice_set-one, slice_index-splice, slice_index-splice_one, splice-tail, part-tail, length-append, append-nil, drop_all)
