@@ -1,6 +1,6 @@
 -- Lemmas on parts of a list of bytes and on writes into it.
 use Rattle.std.proofs.Common.{◌≡◌, ℕ, ◌+◌, ◌-◌, ◌<◌, ◌≤◌, List, [], ◌∷◌, ◌++◌, length, take, drop, slice_index, slice_set, refl, sym, ap, ◌∙◌, arith, length-append, length-drop}
-use Rattle.std.proofs.lemmas.List.{append_assoc, append-nil, take_at, take-append-le, drop-append-le, drop_at, drop-drop, drop_all, take-append-drop, take_all, length-take-le, get_or-append_right, get_or_append_left}
+use Rattle.std.proofs.lemmas.List.{append_assoc, append-nil, take_at, take-append-le, drop-append-le, drop_at, drop-drop, drop_all, take-append-drop, take_all, length-take-le, get_or-take, get_or-drop, get_or-append_right, get_or_append_left}
 use Rattle.byteorder.specs.Endian.{big_bytes}
 use Rattle.byteorder.specs.Numbers.{length-bytes_high_first}
 use Rattle.wirebase.specs.Bytes.{part, splice, over}
@@ -20,6 +20,15 @@ length-over old text h = omega (arith, length-append text (drop (length text) ol
 
 pub length-big_bytes : (n x : ℕ) → length (big_bytes n x) ≡ n
 length-big_bytes n x = length-bytes_high_first n x
+
+-- a write of as many bytes as stood there
+pub append-drop_whole : (w old : List ℕ) (n : ℕ) → length old ≡ n → w ++ drop n old ≡ w
+append-drop_whole w old n e = ap (λ (l : List ℕ). w ++ l) (drop_all n old (omega (arith, e))) ∙ append-nil w
+
+-- a text as long as what stood there
+pub over-exact : (old text : List ℕ) → length old ≡ length text → over old text ≡ text
+unfolding over
+over-exact old text e = append-drop_whole text old (length text) e
 
 -- a write at the front
 pub splice-front : (old w : List ℕ) (j : ℕ) → length w ≡ j → splice old 0 j w ≡ over old w
@@ -68,6 +77,11 @@ slice_index-splice_one old x i j h e =
     let none : i - i ≡ 0 = omega arith in
     slice_index-splice old (x ∷ []) i j i (omega arith) (omega arith) (omega arith) (omega arith) ∙ ap (λ (k : ℕ). slice_index (x ∷ []) k) none
 
+-- a byte of a part
+pub slice_index-part : (xs : List ℕ) (i j k : ℕ) → i + k < j → slice_index (part xs i j) k ≡ slice_index xs (i + k)
+unfolding part
+slice_index-part xs i j k h = get_or-take (j - i) (drop i xs) k 0 (omega arith) ∙ get_or-drop i xs k 0
+
 -- a write up to the end, and the bytes up to the end
 pub splice-tail : (old w : List ℕ) (i n : ℕ) → length old ≤ n → splice old i n w ≡ take i old ++ w
 unfolding splice
@@ -78,4 +92,4 @@ unfolding part
 part-tail old i n h = take_all (n - i) (drop i old) (omega (arith, length-drop i old))
 
 -- what the setters and the emitters need
-pub ruleset pieces = (length-part, length-splice, length-over, length-big_bytes, splice-front, splice-over, splice-inside, slice_set-one, slice_index-splice, slice_index-splice_one, splice-tail, part-tail, length-append, append-nil, drop_all)
+pub ruleset pieces = (length-part, length-splice, length-over, length-big_bytes, splice-front, splice-over, splice-inside, append-drop_whole, over-exact, slice_set-one, slice_index-splice, slice_index-splice_one, slice_index-part, splice-tail, part-tail, length-append, append-nil, drop_all)

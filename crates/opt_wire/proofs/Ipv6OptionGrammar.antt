@@ -1,0 +1,186 @@
+-- Options against their bytes: the grammar as it is computed, byte by byte, and against the text.
+use Rattle.std.proofs.Common.{◌≡◌, ◌≢◌, ℕ, ◌+◌, ◌-◌, ◌*◌, ◌/◌, ◌%◌, ◌<◌, ◌≤◌, Bool, true, false, cond, ltb, eqb, List, [], ◌∷◌, ◌++◌, length, take, drop, replicate, slice_index, Option, Some, None, refl, sym, ap, subst, ◌∙◌, ◌⊎◌, inl, inr, arith, length-append, length-drop}
+use Rattle.std.proofs.lemmas.Bool.{ltb-true, ltb-false, le-ltb, eqb-true, eqb-false, ne_eqb}
+use Rattle.std.proofs.lemmas.Bool.Decides.{nat_tests}
+use Rattle.std.proofs.lemmas.List.{take-append-drop, take_at, take_all, length-replicate, length-take-le}
+use Rattle.byteorder.specs.Endian.{big_number, big_bytes}
+use Rattle.wirebase.specs.Bytes.{part, over, byte_of, bytes_of}
+use Rattle.wirebase.specs.Numbered.{IsProper}
+use Rattle.wirebase.proofs.Numbered.{case_in-unnamed}
+use Rattle.opt_wire.specs.declared.ipv6option.Type as Kind
+use Rattle.opt_wire.specs.declared.ipv6option.Type.TheVariants as kind
+use Rattle.opt_wire.specs.declared.ipv6option.RouterAlert.{RouterAlert}
+use Rattle.opt_wire.specs.declared.ipv6option.RouterAlert.TheVariants as alert
+use Rattle.opt_wire.specs.Ipv6OptionTables.{type_number, type_rows, type_of, alert_number, alert_rows, alert_of}
+use Rattle.opt_wire.specs.Ipv6Option.{type_field, length_field, data_field, BeginsWhole, OptionValue, pad1, pad_n, router_alert, unknown, text, IsOption, BeginsWith, IsCanonical, norm}
+use Rattle.opt_wire.specs.Ipv6OptionAnswers.{front_of, counted_at, known_at, alert_at}
+
+-- which way a test went
+chosen : {A : Type 0} (b : Bool) (x y z : A) → cond b x y ≡ z → ((b ≡ true) × (x ≡ z)) ⊎ ((b ≡ false) × (y ≡ z))
+chosen true x y z e = inl (refl, e)
+chosen false x y z e = inr (refl, e)
+
+same_value : (v w : OptionValue) → Some v ≡ Some w → v ≡ w
+same_value v w e = cc
+
+-- THE COMPUTED FRONT
+
+front_of-counted : (t n : ℕ) (rest : List ℕ) → t ≢ 0 → n ≤ length rest → front_of (t ∷ n ∷ rest) ≡ known_at t n (take n rest)
+front_of-counted t n rest ne h =
+    let e : eqb t 0 ≡ false = ne_eqb t 0 ne in
+    let f : ltb (length rest) n ≡ false = le-ltb (length rest) n h in
+    rw (e, f) refl
+
+-- where the check of the length accepts
+front_of-whole : (bytes : List ℕ) → BeginsWhole bytes → byte_of type_field bytes ≢ 0 → front_of bytes ≡ known_at (byte_of type_field bytes) (byte_of length_field bytes) (bytes_of (data_field bytes) bytes)
+unfolding part
+front_of-whole [] w ne = absurd (omega (arith, w.0))
+front_of-whole (t ∷ []) w ne = absurd (omega (arith, w.1 ne))
+front_of-whole (t ∷ n ∷ rest) w ne =
+    let count : n ≡ 2 + n - 2 = omega arith in
+    front_of-counted t n rest ne (omega (arith, w.1 ne)) ∙ ap (λ k. known_at t n (take k rest)) count
+
+type_number-of : (t : ℕ) → type_number (type_of t) ≡ t
+type_number-of t = grind (arith, nat_tests)
+
+number_from : (t : ℕ) (k : Kind.Type) → type_of t ≡ k → t ≡ type_number k
+number_from t k e = sym (type_number-of t) ∙ ap type_number e
+
+pub front_of-pads : (bytes : List ℕ) (n : ℕ) → BeginsWhole bytes → type_of (byte_of type_field bytes) ≡ kind.PadN → n ≡ byte_of length_field bytes → front_of bytes ≡ Some (pad_n n)
+front_of-pads bytes n w e same =
+    let t : byte_of type_field bytes ≡ 1 = number_from _ _ e in
+    front_of-whole bytes w (λ z. absurd (omega (arith, z, t))) ∙ ap (λ (x : ℕ). known_at x (byte_of length_field bytes) (bytes_of (data_field bytes) bytes)) t ∙ ap (λ (x : ℕ). Some (pad_n x)) (sym same)
+
+pub front_of-alert : (bytes : List ℕ) (a : RouterAlert) → BeginsWhole bytes → type_of (byte_of type_field bytes) ≡ kind.RouterAlert → byte_of length_field bytes ≡ 2 → a ≡ alert_of (big_number 2 (bytes_of (data_field bytes) bytes)) → front_of bytes ≡ Some (router_alert a)
+front_of-alert bytes a w e two same =
+    let t : byte_of type_field bytes ≡ 5 = number_from _ _ e in
+    front_of-whole bytes w (λ z. absurd (omega (arith, z, t))) ∙ ap (λ (x : ℕ). known_at x (byte_of length_field bytes) (bytes_of (data_field bytes) bytes)) t
+    ∙ ap (λ (x : ℕ). alert_at x (bytes_of (data_field bytes) bytes)) two ∙ ap (λ (x : RouterAlert). Some (router_alert x)) (sym same)
+
+known_at-other : (t n : ℕ) (d : List ℕ) → t ≢ 1 → t ≢ 5 → known_at t n d ≡ Some (unknown (type_of t) n d)
+known_at-other t n d p q =
+    let e : eqb t 1 ≡ false = ne_eqb t 1 p in
+    let f : eqb t 5 ≡ false = ne_eqb t 5 q in
+    rw (e, f) refl
+
+pub front_of-other : (bytes : List ℕ) (k : Kind.Type) (n : ℕ) (d : List ℕ) → BeginsWhole bytes → k ≡ type_of (byte_of type_field bytes) → k ≢ kind.Pad1 → k ≢ kind.PadN → k ≢ kind.RouterAlert → n ≡ byte_of length_field bytes → d ≡ bytes_of (data_field bytes) bytes
+    → front_of bytes ≡ Some (unknown k n d)
+front_of-other bytes k n d w e p q r same same_data =
+    let t = byte_of type_field bytes in
+    let known = known_at-other t (byte_of length_field bytes) (bytes_of (data_field bytes) bytes) (λ z. q (e ∙ ap type_of z)) (λ z. r (e ∙ ap type_of z)) in
+    front_of-whole bytes w (λ z. p (e ∙ ap type_of z)) ∙ known ∙ ap (λ (x : Kind.Type). Some (unknown x (byte_of length_field bytes) (bytes_of (data_field bytes) bytes))) (sym e)
+    ∙ ap (λ (x : ℕ). Some (unknown k x (bytes_of (data_field bytes) bytes))) (sym same) ∙ ap (λ (x : List ℕ). Some (unknown k n x)) (sym same_data)
+
+-- THE COMPUTED FRONT AND THE GRAMMAR
+
+two_bytes : (d : List ℕ) → length d ≡ 2 → d ≡ slice_index d 0 ∷ slice_index d 1 ∷ []
+two_bytes [] e = cc
+two_bytes (a ∷ []) e = absurd (omega (arith, e))
+two_bytes (a ∷ b ∷ []) e = refl
+two_bytes (a ∷ b ∷ c ∷ d) e = absurd (omega (arith, e))
+
+alert-option : (n : ℕ) (d : List ℕ) (v : OptionValue) → alert_at n d ≡ Some v → length d ≡ n → IsOption (5 ∷ n ∷ d) v
+alert-option n d v e l = elim (chosen (eqb n 2) (Some (router_alert (alert_of (big_number 2 d)))) None (Some v) e) [
+  | inl a ↦
+    let two : n ≡ 2 = eqb-true n 2 a.0 in
+    let shape : d ≡ slice_index d 0 ∷ slice_index d 1 ∷ [] = two_bytes d (l ∙ two) in
+    let number : big_number 2 d ≡ 256 * slice_index d 0 + slice_index d 1 = omega arith in
+    let is : router_alert (alert_of (big_number 2 d)) ≡ v = same_value _ _ a.1 in
+    subst (λ (x : OptionValue). IsOption (5 ∷ n ∷ d) x) is (slice_index d 0, slice_index d 1, ap (λ (k : ℕ). 5 ∷ k ∷ d) two ∙ ap (λ (l : List ℕ). 5 ∷ 2 ∷ l) shape, ap alert_of number)
+  | inr b ↦ let no = b.1 in cc
+  ]
+
+known-option : (t n : ℕ) (d : List ℕ) (v : OptionValue) → known_at t n d ≡ Some v → length d ≡ n → t ≢ 0 → IsOption (t ∷ n ∷ d) v
+known-option t n d v e l ne = elim (chosen (eqb t 1) (Some (pad_n n)) (cond (eqb t 5) (alert_at n d) (Some (unknown (type_of t) n d))) (Some v) e) [
+  | inl a ↦
+    let is : pad_n n ≡ v = same_value _ _ a.1 in
+    subst (λ (x : OptionValue). IsOption (t ∷ n ∷ d) x) is (d, ap (λ (k : ℕ). k ∷ n ∷ d) (eqb-true t 1 a.0), l)
+  | inr b ↦ elim (chosen (eqb t 5) (alert_at n d) (Some (unknown (type_of t) n d)) (Some v) b.1) [
+    | inl a ↦ subst (λ (k : ℕ). IsOption (k ∷ n ∷ d) v) (sym (eqb-true t 5 a.0)) (alert-option n d v a.1 l)
+    | inr a ↦
+      let is : unknown (type_of t) n d ≡ v = same_value _ _ a.1 in
+      subst (λ (x : OptionValue). IsOption (t ∷ n ∷ d) x) is (t, refl, l, refl, ne, eqb-false t 1 b.0, eqb-false t 5 a.0)
+    ]
+  ]
+
+counted-option : (t : ℕ) (rest : List ℕ) (v : OptionValue) → counted_at t rest ≡ Some v → t ≢ 0 → BeginsWith (t ∷ rest) v
+counted-option t [] v e ne = cc
+counted-option t (n ∷ rest) v e ne = elim (chosen (ltb (length rest) n) None (known_at t n (take n rest)) (Some v) e) [
+  | inl a ↦ let no = a.1 in cc
+  | inr b ↦ record {
+      front = t ∷ n ∷ take n rest;
+      rest = drop n rest;
+      whole = ap (λ (l : List ℕ). t ∷ n ∷ l) (sym (take-append-drop n rest));
+      option = known-option t n (take n rest) v b.1 (length-take-le n rest (ltb-false (length rest) n b.0)) ne;
+    }
+  ]
+
+pub begins_with : (bytes : List ℕ) (v : OptionValue) → front_of bytes ≡ Some v → BeginsWith bytes v
+begins_with [] v e = cc
+begins_with (t ∷ rest) v e = elim (chosen (eqb t 0) (Some pad1) (counted_at t rest) (Some v) e) [
+  | inl a ↦
+    let is : pad1 ≡ v = same_value _ _ a.1 in
+    record {
+      front = t ∷ [];
+      rest = rest;
+      whole = refl;
+      option = subst (λ (x : OptionValue). IsOption (t ∷ []) x) is (ap (λ (k : ℕ). k ∷ []) (eqb-true t 0 a.0));
+    }
+  | inr b ↦ counted-option t rest v b.1 (eqb-false t 0 b.0)
+  ]
+
+option_front : (front rest : List ℕ) (v : OptionValue) → IsOption front v → front_of (front ++ rest) ≡ Some v
+option_front front rest pad1 h = rw h refl
+option_front front rest (pad_n n) h =
+    ap (λ (l : List ℕ). front_of (l ++ rest)) h.1 ∙ front_of-counted 1 n (h.0 ++ rest) (λ z. absurd (omega (arith, z))) (omega (arith, h.2, length-append h.0 rest))
+option_front front rest (router_alert a) h =
+    let number : big_number 2 (h.0 ∷ h.1 ∷ []) ≡ 256 * h.0 + h.1 = omega arith in
+    ap (λ (l : List ℕ). front_of (l ++ rest)) h.2 ∙ front_of-counted 5 2 (h.0 ∷ h.1 ∷ rest) (λ z. absurd (omega (arith, z))) (omega arith)
+    ∙ ap (λ (x : ℕ). Some (router_alert (alert_of x))) number ∙ ap (λ (x : RouterAlert). Some (router_alert x)) (sym h.3)
+option_front front rest (unknown k n d) h =
+    ap (λ (l : List ℕ). front_of (l ++ rest)) h.1 ∙ front_of-counted h.0 n (d ++ rest) h.4 (omega (arith, h.2, length-append d rest))
+    ∙ ap (λ (l : List ℕ). known_at h.0 n l) (take_at d rest n h.2) ∙ known_at-other h.0 n d h.5 h.6
+    ∙ ap (λ (x : Kind.Type). Some (unknown x n d)) (sym h.3)
+
+pub front_of-begins : (bytes : List ℕ) (v : OptionValue) → BeginsWith bytes v → front_of bytes ≡ Some v
+front_of-begins bytes v h = ap front_of h.whole ∙ option_front h.front h.rest v h.option
+
+-- the bytes begin with one option at most
+pub begins_with-unique : (bytes : List ℕ) (v w : OptionValue) → BeginsWith bytes v → BeginsWith bytes w → v ≡ w
+begins_with-unique bytes v w a b = same_value v w (sym (front_of-begins bytes v a) ∙ front_of-begins bytes w b)
+
+-- THE TEXT
+
+alert_of-number : (a : RouterAlert) → IsProper alert.Unknown alert_rows a → alert_of (alert_number a) ≡ a
+alert_of-number alert.MulticastListenerDiscovery p = refl
+alert_of-number alert.Rsvp p = refl
+alert_of-number alert.ActiveNetworks p = refl
+alert_of-number (alert.Unknown n) p = case_in-unnamed alert.Unknown alert_rows n (p n refl)
+
+type_of-number : (k : Kind.Type) → IsProper kind.Unknown type_rows k → type_of (type_number k) ≡ k
+type_of-number kind.Pad1 p = refl
+type_of-number kind.PadN p = refl
+type_of-number kind.RouterAlert p = refl
+type_of-number kind.Rpl p = refl
+type_of-number (kind.Unknown n) p = case_in-unnamed kind.Unknown type_rows n (p n refl)
+
+-- its own text is an option of the normal form
+option_text : (v : OptionValue) → IsCanonical v → IsOption (text v) (norm v)
+option_text pad1 c = refl
+option_text (pad_n n) c = (replicate n 0, refl, length-replicate n 0)
+option_text (router_alert a) c =
+    let m = alert_number a in
+    let number : m ≡ 256 * (m / 256 % 256) + m % 256 = omega (arith, c.1) in
+    (m / 256 % 256, m % 256, refl, sym (alert_of-number a c.0) ∙ ap alert_of number)
+option_text (unknown k n d) c =
+    let back : type_of (type_number k) ≡ k = type_of-number k c.0 in
+    (type_number k, refl, length-take-le n d c.6, sym back, (λ z. c.1 (sym back ∙ ap type_of z)), (λ z. c.2 (sym back ∙ ap type_of z)), (λ z. c.3 (sym back ∙ ap type_of z)))
+
+pub begins_with-over : (old : List ℕ) (v : OptionValue) → IsCanonical v → BeginsWith (over old (text v)) (norm v)
+unfolding over
+begins_with-over old v c = record {
+  front = text v;
+  rest = drop (length (text v)) old;
+  whole = refl;
+  option = option_text v c;
+}

@@ -1,0 +1,2 @@
+pub mod Ipv6OptionGrammar
+pub mod Ipv6OptionTiles

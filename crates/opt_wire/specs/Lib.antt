@@ -1,0 +1,3 @@
+pub mod Ipv6Option
+pub mod Ipv6OptionAnswers
+pub mod Ipv6OptionTables

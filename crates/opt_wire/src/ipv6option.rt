@@ -1,0 +1,494 @@
+//! Options of IPv6 extension headers (RFC 8200 section 4.2).
+#![tactic(auto, using(wirebase::proofs::Pieces::pieces))]
+
+ghost use Rattle.std.specs.Prelude.{◌≡◌, ◌≤◌, ◌-◌, ◌*◌, ◌/◌, ◌+◌, ◌↔◌, [], ◌∷◌, length, IsOk, IfOk, IsOkAnd};
+ghost use Rattle.std.specs.Borrow.{sem, Lends, Array, u8 as byte};
+ghost use Rattle.wirebase.specs.Bytes.{Reaches, Writes, bytes_of, byte_of, with_field, over};
+ghost use Rattle.wirebase.specs.Numbered.{Ascends, IsProper, IsTableOrder, IsEqualityOf};
+ghost use Rattle.opt_wire.specs.Ipv6Option.{inner, with_inner, type_field, length_field, data_field, BeginsWhole, OptionValue, value_of, text, counted_len, HasData, BeginsWith, IsCanonical, norm};
+ghost use Rattle.opt_wire.specs.contracts.ipv6option.Ipv6Option.{the_row};
+ghost use Rattle.opt_wire.specs.Ipv6OptionTables.{type_number, type_rows, type_of, alert_number, alert_rows, alert_of, failure_number, failures, failure_of};
+
+use byteorder::{BigEndian, ByteOrder};
+use std::marker::Model;
+use wirebase::{Error, Octets, OctetsMut, Result};
+
+/// The type of an option, one byte (RFC 8200 section 4.2).
+#[derive(Debug, PartialEq, Eq, PartialOrd, Ord, Clone, Copy)]
+pub enum Type {
+    /// One byte of padding.
+    Pad1,
+    /// Two bytes of padding or more.
+    PadN,
+    /// Router alert (RFC 2711).
+    RouterAlert,
+    /// RPL option (RFC 6553).
+    Rpl,
+    /// Any other type, by its number.
+    Unknown(u8),
+}
+
+impl From<u8> for Type {
+    ghost from_gives = { λ number kind. kind ≡ type_of number };
+
+    fn from(number: u8) -> Type
+        ensures value { result ≡ type_of number }
+        ensures back { type_number result ≡ number }
+        ensures order { IsTableOrder ⟦<Type as Ord>⟧.cmp Type.Unknown type_rows }
+        ensures equality { IsEqualityOf ⟦<Type as Ord>⟧.cmp }
+    {
+        match number {
+            0 => Type::Pad1,
+            1 => Type::PadN,
+            5 => Type::RouterAlert,
+            0x63 => Type::Rpl,
+            other => Type::Unknown(other),
+        }
+    }
+}
+
+impl From<Type> for u8 {
+    ghost from_gives = { λ kind number. number ≡ type_number kind };
+
+    fn from(kind: Type) -> u8
+        ensures value { result ≡ type_number kind }
+        ensures back { IsProper Type.Unknown type_rows kind → type_of result ≡ kind }
+    {
+        match kind {
+            Type::Pad1 => 0,
+            Type::PadN => 1,
+            Type::RouterAlert => 5,
+            Type::Rpl => 0x63,
+            Type::Unknown(other) => other,
+        }
+    }
+}
+
+/// What a router alert tells of the packet, two bytes (RFC 2711 section 2.1).
+#[derive(Debug, PartialEq, Eq, PartialOrd, Ord, Clone, Copy)]
+pub enum RouterAlert {
+    /// A message of multicast listener discovery.
+    MulticastListenerDiscovery,
+    /// A message of RSVP.
+    Rsvp,
+    /// A message of active networks.
+    ActiveNetworks,
+    /// Any other value, by its number.
+    Unknown(u16),
+}
+
+impl RouterAlert {
+    /// The bytes of a router alert's data: it is one number of two bytes (RFC 2711 section 2.1).
+    pub const DATA_LEN: u8 = 2;
+}
+
+impl From<u16> for RouterAlert {
+    ghost from_gives = { λ number alert. alert ≡ alert_of number };
+
+    fn from(number: u16) -> RouterAlert
+        ensures value { result ≡ alert_of number }
+        ensures back { alert_number result ≡ number }
+        ensures order { IsTableOrder ⟦<RouterAlert as Ord>⟧.cmp RouterAlert.Unknown alert_rows }
+        ensures equality { IsEqualityOf ⟦<RouterAlert as Ord>⟧.cmp }
+    {
+        match number {
+            0 => RouterAlert::MulticastListenerDiscovery,
+            1 => RouterAlert::Rsvp,
+            2 => RouterAlert::ActiveNetworks,
+            other => RouterAlert::Unknown(other),
+        }
+    }
+}
+
+impl From<RouterAlert> for u16 {
+    ghost from_gives = { λ alert number. number ≡ alert_number alert };
+
+    fn from(alert: RouterAlert) -> u16
+        ensures value { result ≡ alert_number alert }
+        ensures back { IsProper RouterAlert.Unknown alert_rows alert → alert_of result ≡ alert }
+    {
+        match alert {
+            RouterAlert::MulticastListenerDiscovery => 0,
+            RouterAlert::Rsvp => 1,
+            RouterAlert::ActiveNetworks => 2,
+            RouterAlert::Unknown(other) => other,
+        }
+    }
+}
+
+/// What a node does with a packet that has an option of a type that it does not know: the two highest bits of the
+/// type (RFC 8200 section 4.2).
+#[derive(Debug, PartialEq, Eq, PartialOrd, Ord, Hash, Clone, Copy)]
+pub enum FailureType {
+    /// Skip the option and go on.
+    Skip,
+    /// Discard the packet.
+    Discard,
+    /// Discard the packet and tell its sender.
+    DiscardSendAll,
+    /// Discard the packet and tell its sender, unless the packet went to a multicast address.
+    DiscardSendUnicast,
+}
+
+impl From<u8> for FailureType {
+    ghost from_gives = { λ number failure. failure ≡ failure_of number };
+
+    fn from(number: u8) -> FailureType
+        ensures value { result ≡ failure_of number }
+        ensures back { failure_number result ≡ number / 64 * 64 }
+        ensures order { Ascends ⟦<FailureType as Ord>⟧.cmp failures }
+        ensures equality { IsEqualityOf ⟦<FailureType as Ord>⟧.cmp }
+    {
+        match number >> 6 {
+            0 => FailureType::Skip,
+            1 => FailureType::Discard,
+            2 => FailureType::DiscardSendAll,
+            _ => FailureType::DiscardSendUnicast,
+        }
+    }
+}
+
+impl From<FailureType> for u8 {
+    ghost from_gives = { λ failure number. number ≡ failure_number failure };
+
+    fn from(failure: FailureType) -> u8
+        ensures value { result ≡ failure_number failure }
+        ensures back { failure_of result ≡ failure }
+    {
+        match failure {
+            FailureType::Skip => 0x00,
+            FailureType::Discard => 0x40,
+            FailureType::DiscardSendAll => 0x80,
+            FailureType::DiscardSendUnicast => 0xc0,
+        }
+    }
+}
+
+impl From<Type> for FailureType {
+    ghost from_gives = { λ kind failure. failure ≡ failure_of (type_number kind) };
+
+    fn from(kind: Type) -> FailureType
+        ensures { result ≡ failure_of (type_number kind) }
+    {
+        FailureType::from(u8::from(kind))
+    }
+}
+
+// An option (RFC 8200 section 4.2); a Pad1 is its type alone.
+//
+// +---------------+---------------+- - - - - - - -
+// |     type      |    length     | data
+// +---------------+---------------+- - - - - - - -
+mod field {
+    use wirebase::Field;
+
+    pub const TYPE: Field = 0..1;
+    pub const LENGTH: Field = 1..2;
+
+    // The data of an option with this length.
+    pub fn data(length: u8) -> Field
+        ensures start { result.start ≡ 2 }
+        ensures end { result.end ≡ 2 + length }
+    {
+        2..2 + length as usize
+    }
+}
+
+/// A view of the octets of one option.
+#[derive(Debug, PartialEq, Eq, Drop)]
+pub struct Ipv6Option<T: Octets> {
+    buffer: T,
+}
+
+impl<T: Octets> Ipv6Option<T> {
+    /// The view of these octets, whatever they are.
+    pub fn new_unchecked(buffer: T) -> Ipv6Option<T>
+        ensures { inner result ≡ buffer }
+    {
+        Ipv6Option { buffer }
+    }
+
+    /// The view of these octets, where they begin with a whole option; refused where they don't.
+    pub fn new_checked(buffer: T) -> Result<Ipv6Option<T>>
+        ensures accepts { IsOk result ↔ BeginsWhole (T.bytes buffer) }
+        ensures buffer { IfOk result (λ view. inner view ≡ buffer) }
+    {
+        let option = Ipv6Option::new_unchecked(buffer);
+        option.check_len()?;
+        Ok(option)
+    }
+
+    /// Accepts octets that begin with a Pad1, or with a type, a length and as many bytes of data. Then each
+    /// accessor may be called, but for the length and the data of a Pad1.
+    pub fn check_len(&self) -> Result<()>
+        ensures accepts { IsOk result ↔ BeginsWhole (T.bytes (inner self.now)) }
+    {
+        let len = self.buffer.octets().len();
+        if len < field::TYPE.end {
+            return Err(Error);
+        }
+        if self.option_type() == Type::Pad1 {
+            return Ok(());
+        }
+        if len < field::LENGTH.end {
+            return Err(Error);
+        }
+        if len < field::data(self.data_len()).end {
+            return Err(Error);
+        }
+        Ok(())
+    }
+
+    /// What the view was made from, as it is now.
+    pub fn into_inner(self) -> T
+        ensures { result ≡ inner self }
+    {
+        self.buffer
+    }
+
+    /// The type. Asks 1 byte.
+    pub fn option_type(&self) -> Type
+        requires { Reaches type_field (T.bytes (inner self.now)) }
+        ensures { result ≡ type_of (byte_of type_field (T.bytes (inner self.now))) }
+    {
+        Type::from(self.buffer.field(field::TYPE)[0])
+    }
+
+    /// The bytes of data that the option counts. Asks 2 bytes.
+    pub fn data_len(&self) -> u8
+        requires { Reaches length_field (T.bytes (inner self.now)) }
+        ensures { result ≡ byte_of length_field (T.bytes (inner self.now)) }
+    {
+        self.buffer.field(field::LENGTH)[0]
+    }
+}
+
+impl<'a> Ipv6Option<&'a [u8]> {
+    /// The data, for as long as the octets live. Asks the bytes that the option counts.
+    #[tactic(auto, using(wirebase::proofs::Pieces::pieces), unfolding(wirebase::specs::Bytes::part))]
+    pub fn data(&self) -> &'a [u8]
+        requires counted { Reaches length_field (inner self.now).now }
+        requires whole { Reaches (data_field (inner self.now).now) (inner self.now).now }
+        ensures value { result.now ≡ bytes_of (data_field (inner self.now).now) (inner self.now).now }
+        ensures len { length result.now ≡ byte_of length_field (inner self.now).now }
+    {
+        let octets: &'a [u8] = self.buffer;
+        &octets[field::data(self.data_len())]
+    }
+}
+
+impl<T: OctetsMut> Ipv6Option<T> {
+    /// Writes the type. Asks 1 byte.
+    pub fn set_option_type(&mut self, value: Type)
+        requires { Reaches type_field (T.bytes (inner self.old)) }
+        ensures writes { Writes T.bytes T.put (inner self.old) (inner self.new) type_field (type_number value ∷ []) }
+        ensures len { length (T.bytes (inner self.new)) ≡ length (T.bytes (inner self.old)) }
+    {
+        self.buffer.field_mut(field::TYPE)[0] = value.into();
+    }
+
+    /// Writes the bytes of data that the option counts. Asks 2 bytes.
+    pub fn set_data_len(&mut self, value: u8)
+        requires { Reaches length_field (T.bytes (inner self.old)) }
+        ensures writes { Writes T.bytes T.put (inner self.old) (inner self.new) length_field (value ∷ []) }
+        ensures len { length (T.bytes (inner self.new)) ≡ length (T.bytes (inner self.old)) }
+        ensures value { byte_of length_field (T.bytes (inner self.new)) ≡ value }
+    {
+        self.buffer.field_mut(field::LENGTH)[0] = value;
+    }
+
+    /// Lends the data for writing; the other octets stay. Asks the bytes that the option counts.
+    pub fn data_mut(&mut self) -> &mut [u8]
+        requires counted { Reaches length_field (T.bytes (inner self.old)) }
+        requires whole { Reaches (data_field (T.bytes (inner self.old))) (T.bytes (inner self.old)) }
+        ensures* lends { sem 𝓛 (Lends (the_row T.row) (Array byte 0) self.entry result
+            (λ w. with_inner self.old (T.put (inner self.old)
+            (with_field (data_field (T.bytes (inner self.old))) w (T.bytes (inner self.old)))))) }
+        ensures value { result.now
+            ≡ bytes_of (data_field (T.bytes (inner self.old))) (T.bytes (inner self.old)) }
+        ensures len { length result.now ≡ byte_of length_field (T.bytes (inner self.old)) }
+    {
+        let data = field::data(self.data_len());
+        self.buffer.field_mut(data)
+    }
+}
+
+/// An option of an IPv6 extension header (RFC 8200 section 4.2).
+#[derive(Debug, PartialEq, Eq, Clone, Copy)]
+pub enum Repr<'a> {
+    /// One byte of padding.
+    Pad1,
+    /// Padding: a type, a length and this many bytes.
+    PadN(u8),
+    /// A router alert (RFC 2711).
+    RouterAlert(RouterAlert),
+    /// An option of any other type.
+    Unknown {
+        type_: Type,
+        /// The bytes of data that the option counts.
+        length: u8,
+        data: &'a [u8],
+    },
+}
+
+impl Default for Repr<'_> {
+    fn default() -> Self {
+        Repr::Pad1
+    }
+}
+
+impl<'a> Repr<'a> {
+    /// The option at the front of the octets. Refused where none stands there whole, and where a router alert
+    /// doesn't count 2 bytes of data. What padding is filled with is not looked at.
+    pub fn parse(opt: &Ipv6Option<&'a [u8]>) -> Result<Repr<'a>>
+        ensures sound { IfOk result (λ repr. BeginsWith (inner opt.now).now (value_of repr)) }
+        ensures complete { (value : OptionValue) → BeginsWith (inner opt.now).now value
+            → IsOkAnd result (λ repr. value_of repr ≡ value) }
+    {
+        opt.check_len()?;
+        match opt.option_type() {
+            Type::Pad1 => Ok(Repr::Pad1),
+            Type::PadN => Ok(Repr::PadN(opt.data_len())),
+            Type::RouterAlert => {
+                if opt.data_len() != RouterAlert::DATA_LEN {
+                    return Err(Error);
+                }
+                Ok(Repr::RouterAlert(BigEndian::read_u16(opt.data()).into()))
+            }
+            type_ => Ok(Repr::Unknown {
+                type_,
+                length: opt.data_len(),
+                data: opt.data(),
+            }),
+        }
+    }
+
+    /// The bytes that the option takes, by the length that it counts.
+    pub fn buffer_len(&self) -> usize
+        ensures value { result ≡ counted_len (value_of self.now) }
+        ensures exact { HasData (value_of self.now) → result ≡ length (text (value_of self.now)) }
+        ensures small { result ≤ 257 }
+    {
+        match *self {
+            Repr::Pad1 => field::TYPE.end,
+            Repr::PadN(length) => field::data(length).end,
+            Repr::RouterAlert(_) => field::data(RouterAlert::DATA_LEN).end,
+            Repr::Unknown { length, .. } => field::data(length).end,
+        }
+    }
+
+    /// Writes the option over the front of the octets; the others stay. Asks the bytes that the option takes, and
+    /// that it holds as much data as it counts.
+    pub fn emit<T: OctetsMut>(&self, opt: &mut Ipv6Option<T>)
+        requires enough { HasData (value_of self.now) }
+        requires room { length (text (value_of self.now)) ≤ length (T.bytes (inner opt.old)) }
+        ensures text { inner opt.new ≡ T.put (inner opt.old)
+            (over (T.bytes (inner opt.old)) (text (value_of self.now))) }
+
+        // In a buffer of the option's length there is its text alone, and a canonical value is read back as its
+        // normal form, which is canonical and its own normal form.
+        ensures exact { length (T.bytes (inner opt.old)) ≡ length (text (value_of self.now))
+            → T.bytes (inner opt.new) ≡ text (value_of self.now) }
+        ensures reads_back { IsCanonical (value_of self.now)
+            → BeginsWith (T.bytes (inner opt.new)) (norm (value_of self.now)) }
+        ensures canonical { IsCanonical (value_of self.now) → IsCanonical (norm (value_of self.now)) }
+        ensures settled { norm (norm (value_of self.now)) ≡ norm (value_of self.now) }
+    {
+        self.write(opt);
+    }
+
+    // Writes the fields of the option.
+    fn write<T: OctetsMut>(&self, opt: &mut Ipv6Option<T>)
+        requires enough { HasData (value_of self.now) }
+        requires room { length (text (value_of self.now)) ≤ length (T.bytes (inner opt.old)) }
+        ensures { inner opt.new ≡ T.put (inner opt.old)
+            (over (T.bytes (inner opt.old)) (text (value_of self.now))) }
+    {
+        match *self {
+            Repr::Pad1 => opt.set_option_type(Type::Pad1),
+            Repr::PadN(length) => {
+                opt.set_option_type(Type::PadN);
+                opt.set_data_len(length);
+                opt.data_mut().fill(0);
+            }
+            Repr::RouterAlert(alert) => {
+                opt.set_option_type(Type::RouterAlert);
+                opt.set_data_len(RouterAlert::DATA_LEN);
+                BigEndian::write_u16(opt.data_mut(), alert.into());
+            }
+            Repr::Unknown {
+                type_,
+                length,
+                data,
+            } => {
+                opt.set_option_type(type_);
+                opt.set_data_len(length);
+                opt.data_mut().copy_from_slice(&data[..length as usize]);
+            }
+        }
+    }
+}
+
+/// The options of a header in turn (RFC 8200 section 4.2): each one while they read, one refusal where no option
+/// stands, and then the end for good.
+#[derive(Debug, Drop)]
+pub struct Ipv6OptionsIterator<'a> {
+    // The octets after the options that were given.
+    data: &'a [u8],
+    hit_error: bool,
+}
+
+impl<'a> Model for Ipv6OptionsIterator<'a> {
+    ghost use Rattle.std.specs.Prelude.{List};
+    ghost use Rattle.opt_wire.specs.Ipv6OptionAnswers.{Answer, answers_to_come};
+
+    ghost Value = { List Answer };
+
+    ghost view = { λ it. answers_to_come it.hit_error it.data.now };
+}
+
+impl<'a> Ipv6OptionsIterator<'a> {
+    ghost use Rattle.std.specs.Prelude.{List, Ok, map, sum_by};
+    ghost use Rattle.opt_wire.specs.Ipv6OptionAnswers.{Answer, Tile};
+
+    /// The options in these octets. The answers to come are those of the one tiling of the octets; where there is
+    /// no refusal among them, the options take up all the octets.
+    pub fn new(octets: &'a [u8]) -> Ipv6OptionsIterator<'a>
+        ensures tile { Tile octets.entry.now result }
+        ensures unique { (answers : List Answer) → Tile octets.entry.now answers → answers ≡ result }
+        ensures lengths { (options : List OptionValue) → result ≡ map Ok options
+            → sum_by counted_len options ≡ length octets.entry.now }
+    {
+        Ipv6OptionsIterator {
+            data: octets,
+            hit_error: false,
+        }
+    }
+}
+
+impl<'a> Iterator for Ipv6OptionsIterator<'a> {
+    ghost use Rattle.std.specs.Iterator.{at_most};
+    ghost use Rattle.wirebase.specs.Answers.{GivesFirst};
+
+    type Item = Result<Repr<'a>>;
+
+    ghost next_gives = { GivesFirst value_of };
+
+    ghost remaining = { λ answers. at_most (length answers) };
+
+    fn next(&mut self) -> Option<Result<Repr<'a>>> {
+        if self.hit_error || self.data.is_empty() {
+            return None;
+        }
+        match Repr::parse(&Ipv6Option::new_unchecked(self.data)) {
+            Ok(repr) => {
+                self.data = &self.data[repr.buffer_len()..];
+                Some(Ok(repr))
+            }
+            Err(error) => {
+                self.hit_error = true;
+                Some(Err(error))
+            }
+        }
+    }
+}

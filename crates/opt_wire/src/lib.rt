@@ -1,0 +1,4 @@
+//! Options of IPv6 extension headers, and the hop-by-hop header that carries them.
+#![tactic(auto)]
+
+pub mod ipv6option;
