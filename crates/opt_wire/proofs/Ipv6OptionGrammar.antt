@@ -165,7 +165,7 @@ type_of-number kind.Rpl p = refl
 type_of-number (kind.Unknown n) p = case_in-unnamed kind.Unknown type_rows n (p n refl)
 
 -- its own text is an option of the normal form
-option_text : (v : OptionValue) → IsCanonical v → IsOption (text v) (norm v)
+pub option_text : (v : OptionValue) → IsCanonical v → IsOption (text v) (norm v)
 option_text pad1 c = refl
 option_text (pad_n n) c = (replicate n 0, refl, length-replicate n 0)
 option_text (router_alert a) c =

@@ -6,6 +6,7 @@
 -- |     type      |    length     | data, as many bytes
 -- +---------------+---------------+- -
 use Rattle.std.specs.Prelude.{◌≡◌, ◌≢◌, ℕ, ◌+◌, ◌*◌, ◌≤◌, ◌<◌, ◌^◌, List, [], ◌∷◌, ◌++◌, length, take, replicate}
+use Rattle.std.specs.Borrow.{Bor}
 use Rattle.byteorder.specs.Endian.{big_bytes}
 use Rattle.wirebase.specs.Bytes.{Field, field, Reaches, byte_of}
 use Rattle.wirebase.specs.Numbered.{IsProper}
@@ -24,6 +25,9 @@ inner view = view.buffer
 
 abbrev pub with_inner : {T : Type 0} → Ipv6Option T → T → Ipv6Option T
 with_inner view buffer = record view { buffer = buffer }
+
+abbrev pub octets_of : Ipv6Option (Bor (List ℕ)) → List ℕ
+octets_of view = (inner view).now
 
 -- the fields
 abbrev pub type_field : Field

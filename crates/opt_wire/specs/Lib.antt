@@ -1,3 +1,4 @@
+pub mod Ipv6Hbh
 pub mod Ipv6Option
 pub mod Ipv6OptionAnswers
 pub mod Ipv6OptionTables

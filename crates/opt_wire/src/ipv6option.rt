@@ -3,9 +3,9 @@
 
 ghost use Rattle.std.specs.Prelude.{◌≡◌, ◌≤◌, ◌-◌, ◌*◌, ◌/◌, ◌+◌, ◌↔◌, [], ◌∷◌, length, IsOk, IfOk, IsOkAnd};
 ghost use Rattle.std.specs.Borrow.{sem, Lends, Array, u8 as byte};
-ghost use Rattle.wirebase.specs.Bytes.{Reaches, Writes, bytes_of, byte_of, with_field, over};
+ghost use Rattle.wirebase.specs.Bytes.{Reaches, Writes, ComparesOctets, bytes_of, byte_of, with_field, over};
 ghost use Rattle.wirebase.specs.Numbered.{Ascends, IsProper, IsTableOrder, IsEqualityOf};
-ghost use Rattle.opt_wire.specs.Ipv6Option.{inner, with_inner, type_field, length_field, data_field, BeginsWhole, OptionValue, value_of, text, counted_len, HasData, BeginsWith, IsCanonical, norm};
+ghost use Rattle.opt_wire.specs.Ipv6Option.{inner, with_inner, octets_of, type_field, length_field, data_field, BeginsWhole, OptionValue, value_of, text, counted_len, HasData, BeginsWith, IsCanonical, norm};
 ghost use Rattle.opt_wire.specs.contracts.ipv6option.Ipv6Option.{the_row};
 ghost use Rattle.opt_wire.specs.Ipv6OptionTables.{type_number, type_rows, type_of, alert_number, alert_rows, alert_of, failure_number, failures, failure_of};
 
@@ -203,7 +203,8 @@ pub struct Ipv6Option<T: Octets> {
 impl<T: Octets> Ipv6Option<T> {
     /// The view of these octets, whatever they are.
     pub fn new_unchecked(buffer: T) -> Ipv6Option<T>
-        ensures { inner result ≡ buffer }
+        ensures buffer { inner result ≡ buffer }
+        ensures equality { ComparesOctets octets_of ⟦<Ipv6Option<&'static [u8]> as PartialEq>⟧.eq }
     {
         Ipv6Option { buffer }
     }
@@ -427,6 +428,16 @@ impl<'a> Repr<'a> {
             }
         }
     }
+}
+
+// Writes an option over the front of the bytes.
+pub(crate) fn write_option(option: &Repr<'_>, bytes: &mut [u8])
+    requires enough { HasData (value_of option.now) }
+    requires room { length (text (value_of option.now)) ≤ length bytes.old }
+    ensures { bytes.new ≡ over bytes.old (text (value_of option.now)) }
+{
+    let mut view = Ipv6Option::new_unchecked(bytes);
+    option.emit(&mut view);
 }
 
 /// The options of a header in turn (RFC 8200 section 4.2): each one while they read, one refusal where no option

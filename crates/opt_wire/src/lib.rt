@@ -2,3 +2,4 @@
 #![tactic(auto)]
 
 pub mod ipv6option;
+pub mod ipv6hbh;

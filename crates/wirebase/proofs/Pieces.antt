@@ -46,6 +46,16 @@ splice-over old text w i j e f =
     let more : drop (length w) rest ≡ drop (length (text ++ w)) old = drop-drop (length w) (length text) old ∙ ap (λ (k : ℕ). drop k old) (sym (length-append text w)) in
     ap (λ (l : List ℕ). l ++ (w ++ drop j (text ++ rest))) front ∙ ap (λ (l : List ℕ). text ++ (w ++ l)) (back ∙ more) ∙ sym (append_assoc text w (drop (length (text ++ w)) old))
 
+-- a text laid over what follows a text
+pub over-after : (old text w : List ℕ) (i : ℕ) → length text ≡ i → take i (over old text) ++ over (drop i (over old text)) w ≡ over old (text ++ w)
+unfolding over
+over-after old text w i e =
+    let rest : List ℕ = drop (length text) old in
+    let back : drop i (text ++ rest) ≡ rest = drop_at text rest i e in
+    let more : drop (length w) rest ≡ drop (length (text ++ w)) old = drop-drop (length w) (length text) old ∙ ap (λ (k : ℕ). drop k old) (sym (length-append text w)) in
+    ap (λ (l : List ℕ). l ++ (w ++ drop (length w) (drop i (text ++ rest)))) (take_at text rest i e)
+    ∙ ap (λ (l : List ℕ). text ++ (w ++ drop (length w) l)) back ∙ ap (λ (l : List ℕ). text ++ (w ++ l)) more ∙ sym (append_assoc text w (drop (length (text ++ w)) old))
+
 -- a write inside a text, as a checksum that comes last
 pub splice-inside : (old text w : List ℕ) (i j : ℕ) → i ≤ j → j ≤ length text → length w ≡ j - i → splice (over old text) i j w ≡ over old (splice text i j w)
 unfolding splice over
@@ -91,5 +101,14 @@ pub part-tail : (old : List ℕ) (i n : ℕ) → length old ≤ n → part old i
 unfolding part
 part-tail old i n h = take_all (n - i) (drop i old) (omega (arith, length-drop i old))
 
+-- a write of all bytes, and all bytes
+pub splice-whole : (old w : List ℕ) (n : ℕ) → n ≡ length old → splice old 0 n w ≡ w
+unfolding splice
+splice-whole old w n e = append-drop_whole w old n (sym e)
+
+pub part-whole : (old : List ℕ) (n : ℕ) → n ≡ length old → part old 0 n ≡ old
+unfolding part
+part-whole old n e = take_all (n - 0) old (omega (arith, e))
+
 -- what the setters and the emitters need
-pub ruleset pieces = (length-part, length-splice, length-over, length-big_bytes, splice-front, splice-over, splice-inside, append-drop_whole, over-exact, slice_set-one, slice_index-splice, slice_index-splice_one, slice_index-part, splice-tail, part-tail, length-append, append-nil, drop_all)
+pub ruleset pieces = (length-part, length-splice, length-over, length-big_bytes, splice-front, splice-over, splice-inside, append-drop_whole, over-exact, slice_set-one, slice_index-splice, slice_index-splice_one, slice_index-part, splice-tail, part-tail, splice-whole, part-whole, length-append, append-nil, drop_all)

@@ -1,5 +1,5 @@
 -- Octets as lists of numbers below 256: their parts, the fields of a layout, and what writes leave.
-use Rattle.std.specs.Prelude.{◌≡◌, ℕ, ◌-◌, ◌≤◌, List, length, ◌++◌, drop, take, slice_index}
+use Rattle.std.specs.Prelude.{◌≡◌, ℕ, ◌-◌, ◌≤◌, ◌↔◌, Bool, IsTrue, List, length, ◌++◌, drop, take, slice_index}
 use Rattle.byteorder.specs.Endian.{big_number}
 
 -- the bytes from i up to j
@@ -43,3 +43,7 @@ with_field f w old = splice old f.from f.to w
 -- what holds the bytes is the same place, where a field is w and all other bytes stay
 abbrev pub Writes : {T : Type 0} → (T → List ℕ) → (T → List ℕ → T) → T → T → Field → List ℕ → Type 0
 Writes bytes put old new f w = new ≡ put old (with_field f w (bytes old))
+
+-- two views are equal exactly when their octets are
+abbrev pub ComparesOctets : {V : Type 0} → (V → List ℕ) → (V → V → Bool) → Type 0
+ComparesOctets {V = V} octets eq = (a b : V) → IsTrue (eq a b) ↔ (octets a ≡ octets b)

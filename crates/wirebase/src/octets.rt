@@ -64,6 +64,17 @@ pub trait OctetsMut: Octets {
         self.range_mut(field.start, field.end)
     }
 
+    /// Lends all octets for writing.
+    #[tactic(auto, using(crate::proofs::Pieces::pieces))]
+    final fn octets_mut(&mut self) -> &mut [u8]
+        ensures* lends { sem 𝓛 (Lends Self.row (Array byte 0) self.entry result (λ w. put self.old w)) }
+        ensures value { result.now ≡ Self.bytes self.old }
+        ensures len { length result.now ≡ length (Self.bytes self.old) }
+    {
+        let len = self.octets().len();
+        self.range_mut(0, len)
+    }
+
     ghost bytes_put: { (s : Self) (w : List ℕ) → Self.bytes (put s w) ≡ w };
 
     ghost put_put: { (s : Self) (v w : List ℕ) → put (put s v) w ≡ put s w };

@@ -1,0 +1,137 @@
+-- Hop-by-hop headers against the tiling of their bytes.
+use Rattle.std.proofs.Common.{◌≡◌, ◌≢◌, ℕ, zero, suc, ◌+◌, ◌≤◌, List, [], ◌∷◌, ◌++◌, length, take, map, Ok, Err, refl, sym, ap, subst, ◌∙◌, arith, add-one, length-append}
+use Rattle.std.specs.List.{flat_map, AllByRecursion}
+use Rattle.std.proofs.lemmas.List.{append_assoc, append-nil, take_all, take_at, length-take, length-take-le}
+use Rattle.std.proofs.lemmas.List.Concat.{flat_map-cons}
+use Rattle.wirebase.specs.declared.error.Error.{Error}
+use Rattle.opt_wire.specs.Ipv6Option.{OptionValue, pad1, pad_n, router_alert, unknown}
+use Rattle.opt_wire.specs.Ipv6Option as option
+use Rattle.opt_wire.specs.Ipv6OptionAnswers.{Answer, Tile, ends, goes_on, breaks}
+use Rattle.opt_wire.specs.Ipv6Hbh.{text, IsHeader, IsCanonical, norm}
+use Rattle.opt_wire.proofs.Ipv6OptionGrammar.{option_text}
+use Rattle.opt_wire.proofs.Ipv6OptionTiles.{tile-unique}
+
+-- READING
+
+-- answers without a refusal
+abbrev all : List OptionValue → List Answer
+all options = map Ok options
+
+length-all : (options : List OptionValue) → length (all options) ≡ length options
+length-all [] = refl
+length-all (v ∷ options) = ap (λ (n : ℕ). suc n) (length-all options)
+
+all-append : (xs ys : List OptionValue) → all (xs ++ ys) ≡ all xs ++ all ys
+all-append [] ys = refl
+all-append (x ∷ xs) ys = ap (λ (l : List Answer). Ok x ∷ l) (all-append xs ys)
+
+length-norm : (options : List OptionValue) → length (norm options) ≡ length options
+length-norm [] = refl
+length-norm (v ∷ options) = ap (λ (n : ℕ). suc n) (length-norm options)
+
+-- all options were read
+pub header-end : (most : ℕ) (bytes : List ℕ) (options : List OptionValue) (answers : List Answer) → bytes ≢ [] → Tile bytes answers → answers ≡ all options → length options ≤ most → IsHeader most bytes options
+header-end most bytes options answers some tile e l = record {
+  answers = answers;
+  read = options;
+  some = some;
+  tile = tile;
+  good = ap (take (most + 1)) e ∙ take_all (most + 1) (all options) (omega (arith, l, length-all options));
+  kept = sym (take_all most options l);
+}
+
+-- one more than are kept was read
+pub header-full : (most : ℕ) (bytes : List ℕ) (options : List OptionValue) (v : OptionValue) (answers rest : List Answer) → bytes ≢ [] → Tile bytes answers → answers ≡ all options ++ (Ok v ∷ rest) → length options ≡ most → IsHeader most bytes options
+header-full most bytes options v answers rest some tile e l =
+    let read : List OptionValue = options ++ (v ∷ []) in
+    let long : length (all read) ≡ most + 1 = length-all read ∙ length-append options (v ∷ []) ∙ ap (λ (n : ℕ). n + 1) l in
+    let front : all options ++ (Ok v ∷ rest) ≡ all read ++ rest = sym (append_assoc (all options) (Ok v ∷ []) rest) ∙ ap (λ (l : List Answer). l ++ rest) (sym (all-append options (v ∷ []))) in
+    record {
+      answers = answers;
+      read = read;
+      some = some;
+      tile = tile;
+      good = ap (take (most + 1)) (e ∙ front) ∙ take_at (all read) rest (most + 1) long;
+      kept = sym (take_at options (v ∷ []) most l);
+    }
+
+-- no header is read past a refusal
+refusal_read : (n : ℕ) (options read : List OptionValue) (e : Error) (rest : List Answer) → length options ≤ n → take (suc n) (all options ++ (Err e ∷ rest)) ≡ all read → ⊥
+refusal_read n [] [] e rest l h = cc
+refusal_read n [] (r ∷ read) e rest l h = cc
+refusal_read zero (o ∷ options) read e rest l h = absurd (omega (arith, l))
+refusal_read (suc n) (o ∷ options) [] e rest l h = cc
+refusal_read (suc n) (o ∷ options) (r ∷ read) e rest l h = refusal_read n options read e rest (omega (arith, l)) cc
+
+pub header-refused : (most : ℕ) (bytes : List ℕ) (options other : List OptionValue) (e : Error) (answers rest : List Answer) → Tile bytes answers → answers ≡ all options ++ (Err e ∷ rest) → length options ≤ most → IsHeader most bytes other → ⊥
+header-refused most bytes options other e answers rest tile is l h =
+    let same : h.answers ≡ all options ++ (Err e ∷ rest) = tile-unique bytes h.answers answers h.tile tile ∙ is in
+    let read : take (suc most) (all options ++ (Err e ∷ rest)) ≡ all h.read = ap (take (suc most)) (sym same) ∙ ap (λ (n : ℕ). take n h.answers) (sym (add-one most)) ∙ h.good in
+    refusal_read most options h.read e rest l read
+
+same_options : (xs ys : List OptionValue) → all xs ≡ all ys → xs ≡ ys
+same_options [] [] e = refl
+same_options [] (y ∷ ys) e = cc
+same_options (x ∷ xs) [] e = cc
+same_options (x ∷ xs) (y ∷ ys) e =
+    let rest : xs ≡ ys = same_options xs ys cc in
+    let first : x ≡ y = cc in
+    cc
+
+-- the bytes are one header at most
+pub header-unique : (most : ℕ) (bytes : List ℕ) (options other : List OptionValue) → IsHeader most bytes options → IsHeader most bytes other → options ≡ other
+header-unique most bytes options other a b =
+    let answers : a.answers ≡ b.answers = tile-unique bytes a.answers b.answers a.tile b.tile in
+    let read : a.read ≡ b.read = same_options a.read b.read (sym a.good ∙ ap (take (most + 1)) answers ∙ b.good) in
+    a.kept ∙ ap (take most) read ∙ sym b.kept
+
+-- WRITING
+
+tile-text : (options : List OptionValue) → AllByRecursion option.IsCanonical options → Tile (text options) (all (norm options))
+tile-text [] h = ends
+tile-text (v ∷ options) h = goes_on (option.text v) (text options) (option.norm v) (option_text v h.0) (tile-text options h.1) (flat_map-cons option.text v options)
+
+text_some : (v : OptionValue) → option.text v ≢ []
+text_some pad1 e = cc
+text_some (pad_n n) e = cc
+text_some (router_alert a) e = cc
+text_some (unknown k n d) e = cc
+
+front_some : (xs ys : List ℕ) → xs ≢ [] → xs ++ ys ≢ []
+front_some [] ys h e = h refl
+front_some (x ∷ xs) ys h e = cc
+
+texts_some : (options : List OptionValue) → 1 ≤ length options → text options ≢ []
+texts_some [] l e = absurd (omega (arith, l))
+texts_some (v ∷ options) l e = front_some (option.text v) (text options) (text_some v) (sym (flat_map-cons option.text v options) ∙ e)
+
+-- the text of canonical options is their header
+pub header-text : (most : ℕ) (options : List OptionValue) → IsCanonical most options → IsHeader most (text options) (norm options)
+header-text most options c = header-end most (text options) (norm options) (all (norm options)) (texts_some options c.some) (tile-text options c.each) refl (omega (arith, c.few, length-norm options))
+
+canonical_option : (v : OptionValue) → option.IsCanonical v → option.IsCanonical (option.norm v)
+canonical_option pad1 c = c
+canonical_option (pad_n n) c = c
+canonical_option (router_alert a) c = c
+canonical_option (unknown k n d) c = (c.0, c.1, c.2, c.3, c.4, c.5, omega (arith, length-take-le n d c.6))
+
+canonical_options : (options : List OptionValue) → AllByRecursion option.IsCanonical options → AllByRecursion option.IsCanonical (norm options)
+canonical_options [] h = h
+canonical_options (v ∷ options) h = (canonical_option v h.0, canonical_options options h.1)
+
+pub canonical-norm : (most : ℕ) (options : List OptionValue) → IsCanonical most options → IsCanonical most (norm options)
+canonical-norm most options c = record {
+  some = omega (arith, c.some, length-norm options);
+  few = omega (arith, c.few, length-norm options);
+  each = canonical_options options c.each;
+}
+
+settled_option : (v : OptionValue) → option.norm (option.norm v) ≡ option.norm v
+settled_option pad1 = refl
+settled_option (pad_n n) = refl
+settled_option (router_alert a) = refl
+settled_option (unknown k n d) = ap (unknown k n) (take_all n (take n d) (omega (arith, length-take {A = ℕ} n d)))
+
+pub norm-norm : (options : List OptionValue) → norm (norm options) ≡ norm options
+norm-norm [] = refl
+norm-norm (v ∷ options) = ap (λ (x : OptionValue). x ∷ norm (norm options)) (settled_option v) ∙ ap (λ (xs : List OptionValue). option.norm v ∷ xs) (norm-norm options)
