@@ -2,9 +2,12 @@
 #![tactic(auto, using(crate::proofs::ChecksumSums::sums))]
 
 ghost use Rattle.std.specs.Prelude.{◌≡◌, ◌+◌, ◌*◌, ◌^◌, ◌<◌, ◌≤◌, length, sum};
-ghost use Rattle.wirebase.specs.Checksum.{word_sum, fold};
+ghost use Rattle.wirebase.specs.Checksum.{word_sum, fold, sealed};
+ghost use Rattle.wirebase.specs.Bytes.{field as field_at};
 
-use byteorder::{ByteOrder, LittleEndian};
+use crate::octets::{Field, Octets, OctetsMut};
+use byteorder::{BigEndian, ByteOrder, LittleEndian};
+use std::ops::Range;
 
 /// The sum of the big-endian words of 16 bits, in one's complement; a last odd byte is the high
 /// byte of a word. It is exact for every length. The checksum that a packet carries is `!data(..)`
@@ -25,6 +28,22 @@ pub fn combine(checksums: &[u16]) -> u16
         sum += *checksum as u128;
     }
     folded(sum)
+}
+
+/// Writes the checksum of all the octets into their field of two bytes, which counts as zero; the others stay.
+/// Asks that the field is there.
+#[tactic(auto, using(crate::proofs::Pieces::pieces, crate::proofs::ChecksumSeals::seals))]
+pub fn fill<T: OctetsMut>(octets: &mut T, field: Field)
+    requires two { field.end ≡ field.start + 2 }
+    requires room { field.end ≤ length (T.bytes octets.old) }
+    ensures sealed { octets.new ≡ T.put octets.old
+        (sealed (field_at field.start field.end) (T.bytes octets.old) 0) }
+    ensures len { length (T.bytes octets.new) ≡ length (T.bytes octets.old) }
+{
+    let Range { start, end } = field;
+    BigEndian::write_u16(octets.range_mut(start, end), 0);
+    let checksum = !data(octets.octets());
+    BigEndian::write_u16(octets.range_mut(start, end), checksum);
 }
 
 // The sum of the bytes as words of 64 bits and a shorter last one, the lowest byte first.

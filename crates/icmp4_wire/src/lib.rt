@@ -1,0 +1,4 @@
+//! The control protocols of IPv4: ICMP and IGMP.
+#![tactic(auto)]
+
+pub mod icmpv4;
