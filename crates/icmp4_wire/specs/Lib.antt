@@ -1,1 +1,2 @@
+pub mod Icmpv4
 pub mod Icmpv4Tables

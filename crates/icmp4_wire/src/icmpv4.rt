@@ -1,9 +1,19 @@
 //! The Internet Control Message Protocol (RFC 792).
 #![tactic(auto, using(wirebase::proofs::Pieces::pieces))]
 
-ghost use Rattle.std.specs.Prelude.{◌≡◌};
+ghost use Rattle.std.specs.Prelude.{◌≡◌, ◌≤◌, ◌<◌, ◌-◌, ◌^◌, ◌++◌, ◌↔◌, [], ◌∷◌, length, IsTrue, IsOk, IfOk, IsOkAnd};
+ghost use Rattle.std.specs.Borrow.{sem, Lends, Array, u8 as byte};
+ghost use Rattle.byteorder.specs.Endian.{big_bytes};
+ghost use Rattle.wirebase.specs.Bytes.{splice, over, over_front, Reaches, Writes, ComparesOctets, byte_of, number_of};
+ghost use Rattle.wirebase.specs.Checksum.{IsGood, sealed};
 ghost use Rattle.wirebase.specs.Numbered.{IsProper, IsTableOrder, IsEqualityOf};
 ghost use Rattle.icmp4_wire.specs.Icmpv4Tables.{message_number, message_rows, message_of, unreachable_number, unreachable_rows, unreachable_of, redirect_number, redirect_rows, redirect_of, time_exceeded_number, time_exceeded_rows, time_exceeded_of, param_problem_number, param_problem_rows, param_problem_of};
+ghost use Rattle.icmp4_wire.specs.Icmpv4.{inner, with_inner, octets_of, type_field, code_field, checksum_field, ident_field, seq_no_field, header, data_in, MessageValue, value_of, echo_header, body, seal, HasRoom, IsMessage, IsCanonical, Fills, norm};
+ghost use Rattle.icmp4_wire.specs.contracts.icmpv4.Packet.{the_row};
+
+use byteorder::{BigEndian, ByteOrder};
+use wirebase::octets::write_front;
+use wirebase::{ChecksumCapabilities, Error, Octets, OctetsMut, Result, checksum};
 
 /// The type of a message, one byte (RFC 792).
 #[derive(Debug, PartialEq, Eq, PartialOrd, Ord, Clone, Copy)]
@@ -318,5 +328,354 @@ impl From<ParamProblem> for u8 {
             ParamProblem::BadLength => 2,
             ParamProblem::Unknown(other) => other,
         }
+    }
+}
+
+// A message (RFC 792).
+//
+// +---------------+---------------+-------------------------------+
+// |     type      |     code      |           checksum            |
+// +---------------+---------------+-------------------------------+
+// |          identifier           |        sequence number        |
+// +-------------------------------+-------------------------------+
+// | data
+// +- - - -
+mod field {
+    use wirebase::Field;
+
+    pub const TYPE: Field = 0..1;
+    pub const CODE: Field = 1..2;
+    pub const CHECKSUM: Field = 2..4;
+    // What stands here of an error is unused.
+    pub const UNUSED: Field = 4..8;
+    pub const ECHO_IDENT: Field = 4..6;
+    pub const ECHO_SEQNO: Field = 6..8;
+    pub const HEADER_END: usize = 8;
+}
+
+/// A view of the octets of a message.
+#[derive(Debug, PartialEq, Eq, Clone, Drop)]
+pub struct Packet<T: Octets> {
+    buffer: T,
+}
+
+impl<T: Octets> Packet<T> {
+    /// The view of these octets, whatever they are.
+    pub fn new_unchecked(buffer: T) -> Packet<T>
+        ensures buffer { inner result ≡ buffer }
+        ensures equality { ComparesOctets octets_of ⟦<Packet<&'static [u8]> as PartialEq>⟧.eq }
+    {
+        Packet { buffer }
+    }
+
+    /// The view of these octets, where they are 8 or more; refused where they are fewer.
+    pub fn new_checked(buffer: T) -> Result<Packet<T>>
+        ensures accepts { IsOk result ↔ Reaches header (T.bytes buffer) }
+        ensures buffer { IfOk result (λ view. inner view ≡ buffer) }
+    {
+        let packet = Packet::new_unchecked(buffer);
+        packet.check_len()?;
+        Ok(packet)
+    }
+
+    /// Accepts 8 octets or more. Then each accessor may be called.
+    pub fn check_len(&self) -> Result<()>
+        ensures accepts { IsOk result ↔ Reaches header (T.bytes (inner self.now)) }
+    {
+        if self.buffer.octets().len() < field::HEADER_END {
+            return Err(Error);
+        }
+        Ok(())
+    }
+
+    /// What the view was made from, as it is now.
+    pub fn into_inner(self) -> T
+        ensures { result ≡ inner self }
+    {
+        self.buffer
+    }
+
+    /// All the octets.
+    pub fn as_ref(&self) -> &[u8]
+        ensures { result.now ≡ T.bytes (inner self.now) }
+    {
+        self.buffer.octets()
+    }
+
+    /// The type. Asks 1 byte.
+    pub fn msg_type(&self) -> Message
+        requires { Reaches type_field (T.bytes (inner self.now)) }
+        ensures { result ≡ message_of (byte_of type_field (T.bytes (inner self.now))) }
+    {
+        Message::from(self.buffer.field(field::TYPE)[0])
+    }
+
+    /// The code. Asks 2 bytes.
+    pub fn msg_code(&self) -> u8
+        requires { Reaches code_field (T.bytes (inner self.now)) }
+        ensures { result ≡ byte_of code_field (T.bytes (inner self.now)) }
+    {
+        self.buffer.field(field::CODE)[0]
+    }
+
+    /// The checksum that the message carries. Asks 4 bytes.
+    pub fn checksum(&self) -> u16
+        requires { Reaches checksum_field (T.bytes (inner self.now)) }
+        ensures { result ≡ number_of checksum_field (T.bytes (inner self.now)) }
+    {
+        BigEndian::read_u16(self.buffer.field(field::CHECKSUM))
+    }
+
+    /// The identifier of an echo. Asks 6 bytes.
+    pub fn echo_ident(&self) -> u16
+        requires { Reaches ident_field (T.bytes (inner self.now)) }
+        ensures { result ≡ number_of ident_field (T.bytes (inner self.now)) }
+    {
+        BigEndian::read_u16(self.buffer.field(field::ECHO_IDENT))
+    }
+
+    /// The sequence number of an echo. Asks 8 bytes.
+    pub fn echo_seq_no(&self) -> u16
+        requires { Reaches seq_no_field (T.bytes (inner self.now)) }
+        ensures { result ≡ number_of seq_no_field (T.bytes (inner self.now)) }
+    {
+        BigEndian::read_u16(self.buffer.field(field::ECHO_SEQNO))
+    }
+
+    /// The bytes of the header, 8 for every type. Asks 1 byte.
+    pub fn header_len(&self) -> usize
+        requires { Reaches type_field (T.bytes (inner self.now)) }
+        ensures { result ≡ 8 }
+    {
+        field::HEADER_END
+    }
+
+    /// Whether the message carries the checksum of its octets (RFC 1071).
+    pub fn verify_checksum(&self) -> bool
+        ensures { IsTrue result ↔ IsGood (T.bytes (inner self.now)) 0 }
+    {
+        checksum::data(self.buffer.octets()) == !0
+    }
+}
+
+impl<'a> Packet<&'a [u8]> {
+    /// What stands after the header, for as long as the octets live. Asks 8 bytes.
+    pub fn data(&self) -> &'a [u8]
+        requires { Reaches header (inner self.now).now }
+        ensures { result.now ≡ data_in (inner self.now).now }
+    {
+        &self.buffer[field::HEADER_END..]
+    }
+}
+
+impl<T: OctetsMut> Packet<T> {
+    /// Writes the type. Asks 1 byte.
+    pub fn set_msg_type(&mut self, value: Message)
+        requires { Reaches type_field (T.bytes (inner self.old)) }
+        ensures writes { Writes T.bytes T.put (inner self.old) (inner self.new) type_field (message_number value ∷ []) }
+        ensures len { length (T.bytes (inner self.new)) ≡ length (T.bytes (inner self.old)) }
+    {
+        self.buffer.field_mut(field::TYPE)[0] = value.into();
+    }
+
+    /// Writes the code. Asks 2 bytes.
+    pub fn set_msg_code(&mut self, value: u8)
+        requires { Reaches code_field (T.bytes (inner self.old)) }
+        ensures writes { Writes T.bytes T.put (inner self.old) (inner self.new) code_field (value ∷ []) }
+        ensures len { length (T.bytes (inner self.new)) ≡ length (T.bytes (inner self.old)) }
+    {
+        self.buffer.field_mut(field::CODE)[0] = value;
+    }
+
+    /// Writes the checksum. Asks 4 bytes.
+    pub fn set_checksum(&mut self, value: u16)
+        requires { Reaches checksum_field (T.bytes (inner self.old)) }
+        ensures writes { Writes T.bytes T.put (inner self.old) (inner self.new) checksum_field (big_bytes 2 value) }
+        ensures len { length (T.bytes (inner self.new)) ≡ length (T.bytes (inner self.old)) }
+    {
+        BigEndian::write_u16(self.buffer.field_mut(field::CHECKSUM), value);
+    }
+
+    /// Writes the identifier of an echo. Asks 6 bytes.
+    pub fn set_echo_ident(&mut self, value: u16)
+        requires { Reaches ident_field (T.bytes (inner self.old)) }
+        ensures writes { Writes T.bytes T.put (inner self.old) (inner self.new) ident_field (big_bytes 2 value) }
+        ensures len { length (T.bytes (inner self.new)) ≡ length (T.bytes (inner self.old)) }
+    {
+        BigEndian::write_u16(self.buffer.field_mut(field::ECHO_IDENT), value);
+    }
+
+    /// Writes the sequence number of an echo. Asks 8 bytes.
+    pub fn set_echo_seq_no(&mut self, value: u16)
+        requires { Reaches seq_no_field (T.bytes (inner self.old)) }
+        ensures writes { Writes T.bytes T.put (inner self.old) (inner self.new) seq_no_field (big_bytes 2 value) }
+        ensures len { length (T.bytes (inner self.new)) ≡ length (T.bytes (inner self.old)) }
+    {
+        BigEndian::write_u16(self.buffer.field_mut(field::ECHO_SEQNO), value);
+    }
+
+    /// Writes the checksum of all the octets, in which its field counts as zero (RFC 792, RFC 1071). Asks 4 bytes.
+    pub fn fill_checksum(&mut self)
+        requires { Reaches checksum_field (T.bytes (inner self.old)) }
+        ensures sealed { inner self.new ≡ T.put (inner self.old)
+            (sealed checksum_field (T.bytes (inner self.old)) 0) }
+        ensures len { length (T.bytes (inner self.new)) ≡ length (T.bytes (inner self.old)) }
+    {
+        checksum::fill(&mut self.buffer, field::CHECKSUM);
+    }
+
+    /// Lends what stands after the header for writing; the header stays. Asks 8 bytes.
+    pub fn data_mut(&mut self) -> &mut [u8]
+        requires { Reaches header (T.bytes (inner self.old)) }
+        ensures* lends { sem 𝓛 (Lends (the_row T.row) (Array byte 0) self.entry result
+            (λ w. with_inner self.old (T.put (inner self.old)
+            (splice (T.bytes (inner self.old)) 8 (length (T.bytes (inner self.old))) w)))) }
+        ensures value { result.now ≡ data_in (T.bytes (inner self.old)) }
+        ensures len { length result.now ≡ length (T.bytes (inner self.old)) - 8 }
+    {
+        let len = self.buffer.octets().len();
+        self.buffer.range_mut(field::HEADER_END, len)
+    }
+}
+
+/// A message (RFC 792).
+#[derive(Debug, PartialEq, Eq, Clone, Copy)]
+pub enum Repr<'a> {
+    /// An echo request.
+    EchoRequest {
+        ident: u16,
+        seq_no: u16,
+        data: &'a [u8],
+    },
+    /// An echo reply.
+    EchoReply {
+        ident: u16,
+        seq_no: u16,
+        data: &'a [u8],
+    },
+}
+
+impl<'a> Repr<'a> {
+    /// The message in the octets. Refused where they are fewer than 8, where their checksum is to be verified and
+    /// isn't good, and where it is none of these messages; an echo has code 0.
+    pub fn parse(
+        packet: &Packet<&'a [u8]>,
+        checksum_caps: &ChecksumCapabilities,
+    ) -> Result<Repr<'a>>
+        ensures sound { IfOk result (λ repr.
+            IsMessage checksum_caps.now (inner packet.now).now (value_of repr)) }
+        ensures complete { (value : MessageValue)
+            → IsMessage checksum_caps.now (inner packet.now).now value
+            → IsOkAnd result (λ repr. value_of repr ≡ value) }
+    {
+        packet.check_len()?;
+        if checksum_caps.icmpv4.rx() && !packet.verify_checksum() {
+            return Err(Error);
+        }
+        match (packet.msg_type(), packet.msg_code()) {
+            (Message::EchoRequest, 0) => Ok(Repr::EchoRequest {
+                ident: packet.echo_ident(),
+                seq_no: packet.echo_seq_no(),
+                data: packet.data(),
+            }),
+            (Message::EchoReply, 0) => Ok(Repr::EchoReply {
+                ident: packet.echo_ident(),
+                seq_no: packet.echo_seq_no(),
+                data: packet.data(),
+            }),
+            _ => Err(Error),
+        }
+    }
+
+    /// The bytes that the message takes. Asks that a `usize` holds their number.
+    #[tactic(auto, using(crate::proofs::Icmpv4Texts::texts))]
+    pub fn buffer_len(&self) -> usize
+        requires { length (body (value_of self.now)) < 2 ^ 64 }
+        ensures { result ≡ length (body (value_of self.now)) }
+    {
+        match self {
+            Repr::EchoRequest { data, .. } => field::HEADER_END + data.len(),
+            Repr::EchoReply { data, .. } => field::HEADER_END + data.len(),
+        }
+    }
+
+    /// Writes the message over the front of the octets, as far as they go, and then, where the capabilities have it
+    /// computed, the checksum of all of them. Asks 8 bytes of an echo.
+    pub fn emit<T: OctetsMut>(
+        &self,
+        packet: &mut Packet<T>,
+        checksum_caps: &ChecksumCapabilities,
+    )
+        requires { HasRoom (value_of self.now) (T.bytes (inner packet.old)) }
+        ensures text { inner packet.new ≡ T.put (inner packet.old) (seal checksum_caps.now
+            (over_front (T.bytes (inner packet.old)) (body (value_of self.now)))) }
+
+        // In a buffer of the packet's length there is its text alone, and a canonical value is read back as its
+        // normal form, which is canonical and its own normal form, where the checksum is filled if it is verified.
+        ensures exact { length (T.bytes (inner packet.old)) ≡ length (body (value_of self.now))
+            → T.bytes (inner packet.new) ≡ seal checksum_caps.now (body (value_of self.now)) }
+        ensures reads_back { IsCanonical (value_of self.now) → Fills checksum_caps.now
+            → length (T.bytes (inner packet.old)) ≡ length (body (value_of self.now))
+            → IsMessage checksum_caps.now (T.bytes (inner packet.new)) (norm (value_of self.now)) }
+        ensures canonical { IsCanonical (value_of self.now) → IsCanonical (norm (value_of self.now)) }
+        ensures settled { norm (norm (value_of self.now)) ≡ norm (value_of self.now) }
+    {
+        self.write(packet);
+        packet.seal(checksum_caps);
+    }
+
+    // Writes the message, with the checksum zero.
+    fn write<T: OctetsMut>(&self, packet: &mut Packet<T>)
+        requires { HasRoom (value_of self.now) (T.bytes (inner packet.old)) }
+        ensures text { inner packet.new ≡ T.put (inner packet.old)
+            (over_front (T.bytes (inner packet.old)) (body (value_of self.now))) }
+        ensures len { length (T.bytes (inner packet.new)) ≡ length (T.bytes (inner packet.old)) }
+    {
+        match *self {
+            Repr::EchoRequest { ident, seq_no, data } => {
+                packet.write_echo(Message::EchoRequest, ident, seq_no, data);
+            }
+            Repr::EchoReply { ident, seq_no, data } => {
+                packet.write_echo(Message::EchoReply, ident, seq_no, data);
+            }
+        }
+    }
+}
+
+impl<T: OctetsMut> Packet<T> {
+    // Writes the checksum, where it is computed.
+    fn seal(&mut self, checksum_caps: &ChecksumCapabilities)
+        requires { Reaches checksum_field (T.bytes (inner self.old)) }
+        ensures { inner self.new ≡ T.put (inner self.old)
+            (seal checksum_caps.now (T.bytes (inner self.old))) }
+    {
+        if checksum_caps.icmpv4.tx() {
+            self.fill_checksum();
+        }
+    }
+
+    // Writes an echo of this type, with the checksum zero.
+    fn write_echo(&mut self, kind: Message, ident: u16, seq_no: u16, data: &[u8])
+        requires { Reaches header (T.bytes (inner self.old)) }
+        ensures text { inner self.new ≡ T.put (inner self.old) (over_front (T.bytes (inner self.old))
+            (echo_header (message_number kind) ident seq_no ++ «data».now)) }
+        ensures len { length (T.bytes (inner self.new)) ≡ length (T.bytes (inner self.old)) }
+    {
+        self.write_echo_header(kind, ident, seq_no);
+        write_front(self.data_mut(), data);
+    }
+
+    #[tactic(auto, using(wirebase::proofs::Pieces::pieces), unfolding(crate::specs::Icmpv4::echo_header))]
+    fn write_echo_header(&mut self, kind: Message, ident: u16, seq_no: u16)
+        requires { Reaches header (T.bytes (inner self.old)) }
+        ensures text { inner self.new ≡ T.put (inner self.old)
+            (over (T.bytes (inner self.old)) (echo_header (message_number kind) ident seq_no)) }
+        ensures len { length (T.bytes (inner self.new)) ≡ length (T.bytes (inner self.old)) }
+    {
+        self.set_msg_type(kind);
+        self.set_msg_code(0);
+        self.set_checksum(0);
+        self.set_echo_ident(ident);
+        self.set_echo_seq_no(seq_no);
     }
 }

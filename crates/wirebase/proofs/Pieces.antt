@@ -1,9 +1,10 @@
 -- Lemmas on parts of a list of bytes and on writes into it.
-use Rattle.std.proofs.Common.{◌≡◌, ℕ, ◌+◌, ◌-◌, ◌<◌, ◌≤◌, List, [], ◌∷◌, ◌++◌, length, take, drop, slice_index, slice_set, refl, sym, ap, ◌∙◌, arith, length-append, length-drop}
-use Rattle.std.proofs.lemmas.List.{append_assoc, append-nil, take_at, take-append-le, drop-append-le, drop_at, drop-drop, drop_all, take-append-drop, take_all, length-take-le, get_or-take, get_or-drop, get_or-append_right, get_or_append_left}
+use Rattle.std.proofs.Common.{◌≡◌, ℕ, ◌+◌, ◌-◌, ◌<◌, ◌≤◌, min, List, [], ◌∷◌, ◌++◌, length, take, drop, slice_index, slice_set, refl, sym, ap, ◌∙◌, arith, length-append, length-drop}
+use Rattle.std.proofs.lemmas.List.{append_assoc, append-nil, take_at, take-append-le, drop-append-le, drop_at, drop-drop, drop_all, take-append-drop, take_all, length-take, length-take-le, take_min, get_or-take, get_or-drop, get_or-append_right, get_or_append_left}
+use Rattle.std.proofs.Math.Seq.{take-append-add}
 use Rattle.byteorder.specs.Endian.{big_bytes}
 use Rattle.byteorder.specs.Numbers.{length-bytes_high_first}
-use Rattle.wirebase.specs.Bytes.{part, splice, over}
+use Rattle.wirebase.specs.Bytes.{part, splice, over, over_front}
 
 pub length-part : (xs : List ℕ) (i j : ℕ) → i ≤ j → j ≤ length xs → length (part xs i j) ≡ j - i
 unfolding part
@@ -101,6 +102,32 @@ pub part-tail : (old : List ℕ) (i n : ℕ) → length old ≤ n → part old i
 unfolding part
 part-tail old i n h = take_all (n - i) (drop i old) (omega (arith, length-drop i old))
 
+-- as much of a text as there is room for: it keeps the length, and it is written in one copy
+pub length-over_front : (old w : List ℕ) → length (over_front old w) ≡ length old
+length-over_front old w = length-over old (take (length old) w) (omega (arith, length-take {A = ℕ} (length old) w))
+
+pub over_front-min : (old w : List ℕ) (n : ℕ) → n ≡ min (length w) (length old) → take n w ++ drop n old ≡ over_front old w
+unfolding over
+over_front-min old w n e =
+    let count : n ≡ min (length old) (length w) = omega (arith, e) in
+    let long : length (take (length old) w) ≡ n = length-take {A = ℕ} (length old) w ∙ sym count in
+    let front : take n w ≡ take (length old) w = ap (λ (k : ℕ). take k w) count ∙ take_min (length old) w in
+    ap (λ (l : List ℕ). l ++ drop n old) front ∙ ap (λ (k : ℕ). take (length old) w ++ drop k old) (sym long)
+
+pub over_front-exact : (old w : List ℕ) → length old ≡ length w → over_front old w ≡ w
+over_front-exact old w e = ap (λ (l : List ℕ). over old l) (take_all (length old) w (omega (arith, e))) ∙ over-exact old w e
+
+-- after a text, up to the end
+pub over-after_front : (old text w rest : List ℕ) (i n : ℕ) → length text ≡ i → length old ≡ n → i ≤ n → rest ≡ drop i (over old text) → splice (over old text) i n (over_front rest w) ≡ over_front old (text ++ w)
+over-after_front old text w rest i n e f h is =
+    let now : List ℕ = over old text in
+    let long : length now ≡ n = length-over old text (omega arith) ∙ f in
+    let room : length (drop i now) ≡ n - i = length-drop i now ∙ ap (λ (k : ℕ). k - i) long in
+    let count : length text + (n - i) ≡ length old = omega arith in
+    splice-tail now (over_front rest w) i n (omega arith) ∙ ap (λ (l : List ℕ). take i now ++ over_front l w) is
+    ∙ ap (λ (k : ℕ). take i now ++ over (drop i now) (take k w)) room ∙ over-after old text (take (n - i) w) i e
+    ∙ ap (λ (l : List ℕ). over old l) (sym (take-append-add text w (n - i)) ∙ ap (λ (k : ℕ). take k (text ++ w)) count)
+
 -- a write of all bytes, and all bytes
 pub splice-whole : (old w : List ℕ) (n : ℕ) → n ≡ length old → splice old 0 n w ≡ w
 unfolding splice
@@ -111,4 +138,4 @@ unfolding part
 part-whole old n e = take_all (n - 0) old (omega (arith, e))
 
 -- what the setters and the emitters need
-pub ruleset pieces = (length-part, length-splice, length-over, length-big_bytes, splice-front, splice-over, splice-inside, append-drop_whole, over-exact, slice_set-one, slice_index-splice, slice_index-splice_one, slice_index-part, splice-tail, part-tail, splice-whole, part-whole, length-append, append-nil, drop_all)
+pub ruleset pieces = (length-part, length-splice, length-over, length-big_bytes, splice-front, splice-over, splice-inside, append-drop_whole, over-exact, slice_set-one, slice_index-splice, slice_index-splice_one, slice_index-part, splice-tail, part-tail, length-over_front, over_front-min, over_front-exact, splice-whole, part-whole, length-append, append-nil, drop_all)

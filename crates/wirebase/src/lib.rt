@@ -9,7 +9,7 @@ pub mod duration;
 pub mod error;
 pub mod octets;
 
-pub use capabilities::{Checksum, ChecksumCapabilities};
+pub use capabilities::ChecksumCapabilities;
 pub use config::IPV6_HBH_MAX_OPTIONS;
 pub use duration::Duration;
 pub use error::{Error, Result};

@@ -4,7 +4,7 @@ ghost use Rattle.std.specs.Prelude.{◌≡◌, ◌≤◌, ◌-◌, [], length, L
 ghost use Rattle.std.specs.Borrow.{sem, Lends, Array, u8 as byte};
 ghost use denote.Slice.{MutSlice};
 ghost use mir.Syntax.{named};
-ghost use Rattle.wirebase.specs.Bytes.{part, splice};
+ghost use Rattle.wirebase.specs.Bytes.{part, splice, over_front};
 
 use std::ops::Range;
 
@@ -125,4 +125,13 @@ impl OctetsMut for &mut [u8] {
     {
         &mut self[from..to]
     }
+}
+
+/// Writes the bytes over the front of the octets, as many as there is room for; later octets stay.
+#[tactic(auto, using(crate::proofs::Pieces::pieces))]
+pub fn write_front(octets: &mut [u8], bytes: &[u8])
+    ensures { octets.new ≡ over_front octets.old bytes.now }
+{
+    let len = bytes.len().min(octets.len());
+    octets[..len].copy_from_slice(&bytes[..len]);
 }
