@@ -1,19 +1,22 @@
 //! The Internet Control Message Protocol (RFC 792).
 #![tactic(auto, using(wirebase::proofs::Pieces::pieces))]
 
-ghost use Rattle.std.specs.Prelude.{◌≡◌, ◌≤◌, ◌<◌, ◌-◌, ◌^◌, ◌++◌, ◌↔◌, [], ◌∷◌, length, IsTrue, IsOk, IfOk, IsOkAnd};
+ghost use Rattle.std.specs.Prelude.{◌≡◌, ◌≤◌, ◌<◌, ◌+◌, ◌-◌, ◌^◌, ℕ, List, ◌++◌, ◌↔◌, [], ◌∷◌, length, IsTrue, IsOk, IfOk, IsOkAnd};
 ghost use Rattle.std.specs.Borrow.{sem, Lends, Array, u8 as byte};
 ghost use Rattle.byteorder.specs.Endian.{big_bytes};
 ghost use Rattle.wirebase.specs.Bytes.{splice, over, over_front, Reaches, Writes, ComparesOctets, byte_of, number_of};
 ghost use Rattle.wirebase.specs.Checksum.{IsGood, sealed};
 ghost use Rattle.wirebase.specs.Numbered.{IsProper, IsTableOrder, IsEqualityOf};
 ghost use Rattle.icmp4_wire.specs.Icmpv4Tables.{message_number, message_rows, message_of, unreachable_number, unreachable_rows, unreachable_of, redirect_number, redirect_rows, redirect_of, time_exceeded_number, time_exceeded_rows, time_exceeded_of, param_problem_number, param_problem_rows, param_problem_of};
-ghost use Rattle.icmp4_wire.specs.Icmpv4.{inner, with_inner, octets_of, type_field, code_field, checksum_field, ident_field, seq_no_field, header, data_in, MessageValue, value_of, echo_header, body, seal, HasRoom, IsMessage, IsCanonical, Fills, norm};
+ghost use Rattle.icmp4_wire.specs.Icmpv4.{inner, with_inner, octets_of, type_field, code_field, checksum_field, ident_field, seq_no_field, header, data_in, MessageValue, value_of, header_text, quote_text, body, packet_len, seal, CanEmit, IsQuote, IsMessage, IsCanonical, Fills, norm};
+ghost use Rattle.wirebase.specs.Ipv4.{header_text as ipv4_header_text};
+ghost use Rattle.wirebase.specs.declared.capabilities.ChecksumCapabilities.{ChecksumCapabilities};
+ghost use Rattle.wirebase.specs.declared.ipv4.Ipv4Repr.{Ipv4Repr};
 ghost use Rattle.icmp4_wire.specs.contracts.icmpv4.Packet.{the_row};
 
 use byteorder::{BigEndian, ByteOrder};
 use wirebase::octets::write_front;
-use wirebase::{ChecksumCapabilities, Error, Octets, OctetsMut, Result, checksum};
+use wirebase::{ChecksumCapabilities, Error, Ipv4Packet, Ipv4Repr, Octets, OctetsMut, Result, checksum};
 
 /// The type of a message, one byte (RFC 792).
 #[derive(Debug, PartialEq, Eq, PartialOrd, Ord, Clone, Copy)]
@@ -346,12 +349,13 @@ mod field {
     pub const TYPE: Field = 0..1;
     pub const CODE: Field = 1..2;
     pub const CHECKSUM: Field = 2..4;
-    // What stands here of an error is unused.
-    pub const UNUSED: Field = 4..8;
     pub const ECHO_IDENT: Field = 4..6;
     pub const ECHO_SEQNO: Field = 6..8;
     pub const HEADER_END: usize = 8;
 }
+
+// The bytes that stand at least behind the header that an error quotes.
+const MIN_QUOTED_DATA: usize = 8;
 
 /// A view of the octets of a message.
 #[derive(Debug, PartialEq, Eq, Clone, Drop)]
@@ -553,11 +557,27 @@ pub enum Repr<'a> {
         seq_no: u16,
         data: &'a [u8],
     },
+    /// An error: the destination of the quoted packet is unreachable.
+    DstUnreachable {
+        reason: DstUnreachable,
+        header: Ipv4Repr,
+        /// What stands behind the quoted header.
+        data: &'a [u8],
+    },
+    /// An error: a time of the quoted packet was exceeded.
+    TimeExceeded {
+        reason: TimeExceeded,
+        header: Ipv4Repr,
+        /// What stands behind the quoted header.
+        data: &'a [u8],
+    },
 }
 
 impl<'a> Repr<'a> {
     /// The message in the octets. Refused where they are fewer than 8, where their checksum is to be verified and
-    /// isn't good, and where it is none of these messages; an echo has code 0.
+    /// isn't good, and where it is none of these messages; an echo has code 0, and an error quotes a packet that is
+    /// whole by its own lengths, with 8 bytes or more behind its header. All that stands behind that header is the
+    /// data, and its bytes are the `payload_len`.
     pub fn parse(
         packet: &Packet<&'a [u8]>,
         checksum_caps: &ChecksumCapabilities,
@@ -583,6 +603,22 @@ impl<'a> Repr<'a> {
                 seq_no: packet.echo_seq_no(),
                 data: packet.data(),
             }),
+            (Message::DstUnreachable, code) => {
+                let (header, data) = read_quote(packet.data())?;
+                Ok(Repr::DstUnreachable {
+                    reason: code.into(),
+                    header,
+                    data,
+                })
+            }
+            (Message::TimeExceeded, code) => {
+                let (header, data) = read_quote(packet.data())?;
+                Ok(Repr::TimeExceeded {
+                    reason: code.into(),
+                    header,
+                    data,
+                })
+            }
             _ => Err(Error),
         }
     }
@@ -590,45 +626,54 @@ impl<'a> Repr<'a> {
     /// The bytes that the message takes. Asks that a `usize` holds their number.
     #[tactic(auto, using(crate::proofs::Icmpv4Texts::texts))]
     pub fn buffer_len(&self) -> usize
-        requires { length (body (value_of self.now)) < 2 ^ 64 }
-        ensures { result ≡ length (body (value_of self.now)) }
+        requires { packet_len (value_of self.now) < 2 ^ 64 }
+        ensures value { result ≡ packet_len (value_of self.now) }
+        ensures exact { (capabilities : ChecksumCapabilities)
+            → result ≡ length (body capabilities (value_of self.now)) }
     {
         match self {
             Repr::EchoRequest { data, .. } => field::HEADER_END + data.len(),
             Repr::EchoReply { data, .. } => field::HEADER_END + data.len(),
+            Repr::DstUnreachable { header, data, .. } => {
+                field::HEADER_END + header.buffer_len() + data.len()
+            }
+            Repr::TimeExceeded { header, data, .. } => {
+                field::HEADER_END + header.buffer_len() + data.len()
+            }
         }
     }
 
     /// Writes the message over the front of the octets, as far as they go, and then, where the capabilities have it
-    /// computed, the checksum of all of them. Asks 8 bytes of an echo.
+    /// computed, the checksum of all of them. Asks 8 bytes or more of an echo; of an error just its length, and that
+    /// the quoted `payload_len` is at most 65,515.
     pub fn emit<T: OctetsMut>(
         &self,
         packet: &mut Packet<T>,
         checksum_caps: &ChecksumCapabilities,
     )
-        requires { HasRoom (value_of self.now) (T.bytes (inner packet.old)) }
+        requires { CanEmit (value_of self.now) (T.bytes (inner packet.old)) }
         ensures text { inner packet.new ≡ T.put (inner packet.old) (seal checksum_caps.now
-            (over_front (T.bytes (inner packet.old)) (body (value_of self.now)))) }
+            (over_front (T.bytes (inner packet.old)) (body checksum_caps.now (value_of self.now)))) }
 
         // In a buffer of the packet's length there is its text alone, and a canonical value is read back as its
         // normal form, which is canonical and its own normal form, where the checksum is filled if it is verified.
-        ensures exact { length (T.bytes (inner packet.old)) ≡ length (body (value_of self.now))
-            → T.bytes (inner packet.new) ≡ seal checksum_caps.now (body (value_of self.now)) }
+        ensures exact { length (T.bytes (inner packet.old)) ≡ length (body checksum_caps.now (value_of self.now))
+            → T.bytes (inner packet.new) ≡ seal checksum_caps.now (body checksum_caps.now (value_of self.now)) }
         ensures reads_back { IsCanonical (value_of self.now) → Fills checksum_caps.now
-            → length (T.bytes (inner packet.old)) ≡ length (body (value_of self.now))
+            → length (T.bytes (inner packet.old)) ≡ length (body checksum_caps.now (value_of self.now))
             → IsMessage checksum_caps.now (T.bytes (inner packet.new)) (norm (value_of self.now)) }
         ensures canonical { IsCanonical (value_of self.now) → IsCanonical (norm (value_of self.now)) }
         ensures settled { norm (norm (value_of self.now)) ≡ norm (value_of self.now) }
     {
-        self.write(packet);
+        self.write(packet, checksum_caps);
         packet.seal(checksum_caps);
     }
 
     // Writes the message, with the checksum zero.
-    fn write<T: OctetsMut>(&self, packet: &mut Packet<T>)
-        requires { HasRoom (value_of self.now) (T.bytes (inner packet.old)) }
+    fn write<T: OctetsMut>(&self, packet: &mut Packet<T>, checksum_caps: &ChecksumCapabilities)
+        requires { CanEmit (value_of self.now) (T.bytes (inner packet.old)) }
         ensures text { inner packet.new ≡ T.put (inner packet.old)
-            (over_front (T.bytes (inner packet.old)) (body (value_of self.now))) }
+            (over_front (T.bytes (inner packet.old)) (body checksum_caps.now (value_of self.now))) }
         ensures len { length (T.bytes (inner packet.new)) ≡ length (T.bytes (inner packet.old)) }
     {
         match *self {
@@ -637,6 +682,22 @@ impl<'a> Repr<'a> {
             }
             Repr::EchoReply { ident, seq_no, data } => {
                 packet.write_echo(Message::EchoReply, ident, seq_no, data);
+            }
+            Repr::DstUnreachable {
+                reason,
+                header,
+                data,
+            } => {
+                let code = reason.into();
+                packet.write_error(Message::DstUnreachable, code, &header, data, checksum_caps);
+            }
+            Repr::TimeExceeded {
+                reason,
+                header,
+                data,
+            } => {
+                let code = reason.into();
+                packet.write_error(Message::TimeExceeded, code, &header, data, checksum_caps);
             }
         }
     }
@@ -658,24 +719,93 @@ impl<T: OctetsMut> Packet<T> {
     fn write_echo(&mut self, kind: Message, ident: u16, seq_no: u16, data: &[u8])
         requires { Reaches header (T.bytes (inner self.old)) }
         ensures text { inner self.new ≡ T.put (inner self.old) (over_front (T.bytes (inner self.old))
-            (echo_header (message_number kind) ident seq_no ++ «data».now)) }
+            (header_text (message_number kind) 0 ident seq_no ++ «data».now)) }
         ensures len { length (T.bytes (inner self.new)) ≡ length (T.bytes (inner self.old)) }
     {
-        self.write_echo_header(kind, ident, seq_no);
+        self.write_header(kind, 0, ident, seq_no);
         write_front(self.data_mut(), data);
     }
 
-    #[tactic(auto, using(wirebase::proofs::Pieces::pieces), unfolding(crate::specs::Icmpv4::echo_header))]
-    fn write_echo_header(&mut self, kind: Message, ident: u16, seq_no: u16)
+    // Writes an error of this type, with the checksum zero.
+    fn write_error(
+        &mut self,
+        kind: Message,
+        code: u8,
+        quoted: &Ipv4Repr,
+        data: &[u8],
+        checksum_caps: &ChecksumCapabilities,
+    )
+        requires room { length (T.bytes (inner self.old)) ≡ 28 + length «data».now }
+        requires count { quoted.now.payload_len ≤ 65515 }
+        ensures text { inner self.new ≡ T.put (inner self.old) (over_front (T.bytes (inner self.old))
+            (header_text (message_number kind) code 0 0
+            ++ quote_text checksum_caps.now quoted.now «data».now)) }
+        ensures len { length (T.bytes (inner self.new)) ≡ length (T.bytes (inner self.old)) }
+    {
+        self.write_header(kind, code, 0, 0);
+        write_quote(quoted, data, checksum_caps, self.data_mut());
+    }
+
+    // Writes a header, with the checksum zero. An error has no identifier and no sequence number: zeros.
+    #[tactic(auto, using(wirebase::proofs::Pieces::pieces), unfolding(crate::specs::Icmpv4::header_text))]
+    fn write_header(&mut self, kind: Message, code: u8, ident: u16, seq_no: u16)
         requires { Reaches header (T.bytes (inner self.old)) }
         ensures text { inner self.new ≡ T.put (inner self.old)
-            (over (T.bytes (inner self.old)) (echo_header (message_number kind) ident seq_no)) }
+            (over (T.bytes (inner self.old)) (header_text (message_number kind) code ident seq_no)) }
         ensures len { length (T.bytes (inner self.new)) ≡ length (T.bytes (inner self.old)) }
     {
         self.set_msg_type(kind);
-        self.set_msg_code(0);
+        self.set_msg_code(code);
         self.set_checksum(0);
         self.set_echo_ident(ident);
         self.set_echo_seq_no(seq_no);
     }
+}
+
+// The header that an error quotes, and all that stands behind it (RFC 792).
+fn read_quote(octets: &[u8]) -> Result<(Ipv4Repr, &[u8])>
+    ensures sound { IfOk result (λ quote_. IsQuote octets.now quote_.0 quote_.1.now) }
+    ensures complete { (quoted : Ipv4Repr) (behind : List ℕ) → IsQuote octets.now quoted behind
+        → IsOkAnd result (λ quote_. (quote_.0 ≡ quoted) × (quote_.1.now ≡ behind)) }
+{
+    let packet = Ipv4Packet::new_checked(octets)?;
+    let header_len = packet.header_len() as usize;
+    if octets.len() < header_len + MIN_QUOTED_DATA {
+        return Err(Error);
+    }
+    let data = &octets[header_len..];
+    let header = Ipv4Repr {
+        src_addr: packet.src_addr(),
+        dst_addr: packet.dst_addr(),
+        next_header: packet.next_header(),
+        payload_len: data.len(),
+        hop_limit: packet.hop_limit(),
+    };
+    Ok((header, data))
+}
+
+// Writes a quoted header and the data behind it into octets of just their length.
+fn write_quote(
+    quoted: &Ipv4Repr,
+    data: &[u8],
+    checksum_caps: &ChecksumCapabilities,
+    octets: &mut [u8],
+)
+    requires room { length octets.old ≡ 20 + length «data».now }
+    requires count { quoted.now.payload_len ≤ 65515 }
+    ensures { octets.new ≡ quote_text checksum_caps.now quoted.now «data».now }
+{
+    write_quoted_header(quoted, checksum_caps, octets);
+    let header_len = quoted.buffer_len();
+    octets[header_len..].copy_from_slice(data);
+}
+
+// Writes a quoted header over the front of the octets.
+fn write_quoted_header(quoted: &Ipv4Repr, checksum_caps: &ChecksumCapabilities, octets: &mut [u8])
+    requires room { 20 ≤ length octets.old }
+    requires count { quoted.now.payload_len ≤ 65515 }
+    ensures { octets.new ≡ over octets.old (ipv4_header_text quoted.now checksum_caps.now) }
+{
+    let mut packet = Ipv4Packet::new_unchecked(octets);
+    quoted.emit(&mut packet, checksum_caps);
 }
