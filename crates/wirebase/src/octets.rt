@@ -78,6 +78,8 @@ pub trait OctetsMut: Octets {
     ghost bytes_put: { (s : Self) (w : List ℕ) → Self.bytes (put s w) ≡ w };
 
     ghost put_put: { (s : Self) (v w : List ℕ) → put (put s v) w ≡ put s w };
+
+    ghost put_bytes: { (s : Self) → put s (Self.bytes s) ≡ s };
 }
 
 impl Octets for &[u8] {
@@ -114,6 +116,8 @@ impl OctetsMut for &mut [u8] {
     ghost bytes_put = { λ s w. refl };
 
     ghost put_put = { λ s v w. refl };
+
+    ghost put_bytes = { λ s. refl };
 
     fn range_mut(&mut self, from: usize, to: usize) -> &mut [u8]
         requires order { from ≤ to }
