@@ -1,1 +1,2 @@
+pub mod Icmpv4Grammar
 pub mod Icmpv4Texts

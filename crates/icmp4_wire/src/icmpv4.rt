@@ -809,3 +809,6 @@ fn write_quoted_header(quoted: &Ipv4Repr, checksum_caps: &ChecksumCapabilities, 
     let mut packet = Ipv4Packet::new_unchecked(octets);
     quoted.emit(&mut packet, checksum_caps);
 }
+
+#[cfg(test)]
+mod tests;

@@ -2,14 +2,12 @@
 use Rattle.std.proofs.Common.{◌≡◌, ℕ, zero, suc, ◌+◌, ◌-◌, ◌<◌, ◌≤◌, List, [], ◌∷◌, ◌++◌, length, take, drop, map, get_or, sum_by, refl, sym, ap, ◌∙◌, arith, length-append}
 use Rattle.std.specs.List.{flat_map, AllByRecursion}
 use Rattle.std.proofs.lemmas.List.{length-replicate, length-take-le, append-nil, take_more, take_rest, drop_all, length-drop}
-use borrow.Rule.Slice.PartMut.{put_mid}
 use Rattle.std.proofs.lemmas.List.Folds.{flat_map-map, length-flat_map-take}
 use Rattle.std.proofs.lemmas.Grind.{flat_map-append}
 use Rattle.std.proofs.lemmas.List.Sums.{sum_by-cons}
 use Rattle.std.proofs.lemmas.List.Concat.{flat_map-cons}
 use Rattle.byteorder.specs.Endian.{big_bytes}
-use Rattle.wirebase.specs.Bytes.{over}
-use Rattle.wirebase.proofs.Pieces.{length-big_bytes, over-after}
+use Rattle.wirebase.proofs.Pieces.{length-big_bytes}
 use Rattle.opt_wire.specs.Ipv6OptionTables.{alert_number}
 use Rattle.opt_wire.specs.declared.ipv6option.Repr.{Repr}
 use Rattle.opt_wire.specs.Ipv6Option.{OptionValue, value_of, pad1, pad_n, router_alert, unknown, text, counted_len, HasData}
@@ -53,11 +51,3 @@ pub texts-room : (options : List Repr) (i : ℕ) (d : Repr) → i < length optio
 texts-room options i d l =
     let part = length-flat_map-take (λ o. text (value_of o)) options i d l in
     omega (arith, part, ap length (texts-map (take i options)), ap length (texts-map options))
-
--- a text laid over what follows those that are written, as a part of the bytes that reaches to their end
-pub texts-written : (old done w bytes new : List ℕ) (at : ℕ) → at ≡ length done → bytes ≡ over old done → new ≡ over (take (length bytes - at) (drop at bytes)) w → put_mid at (length bytes - at) bytes new ≡ over old (done ++ w)
-texts-written old done w bytes new at place so_far is =
-    let nothing : drop (length bytes - at) (drop at bytes) ≡ [] = drop_all (length bytes - at) (drop at bytes) (omega (arith, length-drop at bytes)) in
-    let last : new ≡ over (drop at bytes) w = is ∙ ap (λ (l : List ℕ). over l w) (take_rest bytes at) in
-    ap (λ (l : List ℕ). take at bytes ++ (new ++ l)) nothing ∙ ap (λ (l : List ℕ). take at bytes ++ l) (append-nil new ∙ last)
-    ∙ ap (λ (l : List ℕ). take at l ++ over (drop at l) w) so_far ∙ over-after old done w at (sym place)

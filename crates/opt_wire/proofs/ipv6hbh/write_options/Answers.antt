@@ -1,11 +1,12 @@
 use Rattle.std.proofs.Common.{rules, refl, ◌≡◌, ◌+◌, ◌≤◌, ◌++◌, ℕ, List, length, take, drop, map, get_or, sym, ap, ◌∙◌, arith}
 use Rattle.std.proofs.lemmas.List.{take_rest, length-drop, length-append}
 use Rattle.wirebase.specs.Bytes.{over}
+use Rattle.wirebase.proofs.Pieces.{over-put_mid}
 use Rattle.opt_wire.specs.declared.ipv6option.Repr.TheVariants.{Pad1}
 use Rattle.opt_wire.specs.Ipv6Option.{value_of, HasData}
 use Rattle.opt_wire.specs.Ipv6Option as option
 use Rattle.opt_wire.specs.Ipv6Hbh.{text}
-use Rattle.opt_wire.proofs.Ipv6HbhText.{all_at, texts-more, texts-room, texts-written}
+use Rattle.opt_wire.proofs.Ipv6HbhText.{all_at, texts-more, texts-room}
 use Rattle.opt_wire.proofs.ipv6hbh.write_options.Goals as goal
 
 pub loop-option-init : goal.loop-option-init
@@ -46,6 +47,6 @@ loop-option-preserved c =
     let len = c.buffer_len-at.ensures.exact (all_at HasData value_of options i Pad1 c.requires.enough c.loop-option-test.true) in
     record {
       place = omega (arith, c.loop-option.invariant.place, len, ap length more, length-append done (option.text last));
-      written = texts-written c.args.bytes.now done (option.text last) c.loop-option.bytes c.write_option.new.bytes c.loop-option.at c.loop-option.invariant.place c.loop-option.invariant.written c.write_option.ensures
+      written = over-put_mid c.args.bytes.now done (option.text last) c.loop-option.bytes c.write_option.new.bytes c.loop-option.at c.loop-option.invariant.place c.loop-option.invariant.written c.write_option.ensures
         ∙ ap (λ (l : List ℕ). over c.args.bytes.now l) (sym more);
     }
