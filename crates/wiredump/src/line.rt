@@ -4,6 +4,8 @@ ghost use Rattle.std.specs.Prelude.{◌≡◌};
 ghost use Rattle.std.specs.Io.BufRead.{strip_last};
 
 use crate::hbh::show_hbh;
+use crate::icmp4::show_icmp4;
+use crate::igmp::show_igmp;
 use crate::printer::Printer;
 use crate::words::words_of;
 use crate::{Fault, read_word};
@@ -29,6 +31,8 @@ fn show_packet<W: Write>(
 ) -> io::Result<bool> {
     match how {
         [b"hbh"] => show_hbh(printer, packet)?,
+        [b"icmp4"] => show_icmp4(printer, packet)?,
+        [b"igmp"] => show_igmp(printer, packet)?,
         _ => return Ok(false),
     }
     Ok(true)

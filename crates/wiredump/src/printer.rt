@@ -2,6 +2,7 @@
 
 use std::io;
 use std::io::Write;
+use wirebase::{Duration, Ipv4Address};
 
 /// What may stand behind a field's name: a number, truth value, text, octets, or none of these.
 pub trait Value: Drop {
@@ -48,6 +49,20 @@ impl Value for bool {
 impl Value for &str {
     fn write_to<W: Write>(self, output: &mut W) -> io::Result<()> {
         output.write_all(self.as_bytes())
+    }
+}
+
+// An address with dots.
+impl Value for Ipv4Address {
+    fn write_to<W: Write>(self, output: &mut W) -> io::Result<()> {
+        write!(output, "{self}")
+    }
+}
+
+// A span of time in whole milliseconds.
+impl Value for Duration {
+    fn write_to<W: Write>(self, output: &mut W) -> io::Result<()> {
+        self.total_millis().write_to(output)
     }
 }
 

@@ -1,12 +1,22 @@
-use super::*;
+ghost use Rattle.std.specs.Prelude.{◌≡◌, ◌≤◌, length};
+
+use super::{
+    DstUnreachable, Message, Packet, ParamProblem, Redirect, Repr, TimeExceeded,
+};
 use std::test::Fail;
-use wirebase::Ipv4Address;
 use wirebase::capabilities::Checksum;
+use wirebase::{ChecksumCapabilities, IpProtocol, Ipv4Address, Ipv4Repr};
 
 // The octets that stand in a buffer before it is written into.
 const FILLS: [u8; 4] = [0x00, 0xff, 0x2a, 0xa5];
 
-const ALL: ChecksumCapabilities = all(Checksum::Both);
+const ALL: ChecksumCapabilities = ChecksumCapabilities {
+    ipv4: Checksum::Both,
+    udp: Checksum::Both,
+    tcp: Checksum::Both,
+    icmpv4: Checksum::Both,
+    icmpv6: Checksum::Both,
+};
 
 // The same for every protocol.
 const fn all(checksum: Checksum) -> ChecksumCapabilities {
@@ -143,8 +153,8 @@ fn errors_are_written(rt: HostRuntime) -> Result<(), Fail> {
         ] {
             let mut octets = [fill; 36];
             write_time_exceeded(&mut octets, reason);
-            assert_eq!(rt; octets[..4], first, "over {fill}");
-            assert_eq!(rt; octets[4..], PORT_UNREACHABLE[4..], "over {fill}");
+            assert_eq!(rt; &octets[..4], first.as_slice(), "over {fill}");
+            assert_eq!(rt; &octets[4..], &PORT_UNREACHABLE[4..], "over {fill}");
         }
     }
     Ok(())
