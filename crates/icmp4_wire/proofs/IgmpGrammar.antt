@@ -110,11 +110,7 @@ reads bytes group m r h e is_group of is =
           ∙ ap (λ (g : Ipv4Address). message_at (message_of front.number) front.code g) same.same_group ∙ front.is);
     }
 
--- ---- what a message has
-
-pub length-message : (bytes : List ℕ) (r : Repr) → IsMessage bytes r → 8 ≤ length bytes
-length-message bytes r h = let front = front_of bytes r h in omega (arith, ap length front.begins.whole)
-
+-- the group of a message is one that it may speak of
 pub group-message : (bytes : List ℕ) (r : Repr) (group : Ipv4Address) → octets_of group ≡ bytes_of group_field bytes → IsMessage bytes r → IsGroup group
 unfolding part
 group-message bytes r group e h =

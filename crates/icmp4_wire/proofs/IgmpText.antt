@@ -1,12 +1,12 @@
 -- The text of a message as it is written, field by field, and as it is read back.
 use Rattle.std.proofs.Common.{◌≡◌, ℕ, zero, suc, ◌*◌, ◌<◌, ◌≤◌, List, [], ◌∷◌, length, drop, refl, sym, ap, subst, ◌∙◌, eqb, arith}
 use Rattle.std.proofs.lemmas.Bool.{cond-false, ne_eqb}
-use Rattle.wirebase.specs.Bytes.{splice, over, Writes, byte_of}
+use Rattle.wirebase.specs.Bytes.{splice, over, with_field, Writes, byte_of}
 use Rattle.wirebase.specs.Checksum.{IsGood, zeroed, sealed}
 use Rattle.wirebase.specs.Ipv4.{octets_of}
 use Rattle.wirebase.specs.declared.ipv4.Ipv4Address.{Ipv4Address}
-use Rattle.wirebase.proofs.Pieces.{length-splice, length-over}
-use Rattle.wirebase.proofs.ChecksumSeals.{sealed-with_field, IsGood-sealed}
+use Rattle.wirebase.proofs.Pieces.{length-splice}
+use Rattle.wirebase.proofs.SealedWrites.{put-then, sealed-zeroed, IsGood-sealed_over}
 use Rattle.icmp4_wire.specs.declared.igmp.IgmpVersion.{IgmpVersion}
 use Rattle.icmp4_wire.specs.declared.igmp.IgmpVersion.TheVariants.{Version1, Version2}
 use Rattle.icmp4_wire.specs.declared.igmp.Repr.{Repr}
@@ -35,24 +35,19 @@ length-fields old number code group h =
     let two : length (splice (splice old 0 1 (number ∷ [])) 1 2 (code ∷ [])) ≡ length old = length-splice _ (code ∷ []) 1 2 (omega arith) (omega arith) refl ∙ one in
     length-splice _ (octets_of group) 4 8 (omega arith) (omega arith) refl ∙ two
 
-sealed-fields : (old : List ℕ) (number code : ℕ) (group : Ipv4Address) → 8 ≤ length old → sealed checksum_field (fields old number code group) 0 ≡ sealed checksum_field (over old (message number code group)) 0
-sealed-fields old number code group h =
-    sym (sealed-with_field checksum_field (fields old number code group) 0 refl (omega (arith, length-fields old number code group h)) (0 ∷ 0 ∷ []) refl)
-    ∙ ap (λ (l : List ℕ). sealed checksum_field l 0) (zeroed-fields old number code group h)
-
 -- the setters one after another, in what holds the bytes
 pub put-message : {T : Type 0} (bytes : T → List ℕ) (put : T → List ℕ → T) → ((s : T) (w : List ℕ) → bytes (put s w) ≡ w) → ((s : T) (v w : List ℕ) → put (put s v) w ≡ put s w)
     → (old typed coded grouped new : T) (number code : ℕ) (group : Ipv4Address) → 8 ≤ length (bytes old)
     → Writes bytes put old typed type_field (number ∷ []) → Writes bytes put typed coded code_field (code ∷ []) → Writes bytes put coded grouped group_field (octets_of group)
     → new ≡ put grouped (sealed checksum_field (bytes grouped) 0)
     → new ≡ put old (sealed checksum_field (over (bytes old) (message number code group)) 0)
-put-message {T = T} bytes put bytes_put put_put old typed coded grouped new number code group h types codes groups seals =
-    let one : bytes typed ≡ splice (bytes old) 0 1 (number ∷ []) = ap bytes types ∙ bytes_put _ _ in
-    let two : bytes coded ≡ splice (splice (bytes old) 0 1 (number ∷ [])) 1 2 (code ∷ []) = ap bytes codes ∙ bytes_put _ _ ∙ ap (λ (l : List ℕ). splice l 1 2 (code ∷ [])) one in
-    let all : bytes grouped ≡ fields (bytes old) number code group = ap bytes groups ∙ bytes_put _ _ ∙ ap (λ (l : List ℕ). splice l 4 8 (octets_of group)) two in
-    let place_coded : (w : List ℕ) → put coded w ≡ put old w = λ w. ap (λ (s : T). put s w) codes ∙ put_put _ _ _ ∙ ap (λ (s : T). put s w) types ∙ put_put _ _ _ in
-    let place : (w : List ℕ) → put grouped w ≡ put old w = λ w. ap (λ (s : T). put s w) groups ∙ put_put _ _ _ ∙ place_coded w in
-    seals ∙ place _ ∙ ap (λ (l : List ℕ). put old (sealed checksum_field l 0)) all ∙ ap (put old) (sealed-fields (bytes old) number code group h)
+put-message bytes put bytes_put put_put old typed coded grouped new number code group h types codes groups seals =
+    let type = with_field type_field (number ∷ []) in
+    let two = put-then bytes put bytes_put put_put old typed coded type (with_field code_field (code ∷ [])) types codes in
+    let three = put-then bytes put bytes_put put_put old coded grouped (λ l. with_field code_field (code ∷ []) (type l)) (with_field group_field (octets_of group)) two groups in
+    let all = put-then bytes put bytes_put put_put old grouped new (λ l. fields l number code group) (λ l. sealed checksum_field l 0) three seals in
+    let reach : 4 ≤ length (fields (bytes old) number code group) = omega (arith, length-fields (bytes old) number code group h) in
+    all ∙ ap (put old) (sealed-zeroed checksum_field (fields (bytes old) number code group) _ 0 refl reach (zeroed-fields (bytes old) number code group h))
 
 -- ---- the sealed text
 
@@ -62,9 +57,7 @@ length-text (MembershipReport group version) = refl
 length-text (LeaveGroup group) = refl
 
 pub good-text : (old : List ℕ) (r : Repr) → 8 ≤ length old → IsGood (sealed checksum_field (over old (text r)) 0) 0
-good-text old r h =
-    let long : length (text r) ≡ 8 = length-text r in
-    IsGood-sealed checksum_field (over old (text r)) 0 refl (omega (arith, length-over old (text r) (omega arith))) refl
+good-text old r h = IsGood-sealed_over checksum_field old (text r) 0 refl refl (omega (arith, length-text r)) (omega (arith, length-text r))
 
 sealed-front : (old : List ℕ) (number code : ℕ) (group : Ipv4Address) → IsGroup group → BeginsWith (sealed checksum_field (over old (message number code group)) 0) number code group
 unfolding sealed splice over

@@ -16,7 +16,9 @@ ghost use Rattle.icmp4_wire.specs.contracts.icmpv4.Packet.{the_row};
 
 use byteorder::{BigEndian, ByteOrder};
 use wirebase::octets::write_front;
-use wirebase::{ChecksumCapabilities, Error, Ipv4Packet, Ipv4Repr, Octets, OctetsMut, Result, checksum};
+use wirebase::{
+    ChecksumCapabilities, Error, Ipv4Packet, Ipv4Repr, Octets, OctetsMut, Result, checksum,
+};
 
 /// The type of a message, one byte (RFC 792).
 #[derive(Debug, PartialEq, Eq, PartialOrd, Ord, Clone, Copy)]
@@ -347,10 +349,15 @@ mod field {
     use wirebase::Field;
 
     pub const TYPE: Field = 0..1;
+
     pub const CODE: Field = 1..2;
+
     pub const CHECKSUM: Field = 2..4;
+
     pub const ECHO_IDENT: Field = 4..6;
+
     pub const ECHO_SEQNO: Field = 6..8;
+
     pub const HEADER_END: usize = 8;
 }
 
@@ -646,11 +653,7 @@ impl<'a> Repr<'a> {
     /// Writes the message over the front of the octets, as far as they go, and then, where the capabilities have it
     /// computed, the checksum of all of them. Asks 8 bytes or more of an echo; of an error just its length, and that
     /// the quoted `payload_len` is at most 65,515.
-    pub fn emit<T: OctetsMut>(
-        &self,
-        packet: &mut Packet<T>,
-        checksum_caps: &ChecksumCapabilities,
-    )
+    pub fn emit<T: OctetsMut>(&self, packet: &mut Packet<T>, checksum_caps: &ChecksumCapabilities)
         requires { CanEmit (value_of self.now) (T.bytes (inner packet.old)) }
         ensures text { inner packet.new ≡ T.put (inner packet.old) (seal checksum_caps.now
             (over_front (T.bytes (inner packet.old)) (body checksum_caps.now (value_of self.now)))) }
@@ -677,10 +680,18 @@ impl<'a> Repr<'a> {
         ensures len { length (T.bytes (inner packet.new)) ≡ length (T.bytes (inner packet.old)) }
     {
         match *self {
-            Repr::EchoRequest { ident, seq_no, data } => {
+            Repr::EchoRequest {
+                ident,
+                seq_no,
+                data,
+            } => {
                 packet.write_echo(Message::EchoRequest, ident, seq_no, data);
             }
-            Repr::EchoReply { ident, seq_no, data } => {
+            Repr::EchoReply {
+                ident,
+                seq_no,
+                data,
+            } => {
                 packet.write_echo(Message::EchoReply, ident, seq_no, data);
             }
             Repr::DstUnreachable {

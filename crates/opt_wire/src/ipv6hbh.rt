@@ -121,9 +121,7 @@ impl<'a> Repr<'a> {
         ensures { options_of result ≡ router_alert MulticastListenerDiscovery ∷ [] }
     {
         let mut options = ArrayVec::new();
-        options.push(ipv6option::Repr::RouterAlert(
-            RouterAlert::MulticastListenerDiscovery,
-        ));
+        options.push(ipv6option::Repr::RouterAlert(RouterAlert::MulticastListenerDiscovery));
         Repr { options }
     }
 
@@ -170,3 +168,6 @@ fn write_options(options: &[ipv6option::Repr<'_>], bytes: &mut [u8])
         at += option.buffer_len();
     }
 }
+
+#[cfg(test)]
+mod tests;

@@ -183,6 +183,7 @@ mod field {
     use wirebase::Field;
 
     pub const TYPE: Field = 0..1;
+
     pub const LENGTH: Field = 1..2;
 
     // The data of an option with this length.
@@ -503,3 +504,6 @@ impl<'a> Iterator for Ipv6OptionsIterator<'a> {
         }
     }
 }
+
+#[cfg(test)]
+mod tests;

@@ -1,5 +1,5 @@
 -- IPv4 headers: their text as it is written, its length, and what is read in it.
-use Rattle.std.proofs.Common.{◌≡◌, ℕ, ◌+◌, ◌-◌, ◌<◌, ◌≤◌, true, List, [], ◌∷◌, ◌++◌, length, take, drop, slice_index, slice_set, refl, sym, ap, ◌∙◌, arith, length-append}
+use Rattle.std.proofs.Common.{◌≡◌, ℕ, ◌+◌, ◌-◌, ◌≤◌, true, List, [], ◌∷◌, ◌++◌, length, take, drop, slice_index, slice_set, refl, sym, ap, ◌∙◌, arith, length-append}
 use Rattle.std.proofs.lemmas.List.{append-nil, drop_all, drop_at, length-take}
 use borrow.Rule.Slice.PartMut.{put_mid}
 use Rattle.byteorder.specs.Endian.{big_bytes}
@@ -47,21 +47,14 @@ pub written-fields : (old total identification flags checksum src dst : List ℕ
     → hops ≡ r.hop_limit → protocol ≡ protocol_number r.next_header → checksum ≡ 0 ∷ 0 ∷ [] → src ≡ octets_of r.src_addr → dst ≡ octets_of r.dst_addr
     → written old total identification flags hops protocol checksum src dst ≡ unsealed_text r
 written-fields old total identification flags checksum src dst hops protocol r whole e1 e2 e3 e4 e5 e6 e7 e8 =
-    ap (λ (l : List ℕ). written old l identification flags hops protocol checksum src dst) e1
-    ∙ ap (λ (l : List ℕ). written old (big_bytes 2 (20 + r.payload_len)) l flags hops protocol checksum src dst) e2
-    ∙ ap (λ (l : List ℕ). written old (big_bytes 2 (20 + r.payload_len)) (0 ∷ 0 ∷ []) l hops protocol checksum src dst) e3
-    ∙ ap (λ (n : ℕ). written old (big_bytes 2 (20 + r.payload_len)) (0 ∷ 0 ∷ []) (0x40 ∷ 0 ∷ []) n protocol checksum src dst) e4
-    ∙ ap (λ (n : ℕ). written old (big_bytes 2 (20 + r.payload_len)) (0 ∷ 0 ∷ []) (0x40 ∷ 0 ∷ []) r.hop_limit n checksum src dst) e5
-    ∙ ap (λ (l : List ℕ). written old (big_bytes 2 (20 + r.payload_len)) (0 ∷ 0 ∷ []) (0x40 ∷ 0 ∷ []) r.hop_limit (protocol_number r.next_header) l src dst) e6
-    ∙ ap (λ (l : List ℕ). written old (big_bytes 2 (20 + r.payload_len)) (0 ∷ 0 ∷ []) (0x40 ∷ 0 ∷ []) r.hop_limit (protocol_number r.next_header) (0 ∷ 0 ∷ []) l dst) e7
-    ∙ ap (λ (l : List ℕ). written old (big_bytes 2 (20 + r.payload_len)) (0 ∷ 0 ∷ []) (0x40 ∷ 0 ∷ []) r.hop_limit (protocol_number r.next_header) (0 ∷ 0 ∷ []) (octets_of r.src_addr) l) e8
-    ∙ written-unsealed old r whole
+    let exact = written-unsealed old r whole in
+    cc
 
 -- its checksum over it
-pub sealed-written : (r : Ipv4Repr) (caps : ChecksumCapabilities) (checksum : ℕ) → is_computed caps.ipv4 ≡ true → checksum ≡ 65535 - fold (word_sum (unsealed_text r))
-    → put_mid 10 2 (unsealed_text r) (big_bytes 2 checksum) ≡ header_text r caps
+pub sealed-written : (r : Ipv4Repr) (capabilities : ChecksumCapabilities) (checksum : ℕ) → is_computed capabilities.ipv4 ≡ true → checksum ≡ 65535 - fold (word_sum (unsealed_text r))
+    → put_mid 10 2 (unsealed_text r) (big_bytes 2 checksum) ≡ header_text r capabilities
 unfolding header_text sealed splice unsealed_text
-sealed-written r caps checksum computed e =
+sealed-written r capabilities checksum computed e =
     let alone : word_sum (unsealed_text r) + 0 ≡ word_sum (unsealed_text r) = omega arith in
     rw computed (ap (λ (n : ℕ). put_mid 10 2 (unsealed_text r) (big_bytes 2 n)) (e ∙ ap (λ (n : ℕ). 65535 - fold n) (sym alone)))
 
@@ -71,10 +64,10 @@ pub length-unsealed_text : (r : Ipv4Repr) → length (unsealed_text r) ≡ 20
 unfolding unsealed_text
 length-unsealed_text r = refl
 
-pub length-header_text : (r : Ipv4Repr) (caps : ChecksumCapabilities) → length (header_text r caps) ≡ 20
+pub length-header_text : (r : Ipv4Repr) (capabilities : ChecksumCapabilities) → length (header_text r capabilities) ≡ 20
 unfolding header_text
-length-header_text r caps =
-    length-sealed_where checksum_field (unsealed_text r) 0 refl (omega (arith, length-unsealed_text r)) caps.ipv4 ∙ length-unsealed_text r
+length-header_text r capabilities =
+    length-sealed_where checksum_field (unsealed_text r) 0 refl (omega (arith, length-unsealed_text r)) capabilities.ipv4 ∙ length-unsealed_text r
 
 -- ---- what is read in it
 
@@ -98,19 +91,19 @@ sealed_read Rx r payload fits = fields_read r 0 0 payload fits
 sealed_read Tx r payload fits = fields_read r _ _ payload fits
 sealed_read None r payload fits = fields_read r 0 0 payload fits
 
-pub header-read : (r : Ipv4Repr) (caps : ChecksumCapabilities) (payload : List ℕ) → r.payload_len ≤ 65515 → BeginsWithHeader (header_text r caps ++ payload) r
+pub header-read : (r : Ipv4Repr) (capabilities : ChecksumCapabilities) (payload : List ℕ) → r.payload_len ≤ 65515 → BeginsWithHeader (header_text r capabilities ++ payload) r
 unfolding header_text
-header-read r caps payload fits = sealed_read caps.ipv4 r payload fits
+header-read r capabilities payload fits = sealed_read capabilities.ipv4 r payload fits
 
 -- after the header comes the payload
-pub drop-header_text : (r : Ipv4Repr) (caps : ChecksumCapabilities) (payload : List ℕ) → drop 20 (header_text r caps ++ payload) ≡ payload
-drop-header_text r caps payload = drop_at (header_text r caps) payload 20 (length-header_text r caps)
+pub drop-header_text : (r : Ipv4Repr) (capabilities : ChecksumCapabilities) (payload : List ℕ) → drop 20 (header_text r capabilities ++ payload) ≡ payload
+drop-header_text r capabilities payload = drop_at (header_text r capabilities) payload 20 (length-header_text r capabilities)
 
 -- a header and its payload are whole
-pub header-whole : (r : Ipv4Repr) (caps : ChecksumCapabilities) (payload : List ℕ) → r.payload_len ≤ 65515 → r.payload_len ≤ length payload → BeginsWhole (header_text r caps ++ payload)
-header-whole r caps payload fits there =
-    let read = header-read r caps payload fits in
-    let long : length (header_text r caps ++ payload) ≡ 20 + length payload = length-append (header_text r caps) payload ∙ ap (λ (n : ℕ). n + length payload) (length-header_text r caps) in
+pub header-whole : (r : Ipv4Repr) (capabilities : ChecksumCapabilities) (payload : List ℕ) → r.payload_len ≤ 65515 → r.payload_len ≤ length payload → BeginsWhole (header_text r capabilities ++ payload)
+header-whole r capabilities payload fits there =
+    let read = header-read r capabilities payload fits in
+    let long : length (header_text r capabilities ++ payload) ≡ 20 + length payload = length-append (header_text r capabilities) payload ∙ ap (λ (n : ℕ). n + length payload) (length-header_text r capabilities) in
     record {
       fixed = omega (arith, long);
       header = omega (arith, long, read.header_len);

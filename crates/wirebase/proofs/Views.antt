@@ -11,6 +11,6 @@ module _ {T : Type 0} (bytes : T → List ℕ) (put : T → List ℕ → T) (byt
       let now : bytes mid ≡ over (bytes old) header = ap bytes e ∙ bytes_put old (over (bytes old) header) in
       let long : length (over (bytes old) header) ≡ length (bytes old) = length-over (bytes old) header (omega (arith, count)) in
       let written : splice (bytes mid) i (length (bytes mid)) new ≡ over_front (bytes old) (header ++ w) =
-        ap (λ (l : List ℕ). splice (bytes mid) i (length (bytes mid)) l) is ∙ ap (λ (l : List ℕ). splice l i (length l) (over_front rest w)) now
-        ∙ over-after_front (bytes old) header w rest i (length (over (bytes old) header)) count (sym long) (omega (arith, long)) (after ∙ ap (λ (l : List ℕ). drop i l) now) in
+      ap (λ (l : List ℕ). splice (bytes mid) i (length (bytes mid)) l) is ∙ ap (λ (l : List ℕ). splice l i (length l) (over_front rest w)) now
+      ∙ over-after_front (bytes old) header w rest i (length (over (bytes old) header)) count (sym long) (omega (arith, long)) (after ∙ ap (λ (l : List ℕ). drop i l) now) in
       ap (λ (v : T). put v (splice (bytes mid) i (length (bytes mid)) new)) e ∙ put_put old (over (bytes old) header) _ ∙ ap (put old) written

@@ -100,7 +100,7 @@ unsealed_text r =
 
 -- with its checksum, where one is computed
 unfoldable pub header_text : Ipv4Repr → ChecksumCapabilities → List ℕ
-header_text r caps = sealed_where caps.ipv4 checksum_field (unsealed_text r) 0
+header_text r capabilities = sealed_where capabilities.ipv4 checksum_field (unsealed_text r) 0
 
 -- the bytes begin with the header of a value, whatever its checksum
 pub record BeginsWithHeader (bytes : List ℕ) (r : Ipv4Repr) : Type 0 where

@@ -1,11 +1,10 @@
 //! IPv4: addresses and the header (RFC 791).
 #![tactic(auto, using(crate::proofs::Pieces::pieces))]
 
-ghost use Rattle.std.specs.Prelude.{◌≡◌, ◌↔◌, ◌≤◌, ◌+◌, [], ◌∷◌, length, IsTrue, IsOk, IfOk, Some};
+ghost use Rattle.std.specs.Prelude.{◌≡◌, ◌↔◌, ◌≤◌, [], ◌∷◌, length, IsTrue, IsOk, IfOk, Some};
 ghost use Rattle.wirebase.specs.Bytes.{Reaches, ComparesOctets, bytes_of, byte_of, over};
-ghost use Rattle.wirebase.specs.Checksum.{sealed};
 ghost use Rattle.wirebase.specs.Ip.{protocol_of};
-ghost use Rattle.wirebase.specs.Ipv4.{octets_of, IsMulticast, address_text, inner, packet_octets, version_field, total_len_field, hop_limit_field, protocol_field, checksum_field, src_addr_field, dst_addr_field, header_len_in, total_len_in, BeginsWhole, unsealed_text, header_text};
+ghost use Rattle.wirebase.specs.Ipv4.{octets_of, IsMulticast, address_text, inner, packet_octets, version_field, total_len_field, hop_limit_field, protocol_field, src_addr_field, dst_addr_field, header_len_in, total_len_in, BeginsWhole, unsealed_text, header_text};
 ghost use Rattle.wirebase.specs.declared.ipv4.Ipv4Address.{Ipv4Address};
 
 use crate::capabilities::ChecksumCapabilities;

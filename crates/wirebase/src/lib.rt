@@ -7,6 +7,8 @@ pub mod checksum;
 pub mod config;
 pub mod duration;
 pub mod error;
+#[cfg(test)]
+mod failing_writer;
 pub mod ip;
 pub mod ipv4;
 pub mod octets;

@@ -5,6 +5,8 @@
 
 mod fault;
 mod hbh;
+mod icmp4;
+mod igmp;
 mod line;
 mod printer;
 mod run;

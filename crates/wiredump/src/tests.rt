@@ -25,6 +25,42 @@ fn packets_and_what_they_print(rt: HostRuntime) -> Result<(), Fail> {
         ("hbh 000000000503000000", "refused\n"),
         ("hbh 0101", "refused\n"),
         ("hbh -", "refused\n"),
+        (
+            "icmp4 08008efe1234abcdaa0000ff",
+            "EchoRequest\nident=4660\nseq_no=43981\ndata=aa0000ff\n",
+        ),
+        ("icmp4 0000ffff00000000", "EchoReply\nident=0\nseq_no=0\ndata=-\n"),
+        ("icmp4 0000000000000000", "refused\n"),
+        ("icmp4 -", "refused\n"),
+        (
+            "icmp4 0303fc8a000000004500001c00004000401126cf0a0000010a0000020035003500080000",
+            "DstUnreachable\nreason=3\nheader.src_addr=10.0.0.1\nheader.dst_addr=10.0.0.2\n\
+             header.next_header=17\nheader.payload_len=8\nheader.hop_limit=64\ndata=0035003500080000\n",
+        ),
+        (
+            "icmp4 0b01f48c000000004500001c00004000401126cf0a0000010a0000020035003500080000",
+            "TimeExceeded\nreason=1\nheader.src_addr=10.0.0.1\nheader.dst_addr=10.0.0.2\n\
+             header.next_header=17\nheader.payload_len=8\nheader.hop_limit=64\ndata=0035003500080000\n",
+        ),
+        (
+            "igmp 1180ee7f00000000",
+            "MembershipQuery\nmax_resp_time=12800\ngroup_addr=0.0.0.0\nversion=2\n",
+        ),
+        (
+            "igmp 1100eeff00000000",
+            "MembershipQuery\nmax_resp_time=0\ngroup_addr=0.0.0.0\nversion=1\n",
+        ),
+        (
+            "igmp 160008dae1000025",
+            "MembershipReport\ngroup_addr=225.0.0.37\nversion=2\n",
+        ),
+        (
+            "igmp 12000000e1000025",
+            "MembershipReport\ngroup_addr=225.0.0.37\nversion=1\n",
+        ),
+        ("igmp 17a50000e0000696", "LeaveGroup\ngroup_addr=224.0.6.150\n"),
+        ("igmp 160000000a000001", "refused\n"),
+        ("igmp 22000000e0000001", "refused\n"),
     ] {
         let mut output = Vec::new(rt.alloc());
         let answer = run(rt.alloc(), line.as_bytes(), &mut output);

@@ -1,4 +1,4 @@
-use Rattle.std.proofs.Common.{◌≡◌, ◌-◌, length, take, drop, sym, ap, ◌∙◌, arith, length-append}
+use Rattle.std.proofs.Common.{◌≡◌, ◌-◌, length, take, drop, sym, ap, ◌∙◌}
 use Rattle.wirebase.specs.Ipv4.{header_text}
 use Rattle.wirebase.proofs.Pieces.{over-put_mid, over-exact}
 use Rattle.wirebase.proofs.Ipv4Header.{length-header_text}

@@ -19,4 +19,4 @@ returns-clause-sealed g c =
     let checksum : 65535 - c.data-checksum.result ≡ 65535 - fold (word_sum (splice old i j (0 ∷ 0 ∷ []))) = ap (λ (n : ℕ). 65535 - n) (c.data-checksum.ensures ∙ ap (λ (l : List ℕ). fold (word_sum l)) zeroed) in
     rw (g.met.T.OctetsMut.bytes_put) (g.met.T.OctetsMut.put_put _ _ _ ∙ ap (g.T.OctetsMut.put c.args.octets.now)
     (ap (λ (w : List ℕ). splice (splice old i j w) i j c.write_u16-2.new.buf) cleared ∙ ap (λ (w : List ℕ). splice (splice old i j (0 ∷ 0 ∷ [])) i j w) filled
-      ∙ splice-sealed_alone old i j _ c.requires.two c.requires.room checksum))
+    ∙ splice-sealed_alone old i j _ c.requires.two c.requires.room checksum))

@@ -1,5 +1,4 @@
-use Rattle.std.proofs.Common.{◌≡◌, ℕ, List, length, sym, ap, subst, ◌∙◌}
-use Rattle.wirebase.specs.Bytes.{over_front}
+use Rattle.std.proofs.Common.{ℕ, List, sym, ap, subst, ◌∙◌}
 use Rattle.wirebase.proofs.Pieces.{over_front-exact}
 use Rattle.icmp4_wire.specs.Icmpv4.{inner, value_of, body, seal, IsMessage, norm}
 use Rattle.icmp4_wire.proofs.Icmpv4Texts.{message_text}

@@ -1,0 +1,113 @@
+use super::{Header, Repr};
+use crate::ipv6option;
+use crate::ipv6option::{RouterAlert, Type};
+use crate::plain_reader::compare_at_each_length;
+use arrayvec::ArrayVec;
+use std::test::Fail;
+
+type Option<'a> = ipv6option::Repr<'a>;
+
+const PADS: [Option<'static>; 4] = [Option::Pad1; 4];
+
+const NO_DATA: [Option<'static>; 1] = [Option::Unknown {
+    type_: Type::Unknown(0x11),
+    length: 0,
+    data: &[],
+}];
+
+const RPL: [Option<'static>; 1] = [Option::Unknown {
+    type_: Type::Rpl,
+    length: 2,
+    data: &[0xaa, 0xbb],
+}];
+
+#[test]
+fn headers_and_the_options_that_they_keep(rt: HostRuntime) -> Result<(), Fail> {
+    let rows: [(&'static [u8], &'static [Option<'static>]); 5] = [
+        // A good fifth option is left out, and a bad sixth is not looked at.
+        (&[0x00, 0x00, 0x00, 0x00, 0x05, 0x02, 0xbe, 0xef], &PADS),
+        (&[0x00, 0x00, 0x00, 0x00, 0x00, 0x11], &PADS),
+        (&[0x01, 0x04, 0x00, 0x00, 0x00, 0x00], &[Option::PadN(4)]),
+        (&[0x11, 0x00], &NO_DATA),
+        (&[0x63, 0x02, 0xaa, 0xbb], &RPL),
+    ];
+    for (octets, options) in rows {
+        let header = Repr::parse(&Header::new_checked(octets)?)?;
+        assert_eq!(rt; header.options.as_slice(), options, "of {octets:?}");
+        compare_at_each_length(&rt, rt.alloc(), octets)?;
+    }
+    Ok(())
+}
+
+#[test]
+fn headers_refused(rt: HostRuntime) -> Result<(), Fail> {
+    let rows: [&[u8]; 3] = [
+        &[],
+        // A bad fifth option: a router alert of 3 bytes of data, and one whose length is left out.
+        &[0x00, 0x00, 0x00, 0x00, 0x05, 0x03, 0x00, 0x00, 0x00],
+        &[0x00, 0x00, 0x00, 0x00, 0x11],
+    ];
+    for octets in rows {
+        let header = Header::new_unchecked(octets);
+        assert!(rt; Repr::parse(&header).is_err(), "of {octets:?}");
+        compare_at_each_length(&rt, rt.alloc(), octets)?;
+    }
+    Ok(())
+}
+
+#[test]
+fn views_of_some_octets_alone(rt: HostRuntime) -> Result<(), Fail> {
+    let none: &[u8] = &[];
+    assert!(rt; Header::new_checked(none).is_err());
+    assert!(rt; Header::new_unchecked(none).check_len().is_err());
+    assert!(rt; Header::new_unchecked([0x11].as_slice()).check_len().is_ok());
+
+    let mut octets = [0xff, 0xff, 0xff];
+    let mut view = Header::new_checked(octets.as_mut_slice())?;
+    view.options_mut().copy_from_slice(&[0x01, 0x01, 0x00]);
+    assert_eq!(rt; &*view.into_inner(), [0x01, 0x01, 0x00].as_slice());
+    let view = Header::new_checked(octets.as_slice())?;
+    assert_eq!(rt; view.options(), [0x01, 0x01, 0x00].as_slice());
+    Ok(())
+}
+
+#[test]
+fn multicast_listener_report_with_padding(rt: HostRuntime) -> Result<(), Fail> {
+    let mut header = Repr::mldv2_router_alert();
+    header.push_padn_option(0);
+    assert_eq!(rt; header.buffer_len(), 6);
+
+    let mut octets = [0xff; 6];
+    header.emit(&mut Header::new_unchecked(octets.as_mut_slice()));
+    assert_eq!(rt; octets, [0x05, 0x02, 0x00, 0x00, 0x01, 0x00]);
+    let read = Repr::parse(&Header::new_unchecked(octets.as_slice()))?;
+    assert_eq!(rt; read, header);
+    assert_eq!(rt; header.clone()?, header);
+    compare_at_each_length(&rt, rt.alloc(), &octets)
+}
+
+#[test]
+fn options_written_one_after_another(rt: HostRuntime) -> Result<(), Fail> {
+    // The third byte of data is past the length that is counted.
+    let mut options = ArrayVec::new();
+    options.push(Option::PadN(3));
+    options.push(Option::RouterAlert(RouterAlert::Unknown(0xbeef)));
+    options.push(Option::Unknown {
+        type_: Type::Unknown(0x11),
+        length: 2,
+        data: &[0xa1, 0xa2, 0xa3],
+    });
+    options.push(Option::Pad1);
+    let header = Repr { options };
+    let text = [
+        0x01, 0x03, 0x00, 0x00, 0x00, 0x05, 0x02, 0xbe, 0xef, 0x11, 0x02, 0xa1, 0xa2, 0x00,
+    ];
+    assert_eq!(rt; header.buffer_len(), text.len());
+    for fill in [0x00, 0xff, 0x2a, 0xa5] {
+        let mut octets = [fill; 17];
+        header.emit(&mut Header::new_unchecked(octets.as_mut_slice()));
+        assert_eq!(rt; octets[..14], text, "over {fill}");
+        assert_eq!(rt; octets[14..], [fill; 3], "after the options over {fill}");
+    }
+    compare_at_each_length(&rt, rt.alloc(), &text)
+}

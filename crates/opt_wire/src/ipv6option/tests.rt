@@ -1,0 +1,303 @@
+ghost use Rattle.std.specs.Prelude.{◌≡◌, true};
+ghost use Rattle.opt_wire.specs.Ipv6Option.{value_of, HasData};
+
+use super::{FailureType, Ipv6Option, Ipv6OptionsIterator, Repr, RouterAlert, Type};
+use crate::plain_reader::compare_at_each_length;
+use std::hash::{DefaultHasher, Hash, Hasher};
+use std::test::Fail;
+use wirebase::Error;
+
+#[test]
+fn option_types_and_their_numbers(rt: HostRuntime) {
+    for (number, kind) in [
+        (0x00, Type::Pad1),
+        (0x01, Type::PadN),
+        (0x05, Type::RouterAlert),
+        (0x63, Type::Rpl),
+        (0x02, Type::Unknown(0x02)),
+        (0x04, Type::Unknown(0x04)),
+        (0x06, Type::Unknown(0x06)),
+        (0xff, Type::Unknown(0xff)),
+    ] {
+        assert_eq!(rt; Type::from(number), kind, "of {number}");
+        assert_eq!(rt; u8::from(kind), number, "of {kind:?}");
+    }
+}
+
+#[test]
+fn router_alerts_and_their_numbers(rt: HostRuntime) {
+    for (number, alert) in [
+        (0, RouterAlert::MulticastListenerDiscovery),
+        (1, RouterAlert::Rsvp),
+        (2, RouterAlert::ActiveNetworks),
+        (3, RouterAlert::Unknown(3)),
+        (0xbeef, RouterAlert::Unknown(0xbeef)),
+        (0xffff, RouterAlert::Unknown(0xffff)),
+    ] {
+        assert_eq!(rt; RouterAlert::from(number), alert, "of {number}");
+        assert_eq!(rt; u16::from(alert), number, "of {alert:?}");
+    }
+}
+
+fn hash_of(failure: FailureType) -> u64 {
+    let mut hasher = DefaultHasher::new();
+    failure.hash(&mut hasher);
+    hasher.finish()
+}
+
+#[test]
+fn failure_types_are_the_two_highest_bits(rt: HostRuntime) {
+    for (number, failure) in [
+        (0x00, FailureType::Skip),
+        (0x3f, FailureType::Skip),
+        (0x40, FailureType::Discard),
+        (0x7f, FailureType::Discard),
+        (0xa0, FailureType::DiscardSendAll),
+        (0xc0, FailureType::DiscardSendUnicast),
+        (0xff, FailureType::DiscardSendUnicast),
+    ] {
+        assert_eq!(rt; FailureType::from(number), failure, "of {number}");
+        assert_eq!(rt; u8::from(failure), number & 0xc0, "of {failure:?}");
+    }
+    for (kind, failure) in [
+        (Type::PadN, FailureType::Skip),
+        (Type::Rpl, FailureType::Discard),
+        (Type::Unknown(0xc5), FailureType::DiscardSendUnicast),
+    ] {
+        assert_eq!(rt; FailureType::from(kind), failure, "of {kind:?}");
+        assert_eq!(rt;
+            hash_of(FailureType::from(kind)),
+            hash_of(failure),
+            "of {kind:?}"
+        );
+    }
+}
+
+#[test]
+fn order_of_types(rt: HostRuntime) {
+    let types = [
+        Type::Pad1,
+        Type::PadN,
+        Type::RouterAlert,
+        Type::Rpl,
+        Type::Unknown(0),
+        Type::Unknown(7),
+    ];
+    let alerts = [
+        RouterAlert::MulticastListenerDiscovery,
+        RouterAlert::Rsvp,
+        RouterAlert::ActiveNetworks,
+        RouterAlert::Unknown(0),
+        RouterAlert::Unknown(7),
+    ];
+    let failures = [
+        FailureType::Skip,
+        FailureType::Discard,
+        FailureType::DiscardSendAll,
+        FailureType::DiscardSendUnicast,
+    ];
+    for pair in types.windows(2) {
+        assert!(rt; pair[0] < pair[1], "{pair:?}");
+    }
+    for pair in alerts.windows(2) {
+        assert!(rt; pair[0] < pair[1], "{pair:?}");
+    }
+    for pair in failures.windows(2) {
+        assert!(rt; pair[0] < pair[1], "{pair:?}");
+    }
+}
+
+#[test]
+fn views_of_whole_options_alone(rt: HostRuntime) {
+    let rows: [(&[u8], bool); 12] = [
+        (&[], false),
+        (&[0x00], true),
+        (&[0x00, 0xff], true),
+        (&[0x01], false),
+        (&[0x01, 0x00], true),
+        (&[0x01, 0x01], false),
+        (&[0x05, 0x02, 0x00], false),
+        (&[0x05, 0x02, 0x00, 0x00], true),
+        // The data of a router alert is not looked at here.
+        (&[0x05, 0x00], true),
+        (&[0x11, 0x03, 0xa1, 0xa2], false),
+        (&[0x11, 0x03, 0xa1, 0xa2, 0xa3], true),
+        (&[0x11, 0x03, 0xa1, 0xa2, 0xa3, 0xa4], true),
+    ];
+    for (octets, whole) in rows {
+        let view = Ipv6Option::new_checked(octets);
+        assert_eq!(rt; view.is_ok(), whole, "of {octets:?}");
+        let view = Ipv6Option::new_unchecked(octets);
+        assert_eq!(rt; view.check_len().is_ok(), whole, "of {octets:?}");
+        assert_eq!(rt; view.into_inner(), octets);
+    }
+}
+
+#[test]
+fn fields_at_their_least_lengths(rt: HostRuntime) {
+    let mut octets = [0xff];
+    let mut view = Ipv6Option::new_unchecked(octets.as_mut_slice());
+    view.set_option_type(Type::Rpl);
+    assert_eq!(rt; view.option_type(), Type::Rpl);
+    assert_eq!(rt; &*view.into_inner(), [0x63].as_slice());
+
+    let mut octets = [0xff; 2];
+    let mut view = Ipv6Option::new_unchecked(octets.as_mut_slice());
+    view.set_data_len(3);
+    assert_eq!(rt; view.data_len(), 3);
+    assert_eq!(rt; octets, [0xff, 0x03]);
+
+    let mut octets = [0x11, 0x03, 0xff, 0xff, 0xff];
+    let mut view = Ipv6Option::new_unchecked(octets.as_mut_slice());
+    view.data_mut().copy_from_slice(&[0xa1, 0xa2, 0xa3]);
+    assert_eq!(rt; octets, [0x11, 0x03, 0xa1, 0xa2, 0xa3]);
+    let view = Ipv6Option::new_unchecked(octets.as_slice());
+    assert_eq!(rt; view.data(), [0xa1, 0xa2, 0xa3].as_slice());
+}
+
+#[test]
+fn views_are_equal_as_their_octets(rt: HostRuntime) {
+    let here = [0x11, 0x01, 0xa1];
+    let there = [0x11, 0x01, 0xa1];
+    let other = [0x11, 0x01, 0xa2];
+    let view = Ipv6Option::new_unchecked(here.as_slice());
+    assert!(rt; view == Ipv6Option::new_unchecked(there.as_slice()));
+    assert!(rt; view != Ipv6Option::new_unchecked(other.as_slice()));
+    assert!(rt; view != Ipv6Option::new_unchecked(&here[..2]));
+}
+
+// tests/refused has each of these with its one line in the wrong place: the data used after its buffer is gone, and the
+// buffer read while the view that writes to it lives.
+#[test]
+fn data_lives_as_long_as_its_buffer(rt: HostRuntime) {
+    let data;
+    let octets = [0x11, 0x01, 0xa1];
+    {
+        data = Ipv6Option::new_unchecked(octets.as_slice()).data();
+    }
+    assert_eq!(rt; data.len(), 1);
+}
+
+#[test]
+fn buffer_is_read_after_its_view(rt: HostRuntime) {
+    let mut octets = [0x11, 0x01, 0xa1];
+    let mut view = Ipv6Option::new_unchecked(octets.as_mut_slice());
+    view.set_option_type(Type::Rpl);
+    let kind = octets[0];
+    assert_eq!(rt; kind, 0x63);
+}
+
+#[test]
+fn options_in_turn(rt: HostRuntime) -> Result<(), Fail> {
+    // The last counts 8 bytes of data where none stand.
+    let octets = [
+        0x00, 0x01, 0x01, 0x00, 0x01, 0x02, 0x00, 0x00, 0x01, 0x00, 0x00, 0x11, 0x00, 0x05, 0x02,
+        0x00, 0x01, 0x01, 0x08, 0x00,
+    ];
+    let mut options = Ipv6OptionsIterator::new(&octets);
+    for option in [
+        Repr::Pad1,
+        Repr::PadN(1),
+        Repr::PadN(2),
+        Repr::PadN(0),
+        Repr::Pad1,
+        Repr::Unknown {
+            type_: Type::Unknown(0x11),
+            length: 0,
+            data: &[],
+        },
+        Repr::RouterAlert(RouterAlert::Rsvp),
+    ] {
+        assert_eq!(rt; options.next(), Some(Ok(option)));
+    }
+    assert_eq!(rt; options.next(), Some(Err(Error)));
+    assert_eq!(rt; options.next(), None);
+    assert_eq!(rt; options.next(), None);
+    compare_at_each_length(&rt, rt.alloc(), &octets)
+}
+
+#[test]
+fn longest_padding(rt: HostRuntime) -> Result<(), Fail> {
+    let mut octets = [0x00; 257];
+    octets[0] = 0x01;
+    octets[1] = 0xff;
+    let whole = octets.as_slice();
+    for (octets, answer) in [(whole, Ok(Repr::PadN(255))), (&whole[..256], Err(Error))] {
+        let view = Ipv6Option::new_unchecked(octets);
+        assert_eq!(rt; Repr::parse(&view), answer, "of {} octets", octets.len());
+    }
+    compare_at_each_length(&rt, rt.alloc(), whole)
+}
+
+#[test]
+fn options_refused(rt: HostRuntime) -> Result<(), Fail> {
+    let rows: [&[u8]; 7] = [
+        &[],
+        &[0x01],
+        // Router alerts of 0, 1 and 3 bytes of data, and of 2 where 1 stands.
+        &[0x05, 0x00],
+        &[0x05, 0x01, 0x00],
+        &[0x05, 0x03, 0x00, 0x00, 0x00],
+        &[0x05, 0x02, 0x00],
+        &[0x11, 0x01],
+    ];
+    for octets in rows {
+        let view = Ipv6Option::new_unchecked(octets);
+        assert_eq!(rt; Repr::parse(&view), Err(Error), "of {octets:?}");
+        compare_at_each_length(&rt, rt.alloc(), octets)?;
+    }
+    Ok(())
+}
+
+// Whether the option holds as much data as it counts.
+fn holds_its_data(option: &Repr<'_>) -> bool
+    ensures { result ≡ true → HasData (value_of option.now) }
+{
+    match *option {
+        Repr::Unknown { length, data, .. } => length as usize <= data.len(),
+        _ => true,
+    }
+}
+
+#[test]
+fn options_written_over_octets_of_any_kind(rt: HostRuntime) -> Result<(), Fail> {
+    // An option, its text, and what is read back: data past the length is not written.
+    let unknown = |data| Repr::Unknown {
+        type_: Type::Unknown(0x11),
+        length: 2,
+        data,
+    };
+    let alert = Repr::RouterAlert(RouterAlert::Unknown(0xbeef));
+    let rows: [(Repr<'_>, &[u8], Repr<'_>); 4] = [
+        (Repr::Pad1, &[0x00], Repr::Pad1),
+        (
+            Repr::PadN(3),
+            &[0x01, 0x03, 0x00, 0x00, 0x00],
+            Repr::PadN(3),
+        ),
+        (alert, &[0x05, 0x02, 0xbe, 0xef], alert),
+        (
+            unknown(&[0xa1, 0xa2, 0xa3]),
+            &[0x11, 0x02, 0xa1, 0xa2],
+            unknown(&[0xa1, 0xa2]),
+        ),
+    ];
+    assert_eq!(rt; Repr::default(), Repr::Pad1);
+    for (option, text, read) in rows {
+        assert!(rt; holds_its_data(&option));
+        assert_eq!(rt; option.buffer_len(), text.len(), "of {option:?}");
+        for fill in [0x00, 0xff, 0x2a, 0xa5] {
+            for tail in [0, 3] {
+                let mut octets = vec![in rt.alloc(); fill; text.len() + tail]?;
+                option.emit(&mut Ipv6Option::new_unchecked(octets.as_mut_slice()));
+                let (front, left) = octets.as_slice().split_at(text.len());
+                assert_eq!(rt; front, text, "over {fill}");
+                assert!(rt; left.iter().all(|octet| *octet == fill), "after {option:?}");
+                let view = Ipv6Option::new_unchecked(octets.as_slice());
+                assert_eq!(rt; Repr::parse(&view), Ok(read), "over {fill}");
+            }
+        }
+        compare_at_each_length(&rt, rt.alloc(), text)?;
+    }
+    Ok(())
+}

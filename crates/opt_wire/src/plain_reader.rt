@@ -1,0 +1,92 @@
+// A second reader of options, by the rules of RFC 8200 section 4.2 alone: type 0 is one byte; any other type is
+// followed by a length and as many bytes of data; a router alert has 2 bytes of data (RFC 2711 section 2.1). The tests
+// compare the crate with it.
+
+use crate::ipv6hbh;
+use crate::ipv6hbh::Header;
+use crate::ipv6option::{Ipv6OptionsIterator, Repr, RouterAlert, Type};
+use std::alloc::Global;
+use std::process::Abort;
+use std::test::Fail;
+use wirebase::{Error, IPV6_HBH_MAX_OPTIONS};
+
+// The option at the front of the octets, and the octets after it.
+fn first_option(octets: &[u8]) -> Option<(Repr<'_>, &[u8])> {
+    let (kind, rest) = octets.split_first()?;
+    if *kind == 0 {
+        return Some((Repr::Pad1, rest));
+    }
+    let (length, rest) = rest.split_first()?;
+    if rest.len() < *length as usize {
+        return None;
+    }
+    let (data, rest) = rest.split_at(*length as usize);
+    let option = match (*kind, data) {
+        (1, _) => Repr::PadN(*length),
+        (5, [high, low]) => Repr::RouterAlert(RouterAlert::from(u16::from_be_bytes([*high, *low]))),
+        (5, _) => return None,
+        (other, _) => Repr::Unknown {
+            type_: Type::from(other),
+            length: *length,
+            data,
+        },
+    };
+    Some((option, rest))
+}
+
+// The options up to the end, or up to the first that is refused.
+fn answers(alloc: Global, octets: &[u8]) -> Result<Vec<wirebase::Result<Repr<'_>>>, Fail> {
+    let mut answers = Vec::new(alloc);
+    let mut rest = octets;
+    for _ in 0..octets.len() {
+        if rest.is_empty() {
+            break;
+        }
+        let Some((option, after)) = first_option(rest) else {
+            answers.push(Err(Error))?;
+            break;
+        };
+        answers.push(Ok(option))?;
+        rest = after;
+    }
+    Ok(answers)
+}
+
+// Compares the iterator and the header's reader with the plain reader, over these octets and over each shorter part
+// of them from their start on.
+pub(crate) fn compare_at_each_length(
+    rt: &impl Abort,
+    alloc: Global,
+    packet: &[u8],
+) -> Result<(), Fail> {
+    for len in 0..=packet.len() {
+        let octets = &packet[..len];
+        let plain = answers(alloc, octets)?;
+
+        let mut options = Ipv6OptionsIterator::new(octets);
+        for answer in plain.as_slice() {
+            assert_eq!(rt; options.next(), Some(*answer), "in {octets:?}");
+        }
+        assert!(rt; options.next().is_none(), "after {octets:?}");
+        assert!(rt; options.next().is_none(), "long after {octets:?}");
+
+        let read = &plain[..plain.len().min(IPV6_HBH_MAX_OPTIONS + 1)];
+        let is_header = !octets.is_empty() && read.iter().all(|answer| answer.is_ok());
+        match ipv6hbh::Repr::parse(&Header::new_unchecked(octets)) {
+            Ok(header) => {
+                assert!(rt; is_header, "read {octets:?}");
+                let kept = header.options.as_slice();
+                assert_eq!(rt;
+                    kept.len(),
+                    plain.len().min(IPV6_HBH_MAX_OPTIONS),
+                    "of {octets:?}"
+                );
+                for (option, answer) in kept.iter().zip(plain.as_slice()) {
+                    assert_eq!(rt; Ok(*option), *answer, "of {octets:?}");
+                }
+            }
+            Err(_) => assert!(rt; !is_header, "refused {octets:?}"),
+        }
+    }
+    Ok(())
+}
