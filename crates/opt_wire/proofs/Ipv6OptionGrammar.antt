@@ -82,52 +82,52 @@ two_bytes (a ∷ b ∷ c ∷ d) e = absurd (omega (arith, e))
 alert-option : (n : ℕ) (d : List ℕ) (v : OptionValue) → alert_at n d ≡ Some v → length d ≡ n → IsOption (5 ∷ n ∷ d) v
 alert-option n d v e l = elim (chosen (eqb n 2) (Some (router_alert (alert_of (big_number 2 d)))) None (Some v) e) [
   | inl a ↦
-    let two : n ≡ 2 = eqb-true n 2 a.0 in
-    let shape : d ≡ slice_index d 0 ∷ slice_index d 1 ∷ [] = two_bytes d (l ∙ two) in
-    let number : big_number 2 d ≡ 256 * slice_index d 0 + slice_index d 1 = omega arith in
-    let is : router_alert (alert_of (big_number 2 d)) ≡ v = same_value _ _ a.1 in
-    subst (λ (x : OptionValue). IsOption (5 ∷ n ∷ d) x) is (slice_index d 0, slice_index d 1, ap (λ (k : ℕ). 5 ∷ k ∷ d) two ∙ ap (λ (l : List ℕ). 5 ∷ 2 ∷ l) shape, ap alert_of number)
+      let two : n ≡ 2 = eqb-true n 2 a.0 in
+      let shape : d ≡ slice_index d 0 ∷ slice_index d 1 ∷ [] = two_bytes d (l ∙ two) in
+      let number : big_number 2 d ≡ 256 * slice_index d 0 + slice_index d 1 = omega arith in
+      let is : router_alert (alert_of (big_number 2 d)) ≡ v = same_value _ _ a.1 in
+      subst (λ (x : OptionValue). IsOption (5 ∷ n ∷ d) x) is (slice_index d 0, slice_index d 1, ap (λ (k : ℕ). 5 ∷ k ∷ d) two ∙ ap (λ (l : List ℕ). 5 ∷ 2 ∷ l) shape, ap alert_of number)
   | inr b ↦ let no = b.1 in cc
-  ]
+]
 
 known-option : (t n : ℕ) (d : List ℕ) (v : OptionValue) → known_at t n d ≡ Some v → length d ≡ n → t ≢ 0 → IsOption (t ∷ n ∷ d) v
 known-option t n d v e l ne = elim (chosen (eqb t 1) (Some (pad_n n)) (cond (eqb t 5) (alert_at n d) (Some (unknown (type_of t) n d))) (Some v) e) [
   | inl a ↦
-    let is : pad_n n ≡ v = same_value _ _ a.1 in
-    subst (λ (x : OptionValue). IsOption (t ∷ n ∷ d) x) is (d, ap (λ (k : ℕ). k ∷ n ∷ d) (eqb-true t 1 a.0), l)
+      let is : pad_n n ≡ v = same_value _ _ a.1 in
+      subst (λ (x : OptionValue). IsOption (t ∷ n ∷ d) x) is (d, ap (λ (k : ℕ). k ∷ n ∷ d) (eqb-true t 1 a.0), l)
   | inr b ↦ elim (chosen (eqb t 5) (alert_at n d) (Some (unknown (type_of t) n d)) (Some v) b.1) [
     | inl a ↦ subst (λ (k : ℕ). IsOption (k ∷ n ∷ d) v) (sym (eqb-true t 5 a.0)) (alert-option n d v a.1 l)
     | inr a ↦
-      let is : unknown (type_of t) n d ≡ v = same_value _ _ a.1 in
-      subst (λ (x : OptionValue). IsOption (t ∷ n ∷ d) x) is (t, refl, l, refl, ne, eqb-false t 1 b.0, eqb-false t 5 a.0)
-    ]
+        let is : unknown (type_of t) n d ≡ v = same_value _ _ a.1 in
+        subst (λ (x : OptionValue). IsOption (t ∷ n ∷ d) x) is (t, refl, l, refl, ne, eqb-false t 1 b.0, eqb-false t 5 a.0)
   ]
+]
 
 counted-option : (t : ℕ) (rest : List ℕ) (v : OptionValue) → counted_at t rest ≡ Some v → t ≢ 0 → BeginsWith (t ∷ rest) v
 counted-option t [] v e ne = cc
 counted-option t (n ∷ rest) v e ne = elim (chosen (ltb (length rest) n) None (known_at t n (take n rest)) (Some v) e) [
   | inl a ↦ let no = a.1 in cc
   | inr b ↦ record {
-      front = t ∷ n ∷ take n rest;
-      rest = drop n rest;
-      whole = ap (λ (l : List ℕ). t ∷ n ∷ l) (sym (take-append-drop n rest));
-      option = known-option t n (take n rest) v b.1 (length-take-le n rest (ltb-false (length rest) n b.0)) ne;
-    }
-  ]
+    front = t ∷ n ∷ take n rest;
+    rest = drop n rest;
+    whole = ap (λ (l : List ℕ). t ∷ n ∷ l) (sym (take-append-drop n rest));
+    option = known-option t n (take n rest) v b.1 (length-take-le n rest (ltb-false (length rest) n b.0)) ne;
+  }
+]
 
 pub begins_with : (bytes : List ℕ) (v : OptionValue) → front_of bytes ≡ Some v → BeginsWith bytes v
 begins_with [] v e = cc
 begins_with (t ∷ rest) v e = elim (chosen (eqb t 0) (Some pad1) (counted_at t rest) (Some v) e) [
   | inl a ↦
-    let is : pad1 ≡ v = same_value _ _ a.1 in
-    record {
-      front = t ∷ [];
-      rest = rest;
-      whole = refl;
-      option = subst (λ (x : OptionValue). IsOption (t ∷ []) x) is (ap (λ (k : ℕ). k ∷ []) (eqb-true t 0 a.0));
-    }
+      let is : pad1 ≡ v = same_value _ _ a.1 in
+      record {
+        front = t ∷ [];
+        rest = rest;
+        whole = refl;
+        option = subst (λ (x : OptionValue). IsOption (t ∷ []) x) is (ap (λ (k : ℕ). k ∷ []) (eqb-true t 0 a.0));
+      }
   | inr b ↦ counted-option t rest v b.1 (eqb-false t 0 b.0)
-  ]
+]
 
 option_front : (front rest : List ℕ) (v : OptionValue) → IsOption front v → front_of (front ++ rest) ≡ Some v
 option_front front rest pad1 h = rw h refl

@@ -102,4 +102,4 @@ next-end false [] h = answers_of-nothing
 next-end false (t ∷ rest) h = elim h [
   | inl a ↦ cc
   | inr b ↦ absurd (omega (arith, b))
-  ]
+]

@@ -29,7 +29,10 @@ fn packets_and_what_they_print(rt: HostRuntime) -> Result<(), Fail> {
             "icmp4 08008efe1234abcdaa0000ff",
             "EchoRequest\nident=4660\nseq_no=43981\ndata=aa0000ff\n",
         ),
-        ("icmp4 0000ffff00000000", "EchoReply\nident=0\nseq_no=0\ndata=-\n"),
+        (
+            "icmp4 0000ffff00000000",
+            "EchoReply\nident=0\nseq_no=0\ndata=-\n",
+        ),
         ("icmp4 0000000000000000", "refused\n"),
         ("icmp4 -", "refused\n"),
         (
@@ -58,7 +61,10 @@ fn packets_and_what_they_print(rt: HostRuntime) -> Result<(), Fail> {
             "igmp 12000000e1000025",
             "MembershipReport\ngroup_addr=225.0.0.37\nversion=1\n",
         ),
-        ("igmp 17a50000e0000696", "LeaveGroup\ngroup_addr=224.0.6.150\n"),
+        (
+            "igmp 17a50000e0000696",
+            "LeaveGroup\ngroup_addr=224.0.6.150\n",
+        ),
         ("igmp 160000000a000001", "refused\n"),
         ("igmp 22000000e0000001", "refused\n"),
     ] {

@@ -48,5 +48,5 @@ loop-option-preserved c =
     record {
       place = omega (arith, c.loop-option.invariant.place, len, ap length more, length-append done (option.text last));
       written = over-put_mid c.args.bytes.now done (option.text last) c.loop-option.bytes c.write_option.new.bytes c.loop-option.at c.loop-option.invariant.place c.loop-option.invariant.written c.write_option.ensures
-        ∙ ap (λ (l : List ℕ). over c.args.bytes.now l) (sym more);
+          ∙ ap (λ (l : List ℕ). over c.args.bytes.now l) (sym more);
     }

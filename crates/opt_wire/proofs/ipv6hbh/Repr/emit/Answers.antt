@@ -11,9 +11,9 @@ pub returns-clause-reads_back : goal.returns-clause-reads_back
 returns-clause-reads_back g c = λ canonical long.
     let old = g.T.Octets.bytes (inner c.args.header.now) in
     let left = g.met.T.OctetsMut.bytes_put _ _ ∙ c.write_options.ensures
-      ∙ ap (λ (l : List ℕ). over l (text (map value_of c.as_slice.result.now))) c.options_mut.ensures.value
-      ∙ ap (λ (l : List Repr). over old (text (map value_of l))) c.as_slice.ensures.value
-      ∙ over-exact old (text (options_of c.args.self.now)) long in
+    ∙ ap (λ (l : List ℕ). over l (text (map value_of c.as_slice.result.now))) c.options_mut.ensures.value
+    ∙ ap (λ (l : List Repr). over old (text (map value_of l))) c.as_slice.ensures.value
+    ∙ over-exact old (text (options_of c.args.self.now)) long in
     subst (λ (bytes : List ℕ). IsHeader 4 bytes (norm (options_of c.args.self.now))) (sym left) (header-text 4 (options_of c.args.self.now) canonical)
 
 pub returns-clause-canonical : goal.returns-clause-canonical

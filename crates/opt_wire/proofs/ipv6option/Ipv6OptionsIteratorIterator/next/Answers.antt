@@ -13,7 +13,7 @@ returns-then-self-clause-steps c =
     let ended = sym c.self.view_is ∙ next-end it.hit_error it.data.now (elim c.then-self.branch [
       | then-self-via-then-self w ↦ inl w.if-self.true
       | then-self-via-else-self+then-is_empty w ↦ inr (eqb-true (length it.data.now) 0 (sym w.is_empty.ensures ∙ w.if-is_empty.true))
-      ]) in
+    ]) in
     (ended, ended)
 
 pub returns-in-Ok-clause-steps : goal.returns-in-Ok-clause-steps
