@@ -61,7 +61,8 @@ impl<'a> Header<&'a [u8]> {
     pub fn options(&self) -> &'a [u8]
         ensures { result ≡ inner self.now }
     {
-        self.buffer
+        let octets: &'a [u8] = self.buffer;
+        octets
     }
 }
 

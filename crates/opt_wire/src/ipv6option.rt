@@ -334,6 +334,10 @@ pub enum Repr<'a> {
 }
 
 impl Default for Repr<'_> {
+    ghost use Rattle.opt_wire.specs.Ipv6Option.{pad1};
+
+    ghost is_default = { λ repr. value_of repr ≡ pad1 };
+
     fn default() -> Self {
         Repr::Pad1
     }

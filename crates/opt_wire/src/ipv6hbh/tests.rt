@@ -106,8 +106,12 @@ fn options_written_one_after_another(rt: HostRuntime) -> Result<(), Fail> {
     for fill in [0x00, 0xff, 0x2a, 0xa5] {
         let mut octets = [fill; 17];
         header.emit(&mut Header::new_unchecked(octets.as_mut_slice()));
-        assert_eq!(rt; octets[..14], text, "over {fill}");
-        assert_eq!(rt; octets[14..], [fill; 3], "after the options over {fill}");
+        assert_eq!(rt; &octets[..14], text.as_slice(), "over {fill}");
+        assert_eq!(rt;
+            &octets[14..],
+            [fill; 3].as_slice(),
+            "after the options over {fill}"
+        );
     }
     compare_at_each_length(&rt, rt.alloc(), &text)
 }
