@@ -104,7 +104,7 @@ impl Octets for &mut [u8] {
 
     #[tactic(auto, unfolding(crate::specs::Bytes::part))]
     fn range(&self, from: usize, to: usize) -> &[u8] {
-        &self[from..to]
+        &(**self)[from..to]
     }
 }
 
