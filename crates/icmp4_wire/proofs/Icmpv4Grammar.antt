@@ -3,7 +3,7 @@ use Rattle.std.proofs.Common.{◌≡◌, ℕ, List, sym, ap, ◌∙◌}
 use Rattle.wirebase.specs.declared.capabilities.ChecksumCapabilities.{ChecksumCapabilities}
 use Rattle.wirebase.specs.declared.ipv4.Ipv4Repr.{Ipv4Repr}
 use Rattle.wirebase.specs.Bytes.{byte_of}
-use Rattle.icmp4_wire.specs.declared.icmpv4.Message.TheVariants as message
+use Rattle.icmp4_wire.specs.declared.icmpv4.tables.Message.TheVariants as message
 use Rattle.icmp4_wire.specs.Icmpv4Tables.{message_of}
 use Rattle.icmp4_wire.specs.Icmpv4.{type_field, data_in, MessageValue, echo_request, echo_reply, unreachable, time_exceeded, IsQuote, IsMessage}
 

@@ -15,10 +15,10 @@ use Rattle.wirebase.proofs.CapabilitySeals.{length-sealed_where, IsGood-sealed_w
 use Rattle.wirebase.proofs.Numbered.{case_in-unnamed}
 use Rattle.wirebase.proofs.IpProtocols.{protocol_of-number}
 use Rattle.wirebase.proofs.Ipv4Header.{length-header_text as length-ipv4_header, header-read, header-whole, drop-header_text}
-use Rattle.icmp4_wire.specs.declared.icmpv4.DstUnreachable.{DstUnreachable}
-use Rattle.icmp4_wire.specs.declared.icmpv4.DstUnreachable.TheVariants as reasons
-use Rattle.icmp4_wire.specs.declared.icmpv4.TimeExceeded.{TimeExceeded}
-use Rattle.icmp4_wire.specs.declared.icmpv4.TimeExceeded.TheVariants as times
+use Rattle.icmp4_wire.specs.declared.icmpv4.tables.DstUnreachable.{DstUnreachable}
+use Rattle.icmp4_wire.specs.declared.icmpv4.tables.DstUnreachable.TheVariants as reasons
+use Rattle.icmp4_wire.specs.declared.icmpv4.tables.TimeExceeded.{TimeExceeded}
+use Rattle.icmp4_wire.specs.declared.icmpv4.tables.TimeExceeded.TheVariants as times
 use Rattle.icmp4_wire.specs.Icmpv4Tables.{unreachable_number, unreachable_rows, unreachable_of, time_exceeded_number, time_exceeded_rows, time_exceeded_of}
 use Rattle.icmp4_wire.specs.Icmpv4.{checksum_field, MessageValue, echo_request, echo_reply, unreachable, time_exceeded, header_text, quote_text, body, packet_len, seal, IsEcho, IsQuote, IsError, IsContent, IsMessage, CanQuote, IsCanonical, Fills, norm}
 

@@ -25,10 +25,10 @@ use Rattle.wirebase.specs.Ipv4.{octets_of as octets_in}
 use Rattle.wirebase.specs.Capabilities.{is_verified, sealed_where}
 use Rattle.wirebase.specs.Checksum.{IsGood}
 use Rattle.icmp4_wire.specs.Icmpv4Tables.{unreachable_number, unreachable_rows, unreachable_of, time_exceeded_number, time_exceeded_rows, time_exceeded_of}
-use Rattle.icmp4_wire.specs.declared.icmpv4.DstUnreachable.{DstUnreachable}
-use Rattle.icmp4_wire.specs.declared.icmpv4.DstUnreachable.TheVariants as reasons
-use Rattle.icmp4_wire.specs.declared.icmpv4.TimeExceeded.{TimeExceeded}
-use Rattle.icmp4_wire.specs.declared.icmpv4.TimeExceeded.TheVariants as times
+use Rattle.icmp4_wire.specs.declared.icmpv4.tables.DstUnreachable.{DstUnreachable}
+use Rattle.icmp4_wire.specs.declared.icmpv4.tables.DstUnreachable.TheVariants as reasons
+use Rattle.icmp4_wire.specs.declared.icmpv4.tables.TimeExceeded.{TimeExceeded}
+use Rattle.icmp4_wire.specs.declared.icmpv4.tables.TimeExceeded.TheVariants as times
 use Rattle.icmp4_wire.specs.declared.icmpv4.Repr.{Repr}
 use Rattle.icmp4_wire.specs.declared.icmpv4.Repr.TheVariants as repr
 use Rattle.icmp4_wire.specs.declared.icmpv4.Packet.{Packet}

@@ -164,7 +164,7 @@ impl<T: Octets> Packet<T> {
     pub fn verify_checksum(&self) -> bool
         ensures { IsTrue result ↔ IsGood (T.bytes (inner self.now)) 0 }
     {
-        checksum::data(self.buffer.octets()) == 0xffff
+        checksum::data(self.buffer.octets()) == !0
     }
 }
 
@@ -207,10 +207,11 @@ impl<T: OctetsMut> Packet<T> {
             .copy_from_slice(&value.octets());
     }
 
-    /// Writes the checksum of all the octets, as many as they are, whatever stood in its place. Asks 4 bytes.
+    /// Writes the checksum of all the octets, in which its field counts as zero (RFC 1071). Asks 4 bytes.
     pub fn fill_checksum(&mut self)
         requires { Reaches checksum_field (T.bytes (inner self.old)) }
-        ensures seals { inner self.new ≡ T.put (inner self.old) (sealed checksum_field (T.bytes (inner self.old)) 0) }
+        ensures sealed { inner self.new ≡ T.put (inner self.old)
+            (sealed checksum_field (T.bytes (inner self.old)) 0) }
         ensures len { length (T.bytes (inner self.new)) ≡ length (T.bytes (inner self.old)) }
         ensures good { IsGood (T.bytes (inner self.new)) 0 }
     {

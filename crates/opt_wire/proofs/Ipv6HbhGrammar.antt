@@ -1,12 +1,12 @@
 -- Hop-by-hop headers against the tiling of their bytes.
-use Rattle.std.proofs.Common.{◌≡◌, ◌≢◌, ℕ, zero, suc, ◌+◌, ◌≤◌, List, [], ◌∷◌, ◌++◌, length, take, map, Ok, Err, refl, sym, ap, subst, ◌∙◌, arith, add-one, length-append}
-use Rattle.std.specs.List.{flat_map, AllByRecursion}
-use Rattle.std.proofs.lemmas.List.{append_assoc, append-nil, take_all, take_at, length-take, length-take-le}
+use Rattle.std.proofs.Common.{◌≡◌, ◌≢◌, ℕ, zero, suc, ◌+◌, ◌≤◌, List, [], ◌∷◌, ◌++◌, length, take, map, Ok, Err, refl, sym, ap, ◌∙◌, arith, add-one, length-append}
+use Rattle.std.specs.List.{AllByRecursion}
+use Rattle.std.proofs.lemmas.List.{append_assoc, take_all, take_at, length-take, length-take-le}
 use Rattle.std.proofs.lemmas.List.Concat.{flat_map-cons}
 use Rattle.wirebase.specs.declared.error.Error.{Error}
 use Rattle.opt_wire.specs.Ipv6Option.{OptionValue, pad1, pad_n, router_alert, unknown}
 use Rattle.opt_wire.specs.Ipv6Option as option
-use Rattle.opt_wire.specs.Ipv6OptionAnswers.{Answer, Tile, ends, goes_on, breaks}
+use Rattle.opt_wire.specs.Ipv6OptionAnswers.{Answer, Tile, ends, goes_on}
 use Rattle.opt_wire.specs.Ipv6Hbh.{text, IsHeader, IsCanonical, norm}
 use Rattle.opt_wire.proofs.Ipv6OptionGrammar.{option_text}
 use Rattle.opt_wire.proofs.Ipv6OptionTiles.{tile-unique}

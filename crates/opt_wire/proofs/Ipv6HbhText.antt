@@ -1,14 +1,11 @@
 -- The texts of options one after another.
-use Rattle.std.proofs.Common.{◌≡◌, ℕ, zero, suc, ◌+◌, ◌-◌, ◌<◌, ◌≤◌, List, [], ◌∷◌, ◌++◌, length, take, drop, map, get_or, sum_by, refl, sym, ap, ◌∙◌, arith, length-append}
+use Rattle.std.proofs.Common.{◌≡◌, ℕ, zero, suc, ◌+◌, ◌<◌, ◌≤◌, List, [], ◌∷◌, ◌++◌, length, take, map, get_or, sum_by, refl, sym, ap, ◌∙◌, arith, length-append}
 use Rattle.std.specs.List.{flat_map, AllByRecursion}
-use Rattle.std.proofs.lemmas.List.{length-replicate, length-take-le, append-nil, take_more, take_rest, drop_all, length-drop}
+use Rattle.std.proofs.lemmas.List.{length-replicate, length-take-le, append-nil, take_more}
 use Rattle.std.proofs.lemmas.List.Folds.{flat_map-map, length-flat_map-take}
 use Rattle.std.proofs.lemmas.Grind.{flat_map-append}
 use Rattle.std.proofs.lemmas.List.Sums.{sum_by-cons}
 use Rattle.std.proofs.lemmas.List.Concat.{flat_map-cons}
-use Rattle.byteorder.specs.Endian.{big_bytes}
-use Rattle.wirebase.proofs.Pieces.{length-big_bytes}
-use Rattle.opt_wire.specs.Ipv6OptionTables.{alert_number}
 use Rattle.opt_wire.specs.declared.ipv6option.Repr.{Repr}
 use Rattle.opt_wire.specs.Ipv6Option.{OptionValue, value_of, pad1, pad_n, router_alert, unknown, text, counted_len, HasData}
 use Rattle.opt_wire.specs.Ipv6Hbh.{HaveData}

@@ -1,16 +1,16 @@
 -- Options against their bytes: the grammar as it is computed, byte by byte, and against the text.
-use Rattle.std.proofs.Common.{◌≡◌, ◌≢◌, ℕ, ◌+◌, ◌-◌, ◌*◌, ◌/◌, ◌%◌, ◌<◌, ◌≤◌, Bool, true, false, cond, ltb, eqb, List, [], ◌∷◌, ◌++◌, length, take, drop, replicate, slice_index, Option, Some, None, refl, sym, ap, subst, ◌∙◌, ◌⊎◌, inl, inr, arith, length-append, length-drop}
-use Rattle.std.proofs.lemmas.Bool.{ltb-true, ltb-false, le-ltb, eqb-true, eqb-false, ne_eqb}
+use Rattle.std.proofs.Common.{◌≡◌, ◌≢◌, ℕ, ◌+◌, ◌-◌, ◌*◌, ◌/◌, ◌%◌, ◌≤◌, Bool, true, false, cond, ltb, eqb, List, [], ◌∷◌, ◌++◌, length, take, drop, replicate, slice_index, Some, None, refl, sym, ap, subst, ◌∙◌, ◌⊎◌, inl, inr, arith, length-append}
+use Rattle.std.proofs.lemmas.Bool.{ltb-false, le-ltb, eqb-true, eqb-false, ne_eqb}
 use Rattle.std.proofs.lemmas.Bool.Decides.{nat_tests}
-use Rattle.std.proofs.lemmas.List.{take-append-drop, take_at, take_all, length-replicate, length-take-le}
-use Rattle.byteorder.specs.Endian.{big_number, big_bytes}
+use Rattle.std.proofs.lemmas.List.{take-append-drop, take_at, length-replicate, length-take-le}
+use Rattle.byteorder.specs.Endian.{big_number}
 use Rattle.wirebase.specs.Bytes.{part, over, byte_of, bytes_of}
 use Rattle.wirebase.specs.Numbered.{IsProper}
 use Rattle.wirebase.proofs.Numbered.{case_in-unnamed}
-use Rattle.opt_wire.specs.declared.ipv6option.Type as Kind
-use Rattle.opt_wire.specs.declared.ipv6option.Type.TheVariants as kind
-use Rattle.opt_wire.specs.declared.ipv6option.RouterAlert.{RouterAlert}
-use Rattle.opt_wire.specs.declared.ipv6option.RouterAlert.TheVariants as alert
+use Rattle.opt_wire.specs.declared.ipv6option.tables.Type as Kind
+use Rattle.opt_wire.specs.declared.ipv6option.tables.Type.TheVariants as kind
+use Rattle.opt_wire.specs.declared.ipv6option.tables.RouterAlert.{RouterAlert}
+use Rattle.opt_wire.specs.declared.ipv6option.tables.RouterAlert.TheVariants as alert
 use Rattle.opt_wire.specs.Ipv6OptionTables.{type_number, type_rows, type_of, alert_number, alert_rows, alert_of}
 use Rattle.opt_wire.specs.Ipv6Option.{type_field, length_field, data_field, BeginsWhole, OptionValue, pad1, pad_n, router_alert, unknown, text, IsOption, BeginsWith, IsCanonical, norm}
 use Rattle.opt_wire.specs.Ipv6OptionAnswers.{front_of, counted_at, known_at, alert_at}

@@ -1,5 +1,5 @@
 -- A hop-by-hop header, from its options on (RFC 8200 section 4.3).
-use Rattle.std.specs.Prelude.{◌≡◌, ◌≢◌, ℕ, ◌+◌, ◌≤◌, List, [], ◌∷◌, length, map, take, flat_map, sum_by, Ok}
+use Rattle.std.specs.Prelude.{◌≡◌, ◌≢◌, ℕ, ◌+◌, ◌≤◌, List, [], length, map, take, flat_map, sum_by, Ok}
 use Rattle.std.specs.List.{AllByRecursion}
 use Rattle.opt_wire.specs.declared.ipv6hbh.Header.{Header}
 use Rattle.opt_wire.specs.declared.ipv6hbh.Repr.{Repr}

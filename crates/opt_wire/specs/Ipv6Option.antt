@@ -11,10 +11,10 @@ use Rattle.byteorder.specs.Endian.{big_bytes}
 use Rattle.wirebase.specs.Bytes.{Field, field, Reaches, byte_of}
 use Rattle.wirebase.specs.Numbered.{IsProper}
 use Rattle.opt_wire.specs.declared.ipv6option.Ipv6Option.{Ipv6Option}
-use Rattle.opt_wire.specs.declared.ipv6option.Type as Kind
-use Rattle.opt_wire.specs.declared.ipv6option.Type.TheVariants as kind
-use Rattle.opt_wire.specs.declared.ipv6option.RouterAlert.{RouterAlert}
-use Rattle.opt_wire.specs.declared.ipv6option.RouterAlert.TheVariants as alert
+use Rattle.opt_wire.specs.declared.ipv6option.tables.Type as Kind
+use Rattle.opt_wire.specs.declared.ipv6option.tables.Type.TheVariants as kind
+use Rattle.opt_wire.specs.declared.ipv6option.tables.RouterAlert.{RouterAlert}
+use Rattle.opt_wire.specs.declared.ipv6option.tables.RouterAlert.TheVariants as alert
 use Rattle.opt_wire.specs.declared.ipv6option.Repr.{Repr}
 use Rattle.opt_wire.specs.declared.ipv6option.Repr.TheVariants as repr
 use Rattle.opt_wire.specs.Ipv6OptionTables.{type_number, type_rows, type_of, alert_number, alert_rows, alert_of}
@@ -75,7 +75,8 @@ abbrev pub HasData : OptionValue → Type 0
 HasData (unknown k n d) = n ≤ length d
 HasData _ = Unit {0}
 
--- The grammar: these bytes are one option of this value. What padding is filled with is not looked at.
+-- The grammar (RFC 8200 section 4.2, RFC 2711 section 2.1): these bytes are one option of this value: a type, the number of
+-- bytes of its data, and that data; a Pad1 is its type alone. What padding is filled with is not looked at.
 abbrev pub IsOption : List ℕ → OptionValue → Type 0
 IsOption w pad1 = w ≡ 0 ∷ []
 IsOption w (pad_n n) = (padding : List ℕ) × (w ≡ 1 ∷ n ∷ padding) × (length padding ≡ n)

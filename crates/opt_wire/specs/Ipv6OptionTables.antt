@@ -2,12 +2,12 @@
 -- does not know.
 use Rattle.std.specs.Prelude.{ℕ, ◌*◌, ◌/◌, List, [], ◌∷◌}
 use Rattle.wirebase.specs.Numbered.{rows_of, case_in}
-use Rattle.opt_wire.specs.declared.ipv6option.Type as Kind
-use Rattle.opt_wire.specs.declared.ipv6option.Type.TheVariants as kind
-use Rattle.opt_wire.specs.declared.ipv6option.RouterAlert.{RouterAlert}
-use Rattle.opt_wire.specs.declared.ipv6option.RouterAlert.TheVariants as alert
-use Rattle.opt_wire.specs.declared.ipv6option.FailureType.{FailureType}
-use Rattle.opt_wire.specs.declared.ipv6option.FailureType.TheVariants.{Skip, Discard, DiscardSendAll, DiscardSendUnicast}
+use Rattle.opt_wire.specs.declared.ipv6option.tables.Type as Kind
+use Rattle.opt_wire.specs.declared.ipv6option.tables.Type.TheVariants as kind
+use Rattle.opt_wire.specs.declared.ipv6option.tables.RouterAlert.{RouterAlert}
+use Rattle.opt_wire.specs.declared.ipv6option.tables.RouterAlert.TheVariants as alert
+use Rattle.opt_wire.specs.declared.ipv6option.tables.FailureType.{FailureType}
+use Rattle.opt_wire.specs.declared.ipv6option.tables.FailureType.TheVariants.{Skip, Discard, DiscardSendAll, DiscardSendUnicast}
 
 -- option types (RFC 8200 section 4.2, RFC 2711, RFC 6553)
 abbrev pub type_number : Kind.Type → ℕ

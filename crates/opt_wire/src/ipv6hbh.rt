@@ -6,7 +6,7 @@ ghost use Rattle.std.specs.Borrow.{sem, Lends, Array, u8 as byte};
 ghost use Rattle.wirebase.specs.Bytes.{over};
 ghost use Rattle.opt_wire.specs.Ipv6Option.{OptionValue, value_of, pad_n, router_alert};
 ghost use Rattle.opt_wire.specs.Ipv6Hbh.{inner, with_inner, options_of, text, counted_len_of, HaveData, IsHeader, IsCanonical, norm};
-ghost use Rattle.opt_wire.specs.declared.ipv6option.RouterAlert.TheVariants.{MulticastListenerDiscovery};
+ghost use Rattle.opt_wire.specs.declared.ipv6option.tables.RouterAlert.TheVariants.{MulticastListenerDiscovery};
 ghost use Rattle.opt_wire.specs.contracts.ipv6hbh.Header.{the_row};
 
 use crate::ipv6option;

@@ -4,175 +4,17 @@
 ghost use Rattle.std.specs.Prelude.{◌≡◌, ◌≤◌, ◌-◌, ◌*◌, ◌/◌, ◌+◌, ◌↔◌, [], ◌∷◌, length, IsOk, IfOk, IsOkAnd};
 ghost use Rattle.std.specs.Borrow.{sem, Lends, Array, u8 as byte};
 ghost use Rattle.wirebase.specs.Bytes.{Reaches, Writes, ComparesOctets, bytes_of, byte_of, with_field, over};
-ghost use Rattle.wirebase.specs.Numbered.{Ascends, IsProper, IsTableOrder, IsEqualityOf};
 ghost use Rattle.opt_wire.specs.Ipv6Option.{inner, with_inner, octets_of, type_field, length_field, data_field, BeginsWhole, OptionValue, value_of, text, counted_len, HasData, BeginsWith, IsCanonical, norm};
 ghost use Rattle.opt_wire.specs.contracts.ipv6option.Ipv6Option.{the_row};
-ghost use Rattle.opt_wire.specs.Ipv6OptionTables.{type_number, type_rows, type_of, alert_number, alert_rows, alert_of, failure_number, failures, failure_of};
+ghost use Rattle.opt_wire.specs.Ipv6OptionTables.{type_number, type_of};
 
 use byteorder::{BigEndian, ByteOrder};
 use std::marker::Model;
 use wirebase::{Error, Octets, OctetsMut, Result};
 
-/// The type of an option, one byte (RFC 8200 section 4.2).
-#[derive(Debug, PartialEq, Eq, PartialOrd, Ord, Clone, Copy)]
-pub enum Type {
-    /// One byte of padding.
-    Pad1,
-    /// Two bytes of padding or more.
-    PadN,
-    /// Router alert (RFC 2711).
-    RouterAlert,
-    /// RPL option (RFC 6553).
-    Rpl,
-    /// Any other type, by its number.
-    Unknown(u8),
-}
+mod tables;
 
-impl From<u8> for Type {
-    ghost from_gives = { λ number kind. kind ≡ type_of number };
-
-    fn from(number: u8) -> Type
-        ensures value { result ≡ type_of number }
-        ensures back { type_number result ≡ number }
-        ensures order { IsTableOrder ⟦<Type as Ord>⟧.cmp Type.Unknown type_rows }
-        ensures equality { IsEqualityOf ⟦<Type as Ord>⟧.cmp }
-    {
-        match number {
-            0 => Type::Pad1,
-            1 => Type::PadN,
-            5 => Type::RouterAlert,
-            0x63 => Type::Rpl,
-            other => Type::Unknown(other),
-        }
-    }
-}
-
-impl From<Type> for u8 {
-    ghost from_gives = { λ kind number. number ≡ type_number kind };
-
-    fn from(kind: Type) -> u8
-        ensures value { result ≡ type_number kind }
-        ensures back { IsProper Type.Unknown type_rows kind → type_of result ≡ kind }
-    {
-        match kind {
-            Type::Pad1 => 0,
-            Type::PadN => 1,
-            Type::RouterAlert => 5,
-            Type::Rpl => 0x63,
-            Type::Unknown(other) => other,
-        }
-    }
-}
-
-/// What a router alert tells of the packet, two bytes (RFC 2711 section 2.1).
-#[derive(Debug, PartialEq, Eq, PartialOrd, Ord, Clone, Copy)]
-pub enum RouterAlert {
-    /// A message of multicast listener discovery.
-    MulticastListenerDiscovery,
-    /// A message of RSVP.
-    Rsvp,
-    /// A message of active networks.
-    ActiveNetworks,
-    /// Any other value, by its number.
-    Unknown(u16),
-}
-
-impl RouterAlert {
-    /// The bytes of a router alert's data: it is one number of two bytes (RFC 2711 section 2.1).
-    pub const DATA_LEN: u8 = 2;
-}
-
-impl From<u16> for RouterAlert {
-    ghost from_gives = { λ number alert. alert ≡ alert_of number };
-
-    fn from(number: u16) -> RouterAlert
-        ensures value { result ≡ alert_of number }
-        ensures back { alert_number result ≡ number }
-        ensures order { IsTableOrder ⟦<RouterAlert as Ord>⟧.cmp RouterAlert.Unknown alert_rows }
-        ensures equality { IsEqualityOf ⟦<RouterAlert as Ord>⟧.cmp }
-    {
-        match number {
-            0 => RouterAlert::MulticastListenerDiscovery,
-            1 => RouterAlert::Rsvp,
-            2 => RouterAlert::ActiveNetworks,
-            other => RouterAlert::Unknown(other),
-        }
-    }
-}
-
-impl From<RouterAlert> for u16 {
-    ghost from_gives = { λ alert number. number ≡ alert_number alert };
-
-    fn from(alert: RouterAlert) -> u16
-        ensures value { result ≡ alert_number alert }
-        ensures back { IsProper RouterAlert.Unknown alert_rows alert → alert_of result ≡ alert }
-    {
-        match alert {
-            RouterAlert::MulticastListenerDiscovery => 0,
-            RouterAlert::Rsvp => 1,
-            RouterAlert::ActiveNetworks => 2,
-            RouterAlert::Unknown(other) => other,
-        }
-    }
-}
-
-/// What a node does with a packet that has an option of a type that it does not know: the two highest bits of the
-/// type (RFC 8200 section 4.2).
-#[derive(Debug, PartialEq, Eq, PartialOrd, Ord, Hash, Clone, Copy)]
-pub enum FailureType {
-    /// Skip the option and go on.
-    Skip,
-    /// Discard the packet.
-    Discard,
-    /// Discard the packet and tell its sender.
-    DiscardSendAll,
-    /// Discard the packet and tell its sender, unless the packet went to a multicast address.
-    DiscardSendUnicast,
-}
-
-impl From<u8> for FailureType {
-    ghost from_gives = { λ number failure. failure ≡ failure_of number };
-
-    fn from(number: u8) -> FailureType
-        ensures value { result ≡ failure_of number }
-        ensures back { failure_number result ≡ number / 64 * 64 }
-        ensures order { Ascends ⟦<FailureType as Ord>⟧.cmp failures }
-        ensures equality { IsEqualityOf ⟦<FailureType as Ord>⟧.cmp }
-    {
-        match number >> 6 {
-            0 => FailureType::Skip,
-            1 => FailureType::Discard,
-            2 => FailureType::DiscardSendAll,
-            _ => FailureType::DiscardSendUnicast,
-        }
-    }
-}
-
-impl From<FailureType> for u8 {
-    ghost from_gives = { λ failure number. number ≡ failure_number failure };
-
-    fn from(failure: FailureType) -> u8
-        ensures value { result ≡ failure_number failure }
-        ensures back { failure_of result ≡ failure }
-    {
-        match failure {
-            FailureType::Skip => 0x00,
-            FailureType::Discard => 0x40,
-            FailureType::DiscardSendAll => 0x80,
-            FailureType::DiscardSendUnicast => 0xc0,
-        }
-    }
-}
-
-impl From<Type> for FailureType {
-    ghost from_gives = { λ kind failure. failure ≡ failure_of (type_number kind) };
-
-    fn from(kind: Type) -> FailureType
-        ensures { result ≡ failure_of (type_number kind) }
-    {
-        FailureType::from(u8::from(kind))
-    }
-}
+pub use tables::{FailureType, RouterAlert, Type};
 
 // An option (RFC 8200 section 4.2); a Pad1 is its type alone.
 //

@@ -1,8 +1,8 @@
 //! The internet checksum: RFC 1071.
 #![tactic(auto, using(crate::proofs::ChecksumSums::sums))]
 
-ghost use Rattle.std.specs.Prelude.{◌≡◌, ◌+◌, ◌*◌, ◌^◌, ◌<◌, ◌≤◌, length, sum};
-ghost use Rattle.wirebase.specs.Checksum.{word_sum, fold, sealed};
+ghost use Rattle.std.specs.Prelude.{◌≡◌, ◌+◌, ◌*◌, ◌%◌, ◌^◌, ◌<◌, ◌≤◌, length, sum};
+ghost use Rattle.wirebase.specs.Checksum.{word_sum, fold, IsGood, sealed};
 ghost use Rattle.wirebase.specs.Bytes.{field as field_at};
 
 use crate::octets::{Field, Octets, OctetsMut};
@@ -30,8 +30,8 @@ pub fn combine(checksums: &[u16]) -> u16
     folded(sum)
 }
 
-/// Writes the checksum of all the octets into their field of two bytes, which counts as zero; the others stay.
-/// Asks that the field is there.
+/// Writes the checksum of all the octets into their field of two bytes, which counts as zero; the others stay. The
+/// octets are good then, where the field stands at an even place. Asks that the field is there.
 #[tactic(auto, using(crate::proofs::Pieces::pieces, crate::proofs::ChecksumSeals::seals))]
 pub fn fill<T: OctetsMut>(octets: &mut T, field: Field)
     requires two { field.end ≡ field.start + 2 }
@@ -39,6 +39,7 @@ pub fn fill<T: OctetsMut>(octets: &mut T, field: Field)
     ensures sealed { octets.new ≡ T.put octets.old
         (sealed (field_at field.start field.end) (T.bytes octets.old) 0) }
     ensures len { length (T.bytes octets.new) ≡ length (T.bytes octets.old) }
+    ensures good { field.start % 2 ≡ 0 → IsGood (T.bytes octets.new) 0 }
 {
     let Range { start, end } = field;
     BigEndian::write_u16(octets.range_mut(start, end), 0);

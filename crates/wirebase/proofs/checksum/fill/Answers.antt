@@ -1,9 +1,9 @@
-use Rattle.std.proofs.Common.{◌≡◌, ◌-◌, ℕ, List, [], ◌∷◌, length, ap, ◌∙◌, arith}
+use Rattle.std.proofs.Common.{◌≡◌, ◌-◌, ℕ, List, [], ◌∷◌, length, sym, ap, subst, ◌∙◌, arith}
 use Rattle.byteorder.specs.Endian.{big_bytes}
-use Rattle.wirebase.specs.Bytes.{splice}
-use Rattle.wirebase.specs.Checksum.{word_sum, fold}
+use Rattle.wirebase.specs.Bytes.{field, splice}
+use Rattle.wirebase.specs.Checksum.{word_sum, fold, IsGood}
 use Rattle.wirebase.proofs.Pieces.{append-drop_whole}
-use Rattle.wirebase.proofs.ChecksumSeals.{splice-sealed_alone}
+use Rattle.wirebase.proofs.ChecksumSeals.{splice-sealed_alone, IsGood-sealed}
 use Rattle.wirebase.proofs.checksum.fill.Goals as goal
 
 pub returns-clause-sealed : goal.returns-clause-sealed
@@ -20,3 +20,8 @@ returns-clause-sealed g c =
     rw (g.met.T.OctetsMut.bytes_put) (g.met.T.OctetsMut.put_put _ _ _ ∙ ap (g.T.OctetsMut.put c.args.octets.now)
     (ap (λ (w : List ℕ). splice (splice old i j w) i j c.write_u16-2.new.buf) cleared ∙ ap (λ (w : List ℕ). splice (splice old i j (0 ∷ 0 ∷ [])) i j w) filled
     ∙ splice-sealed_alone old i j _ c.requires.two c.requires.room checksum))
+
+pub returns-clause-good : goal.returns-clause-good
+returns-clause-good g c = λ even.
+    let left = ap g.T.Octets.bytes (returns-clause-sealed g c) ∙ g.met.T.OctetsMut.bytes_put _ _ in
+    subst (λ (bytes : List ℕ). IsGood bytes 0) (sym left) (IsGood-sealed (field c.args.field.start c.args.field.end) _ 0 c.requires.two c.requires.room even)

@@ -1,4 +1,4 @@
-use Rattle.std.proofs.Common.{◌≡◌, ◌++◌, ◌∷◌, ℕ, List, length, map, Ok, Err, Result, refl, sym, ap, ◌∙◌, arith}
+use Rattle.std.proofs.Common.{◌++◌, ◌∷◌, List, length, map, Ok, Result, refl, sym, ap, ◌∙◌, arith}
 use Rattle.std.proofs.lemmas.List.{append-nil, length-map}
 use Rattle.std.proofs.lemmas.Bool.{eqb-true}
 use Rattle.wirebase.specs.declared.error.Error.{Error}
@@ -6,7 +6,7 @@ use Rattle.wirebase.specs.Answers.{seen}
 use Rattle.opt_wire.specs.declared.ipv6option.Repr.{Repr}
 use Rattle.opt_wire.specs.Ipv6Option.{value_of}
 use Rattle.opt_wire.specs.Ipv6OptionAnswers.{Answer}
-use Rattle.opt_wire.specs.Ipv6Hbh.{inner, IsHeader}
+use Rattle.opt_wire.specs.Ipv6Hbh.{inner}
 use Rattle.opt_wire.proofs.Ipv6HbhGrammar.{header-end, header-full, header-refused, header-unique}
 use Rattle.opt_wire.proofs.ipv6hbh.Repr.parse.Goals.{in-None, in-Some+in_ok-option+then-is_full}
 use Rattle.opt_wire.proofs.ipv6hbh.Repr.parse.Goals as goal
