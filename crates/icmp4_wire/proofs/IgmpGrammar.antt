@@ -88,27 +88,25 @@ at_front bytes code group message.LeaveGroup r begins is = subst (IsMessage byte
 at_front bytes code group message.MembershipReportV1 r begins is = subst (IsMessage bytes) (same_message _ _ is) (code, begins)
 at_front bytes code group (message.Unknown n) r begins is = cc
 
--- the message that the bytes begin with, which is the only one
-pub record Reads (bytes : List ℕ) (r : Repr) : Type 0 where
-  pub sound : IsMessage bytes r
-  pub only : (s : Repr) → IsMessage bytes s → r ≡ s
+-- the bytes begin with one message at the most
+pub message-unique : (bytes : List ℕ) (r s : Repr) → IsMessage bytes r → IsMessage bytes s → r ≡ s
+message-unique bytes r s h k =
+    let a = front_of bytes r h in
+    let b = front_of bytes s k in
+    let same = begins_with-same bytes a.number b.number a.code b.code a.group b.group a.begins b.begins in
+    same_message r s (sym a.is ∙ ap (λ (n : ℕ). message_at (message_of n) a.code a.group) same.same_number
+    ∙ ap (λ (n : ℕ). message_at (message_of b.number) n a.group) same.same_code
+    ∙ ap (λ (g : Ipv4Address). message_at (message_of b.number) b.code g) same.same_group ∙ b.is)
 
+-- the message that the bytes begin with
 pub reads : (bytes : List ℕ) (group : Ipv4Address) (m : Message) (r : Repr) → 8 ≤ length bytes → octets_of group ≡ bytes_of group_field bytes → IsGroup group
-    → m ≡ message_of (byte_of type_field bytes) → message_at m (byte_of code_field bytes) group ≡ Some r → Reads bytes r
+    → m ≡ message_of (byte_of type_field bytes) → message_at m (byte_of code_field bytes) group ≡ Some r → IsMessage bytes r
 reads bytes group m r h e is_group of is =
     let number : ℕ = byte_of type_field bytes in
     let code : ℕ = byte_of code_field bytes in
     let begins : BeginsWith bytes number code group = begins_with bytes group h e is_group in
     let named : number ≡ message_number m = sym (message_number-of number) ∙ ap message_number (sym of) in
-    record {
-      sound = at_front bytes code group m r (subst (λ (n : ℕ). BeginsWith bytes n code group) named begins) is;
-      only = λ s k.
-          let front = front_of bytes s k in
-          let same = begins_with-same bytes number front.number code front.code group front.group begins front.begins in
-          same_message r s (sym is ∙ ap (λ (x : Message). message_at x code group) (of ∙ ap message_of same.same_number)
-          ∙ ap (λ (n : ℕ). message_at (message_of front.number) n group) same.same_code
-          ∙ ap (λ (g : Ipv4Address). message_at (message_of front.number) front.code g) same.same_group ∙ front.is);
-    }
+    at_front bytes code group m r (subst (λ (n : ℕ). BeginsWith bytes n code group) named begins) is
 
 -- the group of a message is one that it may speak of
 pub group-message : (bytes : List ℕ) (r : Repr) (group : Ipv4Address) → octets_of group ≡ bytes_of group_field bytes → IsMessage bytes r → IsGroup group
