@@ -1,6 +1,6 @@
 //! Messages of IGMP.
 
-use crate::printer::Printer;
+use crate::printer::{Printer, Value};
 use icmp4_wire::igmp::{IgmpVersion, Packet, Repr};
 use std::io;
 use std::io::Write;
@@ -19,7 +19,7 @@ pub fn show_igmp<W: Write>(printer: &mut Printer<'_, W>, packet: &[u8]) -> io::R
             printer.line("MembershipQuery")?;
             printer.field("max_resp_time", max_resp_time)?;
             printer.field("group_addr", group_addr)?;
-            printer.field("version", number_of(version))
+            printer.field("version", version)
         }
         Repr::MembershipReport {
             group_addr,
@@ -27,7 +27,7 @@ pub fn show_igmp<W: Write>(printer: &mut Printer<'_, W>, packet: &[u8]) -> io::R
         } => {
             printer.line("MembershipReport")?;
             printer.field("group_addr", group_addr)?;
-            printer.field("version", number_of(version))
+            printer.field("version", version)
         }
         Repr::LeaveGroup { group_addr } => {
             printer.line("LeaveGroup")?;
@@ -36,10 +36,13 @@ pub fn show_igmp<W: Write>(printer: &mut Printer<'_, W>, packet: &[u8]) -> io::R
     }
 }
 
-// The number of a version.
-fn number_of(version: IgmpVersion) -> u8 {
-    match version {
-        IgmpVersion::Version1 => 1,
-        IgmpVersion::Version2 => 2,
+// The version's number.
+impl Value for IgmpVersion {
+    fn write_to<W: Write>(self, output: &mut W) -> io::Result<()> {
+        let number: u8 = match self {
+            IgmpVersion::Version1 => 1,
+            IgmpVersion::Version2 => 2,
+        };
+        number.write_to(output)
     }
 }
