@@ -1,15 +1,22 @@
 //! The octets under a view, and the parts of them that it reads, writes and lends.
 
-ghost use Rattle.std.specs.Prelude.{◌≡◌, ◌≤◌, ◌-◌, [], length, List, ℕ};
+ghost use Rattle.std.specs.Prelude.{◌≡◌, ◌≤◌, ◌+◌, ◌-◌, [], ◌∷◌, length, slice_index, List, ℕ};
+ghost use Rattle.byteorder.specs.Endian.{big_bytes, big_number};
 ghost use Rattle.std.specs.Borrow.{sem, Lends, Array, u8 as byte};
 ghost use denote.Slice.{MutSlice};
 ghost use mir.Syntax.{named};
-ghost use Rattle.wirebase.specs.Bytes.{part, splice, over_front};
+ghost use Rattle.wirebase.specs.Bytes.{IsBytes, part, splice};
 
+use byteorder::{BigEndian, ByteOrder};
 use std::ops::Range;
 
 /// A field of a layout: its octets, from the first up to the one after the last.
 pub type Field = Range<usize>;
+
+/// Does nothing: each octet is a byte.
+pub fn are_bytes(octets: &[u8])
+    ensures { IsBytes octets.now }
+{}
 
 /// What holds octets: `&[u8]` and `&mut [u8]` alone.
 pub trait Octets: Drop {
@@ -21,11 +28,15 @@ pub trait Octets: Drop {
         ensures { result.now ≡ bytes self.now };
 
     /// The octets from one place up to another.
-    fn range(&self, from: usize, to: usize) -> &[u8]
+    #[tactic(auto, unfolding(crate::specs::Bytes::part))]
+    final fn range(&self, from: usize, to: usize) -> &[u8]
         requires order { from ≤ to }
         requires room { to ≤ length (bytes self.now) }
         ensures value { result.now ≡ part (bytes self.now) from to }
-        ensures len { length result.now ≡ to - from };
+        ensures len { length result.now ≡ to - from }
+    {
+        &self.octets()[from..to]
+    }
 
     /// The octets of a field.
     final fn field(&self, field: Field) -> &[u8]
@@ -35,6 +46,34 @@ pub trait Octets: Drop {
         ensures len { length result.now ≡ field.end - field.start }
     {
         self.range(field.start, field.end)
+    }
+
+    /// The octet in a field of one.
+    #[tactic(auto, using(crate::proofs::Pieces::pieces))]
+    final fn u8_at(&self, field: Field) -> u8
+        requires one { field.end ≡ field.start + 1 }
+        requires room { field.end ≤ length (bytes self.now) }
+        ensures { result ≡ slice_index (bytes self.now) field.start }
+    {
+        self.range(field.start, field.end)[0]
+    }
+
+    /// The number in a field of two octets, the higher first.
+    final fn u16_at(&self, field: Field) -> u16
+        requires two { field.end ≡ field.start + 2 }
+        requires room { field.end ≤ length (bytes self.now) }
+        ensures { result ≡ big_number 2 (part (bytes self.now) field.start field.end) }
+    {
+        BigEndian::read_u16(self.range(field.start, field.end))
+    }
+
+    /// The number in a field of four octets, the highest first.
+    final fn u32_at(&self, field: Field) -> u32
+        requires four { field.end ≡ field.start + 4 }
+        requires room { field.end ≤ length (bytes self.now) }
+        ensures { result ≡ big_number 4 (part (bytes self.now) field.start field.end) }
+    {
+        BigEndian::read_u32(self.range(field.start, field.end))
     }
 }
 
@@ -75,6 +114,51 @@ pub trait OctetsMut: Octets {
         self.range_mut(0, len)
     }
 
+    /// Writes an octet into a field of one.
+    #[tactic(auto, using(crate::proofs::Pieces::pieces))]
+    final fn set_u8(&mut self, field: Field, value: u8)
+        requires one { field.end ≡ field.start + 1 }
+        requires room { field.end ≤ length (Self.bytes self.old) }
+        ensures writes { self.new ≡ put self.old (splice (Self.bytes self.old) field.start field.end (value ∷ [])) }
+        ensures len { length (Self.bytes self.new) ≡ length (Self.bytes self.old) }
+    {
+        self.range_mut(field.start, field.end)[0] = value;
+    }
+
+    /// Writes a number into a field of two octets, the higher first.
+    #[tactic(auto, using(crate::proofs::Pieces::pieces))]
+    final fn set_u16(&mut self, field: Field, value: u16)
+        requires two { field.end ≡ field.start + 2 }
+        requires room { field.end ≤ length (Self.bytes self.old) }
+        ensures writes { self.new ≡ put self.old (splice (Self.bytes self.old) field.start field.end (big_bytes 2 value)) }
+        ensures len { length (Self.bytes self.new) ≡ length (Self.bytes self.old) }
+    {
+        BigEndian::write_u16(self.range_mut(field.start, field.end), value);
+    }
+
+    /// Writes a number into a field of four octets, the highest first.
+    #[tactic(auto, using(crate::proofs::Pieces::pieces))]
+    final fn set_u32(&mut self, field: Field, value: u32)
+        requires four { field.end ≡ field.start + 4 }
+        requires room { field.end ≤ length (Self.bytes self.old) }
+        ensures writes { self.new ≡ put self.old (splice (Self.bytes self.old) field.start field.end (big_bytes 4 value)) }
+        ensures len { length (Self.bytes self.new) ≡ length (Self.bytes self.old) }
+    {
+        BigEndian::write_u32(self.range_mut(field.start, field.end), value);
+    }
+
+    /// Writes octets into a field of as many.
+    #[tactic(auto, using(crate::proofs::Pieces::pieces))]
+    final fn set_bytes(&mut self, field: Field, value: &[u8])
+        requires order { field.start ≤ field.end }
+        requires whole { length value.now ≡ field.end - field.start }
+        requires room { field.end ≤ length (Self.bytes self.old) }
+        ensures writes { self.new ≡ put self.old (splice (Self.bytes self.old) field.start field.end value.now) }
+        ensures len { length (Self.bytes self.new) ≡ length (Self.bytes self.old) }
+    {
+        self.range_mut(field.start, field.end).copy_from_slice(value);
+    }
+
     ghost bytes_put: { (s : Self) (w : List ℕ) → Self.bytes (put s w) ≡ w };
 
     ghost put_put: { (s : Self) (v w : List ℕ) → put (put s v) w ≡ put s w };
@@ -88,11 +172,6 @@ impl Octets for &[u8] {
     fn octets(&self) -> &[u8] {
         *self
     }
-
-    #[tactic(auto, unfolding(crate::specs::Bytes::part))]
-    fn range(&self, from: usize, to: usize) -> &[u8] {
-        &self[from..to]
-    }
 }
 
 impl Octets for &mut [u8] {
@@ -100,11 +179,6 @@ impl Octets for &mut [u8] {
 
     fn octets(&self) -> &[u8] {
         &**self
-    }
-
-    #[tactic(auto, unfolding(crate::specs::Bytes::part))]
-    fn range(&self, from: usize, to: usize) -> &[u8] {
-        &(**self)[from..to]
     }
 }
 
@@ -129,13 +203,4 @@ impl OctetsMut for &mut [u8] {
     {
         &mut self[from..to]
     }
-}
-
-/// Writes the bytes over the front of the octets, as many as there is room for; later octets stay.
-#[tactic(auto, using(crate::proofs::Pieces::pieces))]
-pub fn write_front(octets: &mut [u8], bytes: &[u8])
-    ensures { octets.new ≡ over_front octets.old bytes.now }
-{
-    let len = bytes.len().min(octets.len());
-    octets[..len].copy_from_slice(&bytes[..len]);
 }
