@@ -1,0 +1,65 @@
+-- What messages of ICMPv4 and their parts print.
+use Rattle.std.specs.Prelude.{ℕ, List, [], ◌∷◌, codes, decimal, length}
+use Rattle.wirebase.specs.Display.{pieces}
+use Rattle.icmp4_wire.specs.declared.icmpv4.tables.Message.{Message}
+use Rattle.icmp4_wire.specs.declared.icmpv4.tables.Message.TheVariants as message
+use Rattle.icmp4_wire.specs.declared.icmpv4.tables.DstUnreachable.{DstUnreachable}
+use Rattle.icmp4_wire.specs.declared.icmpv4.tables.DstUnreachable.TheVariants as reasons
+use Rattle.icmp4_wire.specs.declared.icmpv4.tables.TimeExceeded.{TimeExceeded}
+use Rattle.icmp4_wire.specs.declared.icmpv4.tables.TimeExceeded.TheVariants as times
+use Rattle.icmp4_wire.specs.Icmpv4.{MessageValue, echo_request, echo_reply, unreachable, time_exceeded}
+
+-- the type of a message
+abbrev pub message_display : Message → List ℕ
+message_display message.EchoReply = codes "echo reply"
+message_display message.DstUnreachable = codes "destination unreachable"
+message_display message.Redirect = codes "message redirect"
+message_display message.EchoRequest = codes "echo request"
+message_display message.RouterAdvert = codes "router advertisement"
+message_display message.RouterSolicit = codes "router solicitation"
+message_display message.TimeExceeded = codes "time exceeded"
+message_display message.ParamProblem = codes "parameter problem"
+message_display message.Timestamp = codes "timestamp"
+message_display message.TimestampReply = codes "timestamp reply"
+message_display (message.Unknown n) = decimal n
+
+-- why a destination is unreachable
+abbrev pub unreachable_display : DstUnreachable → List ℕ
+unreachable_display reasons.NetUnreachable = codes "destination network unreachable"
+unreachable_display reasons.HostUnreachable = codes "destination host unreachable"
+unreachable_display reasons.ProtoUnreachable = codes "destination protocol unreachable"
+unreachable_display reasons.PortUnreachable = codes "destination port unreachable"
+unreachable_display reasons.FragRequired = codes "fragmentation required, and DF flag set"
+unreachable_display reasons.SrcRouteFailed = codes "source route failed"
+unreachable_display reasons.DstNetUnknown = codes "destination network unknown"
+unreachable_display reasons.DstHostUnknown = codes "destination host unknown"
+unreachable_display reasons.SrcHostIsolated = codes "source host isolated"
+unreachable_display reasons.NetProhibited = codes "network administratively prohibited"
+unreachable_display reasons.HostProhibited = codes "host administratively prohibited"
+unreachable_display reasons.NetUnreachToS = codes "network unreachable for ToS"
+unreachable_display reasons.HostUnreachToS = codes "host unreachable for ToS"
+unreachable_display reasons.CommProhibited = codes "communication administratively prohibited"
+unreachable_display reasons.HostPrecedViol = codes "host precedence violation"
+unreachable_display reasons.PrecedCutoff = codes "precedence cutoff in effect"
+unreachable_display (reasons.Unknown n) = decimal n
+
+-- which time was exceeded
+abbrev pub time_exceeded_display : TimeExceeded → List ℕ
+time_exceeded_display times.TtlExpired = codes "time-to-live exceeded in transit"
+time_exceeded_display times.FragExpired = codes "fragment reassembly time exceeded"
+time_exceeded_display (times.Unknown n) = decimal n
+
+-- a message: an echo by its numbers and the bytes of its data, an error by its reason
+abbrev pub repr_display : MessageValue → List ℕ
+repr_display (echo_request ident seq_no d) = pieces (
+  codes "ICMPv4 echo request id=" ∷ decimal ident
+  ∷ codes " seq=" ∷ decimal seq_no
+  ∷ codes " len=" ∷ decimal (length d) ∷ []
+)
+repr_display (echo_reply ident seq_no d) = pieces (
+  codes "ICMPv4 echo reply id=" ∷ decimal ident
+  ∷ codes " seq=" ∷ decimal seq_no
+  ∷ codes " len=" ∷ decimal (length d) ∷ []
+)
+repr_display (unreachable reason quoted d) = pieces (codes "ICMPv4 destination unreachable (" ∷ unreachable_display reason ∷ codes ")" ∷ [])
+repr_display (time_exceeded reason quoted d) = pieces (codes "ICMPv4 time exceeded (" ∷ time_exceeded_display reason ∷ codes ")" ∷ [])
