@@ -1,12 +1,15 @@
 -- What messages of ICMPv4 and their parts print.
-use Rattle.std.specs.Prelude.{ℕ, List, [], ◌∷◌, codes, decimal, length}
+use Rattle.std.specs.Prelude.{ℕ, List, [], ◌∷◌, codes, decimal, length, nat_lt, if◌then◌else◌}
+use Rattle.wirebase.specs.Bytes.{byte_of}
 use Rattle.wirebase.specs.Display.{pieces}
+use Rattle.wirebase.specs.Icmp.{type_field, code_field}
 use Rattle.icmp4_wire.specs.declared.icmpv4.tables.Message.{Message}
 use Rattle.icmp4_wire.specs.declared.icmpv4.tables.Message.TheVariants as message
 use Rattle.icmp4_wire.specs.declared.icmpv4.tables.DstUnreachable.{DstUnreachable}
 use Rattle.icmp4_wire.specs.declared.icmpv4.tables.DstUnreachable.TheVariants as reasons
 use Rattle.icmp4_wire.specs.declared.icmpv4.tables.TimeExceeded.{TimeExceeded}
 use Rattle.icmp4_wire.specs.declared.icmpv4.tables.TimeExceeded.TheVariants as times
+use Rattle.icmp4_wire.specs.Icmpv4Tables.{message_of, unreachable_of, time_exceeded_of}
 use Rattle.icmp4_wire.specs.Icmpv4.{MessageValue, echo_request, echo_reply, unreachable, time_exceeded}
 
 -- the type of a message
@@ -63,3 +66,60 @@ repr_display (echo_reply ident seq_no d) = pieces (
 )
 repr_display (unreachable reason quoted d) = pieces (codes "ICMPv4 destination unreachable (" ∷ unreachable_display reason ∷ codes ")" ∷ [])
 repr_display (time_exceeded reason quoted d) = pieces (codes "ICMPv4 time exceeded (" ∷ time_exceeded_display reason ∷ codes ")" ∷ [])
+
+-- ---- of octets that are refused, the type and the code by their names
+
+abbrev unknown_name : ℕ → List ℕ
+unknown_name n = pieces (codes "Unknown(" ∷ decimal n ∷ codes ")" ∷ [])
+
+abbrev pub message_name : Message → List ℕ
+message_name message.EchoReply = codes "EchoReply"
+message_name message.DstUnreachable = codes "DstUnreachable"
+message_name message.Redirect = codes "Redirect"
+message_name message.EchoRequest = codes "EchoRequest"
+message_name message.RouterAdvert = codes "RouterAdvert"
+message_name message.RouterSolicit = codes "RouterSolicit"
+message_name message.TimeExceeded = codes "TimeExceeded"
+message_name message.ParamProblem = codes "ParamProblem"
+message_name message.Timestamp = codes "Timestamp"
+message_name message.TimestampReply = codes "TimestampReply"
+message_name (message.Unknown n) = unknown_name n
+
+abbrev pub unreachable_name : DstUnreachable → List ℕ
+unreachable_name reasons.NetUnreachable = codes "NetUnreachable"
+unreachable_name reasons.HostUnreachable = codes "HostUnreachable"
+unreachable_name reasons.ProtoUnreachable = codes "ProtoUnreachable"
+unreachable_name reasons.PortUnreachable = codes "PortUnreachable"
+unreachable_name reasons.FragRequired = codes "FragRequired"
+unreachable_name reasons.SrcRouteFailed = codes "SrcRouteFailed"
+unreachable_name reasons.DstNetUnknown = codes "DstNetUnknown"
+unreachable_name reasons.DstHostUnknown = codes "DstHostUnknown"
+unreachable_name reasons.SrcHostIsolated = codes "SrcHostIsolated"
+unreachable_name reasons.NetProhibited = codes "NetProhibited"
+unreachable_name reasons.HostProhibited = codes "HostProhibited"
+unreachable_name reasons.NetUnreachToS = codes "NetUnreachToS"
+unreachable_name reasons.HostUnreachToS = codes "HostUnreachToS"
+unreachable_name reasons.CommProhibited = codes "CommProhibited"
+unreachable_name reasons.HostPrecedViol = codes "HostPrecedViol"
+unreachable_name reasons.PrecedCutoff = codes "PrecedCutoff"
+unreachable_name (reasons.Unknown n) = unknown_name n
+
+abbrev pub time_exceeded_name : TimeExceeded → List ℕ
+time_exceeded_name times.TtlExpired = codes "TtlExpired"
+time_exceeded_name times.FragExpired = codes "FragExpired"
+time_exceeded_name (times.Unknown n) = unknown_name n
+
+-- the code of a message: of an error its reason, else its number
+abbrev pub code_name : Message → ℕ → List ℕ
+code_name message.DstUnreachable code = unreachable_name (unreachable_of code)
+code_name message.TimeExceeded code = time_exceeded_name (time_exceeded_of code)
+code_name _ code = decimal code
+
+-- as far as the octets have a type and a code
+abbrev pub type_and_code_display : Message → ℕ → List ℕ
+type_and_code_display kind code = pieces (codes "ICMPv4 (wire::Error) type=" ∷ message_name kind ∷ codes " code=" ∷ code_name kind code ∷ [])
+
+abbrev pub refused_display : List ℕ → List ℕ
+refused_display bytes =
+    if nat_lt (length bytes) 2 then codes "ICMPv4 (wire::Error)"
+    else type_and_code_display (message_of (byte_of type_field bytes)) (byte_of code_field bytes)
