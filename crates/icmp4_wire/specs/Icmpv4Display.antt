@@ -55,15 +55,15 @@ time_exceeded_display (times.Unknown n) = decimal n
 -- a message: an echo by its numbers and the bytes of its data, an error by its reason
 abbrev pub repr_display : MessageValue → List ℕ
 repr_display (echo_request ident seq_no d) = pieces (
-  codes "ICMPv4 echo request id=" ∷ decimal ident
-  ∷ codes " seq=" ∷ decimal seq_no
-  ∷ codes " len=" ∷ decimal (length d) ∷ []
-)
+    codes "ICMPv4 echo request id=" ∷ decimal ident
+    ∷ codes " seq=" ∷ decimal seq_no
+    ∷ codes " len=" ∷ decimal (length d) ∷ []
+    )
 repr_display (echo_reply ident seq_no d) = pieces (
-  codes "ICMPv4 echo reply id=" ∷ decimal ident
-  ∷ codes " seq=" ∷ decimal seq_no
-  ∷ codes " len=" ∷ decimal (length d) ∷ []
-)
+    codes "ICMPv4 echo reply id=" ∷ decimal ident
+    ∷ codes " seq=" ∷ decimal seq_no
+    ∷ codes " len=" ∷ decimal (length d) ∷ []
+    )
 repr_display (unreachable reason quoted d) = pieces (codes "ICMPv4 destination unreachable (" ∷ unreachable_display reason ∷ codes ")" ∷ [])
 repr_display (time_exceeded reason quoted d) = pieces (codes "ICMPv4 time exceeded (" ∷ time_exceeded_display reason ∷ codes ")" ∷ [])
 

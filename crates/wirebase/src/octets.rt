@@ -156,7 +156,8 @@ pub trait OctetsMut: Octets {
         ensures writes { self.new ≡ put self.old (splice (Self.bytes self.old) field.start field.end value.now) }
         ensures len { length (Self.bytes self.new) ≡ length (Self.bytes self.old) }
     {
-        self.range_mut(field.start, field.end).copy_from_slice(value);
+        self.range_mut(field.start, field.end)
+            .copy_from_slice(value);
     }
 
     ghost bytes_put: { (s : Self) (w : List ℕ) → Self.bytes (put s w) ≡ w };
