@@ -54,18 +54,18 @@ time_exceeded_display (times.Unknown n) = decimal n
 
 -- a message: an echo by its numbers and the bytes of its data, an error by its reason
 abbrev pub repr_display : MessageValue → List ℕ
-repr_display (echo_request ident seq_no d) = pieces (
-    codes "ICMPv4 echo request id=" ∷ decimal ident
+repr_display (echo_request ident seq_no d) =
+    pieces (codes "ICMPv4 echo request id=" ∷ decimal ident
     ∷ codes " seq=" ∷ decimal seq_no
-    ∷ codes " len=" ∷ decimal (length d) ∷ []
-    )
-repr_display (echo_reply ident seq_no d) = pieces (
-    codes "ICMPv4 echo reply id=" ∷ decimal ident
+    ∷ codes " len=" ∷ decimal (length d) ∷ [])
+repr_display (echo_reply ident seq_no d) =
+    pieces (codes "ICMPv4 echo reply id=" ∷ decimal ident
     ∷ codes " seq=" ∷ decimal seq_no
-    ∷ codes " len=" ∷ decimal (length d) ∷ []
-    )
-repr_display (unreachable reason quoted d) = pieces (codes "ICMPv4 destination unreachable (" ∷ unreachable_display reason ∷ codes ")" ∷ [])
-repr_display (time_exceeded reason quoted d) = pieces (codes "ICMPv4 time exceeded (" ∷ time_exceeded_display reason ∷ codes ")" ∷ [])
+    ∷ codes " len=" ∷ decimal (length d) ∷ [])
+repr_display (unreachable reason quoted d) =
+    pieces (codes "ICMPv4 destination unreachable (" ∷ unreachable_display reason ∷ codes ")" ∷ [])
+repr_display (time_exceeded reason quoted d) =
+    pieces (codes "ICMPv4 time exceeded (" ∷ time_exceeded_display reason ∷ codes ")" ∷ [])
 
 -- ---- of octets that are refused, the type and the code by their names
 
@@ -117,7 +117,8 @@ code_name _ code = decimal code
 
 -- as far as the octets have a type and a code
 abbrev pub type_and_code_display : Message → ℕ → List ℕ
-type_and_code_display kind code = pieces (codes "ICMPv4 (wire::Error) type=" ∷ message_name kind ∷ codes " code=" ∷ code_name kind code ∷ [])
+type_and_code_display kind code =
+    pieces (codes "ICMPv4 (wire::Error) type=" ∷ message_name kind ∷ codes " code=" ∷ code_name kind code ∷ [])
 
 abbrev pub refused_display : List ℕ → List ℕ
 refused_display bytes =

@@ -25,13 +25,11 @@ version_display Version2 = codes "Version2"
 
 -- a message; that of a leave message ends in a bracket that nothing opens
 abbrev pub repr_display : Repr → List ℕ
-repr_display (MembershipQuery time group version) = pieces (
-    codes "IGMP membership query max_resp_time=" ∷ duration_text time
+repr_display (MembershipQuery time group version) =
+    pieces (codes "IGMP membership query max_resp_time=" ∷ duration_text time
     ∷ codes " group_addr=" ∷ address_text group
-    ∷ codes " version=" ∷ version_display version ∷ []
-    )
-repr_display (MembershipReport group version) = pieces (
-    codes "IGMP membership report group_addr=" ∷ address_text group
-    ∷ codes " version=" ∷ version_display version ∷ []
-    )
+    ∷ codes " version=" ∷ version_display version ∷ [])
+repr_display (MembershipReport group version) =
+    pieces (codes "IGMP membership report group_addr=" ∷ address_text group
+    ∷ codes " version=" ∷ version_display version ∷ [])
 repr_display (LeaveGroup group) = pieces (codes "IGMP leave group group_addr=" ∷ address_text group ∷ codes ")" ∷ [])
