@@ -50,8 +50,7 @@ option-canonical w (unknown k n d) are h =
     let t = h.0 in
     let here : IsBytes (t ∷ n ∷ d) = subst IsBytes h.1 are in
     let number = ap type_number h.3 ∙ number-type t in
-    let first : t < 256 = here 0 in
-    (
+    let first : t < 256 = here 0 in (
       subst (λ (x : Kind.Type). IsProper kind.Unknown type_rows x) (sym h.3) (case_in-proper type_number kind.Unknown (λ k. refl) is_unknown_type (λ k. refl) type_rows t refl),
       λ e. h.4 (sym number ∙ ap type_number e),
       λ e. h.5 (sym number ∙ ap type_number e),

@@ -1,5 +1,5 @@
 -- Options against their bytes: the grammar as it is computed, byte by byte.
-use Rattle.std.proofs.Common.{◌≡◌, ◌≢◌, ℕ, ◌+◌, ◌-◌, ◌*◌, ◌≤◌, Bool, true, false, cond, ltb, eqb, List, [], ◌∷◌, ◌++◌, length, take, drop, slice_index, Some, None, refl, sym, ap, subst, ◌∙◌, ◌⊎◌, inl, inr, arith, length-append}
+use Rattle.std.proofs.Common.{◌≡◌, ◌≢◌, ℕ, ◌+◌, ◌-◌, ◌*◌, ◌≤◌, Bool, true, false, cond, ltb, eqb, List, [], ◌∷◌, ◌++◌, length, take, drop, slice_index, Option, Some, None, refl, sym, ap, subst, ◌∙◌, ◌⊎◌, inl, inr, arith, length-append}
 use Rattle.std.proofs.lemmas.Bool.{ltb-false, le-ltb, eqb-true, eqb-false, ne_eqb}
 use Rattle.std.proofs.lemmas.Bool.Decides.{nat_tests}
 use Rattle.std.proofs.lemmas.List.{take-append-drop, take_at, length-take-le}
@@ -145,3 +145,10 @@ front_of-begins bytes v h = ap front_of h.whole ∙ option_front h.front h.rest 
 -- the bytes begin with one option at most
 pub begins_with-unique : (bytes : List ℕ) (v w : OptionValue) → BeginsWith bytes v → BeginsWith bytes w → v ≡ w
 begins_with-unique bytes v w a b = same_value v w (sym (front_of-begins bytes v a) ∙ front_of-begins bytes w b)
+
+none_at_front : (bytes : List ℕ) (o : Option OptionValue) → front_of bytes ≡ o → ((v : OptionValue) → BeginsWith bytes v → ⊥) → o ≡ None
+none_at_front bytes None e none = refl
+none_at_front bytes (Some v) e none = absurd (none v (begins_with bytes v e))
+
+pub front_of-refused : (bytes : List ℕ) → ((v : OptionValue) → BeginsWith bytes v → ⊥) → front_of bytes ≡ None
+front_of-refused bytes none = none_at_front bytes (front_of bytes) refl none

@@ -11,11 +11,13 @@ ghost use Rattle.opt_wire.specs.contracts.ipv6option.Ipv6Option.{the_row};
 ghost use Rattle.opt_wire.specs.Ipv6OptionTables.{type_number, type_of};
 
 use byteorder::{BigEndian, ByteOrder};
+use std::fmt;
 use std::marker::Model;
 use wirebase::{ByteWriter, Error, Octets, OctetsMut, Result, are_bytes};
 
 mod tables;
 
+use tables::AlertName;
 pub use tables::{FailureType, RouterAlert, Type};
 
 // The fields of an option (RFC 8200 section 4.2).
@@ -179,6 +181,30 @@ impl<T: Octets> Eq for Ipv6Option<T> {
     ghost laws = { Prim.search (comparing, rules) };
 }
 
+/// The option at the front of the octets; of octets that are refused `IPv6 Extension Option (wire::Error)`.
+impl<T: Octets> fmt::Display for Ipv6Option<T> {
+    ghost use Rattle.std.specs.Prelude.{Some};
+    ghost use Rattle.std.specs.Fmt.{WritesOnOk};
+    ghost use Rattle.wirebase.specs.Display.{Shows};
+    ghost use Rattle.opt_wire.specs.Ipv6OptionDisplay.{option_display, refusal_display, view_display};
+    ghost use Rattle.opt_wire.specs.Ipv6OptionModel.{front_of};
+
+    ghost output = { λ view. Some (view_display (front_of (T.bytes (inner view)))) };
+
+    fn fmt<W: fmt::Write>(&self, f: &mut fmt::Formatter<W>) -> fmt::Result
+        ensures shows { Shows (BeginsWith (T.bytes (inner self.now))) option_display refusal_display
+            (λ text. WritesOnOk W.write_str_gives f.old result text f.new) }
+        ensures writes { WritesOnOk W.write_str_gives f.old result
+            (view_display (front_of (T.bytes (inner self.now)))) f.new }
+    {
+        let option = Ipv6Option::new_unchecked(self.buffer.octets());
+        match Repr::parse(&option) {
+            Ok(repr) => write!(f, "{repr}"),
+            Err(error) => write!(f, "IPv6 Extension Option ({error})"),
+        }
+    }
+}
+
 /// An option of an IPv6 extension header (RFC 8200 section 4.2).
 #[derive(Debug, PartialEq, Eq, Clone, Copy)]
 pub enum Repr<'a> {
@@ -314,6 +340,26 @@ impl<'a> Repr<'a> {
                 w.put_u8(type_.into());
                 w.put_u8(length);
                 w.put_bytes(&data[..length as usize]);
+            }
+        }
+    }
+}
+
+impl fmt::Display for Repr<'_> {
+    ghost use Rattle.std.specs.Prelude.{Some};
+    ghost use Rattle.opt_wire.specs.Ipv6OptionDisplay.{option_display};
+
+    ghost output = { λ repr. Some (option_display (value_of repr)) };
+
+    fn fmt<W: fmt::Write>(&self, f: &mut fmt::Formatter<W>) -> fmt::Result {
+        match *self {
+            Repr::Pad1 => write!(f, "IPv6 Option Pad1 "),
+            Repr::PadN(length) => write!(f, "IPv6 Option PadN length={length} "),
+            Repr::RouterAlert(alert) => {
+                write!(f, "IPv6 Option RouterAlert value={}", AlertName(alert))
+            }
+            Repr::Unknown { type_, length, .. } => {
+                write!(f, "IPv6 Option {type_} length={length} ")
             }
         }
     }
