@@ -2,11 +2,10 @@
 use Rattle.std.proofs.Common.{◌≡◌, ◌≢◌, ℕ, zero, suc, ◌+◌, ◌≤◌, List, [], ◌∷◌, ◌++◌, length, take, Ok, Err, refl, sym, ap, subst, ◌∙◌, arith, add-one}
 use Rattle.std.specs.List.{AllByRecursion}
 use Rattle.std.proofs.lemmas.List.{length-take}
-use Rattle.wirebase.specs.Bytes.{IsBytes, over, over_front}
+use Rattle.wirebase.specs.Bytes.{IsBytes, over}
 use Rattle.wirebase.specs.ByteWriter.{be8, fields}
 use Rattle.wirebase.specs.Format.{SameText}
 use Rattle.wirebase.proofs.ByteParts.{IsBytes-front, IsBytes-rest}
-use Rattle.wirebase.proofs.Chains.{over_front-fits}
 use Rattle.wirebase.proofs.Format.{IsFormat, round_trips, same_text}
 use Rattle.wirebase.proofs.Pieces.{over-exact}
 use Rattle.opt_wire.specs.Ipv6Option as option
@@ -121,12 +120,11 @@ pub header_same_text : (most : ℕ) → 1 ≤ most → (a b : List OptionValue) 
 header_same_text most room a b = same_text (format most) (header_format most room) tt a b
 
 -- what is left where a text was written that there is room for
-pub header_emits : (most : ℕ) (options : List OptionValue) (old new : List ℕ) → 1 ≤ most → HaveData options → text_len options ≤ length old → new ≡ over_front old (text options) → Emits most options old new
+pub header_emits : (most : ℕ) (options : List OptionValue) (old new : List ℕ) → 1 ≤ most → HaveData options → text_len options ≤ length old → new ≡ over old (text options) → Emits most options old new
 header_emits most options old new some enough room e =
-    let left : new ≡ over old (text options) = e ∙ over_front-fits old (text options) (omega (arith, room, length-texts options enough)) in
-    let exact : length old ≡ text_len options → new ≡ text options = λ long. left ∙ over-exact old (text options) (long ∙ sym (length-texts options enough)) in
+    let exact : length old ≡ text_len options → new ≡ text options = λ long. e ∙ over-exact old (text options) (long ∙ sym (length-texts options enough)) in
     record {
-      text_ = left;
+      text_ = e;
       exact = exact;
       reads_back = λ canonical long. subst (λ (bytes : List ℕ). IsHeader most bytes (norm options)) (sym (exact long)) (header-text most options canonical);
       round_trips = round_trips (format most) (header_format most some) options;

@@ -1,14 +1,13 @@
 -- The format of options: what was read is canonical, and it is its own normal form.
 use Rattle.std.proofs.Common.{◌≡◌, ℕ, ◌+◌, ◌*◌, ◌≤◌, ◌<◌, Bool, true, false, List, [], ◌∷◌, ◌++◌, length, drop, refl, sym, ap, subst, ◌∙◌, arith}
 use Rattle.std.proofs.lemmas.List.{append-nil, take_all}
-use Rattle.wirebase.specs.Bytes.{IsBytes, over, over_front}
+use Rattle.wirebase.specs.Bytes.{IsBytes, over}
 use Rattle.wirebase.specs.Format.{SameText}
 use Rattle.wirebase.specs.Numbered.{IsProper}
-use Rattle.wirebase.proofs.Chains.{over_front-fits}
 use Rattle.wirebase.proofs.Format.{IsFormat, round_trips, same_text}
 use Rattle.wirebase.proofs.ByteParts.{IsBytes-front}
 use Rattle.wirebase.proofs.Numbered.{number-case_in, case_in-proper}
-use Rattle.wirebase.proofs.Pieces.{over-exact}
+use Rattle.wirebase.proofs.Pieces.{over-exact, over-fits}
 use Rattle.opt_wire.specs.declared.ipv6option.tables.Type as Kind
 use Rattle.opt_wire.specs.declared.ipv6option.tables.Type.TheVariants as kind
 use Rattle.opt_wire.specs.declared.ipv6option.tables.RouterAlert.{RouterAlert}
@@ -84,13 +83,12 @@ pub option_same_text : (a b : OptionValue) → SameText format a b
 option_same_text a b = same_text format option_format tt a b
 
 -- what is left where a text was written that there is room for
-pub option_emits : (v : OptionValue) (old new : List ℕ) → HasData v → text_len v ≤ length old → new ≡ over_front old (text v) → Emits v old new
-unfolding over
+pub option_emits : (v : OptionValue) (old new : List ℕ) → HasData v → text_len v ≤ length old → new ≡ over old (text v) → Emits v old new
 option_emits v old new enough room e =
-    let left : new ≡ text v ++ drop (length (text v)) old = e ∙ over_front-fits old (text v) (omega (arith, room, length-text v enough)) in
+    let left : new ≡ text v ++ drop (length (text v)) old = e ∙ over-fits old (text v) (omega (arith, room, length-text v enough)) in
     record {
-      text_ = left;
-      exact = λ long. left ∙ over-exact old (text v) (long ∙ sym (length-text v enough));
+      text_ = e;
+      exact = λ long. e ∙ over-exact old (text v) (long ∙ sym (length-text v enough));
       reads_back = λ canonical. subst (λ (bytes : List ℕ). BeginsWith bytes (norm v)) (sym left) (begins_with-text v _ canonical);
       round_trips = round_trips format option_format v;
     }

@@ -4,3 +4,5 @@ pub mod Ipv6OptionAnswers
 pub mod Ipv6OptionDisplay
 pub mod Ipv6OptionModel
 pub mod Ipv6OptionTables
+pub mod NdiscOption
+pub mod NdiscOptionTables
