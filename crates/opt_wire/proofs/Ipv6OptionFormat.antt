@@ -83,9 +83,11 @@ pub option_same_text : (a b : OptionValue) → SameText format a b
 option_same_text a b = same_text format option_format tt a b
 
 -- what is left where a text was written that there is room for
-pub option_emits : (v : OptionValue) (old new : List ℕ) → HasData v → text_len v ≤ length old → new ≡ over old (text v) → Emits v old new
+pub option_emits : (v : OptionValue) (old new : List ℕ) → HasData v → text_len v ≤ length old
+    → new ≡ over old (text v) → Emits v old new
 option_emits v old new enough room e =
-    let left : new ≡ text v ++ drop (length (text v)) old = e ∙ over-fits old (text v) (omega (arith, room, length-text v enough)) in
+    let left : new ≡ text v ++ drop (length (text v)) old = e
+    ∙ over-fits old (text v) (omega (arith, room, length-text v enough)) in
     record {
       text_ = e;
       exact = λ long. e ∙ over-exact old (text v) (long ∙ sym (length-text v enough));

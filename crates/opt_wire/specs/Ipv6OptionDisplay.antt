@@ -36,7 +36,8 @@ abbrev pub option_display : OptionValue → List ℕ
 option_display pad1 = codes "IPv6 Option Pad1 "
 option_display (pad_n n) = pieces (codes "IPv6 Option PadN length=" ∷ decimal n ∷ codes " " ∷ [])
 option_display (router_alert a) = pieces (codes "IPv6 Option RouterAlert value=" ∷ alert_display a ∷ [])
-option_display (unknown k n d) = pieces (codes "IPv6 Option " ∷ type_display k ∷ codes " length=" ∷ decimal n ∷ codes " " ∷ [])
+option_display (unknown k n d) =
+    pieces (codes "IPv6 Option " ∷ type_display k ∷ codes " length=" ∷ decimal n ∷ codes " " ∷ [])
 
 -- octets that begin with no option
 abbrev pub refusal_display : List ℕ

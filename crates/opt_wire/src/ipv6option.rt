@@ -112,7 +112,8 @@ impl<'a> Ipv6Option<&'a [u8]> {
     pub fn data(&self) -> &'a [u8]
         requires counted { Reaches opt_data_len_field (view_octets self.now) }
         requires whole { Reaches (option_data_field (view_octets self.now)) (view_octets self.now) }
-        ensures value { result.now ≡ bytes_of (option_data_field (view_octets self.now)) (view_octets self.now) }
+        ensures value { result.now
+            ≡ bytes_of (option_data_field (view_octets self.now)) (view_octets self.now) }
         ensures len { length result.now ≡ byte_of opt_data_len_field (view_octets self.now) }
     {
         let octets: &'a [u8] = self.buffer;
@@ -124,7 +125,8 @@ impl<T: OctetsMut> Ipv6Option<T> {
     /// Writes the type. Asks 1 byte.
     pub fn set_option_type(&mut self, value: Type)
         requires { Reaches option_type_field (T.bytes (inner self.old)) }
-        ensures writes { Sets T.bytes T.put self.old self.new option_type_field (type_number value ∷ []) }
+        ensures writes { Sets T.bytes T.put self.old self.new option_type_field
+            (type_number value ∷ []) }
         ensures len { KeepsLen T.bytes self.old self.new }
     {
         self.buffer.set_u8(field::TYPE, value.into());
@@ -142,7 +144,8 @@ impl<T: OctetsMut> Ipv6Option<T> {
     /// Lends the data for writing; the other octets stay. Asks the bytes that the option counts.
     pub fn data_mut(&mut self) -> &mut [u8]
         requires counted { Reaches opt_data_len_field (T.bytes (inner self.old)) }
-        requires whole { Reaches (option_data_field (T.bytes (inner self.old))) (T.bytes (inner self.old)) }
+        requires whole { Reaches (option_data_field (T.bytes (inner self.old)))
+            (T.bytes (inner self.old)) }
         ensures* lends { sem 𝓛 (Lends (the_row T.row) (Array byte 0) self.entry result
             (λ w. with_inner self.old (T.put (inner self.old)
             (with_field (option_data_field (T.bytes (inner self.old))) w (T.bytes (inner self.old)))))) }
@@ -292,7 +295,8 @@ impl<'a> Repr<'a> {
         requires enough { HasData (value_of self.now) }
         requires room { text_len (value_of self.now) ≤ length (T.bytes (inner opt.old)) }
         ensures place { inner opt.new ≡ T.put (inner opt.old) (T.bytes (inner opt.new)) }
-        ensures emits { Emits (value_of self.now) (T.bytes (inner opt.old)) (T.bytes (inner opt.new)) }
+        ensures emits { Emits (value_of self.now)
+            (T.bytes (inner opt.old)) (T.bytes (inner opt.new)) }
     {
         self.emit_into(opt.buffer.octets_mut());
     }
@@ -392,7 +396,8 @@ impl<'a> Ipv6OptionsIterator<'a> {
     /// no refusal among them, the options take up all the octets.
     pub fn new(octets: &'a [u8]) -> Ipv6OptionsIterator<'a>
         ensures tile { Tile octets.entry.now result }
-        ensures unique { (answers : List Answer) → Tile octets.entry.now answers → answers ≡ result }
+        ensures unique { (answers : List Answer)
+            → Tile octets.entry.now answers → answers ≡ result }
         ensures lengths { (options : List OptionValue) → result ≡ map Ok options
             → sum_by text_len options ≡ length octets.entry.now }
     {
