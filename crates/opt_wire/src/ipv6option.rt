@@ -20,7 +20,7 @@ mod tables;
 use tables::AlertName;
 pub use tables::{FailureType, RouterAlert, Type};
 
-// The fields of an option (RFC 8200 section 4.2).
+// The fields of an option; their picture is in specs/Ipv6Option.antt.
 mod field {
     use wirebase::Field;
 
