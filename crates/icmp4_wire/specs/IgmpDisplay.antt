@@ -5,8 +5,8 @@ use Rattle.wirebase.specs.Duration.{duration_text}
 use Rattle.wirebase.specs.Ipv4.{address_text}
 use Rattle.icmp4_wire.specs.declared.igmp.IgmpVersion.{IgmpVersion}
 use Rattle.icmp4_wire.specs.declared.igmp.IgmpVersion.TheVariants.{Version1, Version2}
-use Rattle.icmp4_wire.specs.declared.igmp.Message.{Message}
-use Rattle.icmp4_wire.specs.declared.igmp.Message.TheVariants as message
+use Rattle.icmp4_wire.specs.declared.igmp.tables.Message.{Message}
+use Rattle.icmp4_wire.specs.declared.igmp.tables.Message.TheVariants as message
 use Rattle.icmp4_wire.specs.declared.igmp.Repr.{Repr}
 use Rattle.icmp4_wire.specs.declared.igmp.Repr.TheVariants.{MembershipQuery, MembershipReport, LeaveGroup}
 

@@ -106,7 +106,8 @@ pub trait OctetsMut: Octets {
     /// Lends all octets for writing.
     #[tactic(auto, using(crate::proofs::Pieces::pieces))]
     final fn octets_mut(&mut self) -> &mut [u8]
-        ensures* lends { sem 𝓛 (Lends Self.row (Array byte 0) self.entry result (λ w. put self.old w)) }
+        ensures* lends { sem 𝓛 (Lends Self.row (Array byte 0) self.entry result
+            (λ w. put self.old w)) }
         ensures value { result.now ≡ Self.bytes self.old }
         ensures len { length result.now ≡ length (Self.bytes self.old) }
     {
@@ -119,7 +120,8 @@ pub trait OctetsMut: Octets {
     final fn set_u8(&mut self, field: Field, value: u8)
         requires one { field.end ≡ field.start + 1 }
         requires room { field.end ≤ length (Self.bytes self.old) }
-        ensures writes { self.new ≡ put self.old (splice (Self.bytes self.old) field.start field.end (value ∷ [])) }
+        ensures writes { self.new ≡ put self.old
+            (splice (Self.bytes self.old) field.start field.end (value ∷ [])) }
         ensures len { length (Self.bytes self.new) ≡ length (Self.bytes self.old) }
     {
         self.range_mut(field.start, field.end)[0] = value;
@@ -130,7 +132,8 @@ pub trait OctetsMut: Octets {
     final fn set_u16(&mut self, field: Field, value: u16)
         requires two { field.end ≡ field.start + 2 }
         requires room { field.end ≤ length (Self.bytes self.old) }
-        ensures writes { self.new ≡ put self.old (splice (Self.bytes self.old) field.start field.end (big_bytes 2 value)) }
+        ensures writes { self.new ≡ put self.old
+            (splice (Self.bytes self.old) field.start field.end (big_bytes 2 value)) }
         ensures len { length (Self.bytes self.new) ≡ length (Self.bytes self.old) }
     {
         BigEndian::write_u16(self.range_mut(field.start, field.end), value);
@@ -141,7 +144,8 @@ pub trait OctetsMut: Octets {
     final fn set_u32(&mut self, field: Field, value: u32)
         requires four { field.end ≡ field.start + 4 }
         requires room { field.end ≤ length (Self.bytes self.old) }
-        ensures writes { self.new ≡ put self.old (splice (Self.bytes self.old) field.start field.end (big_bytes 4 value)) }
+        ensures writes { self.new ≡ put self.old
+            (splice (Self.bytes self.old) field.start field.end (big_bytes 4 value)) }
         ensures len { length (Self.bytes self.new) ≡ length (Self.bytes self.old) }
     {
         BigEndian::write_u32(self.range_mut(field.start, field.end), value);
@@ -153,7 +157,8 @@ pub trait OctetsMut: Octets {
         requires order { field.start ≤ field.end }
         requires whole { length value.now ≡ field.end - field.start }
         requires room { field.end ≤ length (Self.bytes self.old) }
-        ensures writes { self.new ≡ put self.old (splice (Self.bytes self.old) field.start field.end value.now) }
+        ensures writes { self.new ≡ put self.old
+            (splice (Self.bytes self.old) field.start field.end value.now) }
         ensures len { length (Self.bytes self.new) ≡ length (Self.bytes self.old) }
     {
         self.range_mut(field.start, field.end)
