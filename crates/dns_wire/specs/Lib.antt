@@ -1,1 +1,2 @@
 pub mod DnsTables
+pub mod DnsPacket
