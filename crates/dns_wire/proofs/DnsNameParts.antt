@@ -35,7 +35,7 @@ pub record AfterLabel (text bytes : List ℕ) (ls : List (List ℕ)) (st : Stop)
   pub is : text ≡ length bytes ∷ (bytes ++ rest)
   pub part : IsPart rest ls st
 
-pub after_label : (text bytes : List ℕ) (ls : List (List ℕ)) (st : Stop) → IsPart text (bytes ∷ ls) st → AfterLabel text bytes ls st
+unfoldable pub after_label : (text bytes : List ℕ) (ls : List (List ℕ)) (st : Stop) → IsPart text (bytes ∷ ls) st → AfterLabel text bytes ls st
 after_label text bytes ls st h = record {
   rest = flat_map written ls ++ (h.mark ++ h.rest);
   one = h.each.0;
@@ -43,7 +43,7 @@ after_label text bytes ls st h = record {
   part = record { mark = h.mark; rest = h.rest; each = h.each.1; stops = h.stops; whole = refl };
 }
 
-pub part_cons : (bytes rest : List ℕ) (ls : List (List ℕ)) (st : Stop) → IsLabel bytes → IsPart rest ls st → IsPart (length bytes ∷ (bytes ++ rest)) (bytes ∷ ls) st
+unfoldable pub part_cons : (bytes rest : List ℕ) (ls : List (List ℕ)) (st : Stop) → IsLabel bytes → IsPart rest ls st → IsPart (length bytes ∷ (bytes ++ rest)) (bytes ∷ ls) st
 part_cons bytes rest ls st one h = record {
   mark = h.mark;
   rest = h.rest;

@@ -5,3 +5,4 @@ pub mod DnsNameRoutes
 pub mod DnsNamePaths
 pub mod DnsNameTheorem
 pub mod DnsNameRanges
+pub mod DnsPartLen

@@ -4,3 +4,4 @@ pub mod DnsName
 pub mod DnsNameWalk
 pub mod DnsNameAhead
 pub mod DnsPart
+pub mod DnsQuestion

@@ -6,9 +6,11 @@ ghost use Rattle.std.specs.Borrow.{sem, Lends, Array, u8 as byte};
 ghost use Rattle.byteorder.specs.Endian.{big_bytes};
 ghost use Rattle.wirebase.specs.Bytes.{splice, Reaches, number_of};
 ghost use Rattle.dns_wire.specs.DnsTables.{opcode_number, opcode_of, rcode_of, flag_bits, IsKnown};
-ghost use Rattle.dns_wire.specs.DnsPacket.{inner, with_inner, Sets, KeepsLen, id_field, flags_field, question_count_field, answer_count_field, authority_count_field, additional_count_field, header, payload_in, flags_in, opcode_in, rcode_in, with_flags, with_opcode};
+ghost use Rattle.dns_wire.specs.DnsPacket.{inner, with_inner, view_octets, Sets, KeepsLen, id_field, flags_field, question_count_field, answer_count_field, authority_count_field, additional_count_field, header, payload_in, flags_in, opcode_in, rcode_in, with_flags, with_opcode};
+ghost use Rattle.dns_wire.specs.DnsNameWalk.{IsWalkOver};
 ghost use Rattle.dns_wire.specs.contracts.dns.packet.Packet.{the_row};
 
+use crate::dns::name::{self, NameIter};
 use crate::dns::tables::{Flags, Opcode, Rcode};
 use bitflags::Flags as _;
 use wirebase::{Error, Octets, OctetsMut, Result};
@@ -167,6 +169,15 @@ impl<'a> Packet<&'a [u8]> {
         ensures { result.now ≡ payload_in (inner self.now).now }
     {
         &self.buffer[field::HEADER_END..]
+    }
+
+    /// The walk over the name that begins in `bytes`, a part of the message or not, and goes on where its pointers
+    /// lead in the message (RFC 1035 section 4.1.4). A pointer leads to below all that was read of the message
+    /// before; the first one may lead to any place of it. Asks nothing of the message.
+    pub fn parse_name(&self, bytes: &'a [u8]) -> NameIter<'a>
+        ensures { IsWalkOver bytes.entry.now (view_octets self.now) result }
+    {
+        name::walk(self.buffer, bytes)
     }
 }
 

@@ -2,8 +2,8 @@ use Rattle.std.proofs.Common.{◌≡◌, ◌+◌, ◌-◌, ◌*◌, ◌<◌, ◌
 use Rattle.dns_wire.specs.DnsNameAhead.{ahead_of, read_in}
 use Rattle.dns_wire.proofs.dns.name.NameIterIterator.next.Given as goal
 
-abbrev pub invariant-loop-self : goal.invariant-loop-self
-invariant-loop-self l =
+abbrev pub invariant-loop-label : goal.invariant-loop-label
+invariant-loop-label l =
     let it = l.self-inside in
     let from = read_in it.in_message it.message.now it.slice.now in
     record {
@@ -13,5 +13,5 @@ invariant-loop-self l =
       room : 2 * it.steps + (it.end - it.place) + it.open_len < 2 ^ 65;
     }
 
-abbrev pub decreases-loop-self : goal.decreases-loop-self
-decreases-loop-self l = (l.self-inside.end - l.self-inside.place) + l.self-inside.open_len
+abbrev pub decreases-loop-label : goal.decreases-loop-label
+decreases-loop-label l = (l.self-inside.end - l.self-inside.place) + l.self-inside.open_len
