@@ -1,12 +1,12 @@
 -- How many bytes the part at the front of a text takes, label by label.
-use Rattle.std.proofs.Common.{◌≡◌, ℕ, ◌+◌, ◌-◌, ◌≤◌, List, [], ◌∷◌, ◌++◌, length, take, drop, refl, sym, ap, ◌∙◌, arith, append_assoc}
+use Rattle.std.proofs.Common.{◌≡◌, ℕ, ◌+◌, ◌-◌, ◌≤◌, List, [], ◌∷◌, ◌++◌, length, take, drop, refl, sym, ap, ◌∙◌, subst, arith, append_assoc}
 use Rattle.std.specs.List.{flat_map}
 use Rattle.std.proofs.lemmas.List.{length-append, take_at, drop_at, take_rest, drop-drop, length-drop}
 use Rattle.dns_wire.specs.DnsName.{written, Stop, ends, goes_on, IsMark, IsPart, IsOnePart}
 use Rattle.dns_wire.specs.DnsNameAhead.{whole, pointer, stop, torn, front_of}
 use Rattle.dns_wire.specs.DnsPart.{IsSplit, BeginsWithPart}
 use Rattle.dns_wire.proofs.DnsNameTurns.{Whole-front, Points-front, stop-front, whole_parts}
-use Rattle.dns_wire.proofs.DnsNameParts.{front_at, front_at_other, part_mark, after_label, part_cons, label_front}
+use Rattle.dns_wire.proofs.DnsNameParts.{front_at, front_at_other, part_mark, after_label, part_cons, part_one, label_front}
 
 -- a mark has one byte or two
 mark_len : (st : Stop) (mark : List ℕ) → IsMark mark st → front_at st ≡ stop → length mark ≡ 1
@@ -140,3 +140,27 @@ begins_split text len h =
 pub split_at : (text name rest : List ℕ) (len : ℕ) → IsSplit text name rest → len ≡ length name → (take len text ≡ name) × (take (length text - len) (drop len text) ≡ rest)
 split_at text name rest len h e =
     (ap (λ t. take len t) h.whole ∙ take_at name rest len (sym e), take_rest text len ∙ (ap (λ t. drop len t) h.whole ∙ drop_at name rest len (sym e)))
+
+-- a text begins with one part at the most
+same_mark_len : (st : Stop) (mark other : List ℕ) → IsMark mark st → IsMark other st → length mark ≡ length other
+same_mark_len ends mark other h k = ap length h ∙ sym (ap length k)
+same_mark_len (goes_on p) mark other h k = ap length h.2 ∙ sym (ap length k.2)
+
+pub begins_one : (text : List ℕ) (m n : ℕ) → BeginsWithPart text m → BeginsWithPart text n → m ≡ n
+begins_one text m n h k =
+    let one = part_one h.labels k.labels text h.stop k.stop h.part k.part in
+    let marks = same_mark_len k.stop h.part.mark k.part.mark (subst (λ st. IsMark h.part.mark st) one.1 h.part.stops) k.part.stops in
+    let firsts : length (flat_map written h.labels) ≡ length (flat_map written k.labels) = ap (λ ls. length (flat_map written ls)) one.0 in
+    omega (
+      arith,
+      marks,
+      firsts,
+      h.count,
+      k.count,
+      ap length h.part.whole,
+      ap length k.part.whole,
+      length-append (flat_map written h.labels) (h.part.mark ++ h.part.rest),
+      length-append h.part.mark h.part.rest,
+      length-append (flat_map written k.labels) (k.part.mark ++ k.part.rest),
+      length-append k.part.mark k.part.rest,
+    )

@@ -6,3 +6,4 @@ pub mod DnsNamePaths
 pub mod DnsNameTheorem
 pub mod DnsNameRanges
 pub mod DnsPartLen
+pub mod DnsQuestionFormat

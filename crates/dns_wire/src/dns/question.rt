@@ -7,8 +7,7 @@ ghost use Rattle.dns_wire.specs.DnsQuestion.{QuestionValue, value_of, IsQuestion
 
 use crate::dns::part::split_name;
 use crate::dns::tables::Type;
-use byteorder::{BigEndian, ByteOrder};
-use wirebase::{ByteWriter, Error, Result, are_bytes};
+use wirebase::{ByteWriter, Error, Octets, Result, are_bytes};
 
 // What stands behind the name of a question.
 mod field {
@@ -57,14 +56,15 @@ impl<'a> Question<'a> {
         if after.len() < field::END {
             return Err(Error);
         }
-        let type_ = Type::from(BigEndian::read_u16(&after[field::TYPE]));
-        if BigEndian::read_u16(&after[field::CLASS]) != CLASS_IN {
+        let type_ = Type::from(after.u16_at(field::TYPE));
+        if after.u16_at(field::CLASS) != CLASS_IN {
             return Err(Error);
         }
         Ok((&after[field::END..], Question { name, type_ }))
     }
 
     /// The bytes that the question takes: those of its name, and 4. Asks that they fit a `usize`.
+    #[tactic(auto, using(crate::proofs::DnsQuestionFormat::questions))]
     pub const fn buffer_len(&self) -> usize
         requires { text_len (value_of self.now) < 2 ^ 64 }
         ensures value { result ≡ text_len (value_of self.now) }
