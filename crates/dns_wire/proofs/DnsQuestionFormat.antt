@@ -9,7 +9,7 @@ use Rattle.wirebase.specs.Numbered.{IsProper}
 use Rattle.wirebase.proofs.ByteParts.{IsBytes-drop, number_of-small}
 use Rattle.wirebase.proofs.Format.{IsFormat, round_trips, same_text}
 use Rattle.wirebase.proofs.Numbered.{case_in-unnamed, number-case_in, case_in-proper}
-use Rattle.wirebase.proofs.Pieces.{over-exact}
+use Rattle.wirebase.proofs.Pieces.{over-exact, over-fits}
 use Rattle.dns_wire.specs.declared.dns.tables.Type.{«Type» as RecordType}
 use Rattle.dns_wire.specs.declared.dns.tables.Type.TheVariants as kind
 use Rattle.dns_wire.specs.DnsTables.{type_number, types, type_rows, type_of}
@@ -45,6 +45,10 @@ question_text q = simp append-nil
 pub length-question_text : (q : QuestionValue) → length (text q) ≡ text_len q
 length-question_text q = ap length (question_text q) ∙ length-append q.name (big_bytes 2 (type_number q.kind) ++ (0 ∷ 1 ∷ []))
 
+type_back : (n : ℕ) (behind : List ℕ) → n < 2 ^ 16 → n ≡ number_of type_field (big_bytes 2 n ++ behind)
+unfolding part
+type_back n behind small = omega arith
+
 -- a question that stands in front of a rest
 pub question_reads : (q : QuestionValue) (bytes rest : List ℕ) → IsCanonical q → bytes ≡ text q ++ rest → IsQuestion bytes q rest
 unfolding part
@@ -56,16 +60,15 @@ question_reads q bytes rest c e =
       name_ = c.name_;
       whole = is;
       reaches = omega arith;
-      kind_ = type_of-number q.kind c.proper ∙ ap type_of (number_back (type_number q.kind) (0 ∷ 1 ∷ rest) c.fits);
+      kind_ = type_of-number q.kind c.proper ∙ ap type_of (type_back (type_number q.kind) (0 ∷ 1 ∷ rest) c.fits);
       class = refl;
       rest_ = refl;
     }
-  where
-    number_back : (n : ℕ) (behind : List ℕ) → n < 2 ^ 16 → n ≡ number_of type_field (big_bytes 2 n ++ behind)
-    unfolding part
-    number_back n behind small = omega arith
 
 -- ---- one value
+
+abbrev question_of : List ℕ → RecordType → QuestionValue
+question_of n t = record { name = n; kind = t }
 
 pub question_one : (bytes : List ℕ) (v w : QuestionValue) (rest other : List ℕ) → IsQuestion bytes v rest → IsQuestion bytes w other → (v ≡ w) × (rest ≡ other)
 question_one bytes v w rest other h k =
@@ -75,9 +78,6 @@ question_one bytes v w rest other h k =
     let behind : h.after ≡ k.after = sym (drop_at v.name h.after (length v.name) refl) ∙ (ap (λ t. drop (length v.name) t) (sym h.whole ∙ k.whole) ∙ drop_at w.name k.after (length v.name) (sym long)) in
     let kinds : v.kind ≡ w.kind = h.kind_ ∙ (ap (λ t. type_of (number_of type_field t)) behind ∙ sym k.kind_) in
     (ap (λ n. question_of n v.kind) names ∙ ap (λ t. question_of w.name t) kinds, h.rest_ ∙ (ap (λ t. drop 4 t) behind ∙ sym k.rest_))
-  where
-    abbrev question_of : List ℕ → RecordType → QuestionValue
-    question_of n t = record { name = n; kind = t }
 
 -- ---- what was read
 
@@ -116,17 +116,14 @@ question_rewrites bytes v rest are small h =
     }
 
 pub question_same_text : (a b : QuestionValue) → SameText format a b
-question_same_text a b = same_text format question_format tt a b
+question_same_text a b = same_text format question_format _ a b
 
 -- ---- what writing leaves
 
-pub question_emits : (q : QuestionValue) (old new : List ℕ) → new ≡ over old (text q) → Emits q old new
-unfolding over
-question_emits q old new e = record {
+pub question_emits : (q : QuestionValue) (old new : List ℕ) → text_len q ≤ length old → new ≡ over old (text q) → Emits q old new
+question_emits q old new room e = record {
   text_ = e;
   exact = λ long. e ∙ over-exact old (text q) (long ∙ sym (length-question_text q));
-  reads_back = λ c. question_reads q new (drop (text_len q) old) c (e ∙ ap (λ n. text q ++ drop n old) (length-question_text q));
+  reads_back = λ c. question_reads q new (drop (text_len q) old) c (e ∙ over-fits old (text q) (omega (arith, room, length-question_text q)) ∙ ap (λ n. text q ++ drop n old) (length-question_text q));
   round_trips = round_trips format question_format q;
 }
-
-pub ruleset questions = (length-question_text, question_same_text, question_emits)

@@ -7,3 +7,5 @@ pub mod DnsNameTheorem
 pub mod DnsNameRanges
 pub mod DnsPartLen
 pub mod DnsQuestionFormat
+pub mod DnsFlagsWord
+pub mod DnsReprFormat

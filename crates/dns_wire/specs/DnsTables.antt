@@ -16,8 +16,11 @@ opcode_number opcode.Query = 0
 opcode_number opcode.Status = 1
 opcode_number (opcode.Unknown n) = n
 
+abbrev pub opcodes : List Opcode
+opcodes = opcode.Query ∷ opcode.Status ∷ []
+
 abbrev pub opcode_rows : List (Opcode × ℕ)
-opcode_rows = rows_of opcode_number (opcode.Query ∷ opcode.Status ∷ [])
+opcode_rows = rows_of opcode_number opcodes
 
 abbrev pub opcode_of : ℕ → Opcode
 opcode_of n = case_in opcode.Unknown opcode_rows n
@@ -41,8 +44,8 @@ abbrev pub rcode_rows : List (Rcode × ℕ)
 rcode_rows =
     rows_of rcode_number
     (rcode.NoError ∷ rcode.FormErr ∷ rcode.ServFail ∷ rcode.NXDomain
-        ∷ rcode.NotImp ∷ rcode.Refused ∷ rcode.YXDomain ∷ rcode.YXRRSet
-        ∷ rcode.NXRRSet ∷ rcode.NotAuth ∷ rcode.NotZone ∷ [])
+    ∷ rcode.NotImp ∷ rcode.Refused ∷ rcode.YXDomain ∷ rcode.YXRRSet
+    ∷ rcode.NXRRSet ∷ rcode.NotAuth ∷ rcode.NotZone ∷ [])
 
 abbrev pub rcode_of : ℕ → Rcode
 rcode_of n = case_in rcode.Unknown rcode_rows n

@@ -5,3 +5,5 @@ pub mod DnsNameWalk
 pub mod DnsNameAhead
 pub mod DnsPart
 pub mod DnsQuestion
+pub mod DnsRepr
+pub mod DnsRecord

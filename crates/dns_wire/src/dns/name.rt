@@ -32,10 +32,10 @@ impl<'a> Model for NameIter<'a> {
     ghost Value = { Walk };
 
     ghost view = { λ it. record {
-        steps = it.steps;
-        ahead = ahead_of it.ended it.steps
-            (slice_range (read_in it.in_message it.message.now it.slice.now) it.place it.end)
-            (take it.open_len it.message.now);
+      steps = it.steps;
+      ahead = ahead_of it.ended it.steps
+          (slice_range (read_in it.in_message it.message.now it.slice.now) it.place it.end)
+          (take it.open_len it.message.now);
     } };
 
     ghost invariant = { λ it. (it.place ≤ it.end)
@@ -119,3 +119,6 @@ pub(crate) fn walk<'a>(message: &'a [u8], slice: &'a [u8]) -> NameIter<'a>
         ended: false,
     }
 }
+
+#[cfg(test)]
+mod tests;

@@ -40,9 +40,10 @@ mod field {
     pub const AUTHORITY_COUNT: Field = 8..10;
 
     pub const ADDITIONAL_COUNT: Field = 10..12;
-
-    pub const HEADER_END: usize = 12;
 }
+
+/// The bytes of the header.
+pub(crate) const HEADER_LEN: usize = 12;
 
 // The bits of the word of flags that are flags, and those of the kind of query.
 const FLAG_BITS: u16 = 0x87b0;
@@ -54,7 +55,7 @@ const OPCODE_SHIFT: u32 = 11;
 /// A view of the octets of a message.
 #[derive(Debug, Drop)]
 pub struct Packet<T: Octets> {
-    buffer: T,
+    pub(super) buffer: T,
 }
 
 impl<T: Octets> Packet<T> {
@@ -79,7 +80,7 @@ impl<T: Octets> Packet<T> {
     pub fn check_len(&self) -> Result<()>
         ensures accepts { IsOk result ↔ Reaches header (T.bytes (inner self.now)) }
     {
-        if self.buffer.octets().len() < field::HEADER_END {
+        if self.buffer.octets().len() < HEADER_LEN {
             return Err(Error);
         }
         Ok(())
@@ -168,7 +169,7 @@ impl<'a> Packet<&'a [u8]> {
         requires { Reaches header (inner self.now).now }
         ensures { result.now ≡ payload_in (inner self.now).now }
     {
-        &self.buffer[field::HEADER_END..]
+        &self.buffer[HEADER_LEN..]
     }
 
     /// The walk over the name that begins in `bytes`, a part of the message or not, and goes on where its pointers
@@ -215,8 +216,7 @@ impl<T: OctetsMut> Packet<T> {
     {
         let word = self.buffer.u16_at(field::FLAGS);
         let opcode = u8::from(value) as u16;
-        self.buffer
-            .set_u16(field::FLAGS, (word & !OPCODE_BITS) | opcode << OPCODE_SHIFT);
+        self.buffer.set_u16(field::FLAGS, (word & !OPCODE_BITS) | opcode << OPCODE_SHIFT);
     }
 
     /// Writes how many questions there are. Asks 6 bytes.
@@ -265,7 +265,7 @@ impl<T: OctetsMut> Packet<T> {
         ensures len { length result.now ≡ length (T.bytes (inner self.old)) - 12 }
     {
         let len = self.buffer.octets().len();
-        self.buffer.range_mut(field::HEADER_END, len)
+        self.buffer.range_mut(HEADER_LEN, len)
     }
 }
 

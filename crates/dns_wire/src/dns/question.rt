@@ -1,6 +1,7 @@
 //! A question of a message (RFC 1035 section 4.1.2).
 
 ghost use Rattle.std.specs.Prelude.{◌≡◌, ◌≤◌, ◌+◌, ◌<◌, ◌^◌, List, ℕ, ◌∷◌, [], length, IfOk, IsOkAnd};
+ghost use Rattle.wirebase.specs.Bytes.{over};
 ghost use Rattle.wirebase.specs.ByteWriter.{free, Puts, the_slice};
 ghost use Rattle.wirebase.specs.Format.{Rewrites, SameText};
 ghost use Rattle.dns_wire.specs.DnsQuestion.{QuestionValue, value_of, IsQuestion, question_fields, text, text_len, format, Emits};
@@ -20,8 +21,8 @@ mod field {
     pub const END: usize = 4;
 }
 
-// The class of the internet (RFC 1035 section 3.2.4).
-const CLASS_IN: u16 = 1;
+/// The class of the internet (RFC 1035 section 3.2.4).
+pub(crate) const CLASS_IN: u16 = 1;
 
 /// A question: the records of one type at a name (RFC 1035 section 4.1.2).
 #[derive(Debug, PartialEq, Eq, Clone, Copy)]
@@ -64,7 +65,6 @@ impl<'a> Question<'a> {
     }
 
     /// The bytes that the question takes: those of its name, and 4. Asks that they fit a `usize`.
-    #[tactic(auto, using(crate::proofs::DnsQuestionFormat::questions))]
     pub const fn buffer_len(&self) -> usize
         requires { text_len (value_of self.now) < 2 ^ 64 }
         ensures value { result ≡ text_len (value_of self.now) }
@@ -77,6 +77,15 @@ impl<'a> Question<'a> {
     pub fn emit(&self, packet: &mut [u8])
         requires { text_len (value_of self.now) ≤ length packet.old }
         ensures { Emits (value_of self.now) packet.old packet.new }
+    {
+        self.write(packet);
+    }
+
+    // Writes the text of the question.
+    #[tactic(auto, using(wirebase::proofs::Chains::chain))]
+    fn write(&self, packet: &mut [u8])
+        requires { text_len (value_of self.now) ≤ length packet.old }
+        ensures { packet.new ≡ over packet.old (text (value_of self.now)) }
     {
         let mut w = ByteWriter::new(packet);
         self.put(&mut w);
