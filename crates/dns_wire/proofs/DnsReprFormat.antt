@@ -59,11 +59,12 @@ unfolding part
 query_reads q c =
     let n = opcode_number q.kind in
     let word = flags_word q.flags q.kind in
+    let counts : List ℕ = 0 ∷ 1 ∷ 0 ∷ 0 ∷ 0 ∷ 0 ∷ 0 ∷ 0 ∷ question.text q.asks in
     let fits : word < 2 ^ 16 = omega (arith, known-small q.flags c.known, c.four_bits) in
-    let is : number_of flags_field (big_bytes 2 q.transaction_id ++ (big_bytes 2 word ++ (0 ∷ 1 ∷ 0 ∷ 0 ∷ 0 ∷ 0 ∷ 0 ∷ 0 ∷ question.text q.asks))) ≡ word = word_back q.transaction_id word _ fits in
+    let is : number_of flags_field (big_bytes 2 q.transaction_id ++ (big_bytes 2 word ++ counts)) ≡ word = word_back q.transaction_id word counts fits in
     rw (query_text q) (record {
       whole = omega arith;
-      id = id_back q.transaction_id _ c.id;
+      id = id_back q.transaction_id (big_bytes 2 word ++ counts) c.id;
       flags_ = sym (ap flags_in is ∙ flags_in-word q.flags n c.known c.four_bits);
       kind_ = opcode_of-number q.kind c.proper ∙ ap opcode_of (sym (ap opcode_in is ∙ opcode_in-word q.flags n c.known c.four_bits));
       one_question = refl;

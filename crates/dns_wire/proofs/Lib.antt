@@ -9,3 +9,4 @@ pub mod DnsPartLen
 pub mod DnsQuestionFormat
 pub mod DnsFlagsWord
 pub mod DnsReprFormat
+pub mod DnsRecordData
