@@ -8,9 +8,7 @@ ghost use Rattle.wirebase.specs.Ip.{protocol_number, protocol_of};
 ghost use Rattle.opt_wire.specs.Ipv6ExtHeader.{inner, with_inner, view_octets, Sets, KeepsLen, next_header_field, length_field, header_end, payload_field, IsWhole, HeaderValue, value_of, IsHeader, text, Emits, CarriesOptions};
 ghost use Rattle.opt_wire.specs.contracts.ipv6ext_header.Header.{the_row};
 
-use wirebase::{
-    ByteWriter, Error, IPV6_HBH_MAX_OPTIONS, IpProtocol, Octets, OctetsMut, Result,
-};
+use wirebase::{ByteWriter, Error, IPV6_HBH_MAX_OPTIONS, IpProtocol, Octets, OctetsMut, Result};
 
 // A header.
 //

@@ -178,6 +178,9 @@ fn questions_and_what_stands_behind_them(rt: HostRuntime) {
     }
 }
 
+// 2001::1.
+const ADDRESS: [u8; 16] = [0x20, 0x01, 0, 0, 0, 0, 0, 0, 0, 0, 0, 0, 0, 0, 0, 1];
+
 #[test]
 fn records_and_their_data(rt: HostRuntime) {
     let address = [
@@ -221,10 +224,10 @@ fn records_and_their_data(rt: HostRuntime) {
         }
         Err(_) => panic!(rt; "refused"),
     }
-    let octets = [0x20, 0x01, 0, 0, 0, 0, 0, 0, 0, 0, 0, 0, 0, 0, 0, 1];
+    let octets = ADDRESS;
     assert!(rt;
         RecordData::parse(Type::Aaaa, &octets)
-            == Ok(RecordData::Aaaa(Ipv6Address::from_octets(octets)))
+            == Ok(RecordData::Aaaa(Ipv6Address::from_octets(ADDRESS)))
     );
     assert!(rt; RecordData::parse(Type::Aaaa, &octets[..15]) == Err(Error));
 }

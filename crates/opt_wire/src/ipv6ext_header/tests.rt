@@ -1,14 +1,15 @@
 use super::{Header, Repr};
-use crate::ipv6hbh;
-use crate::ipv6option;
 use crate::ipv6option::RouterAlert;
+use crate::{ipv6hbh, ipv6option};
 use std::test::Fail;
 use wirebase::IpProtocol;
 
 #[test]
 fn a_router_alert_behind_a_header(rt: HostRuntime) -> Result<(), Fail> {
     let octets = [0x3a, 0x00, 0x05, 0x02, 0x00, 0x00, 0x01, 0x00];
-    let header = Header::new_checked(octets.as_slice()).ok().ok_or("refused")?;
+    let header = Header::new_checked(octets.as_slice())
+        .ok()
+        .ok_or("refused")?;
     let repr = Repr::parse(&header).ok().ok_or("refused")?;
     assert_eq!(rt; repr.next_header, IpProtocol::Icmpv6);
     assert_eq!(rt; repr.length, 0);
@@ -18,7 +19,9 @@ fn a_router_alert_behind_a_header(rt: HostRuntime) -> Result<(), Fail> {
         .ok_or("refused")?;
     let options = options.options.as_slice();
     assert_eq!(rt; options.len(), 2);
-    assert!(rt; options[0] == ipv6option::Repr::RouterAlert(RouterAlert::MulticastListenerDiscovery));
+    assert!(rt;
+        options[0] == ipv6option::Repr::RouterAlert(RouterAlert::MulticastListenerDiscovery)
+    );
     assert!(rt; options[1] == ipv6option::Repr::PadN(0));
     Ok(())
 }
@@ -50,5 +53,12 @@ fn a_header_is_written_by_its_first_two_bytes(rt: HostRuntime) {
     header.payload_mut()[13] = 0x2a;
     assert_eq!(rt; header.next_header(), IpProtocol::Udp);
     assert_eq!(rt; header.header_len(), 1);
-    assert_eq!(rt; longer.as_slice(), [0x11, 0x01, 0xa5, 0xa5, 0xa5, 0xa5, 0xa5, 0xa5, 0xa5, 0xa5, 0xa5, 0xa5, 0xa5, 0xa5, 0xa5, 0x2a].as_slice());
+    assert_eq!(rt;
+        longer.as_slice(),
+        [
+            0x11, 0x01, 0xa5, 0xa5, 0xa5, 0xa5, 0xa5, 0xa5, 0xa5, 0xa5, 0xa5, 0xa5, 0xa5, 0xa5,
+            0xa5, 0x2a
+        ]
+        .as_slice()
+    );
 }
