@@ -1,9 +1,9 @@
--- Domain names as they are written in messages (RFC 1035 section 4.1.4): labels, one after another, and then the end of the
--- name or a pointer to where it goes on. No code is followed here.
+-- Domain names as they are written in messages (RFC 1035 section 4.1.4): labels, one after another, and then the end
+-- of the name or a pointer to where it goes on. No code is followed here.
 --
--- A part of a name stops with a mark. Where it goes on, the next part is found at the target in the message. A falling path has
--- targets that each lie below the one before, and each part stands between its target and the target before it: so no byte of
--- the message is in two of its windows, and the path ends.
+-- A part of a name stops with a mark. Where it goes on, the next part is found at the target in the message. A
+-- falling path has targets that each lie below the one before, and each part stands between its target and the target
+-- before it: so no byte of the message is in two of its windows, and the path ends.
 use Rattle.std.specs.Prelude.{◌≡◌, ℕ, ◌+◌, ◌*◌, ◌%◌, ◌<◌, ◌≤◌, ◌⊎◌, List, [], ◌∷◌, ◌++◌, length, drop, map, slice_range}
 use Rattle.std.specs.List.{AllByRecursion, flat_map}
 
@@ -21,7 +21,8 @@ pub data Stop : Type 0 where
   ends : Stop
   goes_on : ℕ → Stop
 
--- Byte 0 ends a name. A pointer is two bytes; the two top bits of the first are set, and the other fourteen are the place.
+-- Byte 0 ends a name. A pointer is two bytes; the two top bits of the first are set, and the other fourteen are the
+-- place.
 abbrev pub IsMark : List ℕ → Stop → Type 0
 IsMark mark ends = mark ≡ 0 ∷ []
 IsMark mark (goes_on place) = (x : ℕ) × (y : ℕ) × (mark ≡ x ∷ y ∷ []) × (192 ≤ x) × (place ≡ 256 * (x % 64) + y)
@@ -55,12 +56,13 @@ joined parts = flat_map (λ labels. labels) parts
 
 -- ---- following pointers, wherever they lead
 
--- A text whose part ends has that part's labels. One whose part goes on at a place of the message has that part's labels, and
--- then those that are found there.
+-- A text whose part ends has that part's labels. One whose part goes on at a place of the message has that part's
+-- labels, and then those that are found there.
 pub data Follows (message : List ℕ) : List ℕ → List (List ℕ) → Type 0 where
   here : {text : List ℕ} {labels : List (List ℕ)} → IsPart text labels ends → Follows message text labels
-  there : {text : List ℕ} {labels : List (List ℕ)} (first more : List (List ℕ)) (place : ℕ) → IsPart text first (goes_on place)
-      → place < length message → Follows message (drop place message) more → labels ≡ first ++ more → Follows message text labels
+  there : {text : List ℕ} {labels : List (List ℕ)} (first more : List (List ℕ)) (place : ℕ)
+      → IsPart text first (goes_on place) → place < length message → Follows message (drop place message) more
+      → labels ≡ first ++ more → Follows message text labels
 
 -- ---- falling paths
 
@@ -101,9 +103,10 @@ pub record IsCompletePath (text message targets : List ℕ) (parts : List (List 
   pub falls : IsFalling (length message) targets
   pub parts_lead : HaveParts (all_windows text message targets) (map goes_on targets ++ ends ∷ []) parts
 
--- The longest falling path is not complete: no part of its last window ends. `front` is the longest list of whole labels at the
--- front of that window.
-pub record IsBrokenPath (text message targets : List ℕ) (parts : List (List (List ℕ))) (front : List (List ℕ)) : Type 0 where
+-- The longest falling path is not complete: no part of its last window ends. `front` is the longest list of whole
+-- labels at the front of that window.
+pub record IsBrokenPath (text message targets : List ℕ) (parts : List (List (List ℕ)))
+    (front : List (List ℕ)) : Type 0 where
   pub path : IsFallingPath text message targets parts
   pub longest : (others : List ℕ) (other_parts : List (List (List ℕ)))
       → IsFallingPath text message others other_parts → length others ≤ length targets
@@ -116,4 +119,5 @@ pub record IsBrokenPath (text message targets : List ℕ) (parts : List (List (L
 abbrev pub HasPath : List ℕ → List ℕ → Type 0
 HasPath text message =
     ((targets : List ℕ) × (parts : List (List (List ℕ))) × IsCompletePath text message targets parts)
-    ⊎ ((targets : List ℕ) × (parts : List (List (List ℕ))) × (front : List (List ℕ)) × IsBrokenPath text message targets parts front)
+    ⊎ ((targets : List ℕ) × (parts : List (List (List ℕ))) × (front : List (List ℕ))
+        × IsBrokenPath text message targets parts front)

@@ -1,4 +1,5 @@
--- The answers of a name walk, as they are computed: what the model of the iterator is. `DnsNameWalk` says what they are.
+-- The answers of a name walk, as they are computed: what the model of the iterator is. `DnsNameWalk` says what they
+-- are.
 use Rattle.std.specs.Prelude.{ℕ, ◌+◌, ◌*◌, ◌%◌, Bool, true, false, ◌==◌, nat_lt, if◌then◌else◌, List, [], ◌∷◌, length, take, drop, suc, zero}
 use Rattle.dns_wire.specs.DnsNameWalk.{Coming, label, at_end, at_fault}
 
@@ -22,7 +23,8 @@ front_of (x ∷ xs) =
     else if nat_lt x 192 then torn
     else pointer_at x xs
 
--- The answers where this stands at the front and these bytes of the message are open: go gives them after one step more.
+-- The answers where this stands at the front and these bytes of the message are open: go gives them after one step
+-- more.
 abbrev pub by_front : Front → ℕ → List ℕ → (ℕ → List ℕ → List ℕ → List Coming) → List Coming
 by_front (whole bytes rest) n reach go = record { answer = label bytes; steps = n + 1 } ∷ go (n + 1) rest reach
 by_front (pointer target) n reach go =
@@ -30,7 +32,8 @@ by_front (pointer target) n reach go =
 by_front stop n reach go = at_end n
 by_front torn n reach go = at_fault n
 
--- the answers to come after n steps, with this text to read and these bytes of the message open, in at most so many steps
+-- the answers to come after n steps, with this text to read and these bytes of the message open, in at most so many
+-- steps
 unfoldable pub answers : ℕ → ℕ → List ℕ → List ℕ → List Coming
 answers zero n text reach = at_fault n
 answers (suc most) n text reach = by_front (front_of text) n reach (answers most)

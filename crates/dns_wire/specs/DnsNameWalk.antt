@@ -44,7 +44,8 @@ abbrev pub after_first : List Coming → List Coming
 after_first [] = []
 after_first (c ∷ cs) = if is_ending c.answer then c ∷ cs else cs
 
--- A call gives the first answer to come, and takes it off unless it is the end. The steps after it are the steps so far.
+-- A call gives the first answer to come, and takes it off unless it is the end. The steps after it are the steps so
+-- far.
 pub record GivesFirst (old : Walk) (result : Option (Result (Bor (List ℕ)) Error)) (new : Walk) : Type 0 where
   pub first : slice_get old.ahead 0 ≡ Some (record { answer = answer_of result; steps = new.steps })
   pub rest : new.ahead ≡ after_first old.ahead
@@ -76,12 +77,13 @@ broken_name targets parts = in_windows 0 0 parts ++ at_fault (length (joined par
 
 -- following finds these labels, and no others
 abbrev pub FollowsOnly : List ℕ → List ℕ → List (List ℕ) → Type 0
-FollowsOnly message text labels = Follows message text labels × ((others : List (List ℕ)) → Follows message text others → others ≡ labels)
+FollowsOnly message text labels =
+    Follows message text labels × ((others : List (List ℕ)) → Follows message text others → others ≡ labels)
 
--- The walk over the name that begins in a text and may go on in a message. It has taken no step. There is a complete path, or
--- else a broken one. On a complete path it gives the labels and then the end, and these are the labels that following finds; on a
--- broken path it gives the labels before the break, one error, and then the end. No answer comes after more than half as many
--- steps as there are bytes.
+-- The walk over the name that begins in a text and may go on in a message. It has taken no step. There is a complete
+-- path, or else a broken one. On a complete path it gives the labels and then the end, and these are the labels that
+-- following finds; on a broken path it gives the labels before the break, one error, and then the end. No answer
+-- comes after more than half as many steps as there are bytes.
 pub record IsWalkOver (text message : List ℕ) (walk : Walk) : Type 0 where
   pub start : walk.steps ≡ 0
   pub either : HasPath text message

@@ -55,8 +55,8 @@ text question = fields (question_fields question)
 abbrev pub text_len : QuestionValue → ℕ
 text_len question = length question.name + 4
 
--- a value that its own text gives back: the name is one part, the type is a number of two bytes and is not the unknown type of a
--- number that has a name, and a packet holds it
+-- a value that its own text gives back: the name is one part, the type is a number of two bytes and is not the
+-- unknown type of a number that has a name, and a packet holds it
 pub record IsCanonical (question : QuestionValue) : Type 0 where
   pub name_ : IsOnePart question.name
   pub proper : IsProper kind.Unknown type_rows question.kind
@@ -75,8 +75,8 @@ format = record {
   IsCut = λ question. ⊥;
 }
 
--- What writing leaves where `old` stood: the text of the question over the front. Where there is just the text's length, it is
--- all that is left.
+-- What writing leaves where `old` stood: the text of the question over the front. Where there is just the text's
+-- length, it is all that is left.
 pub record Emits (question : QuestionValue) (old new : List ℕ) : Type 0 where
   pub text_ : new ≡ over old (text question)
   pub exact : length old ≡ text_len question → new ≡ text question

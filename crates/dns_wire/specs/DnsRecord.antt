@@ -44,7 +44,8 @@ data_value (record_data.Aaaa address) = address6 address
 data_value (record_data.Cname name) = canonical_name name.now
 data_value (record_data.Other t bytes) = other t bytes.now
 
--- these bytes are data of a type: an IPv4 address has 4 bytes (RFC 1035 section 3.4.1), an IPv6 address 16 (RFC 3596 section
+-- these bytes are data of a type: an IPv4 address has 4 bytes (RFC 1035 section 3.4.1), an IPv6 address 16 (RFC 3596
+-- section
 -- 2.2), and all other data are what they are
 abbrev pub IsData : RecordType → List ℕ → DataValue → Type 0
 IsData t bytes (address4 address) = (t ≡ kind.A) × (length bytes ≡ 4) × (ipv4.octets_of address ≡ bytes)
@@ -61,8 +62,8 @@ pub record RecordValue : Type 0 where
 abbrev pub value_of : Record → RecordValue
 value_of r = record { name = r.name.now; ttl = r.ttl; holds = data_value r.«data» }
 
--- The grammar: these bytes are a name of one part, then a type, the class of the internet, a time to live, the length of the data
--- and as many bytes of data of the type, and then a rest.
+-- The grammar: these bytes are a name of one part, then a type, the class of the internet, a time to live, the length
+-- of the data and as many bytes of data of the type, and then a rest.
 pub record IsRecord (bytes : List ℕ) (r : RecordValue) (rest : List ℕ) : Type 0 where
   pub after : List ℕ
   pub name_ : IsOnePart r.name
@@ -71,5 +72,6 @@ pub record IsRecord (bytes : List ℕ) (r : RecordValue) (rest : List ℕ) : Typ
   pub class : number_of class_field after ≡ internet
   pub ttl_ : r.ttl ≡ number_of ttl_field after
   pub fits : number_of length_field after ≤ length (drop 10 after)
-  pub data_ : IsData (type_of (number_of type_field after)) (take (number_of length_field after) (drop 10 after)) r.holds
+  pub data_ : IsData (type_of (number_of type_field after))
+      (take (number_of length_field after) (drop 10 after)) r.holds
   pub rest_ : rest ≡ drop (number_of length_field after) (drop 10 after)

@@ -51,8 +51,8 @@ pub record CanEmit (query : QueryValue) (old : List ℕ) : Type 0 where
   pub four_bits : opcode_number query.kind < 16
   pub room : text_len query ≤ length old
 
--- The grammar: a header of one question and no record, and then the question alone. The outcome and the bit that has no name are
--- not looked at.
+-- The grammar: a header of one question and no record, and then the question alone. The outcome and the bit that has
+-- no name are not looked at.
 pub record IsQuery (bytes : List ℕ) (query : QueryValue) : Type 0 where
   pub whole : Reaches header bytes
   pub id : query.transaction_id ≡ number_of id_field bytes
@@ -85,8 +85,8 @@ format = record {
   IsCut = λ query. ⊥;
 }
 
--- What writing leaves where `old` stood: the text of the query over the front. Where there is just the text's length, it is all
--- that is left.
+-- What writing leaves where `old` stood: the text of the query over the front. Where there is just the text's length,
+-- it is all that is left.
 pub record Emits (query : QueryValue) (old new : List ℕ) : Type 0 where
   pub text_ : new ≡ over old (text query)
   pub exact : length old ≡ text_len query → new ≡ text query

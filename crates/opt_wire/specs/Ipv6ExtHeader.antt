@@ -77,11 +77,12 @@ pub record Emits (header : HeaderValue) (old new : List ℕ) : Type 0 where
   pub text_ : new ≡ over old (text header)
   pub exact : length old ≡ 2 → new ≡ text header
 
--- Behind a next header and a length, options of a hop-by-hop header that take as many bytes as the length counts are read as the
--- payload, and that payload as their normal form, where at most so many options are kept.
+-- Behind a next header and a length, options of a hop-by-hop header that take as many bytes as the length counts are
+-- read as the payload, and that payload as their normal form, where at most so many options are kept.
 abbrev pub CarriesOptions : ℕ → Type 0
 CarriesOptions most =
     (n count : ℕ) (options : List OptionValue) → n < 256 → count < 256
     → hop_by_hop.IsCanonical most options → length (hop_by_hop.text options) ≡ 8 * count + 6
-    → IsHeader (n ∷ count ∷ hop_by_hop.text options) (record { next_header = protocol_of n; count = count; payload = hop_by_hop.text options })
+    → IsHeader (n ∷ count ∷ hop_by_hop.text options)
+        (record { next_header = protocol_of n; count = count; payload = hop_by_hop.text options })
     × hop_by_hop.IsHeader most (hop_by_hop.text options) (hop_by_hop.norm options)
