@@ -1,3 +1,4 @@
+pub mod Ipv6ExtHeaderText
 pub mod Ipv6HbhFormat
 pub mod Ipv6HbhGrammar
 pub mod Ipv6HbhText

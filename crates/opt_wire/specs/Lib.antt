@@ -1,3 +1,4 @@
+pub mod Ipv6ExtHeader
 pub mod Ipv6Hbh
 pub mod Ipv6Option
 pub mod Ipv6OptionAnswers

@@ -1,0 +1,129 @@
+-- The text of a query, and what is read in it.
+use Rattle.std.proofs.Common.{◌≡◌, ℕ, ◌+◌, ◌*◌, ◌<◌, ◌≤◌, ◌^◌, Bool, true, false, List, [], ◌∷◌, ◌++◌, length, drop, refl, sym, ap, ◌∙◌, subst, arith}
+use Rattle.std.proofs.lemmas.List.{append-nil, length-append, length-drop}
+use Rattle.byteorder.specs.Endian.{big_bytes}
+use Rattle.wirebase.specs.Bytes.{IsBytes, part, number_of, over}
+use Rattle.wirebase.specs.ByteWriter.{be16, fields}
+use Rattle.wirebase.specs.Format.{SameText}
+use Rattle.wirebase.specs.Numbered.{IsProper}
+use Rattle.wirebase.proofs.ByteParts.{IsBytes-drop, number_of-small}
+use Rattle.wirebase.proofs.Format.{IsFormat, round_trips, same_text}
+use Rattle.wirebase.proofs.Numbered.{case_in-unnamed, number-case_in, case_in-proper}
+use Rattle.wirebase.proofs.Pieces.{over-exact}
+use Rattle.dns_wire.specs.declared.dns.tables.Opcode.{Opcode}
+use Rattle.dns_wire.specs.declared.dns.tables.Opcode.TheVariants as opcode
+use Rattle.dns_wire.specs.DnsTables.{opcode_number, opcodes, opcode_rows, opcode_of, IsKnown}
+use Rattle.dns_wire.specs.DnsPacket.{id_field, flags_field, flags_in, opcode_in, payload_in}
+use Rattle.dns_wire.specs.DnsQuestion as question
+use Rattle.dns_wire.specs.DnsQuestion.{QuestionValue}
+use Rattle.dns_wire.specs.DnsRepr.{QueryValue, flags_word, text, text_len, IsQuery, IsCanonical, format, Emits}
+use Rattle.dns_wire.proofs.DnsFlagsWord.{known-small, opcode_in-word, flags_in-word, known-flags_in}
+use Rattle.dns_wire.proofs.DnsQuestionFormat.{length-question_text, question_reads, question_one, question_accepted}
+
+-- ---- kinds of query
+
+is_unknown_opcode : Opcode → Bool
+is_unknown_opcode (opcode.Unknown n) = true
+is_unknown_opcode _ = false
+
+opcode_of-number : (k : Opcode) → IsProper opcode.Unknown opcode_rows k → k ≡ opcode_of (opcode_number k)
+opcode_of-number (opcode.Unknown n) p = sym (case_in-unnamed opcode.Unknown opcode_rows n (p n refl))
+opcode_of-number _ p = refl
+
+opcode_of-proper : (n : ℕ) → IsProper opcode.Unknown opcode_rows (opcode_of n)
+unfolding is_unknown_opcode
+opcode_of-proper n = case_in-proper opcode_number opcode.Unknown (λ k. refl) is_unknown_opcode (λ k. refl) opcode_rows n refl
+
+number-opcode_of : (n : ℕ) → opcode_number (opcode_of n) ≡ n
+number-opcode_of n = number-case_in opcode_number opcode.Unknown (λ k. refl) opcodes n
+
+-- ---- the text
+
+query_text : (q : QueryValue) → text q ≡ big_bytes 2 q.transaction_id ++ (big_bytes 2 (flags_word q.flags q.kind) ++ (0 ∷ 1 ∷ 0 ∷ 0 ∷ 0 ∷ 0 ∷ 0 ∷ 0 ∷ question.text q.asks))
+unfolding fields be16
+query_text q = refl
+
+pub length-query_text : (q : QueryValue) → length (text q) ≡ text_len q
+length-query_text q = omega (arith, ap length (query_text q), length-question_text q.asks)
+
+id_back : (n : ℕ) (behind : List ℕ) → n < 2 ^ 16 → n ≡ number_of id_field (big_bytes 2 n ++ behind)
+unfolding part
+id_back n behind small = omega arith
+
+word_back : (m n : ℕ) (behind : List ℕ) → n < 2 ^ 16 → number_of flags_field (big_bytes 2 m ++ (big_bytes 2 n ++ behind)) ≡ n
+unfolding part
+word_back m n behind small = omega arith
+
+query_reads : (q : QueryValue) → IsCanonical q → IsQuery (text q) q
+unfolding part
+query_reads q c =
+    let n = opcode_number q.kind in
+    let word = flags_word q.flags q.kind in
+    let counts : List ℕ = 0 ∷ 1 ∷ 0 ∷ 0 ∷ 0 ∷ 0 ∷ 0 ∷ 0 ∷ question.text q.asks in
+    let fits : word < 2 ^ 16 = omega (arith, known-small q.flags c.known, c.four_bits) in
+    let is : number_of flags_field (big_bytes 2 q.transaction_id ++ (big_bytes 2 word ++ counts)) ≡ word = word_back q.transaction_id word counts fits in
+    rw (query_text q) (record {
+      whole = omega arith;
+      id = id_back q.transaction_id (big_bytes 2 word ++ counts) c.id;
+      flags_ = sym (ap flags_in is ∙ flags_in-word q.flags n c.known c.four_bits);
+      kind_ = opcode_of-number q.kind c.proper ∙ ap opcode_of (sym (ap opcode_in is ∙ opcode_in-word q.flags n c.known c.four_bits));
+      one_question = refl;
+      no_answer = refl;
+      no_authority = refl;
+      no_additional = refl;
+      asks_ = question_reads q.asks (question.text q.asks) [] c.asks_ (sym (append-nil (question.text q.asks)));
+    })
+
+-- ---- one value, and what was read
+
+abbrev query_of : ℕ → Opcode → ℕ → QuestionValue → QueryValue
+query_of id k flags asks = record { transaction_id = id; kind = k; flags = flags; asks = asks }
+
+query_one : (bytes : List ℕ) (v w : QueryValue) → IsQuery bytes v → IsQuery bytes w → v ≡ w
+query_one bytes v w h k =
+    let ids : v.transaction_id ≡ w.transaction_id = h.id ∙ sym k.id in
+    let kinds : v.kind ≡ w.kind = h.kind_ ∙ sym k.kind_ in
+    let same : v.flags ≡ w.flags = h.flags_ ∙ sym k.flags_ in
+    let asks = (question_one (payload_in bytes) v.asks w.asks [] [] h.asks_ k.asks_).0 in
+    ap (λ n. query_of n v.kind v.flags v.asks) ids ∙ (ap (λ t. query_of w.transaction_id t v.flags v.asks) kinds ∙ (ap (λ n. query_of w.transaction_id w.kind n v.asks) same ∙ ap (λ q. query_of w.transaction_id w.kind w.flags q) asks))
+
+query_accepted : (bytes : List ℕ) (v : QueryValue) → IsBytes bytes → length bytes ≤ 65515 → IsQuery bytes v → IsCanonical v
+query_accepted bytes v are small h =
+    let word = number_of flags_field bytes in
+    let asks = question_accepted (payload_in bytes) v.asks [] (IsBytes-drop 12 bytes are) (omega (arith, length-drop 12 bytes)) h.asks_ in
+    record {
+      id = omega (arith, h.id, number_of-small 0 2 bytes refl are);
+      proper = subst (λ k. IsProper opcode.Unknown opcode_rows k) (sym h.kind_) (opcode_of-proper (opcode_in word));
+      four_bits = omega (arith, ap opcode_number h.kind_, number-opcode_of (opcode_in word));
+      known = subst IsKnown (sym h.flags_) (known-flags_in word);
+      asks_ = asks;
+      small = omega (arith, small, h.whole, h.asks_.reaches, ap length h.asks_.whole, length-append v.asks.name h.asks_.after, length-drop 12 bytes);
+    }
+
+pub query_format : IsFormat format
+query_format = record {
+  one_value = query_one;
+  reads_back = λ v fills c. query_reads v c;
+  norm_canonical = λ v c. c;
+  norm_norm = λ v. refl;
+  norm_text = λ v c regular. refl;
+  accepted = query_accepted;
+  regular = λ bytes v h e. e;
+  kept = λ bytes v are c h whole. refl;
+}
+
+pub query_same_text : (a b : QueryValue) → SameText format a b
+query_same_text a b = same_text format query_format _ a b
+
+-- ---- what writing leaves
+
+pub query_emits : (q : QueryValue) (old new : List ℕ) → new ≡ over old (text q) → Emits q old new
+query_emits q old new e = record {
+  text_ = e;
+  exact = alone;
+  reads_back = λ c long. subst (λ bytes. IsQuery bytes q) (sym (alone long)) (query_reads q c);
+  round_trips = round_trips format query_format q;
+}
+  where
+    alone : length old ≡ text_len q → new ≡ text q
+    alone long = e ∙ over-exact old (text q) (long ∙ sym (length-query_text q))

@@ -1,0 +1,12 @@
+pub mod DnsNameTurns
+pub mod DnsNameGiving
+pub mod DnsNameParts
+pub mod DnsNameRoutes
+pub mod DnsNamePaths
+pub mod DnsNameTheorem
+pub mod DnsNameRanges
+pub mod DnsPartLen
+pub mod DnsQuestionFormat
+pub mod DnsFlagsWord
+pub mod DnsReprFormat
+pub mod DnsRecordData

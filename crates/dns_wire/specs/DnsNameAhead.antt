@@ -1,0 +1,49 @@
+-- The answers of a name walk, as they are computed: what the model of the iterator is. `DnsNameWalk` says what they
+-- are.
+use Rattle.std.specs.Prelude.{ℕ, ◌+◌, ◌*◌, ◌%◌, Bool, true, false, ◌==◌, nat_lt, if◌then◌else◌, List, [], ◌∷◌, length, take, drop, suc, zero}
+use Rattle.dns_wire.specs.DnsNameWalk.{Coming, label, at_end, at_fault}
+
+-- what stands at the front of a text
+pub data Front : Type 0 where
+  whole : List ℕ → List ℕ → Front
+  pointer : ℕ → Front
+  stop : Front
+  torn : Front
+
+-- the fourteen bits of a pointer whose first byte is x
+abbrev pub pointer_at : ℕ → List ℕ → Front
+pointer_at x [] = torn
+pointer_at x (y ∷ ys) = pointer (256 * (x % 64) + y)
+
+abbrev pub front_of : List ℕ → Front
+front_of [] = torn
+front_of (x ∷ xs) =
+    if x == 0 then stop
+    else if nat_lt x 64 then (if nat_lt (length xs) x then torn else whole (take x xs) (drop x xs))
+    else if nat_lt x 192 then torn
+    else pointer_at x xs
+
+-- The answers where this stands at the front and these bytes of the message are open: go gives them after one step
+-- more.
+abbrev pub by_front : Front → ℕ → List ℕ → (ℕ → List ℕ → List ℕ → List Coming) → List Coming
+by_front (whole bytes rest) n reach go = record { answer = label bytes; steps = n + 1 } ∷ go (n + 1) rest reach
+by_front (pointer target) n reach go =
+    if nat_lt target (length reach) then go (n + 1) (drop target reach) (take target reach) else at_fault n
+by_front stop n reach go = at_end n
+by_front torn n reach go = at_fault n
+
+-- the answers to come after n steps, with this text to read and these bytes of the message open, in at most so many
+-- steps
+unfoldable pub answers : ℕ → ℕ → List ℕ → List ℕ → List Coming
+answers zero n text reach = at_fault n
+answers (suc most) n text reach = by_front (front_of text) n reach (answers most)
+
+-- the answers to come; each step takes two bytes at least, so there are not more steps than bytes
+abbrev pub ahead_of : Bool → ℕ → List ℕ → List ℕ → List Coming
+ahead_of true n text reach = at_end n
+ahead_of false n text reach = answers (length text + length reach) n text reach
+
+-- what is read: the message, or else the slice that the walk began with
+abbrev pub read_in : Bool → List ℕ → List ℕ → List ℕ
+read_in true message slice = message
+read_in false message slice = slice

@@ -1,0 +1,25 @@
+-- One part of a name at the front of a text, in the words of the code that finds it.
+use Rattle.std.specs.Prelude.{◌≡◌, ℕ, ◌+◌, List, ◌++◌, length}
+use Rattle.dns_wire.specs.DnsName.{Stop, IsPart, IsOnePart}
+use Rattle.dns_wire.specs.declared.dns.part.Front.{Front as FrontOf}
+use Rattle.dns_wire.specs.declared.dns.part.Front.TheVariants.{Label, Pointer, End, Torn}
+use Rattle.dns_wire.specs.DnsNameAhead.{Front, whole, pointer, stop, torn}
+
+-- what stands at the front of a text, without where it lies in memory
+abbrev pub shown : FrontOf → Front
+shown (Label bytes rest) = whole bytes.now rest.now
+shown (Pointer target) = pointer target
+shown End = stop
+shown Torn = torn
+
+-- a text is one part of a name, and then a rest
+pub record IsSplit (text name rest : List ℕ) : Type 0 where
+  pub name_ : IsOnePart name
+  pub whole : text ≡ name ++ rest
+
+-- a text begins with a part of so many bytes
+pub record BeginsWithPart (text : List ℕ) (len : ℕ) : Type 0 where
+  pub labels : List (List ℕ)
+  pub stop : Stop
+  pub part : IsPart text labels stop
+  pub count : len + length part.rest ≡ length text

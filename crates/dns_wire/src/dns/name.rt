@@ -1,0 +1,124 @@
+//! The walk over a name that may go on elsewhere in its message (RFC 1035 section 4.1.4).
+
+ghost use Rattle.std.specs.Prelude.{◌≡◌};
+ghost use Rattle.dns_wire.specs.DnsNameWalk.{IsWalkOver};
+ghost use Rattle.dns_wire.specs.DnsNameAhead.{read_in};
+
+use crate::dns::part::{Front, read_front};
+use std::marker::Model;
+use wirebase::{Error, Result};
+
+/// The labels of a name. A pointer leads to below all that was read of the message before, so the walk ends.
+#[derive(Drop)]
+pub struct NameIter<'a> {
+    message: &'a [u8],
+    slice: &'a [u8],
+    // Whether the message is read, and not the slice.
+    in_message: bool,
+    // The place that is read next, and where what is read ends.
+    place: usize,
+    end: usize,
+    // How many bytes of the message are open: a pointer leads to one of them.
+    open_len: usize,
+    steps: usize,
+    ended: bool,
+}
+
+impl<'a> Model for NameIter<'a> {
+    ghost use Rattle.std.specs.Prelude.{◌+◌, ◌-◌, ◌*◌, ◌<◌, ◌≤◌, ◌^◌, length, slice_range, take};
+    ghost use Rattle.dns_wire.specs.DnsNameWalk.{Walk};
+    ghost use Rattle.dns_wire.specs.DnsNameAhead.{ahead_of, read_in};
+
+    ghost Value = { Walk };
+
+    ghost view = { λ it. record {
+      steps = it.steps;
+      ahead = ahead_of it.ended it.steps
+          (slice_range (read_in it.in_message it.message.now it.slice.now) it.place it.end)
+          (take it.open_len it.message.now);
+    } };
+
+    ghost invariant = { λ it. (it.place ≤ it.end)
+        × (it.end ≤ length (read_in it.in_message it.message.now it.slice.now))
+        × (it.open_len ≤ length it.message.now)
+        × (2 * it.steps + (it.end - it.place) + it.open_len < 2 ^ 65) };
+}
+
+impl<'a> Iterator for NameIter<'a> {
+    ghost use Rattle.std.specs.Iterator.{at_most};
+    ghost use Rattle.dns_wire.specs.DnsNameWalk.{GivesFirst, items_in};
+
+    type Item = Result<&'a [u8]>;
+
+    ghost next_gives = { GivesFirst };
+
+    ghost remaining = { λ walk. at_most (items_in walk.ahead) };
+
+    fn next(&mut self) -> Option<Result<&'a [u8]>> {
+        if self.ended {
+            return None;
+        }
+        loop {
+            let limit = self.open_len;
+            let read = source(self.in_message, self.message, self.slice);
+            match read_front(&read[self.place..self.end]) {
+                Front::Label(label, _) => {
+                    self.place += 1 + label.len();
+                    self.steps += 1;
+                    return Some(Ok(label));
+                }
+                Front::Pointer(target) if target < limit => {
+                    self.in_message = true;
+                    self.place = target;
+                    self.end = self.open_len;
+                    self.open_len = target;
+                    self.steps += 1;
+                }
+                Front::End => {
+                    self.ended = true;
+                    return None;
+                }
+                _ => {
+                    self.ended = true;
+                    return Some(Err(Error));
+                }
+            }
+        }
+    }
+}
+
+impl<'a> NameIter<'a> {
+    /// How many labels were given and pointers followed.
+    pub fn steps(&self) -> usize
+        ensures { result ≡ self.now.steps }
+    {
+        let NameIter { steps, .. } = self;
+        *steps
+    }
+}
+
+// What is read: the message, or else the slice.
+fn source<'a>(in_message: bool, message: &'a [u8], slice: &'a [u8]) -> &'a [u8]
+    ensures { result.now ≡ read_in in_message message.now slice.now }
+{
+    if in_message { message } else { slice }
+}
+
+/// The walk over the name that begins in a slice and may go on in a message.
+pub(crate) fn walk<'a>(message: &'a [u8], slice: &'a [u8]) -> NameIter<'a>
+    ensures { IsWalkOver slice.entry.now message.entry.now result }
+{
+    NameIter {
+        message,
+        slice,
+        in_message: false,
+        place: 0,
+        end: slice.len(),
+        open_len: message.len(),
+        steps: 0,
+        ended: false,
+    }
+}
+
+#[cfg(test)]
+mod tests;

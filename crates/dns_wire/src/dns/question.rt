@@ -1,0 +1,109 @@
+//! A question of a message (RFC 1035 section 4.1.2).
+
+ghost use Rattle.std.specs.Prelude.{◌≡◌, ◌≤◌, ◌+◌, ◌<◌, ◌^◌, List, ℕ, ◌∷◌, [], length, IfOk, IsOkAnd};
+ghost use Rattle.wirebase.specs.Bytes.{over};
+ghost use Rattle.wirebase.specs.ByteWriter.{free, Puts, the_slice};
+ghost use Rattle.wirebase.specs.Format.{Rewrites, SameText};
+ghost use Rattle.dns_wire.specs.DnsQuestion.{QuestionValue, value_of, IsQuestion, question_fields, text, text_len, format, Emits};
+
+use crate::dns::part::split_name;
+use crate::dns::tables::Type;
+use wirebase::{ByteWriter, Error, Octets, Result, are_bytes};
+
+// What stands behind the name of a question.
+mod field {
+    use wirebase::Field;
+
+    pub const TYPE: Field = 0..2;
+
+    pub const CLASS: Field = 2..4;
+
+    pub const END: usize = 4;
+}
+
+/// The class of the internet (RFC 1035 section 3.2.4).
+pub(crate) const CLASS_IN: u16 = 1;
+
+/// A question: the records of one type at a name (RFC 1035 section 4.1.2).
+#[derive(Debug, PartialEq, Eq, Clone, Copy)]
+pub struct Question<'a> {
+    /// The name as it is written: labels of 1 to 63 bytes, each after its length, and then byte 0 or a pointer.
+    pub name: &'a [u8],
+    /// The type of the records.
+    pub type_: Type,
+}
+
+impl<'a> Question<'a> {
+    /// The question at the front of the octets, behind what stands after it. Refused where they do not begin with a
+    /// name of one part, a type and the class of the internet.
+    pub fn parse(buffer: &'a [u8]) -> Result<(&'a [u8], Question<'a>)>
+        ensures sound { IfOk result (λ read. IsQuestion buffer.now (value_of read.1) read.0.now) }
+        ensures complete { (value : QuestionValue) (rest : List ℕ) → IsQuestion buffer.now value rest
+            → IsOkAnd result (λ read. (value_of read.1 ≡ value) × (read.0.now ≡ rest)) }
+        ensures rewrites { length buffer.now ≤ 65515
+            → IfOk result (λ read. Rewrites format (value_of read.1)) }
+    {
+        are_bytes(buffer);
+        Question::read(buffer)
+    }
+
+    // The question at the front of the octets.
+    fn read(buffer: &'a [u8]) -> Result<(&'a [u8], Question<'a>)>
+        ensures sound { IfOk result (λ read. IsQuestion buffer.now (value_of read.1) read.0.now) }
+        ensures complete { (value : QuestionValue) (rest : List ℕ) → IsQuestion buffer.now value rest
+            → IsOkAnd result (λ read. (value_of read.1 ≡ value) × (read.0.now ≡ rest)) }
+    {
+        let (name, after) = split_name(buffer)?;
+        if after.len() < field::END {
+            return Err(Error);
+        }
+        let type_ = Type::from(after.u16_at(field::TYPE));
+        if after.u16_at(field::CLASS) != CLASS_IN {
+            return Err(Error);
+        }
+        Ok((&after[field::END..], Question { name, type_ }))
+    }
+
+    /// The bytes that the question takes: those of its name, and 4. Asks that they fit a `usize`.
+    pub const fn buffer_len(&self) -> usize
+        requires { text_len (value_of self.now) < 2 ^ 64 }
+        ensures value { result ≡ text_len (value_of self.now) }
+        ensures exact { result ≡ length (text (value_of self.now)) }
+    {
+        self.name.len() + field::END
+    }
+
+    /// Writes the question over the front of the octets; the others stay. Asks as many octets as it takes.
+    pub fn emit(&self, packet: &mut [u8])
+        requires { text_len (value_of self.now) ≤ length packet.old }
+        ensures { Emits (value_of self.now) packet.old packet.new }
+    {
+        self.write(packet);
+    }
+
+    // Writes the text of the question.
+    #[tactic(auto, using(wirebase::proofs::Chains::chain))]
+    fn write(&self, packet: &mut [u8])
+        requires { text_len (value_of self.now) ≤ length packet.old }
+        ensures { packet.new ≡ over packet.old (text (value_of self.now)) }
+    {
+        let mut w = ByteWriter::new(packet);
+        self.put(&mut w);
+    }
+
+    // Writes each field of the question.
+    pub(crate) fn put(&self, w: &mut ByteWriter<'_>)
+        requires { text_len (value_of self.now) ≤ length (free w.old) }
+        ensures puts { Puts w.old w.new (question_fields (value_of self.now)) }
+        ensures same_slice { the_slice w.new ≡ the_slice w.old }
+    {
+        w.put_bytes(self.name);
+        w.put_u16(self.type_.into());
+        w.put_u16(CLASS_IN);
+    }
+
+    /// Does nothing. Of two questions that a packet can hold, equal texts mean equal questions, and conversely.
+    pub fn same_text(a: &Self, b: &Self)
+        ensures { SameText format (value_of a.now) (value_of b.now) }
+    {}
+}

@@ -1,0 +1,64 @@
+use super::{Header, Repr};
+use crate::ipv6option::RouterAlert;
+use crate::{ipv6hbh, ipv6option};
+use std::test::Fail;
+use wirebase::IpProtocol;
+
+#[test]
+fn a_router_alert_behind_a_header(rt: HostRuntime) -> Result<(), Fail> {
+    let octets = [0x3a, 0x00, 0x05, 0x02, 0x00, 0x00, 0x01, 0x00];
+    let header = Header::new_checked(octets.as_slice())
+        .ok()
+        .ok_or("refused")?;
+    let repr = Repr::parse(&header).ok().ok_or("refused")?;
+    assert_eq!(rt; repr.next_header, IpProtocol::Icmpv6);
+    assert_eq!(rt; repr.length, 0);
+    assert_eq!(rt; repr.data, &octets[2..]);
+    let options = ipv6hbh::Repr::parse(&ipv6hbh::Header::new_unchecked(repr.data))
+        .ok()
+        .ok_or("refused")?;
+    let options = options.options.as_slice();
+    assert_eq!(rt; options.len(), 2);
+    assert!(rt;
+        options[0] == ipv6option::Repr::RouterAlert(RouterAlert::MulticastListenerDiscovery)
+    );
+    assert!(rt; options[1] == ipv6option::Repr::PadN(0));
+    Ok(())
+}
+
+#[test]
+fn headers_that_are_too_short(rt: HostRuntime) {
+    let octets = [0x06, 0x02, 0, 0, 0, 0, 0, 0];
+    assert!(rt; Header::new_checked(octets.as_slice()).is_err());
+    assert!(rt; Repr::parse(&Header::new_unchecked(octets.as_slice())).is_err());
+    assert!(rt; Header::new_checked([0x06, 0x00, 0, 0, 0, 0, 0].as_slice()).is_err());
+    assert!(rt; Header::new_checked([0u8; 1].as_slice()).is_err());
+}
+
+#[test]
+fn a_header_is_written_by_its_first_two_bytes(rt: HostRuntime) {
+    let repr = Repr {
+        next_header: IpProtocol::Tcp,
+        length: 1,
+        data: &[],
+    };
+    assert_eq!(rt; repr.header_len(), 2);
+    let mut octets = [0xff; 2];
+    repr.emit(&mut Header::new_unchecked(octets.as_mut_slice()));
+    assert_eq!(rt; octets.as_slice(), [0x06, 0x01].as_slice());
+    let mut longer = [0xa5; 16];
+    let mut header = Header::new_unchecked(longer.as_mut_slice());
+    header.set_next_header(IpProtocol::Udp);
+    header.set_header_len(1);
+    header.payload_mut()[13] = 0x2a;
+    assert_eq!(rt; header.next_header(), IpProtocol::Udp);
+    assert_eq!(rt; header.header_len(), 1);
+    assert_eq!(rt;
+        longer.as_slice(),
+        [
+            0x11, 0x01, 0xa5, 0xa5, 0xa5, 0xa5, 0xa5, 0xa5, 0xa5, 0xa5, 0xa5, 0xa5, 0xa5, 0xa5,
+            0xa5, 0x2a
+        ]
+        .as_slice()
+    );
+}
