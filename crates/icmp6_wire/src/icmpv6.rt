@@ -1,10 +1,20 @@
 //! The Internet Control Message Protocol of IPv6 (RFC 4443).
 
 mod packet;
+mod repr;
 mod tables;
 
+use wirebase::{IPV6_HEADER_LEN, IPV6_MIN_MTU};
+
 pub use packet::Packet;
+pub use repr::Repr;
 pub use tables::{DstUnreachable, Message, ParamProblem, TimeExceeded};
+
+// The bytes that an error has at the most, and those of them that it quotes behind a header, so that its packet is one that
+// every link can carry (RFC 4443 section 2.4).
+const MAX_ERROR_PACKET_LEN: usize = IPV6_MIN_MTU - IPV6_HEADER_LEN;
+
+const MAX_QUOTED_DATA: usize = MAX_ERROR_PACKET_LEN - field::HEADER_END - IPV6_HEADER_LEN;
 
 // A message (RFC 4443 section 2.1), and what follows by its type.
 //
