@@ -1,0 +1,4 @@
+pub mod Icmpv6Format
+pub mod Icmpv6Grammar
+pub mod Icmpv6Seals
+pub mod Icmpv6Texts

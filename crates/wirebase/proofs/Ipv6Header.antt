@@ -9,10 +9,13 @@ use Rattle.wirebase.specs.declared.ipv6.address.Ipv6Address.{Ipv6Address}
 use Rattle.wirebase.specs.declared.ipv6.Ipv6Repr.{Ipv6Repr}
 use Rattle.wirebase.specs.Bytes.{part, over}
 use Rattle.wirebase.specs.ByteWriter.{Sheet, blank, put_all, be8, be16, be32, fields}
-use Rattle.wirebase.specs.Ip.{protocol_number}
+use Rattle.wirebase.specs.declared.ip.IpProtocol.TheVariants as protocol
+use Rattle.wirebase.specs.Ip.{protocol_number, protocol_rows}
+use Rattle.wirebase.specs.Numbered.{IsProper}
 use Rattle.wirebase.specs.Ipv6.{IsHeader, IsPacket, header_fields, header_text, pseudo_fields}
 use Rattle.wirebase.specs.Ipv6Address.{octets_of}
 use Rattle.wirebase.proofs.Pieces.{over-exact}
+use Rattle.wirebase.proofs.IpProtocols.{protocol_of-number}
 use Rattle.wirebase.proofs.Chains.{over-blank, put-fields}
 
 -- ---- addresses
@@ -67,8 +70,40 @@ over-header old r =
 
 pub ruleset header_writes = (over-header)
 
--- what emitters and parsers of quotes need
-pub ruleset header_texts = (length-header_text)
+-- ---- reading what was written
+
+header-fields_read : (r : Ipv6Repr) (payload : List ℕ) → r.payload_len < 2 ^ 16 → IsProper protocol.Unknown protocol_rows r.next_header
+    → IsHeader (0x60 ∷ 0 ∷ 0 ∷ 0 ∷ (big_bytes 2 r.payload_len ++ (protocol_number r.next_header ∷ r.hop_limit ∷ (octets_of r.src_addr ++ (octets_of r.dst_addr ++ payload))))) r
+unfolding part
+header-fields_read r payload fits proper =
+    let behind : List ℕ = octets_of r.dst_addr ++ payload in
+    record {
+      payload = sym (big_number-reads_back 2 r.payload_len [] (omega (arith, fits)));
+      protocol = sym (protocol_of-number r.next_header proper);
+      hops = refl;
+      source = sym (take_at (octets_of r.src_addr) behind 16 r.src_addr.whole);
+      destination = sym (ap (λ (l : List ℕ). take 16 l) (drop_at (octets_of r.src_addr) behind 16 r.src_addr.whole) ∙ take_at (octets_of r.dst_addr) payload 16 r.dst_addr.whole);
+    }
+
+pub header-read : (r : Ipv6Repr) (payload : List ℕ) → r.payload_len < 2 ^ 16 → IsProper protocol.Unknown protocol_rows r.next_header → IsHeader (header_text r ++ payload) r
+header-read r payload fits proper =
+    let front : List ℕ = big_bytes 2 r.payload_len in
+    let apart : (octets_of r.src_addr ++ octets_of r.dst_addr) ++ payload ≡ octets_of r.src_addr ++ (octets_of r.dst_addr ++ payload) =
+    append_assoc (octets_of r.src_addr) (octets_of r.dst_addr) payload in
+    let text : header_text r ++ payload ≡ 0x60 ∷ 0 ∷ 0 ∷ 0 ∷ (front ++ (protocol_number r.next_header ∷ r.hop_limit ∷ (octets_of r.src_addr ++ (octets_of r.dst_addr ++ payload)))) =
+    ap (λ (l : List ℕ). l ++ payload) (header_text-fields r) ∙ ap (λ (l : List ℕ). 0x60 ∷ 0 ∷ 0 ∷ 0 ∷ (front ++ (protocol_number r.next_header ∷ r.hop_limit ∷ l))) apart in
+    subst (λ (l : List ℕ). IsHeader l r) (sym text) (header-fields_read r payload fits proper)
+
+-- after the header comes the payload
+pub drop-header_text : (r : Ipv6Repr) (payload : List ℕ) → drop 40 (header_text r ++ payload) ≡ payload
+drop-header_text r payload = drop_at (header_text r) payload 40 (length-header_text r)
+
+-- a header in octets of just its length
+pub over-header_whole : (old : List ℕ) (r : Ipv6Repr) → length old ≡ 40 → over old (header_text r) ≡ header_text r
+over-header_whole old r whole = over-exact old (header_text r) (whole ∙ sym (length-header_text r))
+
+-- what emitters of quotes need
+pub ruleset header_texts = (length-header_text, over-header_whole)
 
 -- ---- the pseudo header
 

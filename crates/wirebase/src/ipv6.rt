@@ -307,3 +307,6 @@ impl fmt::Display for Ipv6Repr {
         )
     }
 }
+
+#[cfg(test)]
+mod tests;

@@ -1,0 +1,153 @@
+-- The format of messages: what was read is canonical, and a normal form has the text of its value.
+use Rattle.std.proofs.Common.{◌≡◌, ℕ, ◌<◌, ◌≤◌, ◌^◌, Bool, true, false, List, length, drop, refl, sym, ap, subst, ◌∙◌, arith}
+use Rattle.std.proofs.lemmas.List.{length-drop}
+use Rattle.wirebase.specs.declared.capabilities.ChecksumCapabilities.{ChecksumCapabilities}
+use Rattle.wirebase.specs.declared.ip.IpProtocol.{IpProtocol}
+use Rattle.wirebase.specs.declared.ip.IpProtocol.TheVariants as protocol
+use Rattle.wirebase.specs.declared.ipv6.address.Ipv6Address.{Ipv6Address}
+use Rattle.wirebase.specs.declared.ipv6.Ipv6Repr.{Ipv6Repr}
+use Rattle.wirebase.specs.Bytes.{IsBytes, byte_of, number_of}
+use Rattle.wirebase.specs.ByteWriter.{fields}
+use Rattle.wirebase.specs.Format.{SameText}
+use Rattle.wirebase.specs.Icmp.{code_field, data_in}
+use Rattle.wirebase.specs.Ip.{protocol_number, protocol_rows, protocols}
+use Rattle.wirebase.specs.Ipv6.{next_header_field, hop_limit_field, IsHeader}
+use Rattle.wirebase.specs.Numbered.{IsProper}
+use Rattle.wirebase.proofs.ByteParts.{IsBytes-drop, number_of-small}
+use Rattle.wirebase.proofs.Format.{IsFormat, same_text-by}
+use Rattle.wirebase.proofs.Numbered.{number-case_in, case_in-proper}
+use Rattle.wirebase.proofs.WideParts.{number_of-small4}
+use Rattle.icmp6_wire.specs.declared.icmpv6.tables.DstUnreachable.{DstUnreachable}
+use Rattle.icmp6_wire.specs.declared.icmpv6.tables.DstUnreachable.TheVariants as reasons
+use Rattle.icmp6_wire.specs.declared.icmpv6.tables.ParamProblem.{ParamProblem}
+use Rattle.icmp6_wire.specs.declared.icmpv6.tables.ParamProblem.TheVariants as problems
+use Rattle.icmp6_wire.specs.declared.icmpv6.tables.TimeExceeded.{TimeExceeded}
+use Rattle.icmp6_wire.specs.declared.icmpv6.tables.TimeExceeded.TheVariants as times
+use Rattle.icmp6_wire.specs.Icmpv6Packet.{word_field}
+use Rattle.icmp6_wire.specs.Icmpv6Tables.{unreachable_number, unreachables, unreachable_rows, unreachable_of, param_problem_number, param_problems, param_problem_rows, param_problem_of, time_exceeded_number, time_exceededs, time_exceeded_rows, time_exceeded_of}
+use Rattle.icmp6_wire.specs.Icmpv6.{MessageValue, unreachable, too_big, time_exceeded, param_problem, echo_request, echo_reply, quoted_data, error_fields, text, seal, IsContent, CanQuote, IsCanonical, norm, IsCut, format}
+use Rattle.icmp6_wire.proofs.Icmpv6Grammar.{content-one, message-unique}
+use Rattle.icmp6_wire.proofs.Icmpv6Texts.{quoted-quoted, quoted-whole, message_text, content_read}
+
+-- ---- what was read
+
+is_unknown_protocol : IpProtocol → Bool
+is_unknown_protocol (protocol.Unknown n) = true
+is_unknown_protocol _ = false
+
+is_unknown_reason : DstUnreachable → Bool
+is_unknown_reason (reasons.Unknown n) = true
+is_unknown_reason _ = false
+
+is_unknown_problem : ParamProblem → Bool
+is_unknown_problem (problems.Unknown n) = true
+is_unknown_problem _ = false
+
+is_unknown_time : TimeExceeded → Bool
+is_unknown_time (times.Unknown n) = true
+is_unknown_time _ = false
+
+header-read_canonical : (bytes : List ℕ) (quoted : Ipv6Repr) → IsBytes bytes → IsHeader bytes quoted → CanQuote quoted
+unfolding is_unknown_protocol
+header-read_canonical bytes quoted are q =
+    let n : ℕ = byte_of next_header_field bytes in
+    let named : IsProper protocol.Unknown protocol_rows quoted.next_header =
+    subst (λ (p : IpProtocol). IsProper protocol.Unknown protocol_rows p) (sym q.protocol) (case_in-proper protocol_number protocol.Unknown (λ k. refl) is_unknown_protocol (λ k. refl) protocol_rows n refl) in
+    let number : protocol_number quoted.next_header ≡ n = ap protocol_number q.protocol ∙ number-case_in protocol_number protocol.Unknown (λ k. refl) protocols n in
+    let fits : n < 256 = are 6 in
+    let hops : byte_of hop_limit_field bytes < 256 = are 7 in
+    (named, omega (arith, number, fits), omega (arith, q.hops, hops), omega (arith, q.payload, number_of-small 4 6 bytes refl are))
+
+reason-read : (reason : DstUnreachable) (n : ℕ) → n < 256 → reason ≡ unreachable_of n → IsProper reasons.Unknown unreachable_rows reason × (unreachable_number reason < 256)
+unfolding is_unknown_reason
+reason-read reason n small e =
+    let number = ap unreachable_number e ∙ number-case_in unreachable_number reasons.Unknown (λ k. refl) unreachables n in
+    (subst (λ (r : DstUnreachable). IsProper reasons.Unknown unreachable_rows r) (sym e) (case_in-proper unreachable_number reasons.Unknown (λ k. refl) is_unknown_reason (λ k. refl) unreachable_rows n refl), omega (arith, number, small))
+
+problem-read : (reason : ParamProblem) (n : ℕ) → n < 256 → reason ≡ param_problem_of n → IsProper problems.Unknown param_problem_rows reason × (param_problem_number reason < 256)
+unfolding is_unknown_problem
+problem-read reason n small e =
+    let number = ap param_problem_number e ∙ number-case_in param_problem_number problems.Unknown (λ k. refl) param_problems n in
+    (subst (λ (r : ParamProblem). IsProper problems.Unknown param_problem_rows r) (sym e) (case_in-proper param_problem_number problems.Unknown (λ k. refl) is_unknown_problem (λ k. refl) param_problem_rows n refl), omega (arith, number, small))
+
+time-read : (reason : TimeExceeded) (n : ℕ) → n < 256 → reason ≡ time_exceeded_of n → IsProper times.Unknown time_exceeded_rows reason × (time_exceeded_number reason < 256)
+unfolding is_unknown_time
+time-read reason n small e =
+    let number = ap time_exceeded_number e ∙ number-case_in time_exceeded_number times.Unknown (λ k. refl) time_exceededs n in
+    (subst (λ (r : TimeExceeded). IsProper times.Unknown time_exceeded_rows r) (sym e) (case_in-proper time_exceeded_number times.Unknown (λ k. refl) is_unknown_time (λ k. refl) time_exceeded_rows n refl), omega (arith, number, small))
+
+content-canonical : (bytes : List ℕ) (v : MessageValue) → IsBytes bytes → 8 ≤ length bytes → length bytes ≤ 65515 → IsContent bytes v → IsCanonical v
+content-canonical bytes (unreachable reason quoted d) are some small m =
+    let read = reason-read reason (byte_of code_field bytes) (are 1) m.1 in
+    (read.0, read.1, header-read_canonical (data_in bytes) quoted (IsBytes-drop 8 bytes are) m.0.header_)
+content-canonical bytes (too_big mtu quoted d) are some small m =
+    (omega (arith, m.2, number_of-small4 4 8 bytes refl are), header-read_canonical (data_in bytes) quoted (IsBytes-drop 8 bytes are) m.0.header_)
+content-canonical bytes (time_exceeded reason quoted d) are some small m =
+    let read = time-read reason (byte_of code_field bytes) (are 1) m.1 in
+    (read.0, read.1, header-read_canonical (data_in bytes) quoted (IsBytes-drop 8 bytes are) m.0.header_)
+content-canonical bytes (param_problem reason pointer quoted d) are some small m =
+    let read = problem-read reason (byte_of code_field bytes) (are 1) m.1 in
+    (read.0, read.1, omega (arith, m.2, number_of-small4 4 8 bytes refl are), header-read_canonical (data_in bytes) quoted (IsBytes-drop 8 bytes are) m.0.header_)
+content-canonical bytes (echo_request ident seq_no d) are some small m =
+    (omega (arith, m.identifier, number_of-small 4 6 bytes refl are), omega (arith, m.sequence, number_of-small 6 8 bytes refl are), omega (arith, ap (λ (l : List ℕ). length l) m.data_, length-drop 8 bytes))
+content-canonical bytes (echo_reply ident seq_no d) are some small m =
+    (omega (arith, m.identifier, number_of-small 4 6 bytes refl are), omega (arith, m.sequence, number_of-small 6 8 bytes refl are), omega (arith, ap (λ (l : List ℕ). length l) m.data_, length-drop 8 bytes))
+
+-- ---- the normal form
+
+norm-canonical : (v : MessageValue) → IsCanonical v → IsCanonical (norm v)
+norm-canonical (unreachable reason quoted d) c = c
+norm-canonical (too_big mtu quoted d) c = c
+norm-canonical (time_exceeded reason quoted d) c = c
+norm-canonical (param_problem reason pointer quoted d) c = c
+norm-canonical (echo_request ident seq_no d) c = c
+norm-canonical (echo_reply ident seq_no d) c = c
+
+norm-norm : (v : MessageValue) → norm (norm v) ≡ norm v
+norm-norm (unreachable reason quoted d) = ap (λ (l : List ℕ). unreachable reason quoted l) (quoted-quoted d)
+norm-norm (too_big mtu quoted d) = ap (λ (l : List ℕ). too_big mtu quoted l) (quoted-quoted d)
+norm-norm (time_exceeded reason quoted d) = ap (λ (l : List ℕ). time_exceeded reason quoted l) (quoted-quoted d)
+norm-norm (param_problem reason pointer quoted d) = ap (λ (l : List ℕ). param_problem reason pointer quoted l) (quoted-quoted d)
+norm-norm (echo_request ident seq_no d) = refl
+norm-norm (echo_reply ident seq_no d) = refl
+
+quoted-fields : (t code word : ℕ) (quoted : Ipv6Repr) (d : List ℕ) → fields (error_fields t code word quoted (quoted_data d)) ≡ fields (error_fields t code word quoted d)
+quoted-fields t code word quoted d = rw (quoted-quoted d) refl
+
+norm-text : (v : MessageValue) → text (norm v) ≡ text v
+norm-text (unreachable reason quoted d) = quoted-fields 1 (unreachable_number reason) 0 quoted d
+norm-text (too_big mtu quoted d) = quoted-fields 2 0 mtu quoted d
+norm-text (time_exceeded reason quoted d) = quoted-fields 3 (time_exceeded_number reason) 0 quoted d
+norm-text (param_problem reason pointer quoted d) = quoted-fields 4 (param_problem_number reason) pointer quoted d
+norm-text (echo_request ident seq_no d) = refl
+norm-text (echo_reply ident seq_no d) = refl
+
+few : (d : List ℕ) → (1192 < length d → ⊥) → length d ≤ 1192
+few d uncut = grind (arith, uncut)
+
+norm-uncut : (v : MessageValue) → (IsCut v → ⊥) → norm v ≡ v
+norm-uncut (unreachable reason quoted d) uncut = ap (λ (l : List ℕ). unreachable reason quoted l) (quoted-whole d (few d uncut))
+norm-uncut (too_big mtu quoted d) uncut = ap (λ (l : List ℕ). too_big mtu quoted l) (quoted-whole d (few d uncut))
+norm-uncut (time_exceeded reason quoted d) uncut = ap (λ (l : List ℕ). time_exceeded reason quoted l) (quoted-whole d (few d uncut))
+norm-uncut (param_problem reason pointer quoted d) uncut = ap (λ (l : List ℕ). param_problem reason pointer quoted l) (quoted-whole d (few d uncut))
+norm-uncut (echo_request ident seq_no d) uncut = refl
+norm-uncut (echo_reply ident seq_no d) uncut = refl
+
+-- ---- all of it
+
+module _ (capabilities : ChecksumCapabilities) (source destination : Ipv6Address) where
+  pub icmpv6_format : IsFormat (format capabilities source destination)
+  icmpv6_format = record {
+    one_value = message-unique capabilities source destination;
+    reads_back = message_text capabilities source destination;
+    norm_canonical = norm-canonical;
+    norm_norm = norm-norm;
+    norm_text = λ v c regular. ap (λ (bytes : List ℕ). seal capabilities source destination bytes) (norm-text v);
+    accepted = λ bytes v are small m. content-canonical bytes v are m.whole.fixed small m.content;
+    regular = λ bytes v m e. e;
+    kept = λ bytes v are c m uncut. norm-uncut v uncut;
+  }
+
+  -- also where the checksum is verified and not filled: the contents are read back by themselves
+  pub icmpv6_same_text : (a b : MessageValue) → SameText (format capabilities source destination) a b
+  icmpv6_same_text a b = same_text-by (format capabilities source destination) icmpv6_format IsContent content-one (content_read capabilities source destination) a b

@@ -1,0 +1,27 @@
+-- Sealing a message keeps its length, and all of its bytes but the checksum.
+use Rattle.std.proofs.Common.{◌≡◌, ℕ, ◌≤◌, List, ◌∷◌, length, refl}
+use Rattle.wirebase.specs.Bytes.{splice}
+use Rattle.wirebase.specs.Capabilities.{sealed_where}
+use Rattle.wirebase.specs.Checksum.{sealed}
+use Rattle.wirebase.specs.Icmp.{checksum_field}
+use Rattle.wirebase.specs.declared.capabilities.Checksum.{Checksum}
+use Rattle.wirebase.specs.declared.capabilities.Checksum.TheVariants.{Both, Rx, Tx, None}
+use Rattle.wirebase.proofs.ChecksumSeals.{length-sealed}
+
+pub length-sealed_message : (bytes : List ℕ) (extra : ℕ) → 4 ≤ length bytes → length (sealed checksum_field bytes extra) ≡ length bytes
+length-sealed_message bytes extra some = length-sealed checksum_field bytes extra refl some
+
+pub ruleset lengths = (length-sealed_message)
+
+-- bytes with this type and this code, with any checksum, and with these bytes after it
+pub record Begins (bytes : List ℕ) (t code : ℕ) (rest : List ℕ) : Type 0 where
+  pub first : ℕ
+  pub second : ℕ
+  pub whole : bytes ≡ t ∷ code ∷ first ∷ second ∷ rest
+
+pub sealed-begins : (checksum : Checksum) (bytes : List ℕ) (extra t code : ℕ) (rest : List ℕ) → bytes ≡ t ∷ code ∷ 0 ∷ 0 ∷ rest → Begins (sealed_where checksum checksum_field bytes extra) t code rest
+unfolding sealed splice
+sealed-begins Both bytes extra t code rest e = rw e (record { first = _; second = _; whole = refl })
+sealed-begins Rx bytes extra t code rest e = record { first = 0; second = 0; whole = e }
+sealed-begins Tx bytes extra t code rest e = rw e (record { first = _; second = _; whole = refl })
+sealed-begins None bytes extra t code rest e = record { first = 0; second = 0; whole = e }

@@ -1,0 +1,202 @@
+-- ICMPv6 messages (RFC 4443).
+--
+--  0                   1                   2                   3
+--  0 1 2 3 4 5 6 7 8 9 0 1 2 3 4 5 6 7 8 9 0 1 2 3 4 5 6 7 8 9 0 1
+-- +---------------+---------------+-------------------------------+
+-- |     type      |     code      |           checksum            |
+-- +---------------+---------------+-------------------------------+
+-- |          identifier           |        sequence number        |  an echo; of an error zero, the largest packet or
+-- +-------------------------------+-------------------------------+  the pointer
+-- | data: of an error, the IPv6 header that it speaks of and the data behind it
+-- +- - - -
+use Rattle.std.specs.Prelude.{◌≡◌, ◌≢◌, ℕ, ◌+◌, ◌≤◌, ◌<◌, ◌^◌, min, true, List, [], ◌∷◌, length, drop, take}
+use Rattle.wirebase.specs.declared.capabilities.ChecksumCapabilities.{ChecksumCapabilities}
+use Rattle.wirebase.specs.declared.capabilities.Checksum.TheVariants.{Rx}
+use Rattle.wirebase.specs.Bytes.{Reaches, byte_of, number_of, over}
+use Rattle.wirebase.specs.ByteWriter.{be8, be16, be32, fields}
+use Rattle.wirebase.specs.Capabilities.{is_verified, sealed_where}
+use Rattle.wirebase.specs.Checksum.{IsGood}
+use Rattle.wirebase.specs.Format.{Format, RoundTrips}
+use Rattle.wirebase.specs.Icmp.{type_field, code_field, checksum_field, header, data_in, IsEcho, echo_fields}
+use Rattle.wirebase.specs.Ip.{protocol_number, protocol_rows}
+use Rattle.wirebase.specs.Ipv6.{IsHeader, header_text}
+use Rattle.wirebase.specs.Numbered.{IsProper}
+use Rattle.wirebase.specs.declared.ip.IpProtocol.TheVariants as protocol
+use Rattle.wirebase.specs.declared.ipv6.address.Ipv6Address.{Ipv6Address}
+use Rattle.wirebase.specs.declared.ipv6.Ipv6Repr.{Ipv6Repr}
+use Rattle.icmp6_wire.specs.Icmpv6Packet.{BeginsWhole, word_field, message_sum}
+use Rattle.icmp6_wire.specs.Icmpv6Tables.{unreachable_number, unreachable_rows, unreachable_of, param_problem_number, param_problem_rows, param_problem_of, time_exceeded_number, time_exceeded_rows, time_exceeded_of}
+use Rattle.icmp6_wire.specs.declared.icmpv6.repr.Repr.{Repr}
+use Rattle.icmp6_wire.specs.declared.icmpv6.repr.Repr.TheVariants as repr
+use Rattle.icmp6_wire.specs.declared.icmpv6.tables.DstUnreachable.{DstUnreachable}
+use Rattle.icmp6_wire.specs.declared.icmpv6.tables.DstUnreachable.TheVariants as reasons
+use Rattle.icmp6_wire.specs.declared.icmpv6.tables.ParamProblem.{ParamProblem}
+use Rattle.icmp6_wire.specs.declared.icmpv6.tables.ParamProblem.TheVariants as problems
+use Rattle.icmp6_wire.specs.declared.icmpv6.tables.TimeExceeded.{TimeExceeded}
+use Rattle.icmp6_wire.specs.declared.icmpv6.tables.TimeExceeded.TheVariants as times
+
+-- A message by its content: an error with its reason, the largest packet, the time or the problem and its place, the header
+-- that it speaks of and the data behind it; or an echo with its identifier, its sequence number and its data.
+pub data MessageValue : Type 0 where
+  unreachable : DstUnreachable → Ipv6Repr → List ℕ → MessageValue
+  too_big : ℕ → Ipv6Repr → List ℕ → MessageValue
+  time_exceeded : TimeExceeded → Ipv6Repr → List ℕ → MessageValue
+  param_problem : ParamProblem → ℕ → Ipv6Repr → List ℕ → MessageValue
+  echo_request : ℕ → ℕ → List ℕ → MessageValue
+  echo_reply : ℕ → ℕ → List ℕ → MessageValue
+
+abbrev pub value_of : Repr → MessageValue
+value_of (repr.DstUnreachable reason quoted d) = unreachable reason quoted d.now
+value_of (repr.PktTooBig mtu quoted d) = too_big mtu quoted d.now
+value_of (repr.TimeExceeded reason quoted d) = time_exceeded reason quoted d.now
+value_of (repr.ParamProblem reason pointer quoted d) = param_problem reason pointer quoted d.now
+value_of (repr.EchoRequest ident seq_no d) = echo_request ident seq_no d.now
+value_of (repr.EchoReply ident seq_no d) = echo_reply ident seq_no d.now
+
+-- ---- the text
+
+-- what an error quotes of the data behind a header, so that with an IPv6 header of its own it is at most the 1,280 bytes that
+-- every link can carry (RFC 4443 section 2.4)
+unfoldable pub quoted_data : List ℕ → List ℕ
+quoted_data d = take 1192 d
+
+-- the fields, with the checksum zero
+abbrev pub error_fields : ℕ → ℕ → ℕ → Ipv6Repr → List ℕ → List (List ℕ)
+error_fields t code word quoted d = be8 t ∷ be8 code ∷ be16 0 ∷ be32 word ∷ header_text quoted ∷ quoted_data d ∷ []
+
+abbrev pub message_fields : MessageValue → List (List ℕ)
+message_fields (unreachable reason quoted d) = error_fields 1 (unreachable_number reason) 0 quoted d
+message_fields (too_big mtu quoted d) = error_fields 2 0 mtu quoted d
+message_fields (time_exceeded reason quoted d) = error_fields 3 (time_exceeded_number reason) 0 quoted d
+message_fields (param_problem reason pointer quoted d) = error_fields 4 (param_problem_number reason) pointer quoted d
+message_fields (echo_request ident seq_no d) = echo_fields 0x80 ident seq_no d
+message_fields (echo_reply ident seq_no d) = echo_fields 0x81 ident seq_no d
+
+abbrev pub text : MessageValue → List ℕ
+text v = fields (message_fields v)
+
+-- the bytes that it takes
+abbrev pub error_len : List ℕ → ℕ
+error_len d = 48 + min (length d) 1192
+
+abbrev pub text_len : MessageValue → ℕ
+text_len (unreachable reason quoted d) = error_len d
+text_len (too_big mtu quoted d) = error_len d
+text_len (time_exceeded reason quoted d) = error_len d
+text_len (param_problem reason pointer quoted d) = error_len d
+text_len (echo_request ident seq_no d) = 8 + length d
+text_len (echo_reply ident seq_no d) = 8 + length d
+
+-- a message that tells of an error
+abbrev pub IsErrorValue : MessageValue → Type 0
+IsErrorValue (echo_request ident seq_no d) = ⊥
+IsErrorValue (echo_reply ident seq_no d) = ⊥
+IsErrorValue _ = Unit {0}
+
+-- the octets with their checksum, where the capabilities have it computed
+abbrev pub seal : ChecksumCapabilities → Ipv6Address → Ipv6Address → List ℕ → List ℕ
+seal capabilities source destination bytes =
+    sealed_where capabilities.icmpv6 checksum_field bytes (message_sum source destination (length bytes))
+
+-- the packet of a message, and the octets that it was written into
+abbrev pub packet_text : ChecksumCapabilities → Ipv6Address → Ipv6Address → MessageValue → List ℕ
+packet_text capabilities source destination v = seal capabilities source destination (text v)
+
+abbrev pub emitted : ChecksumCapabilities → Ipv6Address → Ipv6Address → MessageValue → List ℕ → List ℕ
+emitted capabilities source destination v old = seal capabilities source destination (over old (text v))
+
+-- What is asked of a message and of the octets that it is written into: of an echo that its header has room, of an error
+-- that all of it has, and that the quoted header can tell its payload's length.
+abbrev pub CanEmitError : Ipv6Repr → List ℕ → List ℕ → Type 0
+CanEmitError quoted d bytes = (error_len d ≤ length bytes) × (quoted.payload_len ≤ 65535)
+
+abbrev pub CanEmit : MessageValue → List ℕ → Type 0
+CanEmit (unreachable reason quoted d) bytes = CanEmitError quoted d bytes
+CanEmit (too_big mtu quoted d) bytes = CanEmitError quoted d bytes
+CanEmit (time_exceeded reason quoted d) bytes = CanEmitError quoted d bytes
+CanEmit (param_problem reason pointer quoted d) bytes = CanEmitError quoted d bytes
+CanEmit (echo_request ident seq_no d) bytes = Reaches header bytes
+CanEmit (echo_reply ident seq_no d) bytes = Reaches header bytes
+
+-- ---- the grammar
+
+-- An error of this type: it quotes a whole header, whose version and length are not looked at; the data is all that stands
+-- behind it.
+pub record IsError (t : ℕ) (bytes : List ℕ) (quoted : Ipv6Repr) (d : List ℕ) : Type 0 where
+  pub kind : byte_of type_field bytes ≡ t
+  pub quote_ : 48 ≤ length bytes
+  pub header_ : IsHeader (data_in bytes) quoted
+  pub data_ : d ≡ drop 40 (data_in bytes)
+
+abbrev pub IsContent : List ℕ → MessageValue → Type 0
+IsContent bytes (unreachable reason quoted d) = IsError 1 bytes quoted d × (reason ≡ unreachable_of (byte_of code_field bytes))
+IsContent bytes (too_big mtu quoted d) = IsError 2 bytes quoted d × (byte_of code_field bytes ≡ 0) × (mtu ≡ number_of word_field bytes)
+IsContent bytes (time_exceeded reason quoted d) = IsError 3 bytes quoted d × (reason ≡ time_exceeded_of (byte_of code_field bytes))
+IsContent bytes (param_problem reason pointer quoted d) =
+    IsError 4 bytes quoted d × (reason ≡ param_problem_of (byte_of code_field bytes)) × (pointer ≡ number_of word_field bytes)
+IsContent bytes (echo_request ident seq_no d) = IsEcho 0x80 bytes ident seq_no d
+IsContent bytes (echo_reply ident seq_no d) = IsEcho 0x81 bytes ident seq_no d
+
+-- The grammar: the header of the type is there, its checksum is good where it is verified, and the message is this one.
+pub record IsMessage (capabilities : ChecksumCapabilities) (source destination : Ipv6Address) (bytes : List ℕ) (v : MessageValue) : Type 0 where
+  pub whole : BeginsWhole bytes
+  pub good : is_verified capabilities.icmpv6 ≡ true → IsGood bytes (message_sum source destination (length bytes))
+  pub content : IsContent bytes v
+
+-- ---- canonical values and the normal form
+
+-- a header that its own text gives back
+abbrev pub CanQuote : Ipv6Repr → Type 0
+CanQuote quoted =
+    IsProper protocol.Unknown protocol_rows quoted.next_header × (protocol_number quoted.next_header < 256) × (quoted.hop_limit < 256)
+    × (quoted.payload_len < 2 ^ 16)
+
+abbrev pub IsCanonical : MessageValue → Type 0
+IsCanonical (unreachable reason quoted d) = IsProper reasons.Unknown unreachable_rows reason × (unreachable_number reason < 256) × CanQuote quoted
+IsCanonical (too_big mtu quoted d) = (mtu < 2 ^ 32) × CanQuote quoted
+IsCanonical (time_exceeded reason quoted d) = IsProper times.Unknown time_exceeded_rows reason × (time_exceeded_number reason < 256) × CanQuote quoted
+IsCanonical (param_problem reason pointer quoted d) =
+    IsProper problems.Unknown param_problem_rows reason × (param_problem_number reason < 256) × (pointer < 2 ^ 32) × CanQuote quoted
+IsCanonical (echo_request ident seq_no d) = (ident < 2 ^ 16) × (seq_no < 2 ^ 16) × (8 + length d ≤ 65535)
+IsCanonical (echo_reply ident seq_no d) = (ident < 2 ^ 16) × (seq_no < 2 ^ 16) × (8 + length d ≤ 65535)
+
+-- the checksum is filled where it is verified
+abbrev pub Fills : ChecksumCapabilities → Type 0
+Fills capabilities = capabilities.icmpv6 ≢ Rx
+
+-- the normal form: of an error, the data that it quotes
+abbrev pub norm : MessageValue → MessageValue
+norm (unreachable reason quoted d) = unreachable reason quoted (quoted_data d)
+norm (too_big mtu quoted d) = too_big mtu quoted (quoted_data d)
+norm (time_exceeded reason quoted d) = time_exceeded reason quoted (quoted_data d)
+norm (param_problem reason pointer quoted d) = param_problem reason pointer quoted (quoted_data d)
+norm v = v
+
+-- an error with more data than it quotes
+abbrev pub IsCut : MessageValue → Type 0
+IsCut (unreachable reason quoted d) = 1192 < length d
+IsCut (too_big mtu quoted d) = 1192 < length d
+IsCut (time_exceeded reason quoted d) = 1192 < length d
+IsCut (param_problem reason pointer quoted d) = 1192 < length d
+IsCut v = ⊥
+
+-- the format between these addresses, under these capabilities; no value is an exception
+abbrev pub format : ChecksumCapabilities → Ipv6Address → Ipv6Address → Format MessageValue
+format capabilities source destination =
+    record {
+      Reads = IsMessage capabilities source destination;
+      Fills = Fills capabilities;
+      text = packet_text capabilities source destination;
+      IsCanonical = IsCanonical;
+      IsException = λ v. ⊥;
+      norm = norm;
+      IsCut = IsCut;
+    }
+
+-- What writing a message leaves where `old` stood. Where there is just the message's length, its packet is all that is left,
+-- and a canonical value is read back from it as its normal form.
+pub record Emits (capabilities : ChecksumCapabilities) (source destination : Ipv6Address) (v : MessageValue) (old new : List ℕ) : Type 0 where
+  pub text_ : new ≡ emitted capabilities source destination v old
+  pub exact : length old ≡ text_len v → new ≡ packet_text capabilities source destination v
+  pub reads_back : length old ≡ text_len v → Fills capabilities → IsCanonical v → IsMessage capabilities source destination new (norm v)
+  pub round_trips : RoundTrips (format capabilities source destination) v

@@ -1,0 +1,370 @@
+//! Messages as values (RFC 4443).
+#![tactic(auto, using(wirebase::proofs::Pieces::pieces))]
+
+ghost use Rattle.std.specs.Prelude.{◌≡◌, ◌≤◌, ◌<◌, ◌+◌, ◌^◌, min, List, ℕ, length, drop, IsOk, IfOk, IsOkAnd};
+ghost use Rattle.wirebase.specs.Bytes.{Reaches, over};
+ghost use Rattle.wirebase.specs.ByteWriter.{free, Puts, the_slice};
+ghost use Rattle.wirebase.specs.Format.{Rewrites, SameText};
+ghost use Rattle.wirebase.specs.Icmp.{header, checksum_field, echo_fields};
+ghost use Rattle.wirebase.specs.Ipv6.{IsHeader, header_text};
+ghost use Rattle.wirebase.specs.declared.capabilities.ChecksumCapabilities.{ChecksumCapabilities};
+ghost use Rattle.wirebase.specs.declared.ipv6.address.Ipv6Address.{Ipv6Address};
+ghost use Rattle.wirebase.specs.declared.ipv6.Ipv6Repr.{Ipv6Repr};
+ghost use Rattle.icmp6_wire.specs.Icmpv6Tables.{message_number};
+ghost use Rattle.icmp6_wire.specs.Icmpv6Packet.{inner, view_octets, BeginsWhole};
+ghost use Rattle.icmp6_wire.specs.Icmpv6.{MessageValue, value_of, quoted_data, error_fields, text, error_len, text_len, IsErrorValue, seal, packet_text, CanEmit, IsContent, IsMessage, format, Emits};
+
+use super::packet::{Packet, fill};
+use super::tables::{DstUnreachable, Message, ParamProblem, TimeExceeded};
+use super::{field, MAX_QUOTED_DATA};
+use wirebase::{
+    ByteWriter, ChecksumCapabilities, Error, IPV6_HEADER_LEN, Ipv6Address, Ipv6Packet, Ipv6Repr, Octets, OctetsMut,
+    Result, are_bytes,
+};
+
+/// A message (RFC 4443).
+#[derive(Debug, PartialEq, Eq, Clone, Copy)]
+pub enum Repr<'a> {
+    /// An error: the destination of the quoted packet is unreachable.
+    DstUnreachable {
+        reason: DstUnreachable,
+        header: Ipv6Repr,
+        /// What stands behind the quoted header.
+        data: &'a [u8],
+    },
+    /// An error: the quoted packet is longer than the next link can carry.
+    PktTooBig {
+        /// The bytes of the largest packet that it can.
+        mtu: u32,
+        header: Ipv6Repr,
+        /// What stands behind the quoted header.
+        data: &'a [u8],
+    },
+    /// An error: a time of the quoted packet was exceeded.
+    TimeExceeded {
+        reason: TimeExceeded,
+        header: Ipv6Repr,
+        /// What stands behind the quoted header.
+        data: &'a [u8],
+    },
+    /// An error: a field of the quoted packet makes no sense.
+    ParamProblem {
+        reason: ParamProblem,
+        /// The place of the field, counted from the quoted packet's first byte.
+        pointer: u32,
+        header: Ipv6Repr,
+        /// What stands behind the quoted header.
+        data: &'a [u8],
+    },
+    /// An echo request.
+    EchoRequest {
+        ident: u16,
+        seq_no: u16,
+        data: &'a [u8],
+    },
+    /// An echo reply.
+    EchoReply {
+        ident: u16,
+        seq_no: u16,
+        data: &'a [u8],
+    },
+}
+
+impl<'a> Repr<'a> {
+    /// The message in the octets, which goes from `src_addr` to `dst_addr`. Refused where they don't begin with the
+    /// header of a type that is read here, where their checksum is to be verified and isn't good, and where the message
+    /// is none of these; an echo and a packet that is too big have code 0, and an error quotes a whole header, whose
+    /// version and payload length are not looked at. All that stands behind that header is the data.
+    pub fn parse(
+        src_addr: &Ipv6Address,
+        dst_addr: &Ipv6Address,
+        packet: &Packet<&'a [u8]>,
+        checksum_caps: &ChecksumCapabilities,
+    ) -> Result<Repr<'a>>
+        ensures sound { IfOk result (λ repr. IsMessage checksum_caps.now src_addr.now dst_addr.now
+            (view_octets packet.now) (value_of repr)) }
+        ensures complete { (value : MessageValue)
+            → IsMessage checksum_caps.now src_addr.now dst_addr.now (view_octets packet.now) value
+            → IsOkAnd result (λ repr. value_of repr ≡ value) }
+        ensures rewrites { length (view_octets packet.now) ≤ 65515
+            → IfOk result (λ repr. Rewrites (format checksum_caps.now src_addr.now dst_addr.now) (value_of repr)) }
+    {
+        are_bytes(packet.buffer);
+        Repr::read(src_addr, dst_addr, packet, checksum_caps)
+    }
+
+    // The message in the octets.
+    fn read(
+        src_addr: &Ipv6Address,
+        dst_addr: &Ipv6Address,
+        packet: &Packet<&'a [u8]>,
+        checksum_caps: &ChecksumCapabilities,
+    ) -> Result<Repr<'a>>
+        ensures sound { IfOk result (λ repr. IsMessage checksum_caps.now src_addr.now dst_addr.now
+            (view_octets packet.now) (value_of repr)) }
+        ensures complete { (value : MessageValue)
+            → IsMessage checksum_caps.now src_addr.now dst_addr.now (view_octets packet.now) value
+            → IsOkAnd result (λ repr. value_of repr ≡ value) }
+    {
+        packet.check_len()?;
+        if checksum_caps.icmpv6.rx() && !packet.verify_checksum(src_addr, dst_addr) {
+            return Err(Error);
+        }
+        Repr::read_content(packet)
+    }
+
+    // The message in octets that begin with a whole header, whatever their checksum.
+    fn read_content(packet: &Packet<&'a [u8]>) -> Result<Repr<'a>>
+        requires { BeginsWhole (view_octets packet.now) }
+        ensures sound { IfOk result (λ repr. IsContent (view_octets packet.now) (value_of repr)) }
+        ensures reads { (value : MessageValue) → IsContent (view_octets packet.now) value → IsOk result }
+    {
+        let payload = packet.payload();
+        if packet.msg_type().is_error() && payload.len() < IPV6_HEADER_LEN {
+            return Err(Error);
+        }
+        match (packet.msg_type(), packet.msg_code()) {
+            (Message::DstUnreachable, code) => {
+                let (header, data) = read_quote(payload);
+                Ok(Repr::DstUnreachable {
+                    reason: code.into(),
+                    header,
+                    data,
+                })
+            }
+            (Message::PktTooBig, 0) => {
+                let (header, data) = read_quote(payload);
+                Ok(Repr::PktTooBig {
+                    mtu: packet.pkt_too_big_mtu(),
+                    header,
+                    data,
+                })
+            }
+            (Message::TimeExceeded, code) => {
+                let (header, data) = read_quote(payload);
+                Ok(Repr::TimeExceeded {
+                    reason: code.into(),
+                    header,
+                    data,
+                })
+            }
+            (Message::ParamProblem, code) => {
+                let (header, data) = read_quote(payload);
+                Ok(Repr::ParamProblem {
+                    reason: code.into(),
+                    pointer: packet.param_problem_ptr(),
+                    header,
+                    data,
+                })
+            }
+            (Message::EchoRequest, 0) => Ok(Repr::EchoRequest {
+                ident: packet.echo_ident(),
+                seq_no: packet.echo_seq_no(),
+                data: payload,
+            }),
+            (Message::EchoReply, 0) => Ok(Repr::EchoReply {
+                ident: packet.echo_ident(),
+                seq_no: packet.echo_seq_no(),
+                data: payload,
+            }),
+            _ => Err(Error),
+        }
+    }
+
+    /// The bytes that the message takes, of an error at most 1,240. Asks that a `usize` holds their number.
+    #[tactic(auto, using(crate::proofs::Icmpv6Texts::texts))]
+    pub fn buffer_len(&self) -> usize
+        requires { text_len (value_of self.now) < 2 ^ 64 }
+        ensures value { result ≡ text_len (value_of self.now) }
+        ensures bound { IsErrorValue (value_of self.now) → result ≤ 1240 }
+    {
+        self.packet_len()
+    }
+
+    /// The bytes that the packet of the message has, of an error at most 1,240. Asks that a `usize` holds their number.
+    #[tactic(auto, using(crate::proofs::Icmpv6Texts::texts))]
+    pub fn packet_len(&self) -> usize
+        requires { text_len (value_of self.now) < 2 ^ 64 }
+        ensures value { result ≡ text_len (value_of self.now) }
+        ensures exact { (capabilities : ChecksumCapabilities) (source destination : Ipv6Address)
+            → result ≡ length (packet_text capabilities source destination (value_of self.now)) }
+        ensures bound { IsErrorValue (value_of self.now) → result ≤ 1240 }
+    {
+        match self {
+            Repr::DstUnreachable { header, data, .. } => error_len(header, data),
+            Repr::PktTooBig { header, data, .. } => error_len(header, data),
+            Repr::TimeExceeded { header, data, .. } => error_len(header, data),
+            Repr::ParamProblem { header, data, .. } => error_len(header, data),
+            Repr::EchoRequest { data, .. } => field::HEADER_END + data.len(),
+            Repr::EchoReply { data, .. } => field::HEADER_END + data.len(),
+        }
+    }
+
+    /// Writes the message over the front of the octets, as far as they go, and then, where the capabilities have it
+    /// computed, the checksum of all of them as a message from `src_addr` to `dst_addr`. Asks 8 bytes or more of an
+    /// echo; of an error its length or more, and that the quoted `payload_len` is at most 65,535.
+    pub fn emit<T: OctetsMut>(
+        &self,
+        src_addr: &Ipv6Address,
+        dst_addr: &Ipv6Address,
+        packet: &mut Packet<T>,
+        checksum_caps: &ChecksumCapabilities,
+    )
+        requires { CanEmit (value_of self.now) (T.bytes (inner packet.old)) }
+        ensures place { inner packet.new ≡ T.put (inner packet.old) (T.bytes (inner packet.new)) }
+        ensures emits { Emits checksum_caps.now src_addr.now dst_addr.now (value_of self.now)
+            (T.bytes (inner packet.old)) (T.bytes (inner packet.new)) }
+    {
+        self.emit_into(src_addr, dst_addr, packet.buffer.octets_mut(), checksum_caps);
+    }
+
+    /// The same into octets that stand by themselves.
+    pub fn emit_into(
+        &self,
+        src_addr: &Ipv6Address,
+        dst_addr: &Ipv6Address,
+        octets: &mut [u8],
+        checksum_caps: &ChecksumCapabilities,
+    )
+        requires { CanEmit (value_of self.now) octets.old }
+        ensures { Emits checksum_caps.now src_addr.now dst_addr.now (value_of self.now) octets.old octets.new }
+    {
+        self.write(octets);
+        seal(octets, src_addr, dst_addr, checksum_caps);
+    }
+
+    /// Does nothing. Of two messages that a packet can hold, equal texts mean equal normal forms, and conversely.
+    pub fn same_text(
+        a: &Self,
+        b: &Self,
+        src_addr: &Ipv6Address,
+        dst_addr: &Ipv6Address,
+        checksum_caps: &ChecksumCapabilities,
+    )
+        ensures { SameText (format checksum_caps.now src_addr.now dst_addr.now) (value_of a.now) (value_of b.now) }
+    {}
+
+    // Writes the message, with the checksum zero.
+    #[tactic(auto, using(wirebase::proofs::Chains::chain))]
+    fn write(&self, octets: &mut [u8])
+        requires { CanEmit (value_of self.now) octets.old }
+        ensures { octets.new ≡ over octets.old (text (value_of self.now)) }
+    {
+        let mut w = ByteWriter::new(octets);
+        match *self {
+            Repr::DstUnreachable {
+                reason,
+                header,
+                data,
+            } => put_error(&mut w, Message::DstUnreachable, reason.into(), 0, &header, data),
+            Repr::PktTooBig { mtu, header, data } => {
+                put_error(&mut w, Message::PktTooBig, 0, mtu, &header, data);
+            }
+            Repr::TimeExceeded {
+                reason,
+                header,
+                data,
+            } => put_error(&mut w, Message::TimeExceeded, reason.into(), 0, &header, data),
+            Repr::ParamProblem {
+                reason,
+                pointer,
+                header,
+                data,
+            } => put_error(&mut w, Message::ParamProblem, reason.into(), pointer, &header, data),
+            Repr::EchoRequest {
+                ident,
+                seq_no,
+                data,
+            } => put_echo(&mut w, Message::EchoRequest, ident, seq_no, data),
+            Repr::EchoReply {
+                ident,
+                seq_no,
+                data,
+            } => put_echo(&mut w, Message::EchoReply, ident, seq_no, data),
+        }
+    }
+}
+
+// The bytes of an error that quotes this header and as much of this data as it may.
+fn error_len(quoted: &Ipv6Repr, data: &[u8]) -> usize
+    ensures { result ≡ error_len «data».now }
+{
+    field::HEADER_END + quoted.buffer_len() + quotable(data).len()
+}
+
+// Writes an echo of this type, as much of its data as there is room for.
+fn put_echo(w: &mut ByteWriter<'_>, kind: Message, ident: u16, seq_no: u16, data: &[u8])
+    requires { 8 ≤ length (free w.old) }
+    ensures puts { Puts w.old w.new (echo_fields (message_number kind) ident seq_no «data».now) }
+    ensures same_slice { the_slice w.new ≡ the_slice w.old }
+{
+    w.put_u8(kind.into());
+    w.put_u8(0);
+    w.put_u16(0);
+    w.put_u16(ident);
+    w.put_u16(seq_no);
+    w.put_front(data);
+}
+
+// Writes an error of this type, with as much of its data as it may quote.
+#[tactic(auto, using(wirebase::proofs::Chains::parts, wirebase::proofs::Ipv6Header::header_texts))]
+fn put_error(w: &mut ByteWriter<'_>, kind: Message, code: u8, word: u32, quoted: &Ipv6Repr, data: &[u8])
+    requires room { error_len «data».now ≤ length (free w.old) }
+    requires count { quoted.now.payload_len ≤ 65535 }
+    ensures puts { Puts w.old w.new
+        (error_fields (message_number kind) code word quoted.now «data».now) }
+    ensures same_slice { the_slice w.new ≡ the_slice w.old }
+{
+    w.put_u8(kind.into());
+    w.put_u8(code);
+    w.put_u16(0);
+    w.put_u32(word);
+    write_header(quoted, w.part(quoted.buffer_len()));
+    w.put_bytes(quotable(data));
+}
+
+// Writes a header into octets of just its length.
+#[tactic(auto, using(wirebase::proofs::Ipv6Header::header_texts))]
+fn write_header(header: &Ipv6Repr, octets: &mut [u8])
+    requires room { length octets.old ≡ 40 }
+    requires count { header.now.payload_len ≤ 65535 }
+    ensures { octets.new ≡ header_text header.now }
+{
+    header.emit_into(octets);
+}
+
+// The data that an error may quote.
+#[tactic(auto, using(crate::proofs::Icmpv6Texts::cuts))]
+fn quotable(data: &[u8]) -> &[u8]
+    ensures value { result.now ≡ quoted_data «data».now }
+    ensures len { length result.now ≡ min (length «data».now) 1192 }
+{
+    &data[..data.len().min(MAX_QUOTED_DATA)]
+}
+
+// Writes the checksum, where it is computed.
+fn seal(octets: &mut [u8], src_addr: &Ipv6Address, dst_addr: &Ipv6Address, checksum_caps: &ChecksumCapabilities)
+    requires { Reaches checksum_field octets.old }
+    ensures { octets.new ≡ seal checksum_caps.now src_addr.now dst_addr.now octets.old }
+{
+    if checksum_caps.icmpv6.tx() {
+        fill(octets, src_addr, dst_addr);
+    }
+}
+
+// The header that an error quotes, and all that stands behind it (RFC 4443 section 3).
+fn read_quote(octets: &[u8]) -> (Ipv6Repr, &[u8])
+    requires { 40 ≤ length octets.now }
+    ensures header { IsHeader octets.now result.0 }
+    ensures behind { result.1.now ≡ drop 40 octets.now }
+{
+    let packet = Ipv6Packet::new_unchecked(octets);
+    let header = Ipv6Repr {
+        src_addr: packet.src_addr(),
+        dst_addr: packet.dst_addr(),
+        next_header: packet.next_header(),
+        payload_len: packet.payload_len() as usize,
+        hop_limit: packet.hop_limit(),
+    };
+    (header, &octets[IPV6_HEADER_LEN..])
+}

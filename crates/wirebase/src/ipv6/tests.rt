@@ -1,0 +1,236 @@
+ghost use Rattle.std.specs.Prelude.{◌≡◌, ◌≤◌, length};
+
+use super::{
+    IPV6_HEADER_LEN, IPV6_LINK_LOCAL_ALL_NODES, IPV6_LINK_LOCAL_ALL_ROUTERS, IPV6_MIN_MTU,
+    Ipv6Address, Ipv6Packet, Ipv6Repr,
+};
+use crate::checksum;
+use crate::failing_writer::FailingWriter;
+use crate::ip::IpProtocol;
+use std::fmt::Write;
+use std::test::Fail;
+
+// The address fe80::1, and one whose groups all differ.
+fn first() -> Ipv6Address {
+    Ipv6Address::new(0xfe80, 0, 0, 0, 0, 0, 0, 1)
+}
+
+fn second() -> Ipv6Address {
+    Ipv6Address::new(0xfe80, 0, 0, 0, 0, 0, 0, 2)
+}
+
+#[test]
+fn addresses_in_hexadecimal(rt: HostRuntime) -> Result<(), Fail> {
+    let rows = [
+        (Ipv6Address::new(1, 0, 0, 2, 3, 0, 0, 4), "1::2:3:0:0:4"),
+        (Ipv6Address::UNSPECIFIED, "::"),
+        (Ipv6Address::new(1, 0, 2, 3, 4, 5, 6, 7), "1:0:2:3:4:5:6:7"),
+        (Ipv6Address::new(0, 0, 1, 0, 0, 0, 1, 0), "0:0:1::1:0"),
+        (Ipv6Address::new(0, 1, 0, 0, 0, 0, 0, 0), "0:1::"),
+        (Ipv6Address::new(0, 0, 0, 0, 0, 0, 0, 1), "::1"),
+        (
+            Ipv6Address::new(0, 0, 0, 0, 0, 0xffff, 0x0a00, 1),
+            "::ffff:a00:1",
+        ),
+        (
+            Ipv6Address::new(0x2001, 0xdb8, 0, 0xa, 0xb0, 0xc00, 0xd000, 0xefff),
+            "2001:db8:0:a:b0:c00:d000:efff",
+        ),
+        (first(), "fe80::1"),
+        (IPV6_LINK_LOCAL_ALL_NODES, "ff02::1"),
+        (IPV6_LINK_LOCAL_ALL_ROUTERS, "ff02::2"),
+    ];
+    for (address, text) in rows {
+        assert_eq!(rt; address.to_string(rt.alloc())?.as_str(), text);
+    }
+    Ok(())
+}
+
+#[test]
+fn printing_a_header_fails_only_with_its_writer(rt: HostRuntime) -> Result<(), Fail> {
+    let header = quoted();
+    let text = header.to_string(rt.alloc())?;
+    assert_eq!(rt;
+        text.as_str(),
+        "IPv6 src=fe80::1 dst=fe80::2 nxt_hdr=17 hop_limit=64"
+    );
+    for left in 0..4 {
+        let mut writer = FailingWriter { left };
+        assert!(rt; write!(writer, "{header}").is_err(), "after {left} writes");
+    }
+    let mut writer = FailingWriter { left: 100 };
+    assert!(rt; write!(writer, "{header}").is_ok());
+    Ok(())
+}
+
+#[test]
+fn kinds_of_addresses(rt: HostRuntime) -> Result<(), Fail> {
+    let rows = [
+        (Ipv6Address::UNSPECIFIED, true, false, false),
+        (
+            Ipv6Address::new(0, 0, 0, 0, 0, 0, 0, 1),
+            false,
+            false,
+            false,
+        ),
+        (first(), false, false, true),
+        // The first ten bits are those of a link, but not the 54 behind them.
+        (
+            Ipv6Address::new(0xfe81, 0, 0, 0, 0, 0, 0, 1),
+            false,
+            false,
+            false,
+        ),
+        (
+            Ipv6Address::new(0xfebf, 0, 0, 0, 0, 0, 0, 1),
+            false,
+            false,
+            false,
+        ),
+        (
+            Ipv6Address::new(0xfe80, 0, 0, 1, 0, 0, 0, 1),
+            false,
+            false,
+            false,
+        ),
+        (
+            Ipv6Address::new(0xfe00, 0, 0, 0, 0, 0, 0, 1),
+            false,
+            false,
+            false,
+        ),
+        (
+            Ipv6Address::new(0xff02, 0, 0, 0, 0, 0, 0, 1),
+            false,
+            true,
+            false,
+        ),
+        (
+            Ipv6Address::new(0xff00, 0, 0, 0, 0, 0, 0, 0),
+            false,
+            true,
+            false,
+        ),
+        (
+            Ipv6Address::new(0xfeff, 0, 0, 0, 0, 0, 0, 0),
+            false,
+            false,
+            false,
+        ),
+    ];
+    for (address, unspecified, multicast, link_local) in rows {
+        assert_eq!(rt; address.is_unspecified(), unspecified, "{address}");
+        assert_eq!(rt; address.is_multicast(), multicast, "{address}");
+        assert_eq!(rt; address.is_link_local(), link_local, "{address}");
+    }
+    let octets = [0xfe, 0x80, 0, 0, 0, 0, 0, 0, 0, 0, 0, 0, 0, 0, 0, 1];
+    assert!(rt; Ipv6Address::from_octets(octets) == first());
+    assert!(rt; first() != second());
+    assert_eq!(rt; first().octets().as_slice(), octets.as_slice());
+    Ok(())
+}
+
+// The header from fe80::1 to fe80::2 of 12 bytes over UDP with hop limit 64, and what stands behind it (RFC 8200 section 3).
+const PACKET: [u8; 52] = [
+    0x60, 0x00, 0x00, 0x00, 0x00, 0x0c, 0x11, 0x40, 0xfe, 0x80, 0x00, 0x00, 0x00, 0x00, 0x00, 0x00,
+    0x00, 0x00, 0x00, 0x00, 0x00, 0x00, 0x00, 0x01, 0xfe, 0x80, 0x00, 0x00, 0x00, 0x00, 0x00, 0x00,
+    0x00, 0x00, 0x00, 0x00, 0x00, 0x00, 0x00, 0x02, 0xbf, 0x00, 0x00, 0x35, 0x00, 0x0c, 0x12, 0x4d,
+    0xaa, 0x00, 0x00, 0xff,
+];
+
+fn quoted() -> Ipv6Repr
+    ensures { result.payload_len ≡ 12 }
+{
+    Ipv6Repr {
+        src_addr: first(),
+        dst_addr: second(),
+        next_header: IpProtocol::Udp,
+        payload_len: 12,
+        hop_limit: 64,
+    }
+}
+
+#[test]
+fn headers_are_written_over_the_front(rt: HostRuntime) -> Result<(), Fail> {
+    for fill in [0x00, 0xff, 0x2a] {
+        let mut octets = [fill; 41];
+        let mut packet = Ipv6Packet::new_unchecked(octets.as_mut_slice());
+        quoted().emit(&mut packet);
+        assert_eq!(rt; octets[..40], PACKET[..40], "over {fill}");
+        assert_eq!(rt; octets[40], fill);
+    }
+    assert_eq!(rt; quoted().buffer_len(), 40);
+    Ok(())
+}
+
+#[test]
+fn headers_are_read(rt: HostRuntime) -> Result<(), Fail> {
+    let octets = PACKET;
+    let packet = Ipv6Packet::new_unchecked(octets.as_slice());
+    assert_eq!(rt; packet.version(), 6);
+    assert_eq!(rt; packet.header_len(), 40);
+    assert_eq!(rt; packet.payload_len(), 12);
+    assert_eq!(rt; packet.hop_limit(), 64);
+    assert!(rt; packet.next_header() == IpProtocol::Udp);
+    assert!(rt; packet.src_addr() == first());
+    assert!(rt; packet.dst_addr() == second());
+    assert!(rt; Ipv6Repr::parse(&packet) == Ok(quoted()));
+    Ok(())
+}
+
+#[test]
+fn packets_are_whole_by_their_own_length(rt: HostRuntime) -> Result<(), Fail> {
+    let octets = PACKET;
+    for len in 0..=52 {
+        let whole = len == 52;
+        assert_eq!(rt;
+            Ipv6Packet::new_checked(&octets[..len]).is_ok(),
+            whole,
+            "{len} bytes"
+        );
+        let packet = Ipv6Packet::new_unchecked(&octets[..len]);
+        assert_eq!(rt; Ipv6Repr::parse(&packet).is_ok(), whole, "{len} bytes");
+    }
+    let mut other = PACKET;
+    other[0] = 0x4f;
+    assert!(rt;
+        Ipv6Packet::new_checked(other.as_slice()).is_ok(),
+        "the version is not looked at"
+    );
+    let packet = Ipv6Packet::new_unchecked(other.as_slice());
+    assert!(rt;
+        Ipv6Repr::parse(&packet).is_err(),
+        "the version is looked at"
+    );
+    assert_eq!(rt; IPV6_HEADER_LEN, 40);
+    assert_eq!(rt; IPV6_MIN_MTU, 1280);
+    Ok(())
+}
+
+#[test]
+fn pseudo_headers_are_summed(rt: HostRuntime) -> Result<(), Fail> {
+    // fe80 + 1 + fe80 + 2 + 12 + 58, with the carries added at the low end (RFC 8200 section 8.1).
+    assert_eq!(rt;
+        checksum::pseudo_header_v6(&first(), &second(), IpProtocol::Icmpv6, 12),
+        0xfd4a
+    );
+    assert_eq!(rt;
+        checksum::pseudo_header_v6(
+            &Ipv6Address::UNSPECIFIED,
+            &Ipv6Address::UNSPECIFIED,
+            IpProtocol::HopByHop,
+            0
+        ),
+        0
+    );
+    assert_eq!(rt;
+        checksum::pseudo_header_v6(
+            &Ipv6Address::UNSPECIFIED,
+            &Ipv6Address::UNSPECIFIED,
+            IpProtocol::Icmpv6,
+            0x0002_0001
+        ),
+        61
+    );
+    Ok(())
+}
