@@ -3,4 +3,5 @@ pub mod Ipv6Option
 pub mod Ipv6OptionAnswers
 pub mod Ipv6OptionTables
 pub mod NdiscOption
+pub mod NdiscOptionRepr
 pub mod NdiscOptionTables
