@@ -1,31 +1,31 @@
 -- The format of options: what was read is canonical and its own normal form, and a normal form has the text of its value.
-use Rattle.std.proofs.Common.{◌≡◌, ℕ, ◌+◌, ◌-◌, ◌*◌, ◌/◌, ◌<◌, ◌≤◌, ◌^◌, ◌⊎◌, inl, inr, Bool, true, false, min, List, [], ◌++◌, length, take, drop, replicate, refl, sym, ap, subst, ◌∙◌, arith, length-append}
+use Rattle.std.proofs.Common.{◌≡◌, ℕ, ◌+◌, ◌-◌, ◌*◌, ◌<◌, ◌≤◌, ◌^◌, ◌⊎◌, inl, inr, Bool, true, false, min, List, [], ◌++◌, length, take, drop, replicate, refl, sym, ap, subst, ◌∙◌, arith, length-append}
 use Rattle.std.proofs.Common.{◌∷◌, ltb}
 use Rattle.std.proofs.lemmas.Bool.{cases_lt, lt-ltb, le-ltb}
 use Rattle.std.proofs.lemmas.List.{append-nil, length-take, length-replicate, get_or-take, get_or_past}
 use Rattle.std.proofs.lemmas.Nat.{and_assoc}
 use Rattle.byteorder.specs.Endian.{big_number}
-use Rattle.wirebase.specs.Bytes.{IsBytes, part, byte_of, bytes_of}
+use Rattle.wirebase.specs.Bytes.{IsBytes, part, over, byte_of, bytes_of}
 use Rattle.wirebase.specs.ByteWriter.{be8, be32, fields}
 use Rattle.wirebase.specs.Format.{SameText}
 use Rattle.wirebase.specs.Ip.{protocol_number, protocol_rows, protocols}
-use Rattle.wirebase.specs.Ipv6.{next_header_field, hop_limit_field, payload_len_in}
+use Rattle.wirebase.specs.Ipv6.{next_header_field, payload_len_in}
 use Rattle.wirebase.specs.Ipv6Address.{octets_of}
 use Rattle.wirebase.specs.Numbered.{IsProper}
 use Rattle.wirebase.specs.declared.ip.IpProtocol.{IpProtocol}
 use Rattle.wirebase.specs.declared.ip.IpProtocol.TheVariants as protocol
 use Rattle.wirebase.specs.declared.ipv6.Ipv6Repr.{Ipv6Repr}
 use Rattle.wirebase.proofs.ByteParts.{IsBytes-drop}
-use Rattle.wirebase.proofs.Format.{IsFormat, same_text}
+use Rattle.wirebase.proofs.Format.{IsFormat, round_trips, same_text}
 use Rattle.wirebase.proofs.Numbered.{number-case_in, case_in-proper}
-use Rattle.wirebase.proofs.Pieces.{length-part}
+use Rattle.wirebase.proofs.Pieces.{length-part, over-exact}
 use Rattle.opt_wire.specs.NdiscOption.{prefix_flags_field, units_in, redirected_field, BeginsWithBlock}
 use Rattle.opt_wire.specs.NdiscOptionTables.{flag_bits, known, known_bits}
-use Rattle.opt_wire.specs.NdiscOptionRepr.{OptionValue, source, target, prefix_, redirected, mtu, unknown, seconds, whole, filled, HasSeconds, IsLinkAddr, IsRedirected, IsReading, BeginsWith, IsCanonicalRedirected, IsCanonical, text, norm, format}
+use Rattle.opt_wire.specs.NdiscOptionRepr.{OptionValue, source, target, prefix_, redirected, mtu, unknown, seconds, whole, filled, HasSeconds, IsLinkAddr, IsRedirected, IsReading, BeginsWith, IsCanonicalRedirected, IsCanonical, text, text_len, CanEmit, norm, format, Emits}
 use Rattle.opt_wire.specs.declared.ndiscoption.repr.PrefixInformation.{PrefixInformation}
 use Rattle.opt_wire.proofs.NdiscOptionGrammar.{one_option}
-use Rattle.opt_wire.proofs.NdiscOptionReading.{link_same, option_read}
-use Rattle.opt_wire.proofs.NdiscOptionTexts.{link_text}
+use Rattle.opt_wire.proofs.NdiscOptionReading.{link_same, option_read, option_over}
+use Rattle.opt_wire.proofs.NdiscOptionTexts.{link_text, length-text}
 
 -- ---- numbers
 
@@ -200,7 +200,6 @@ timed_text p valid preferred =
     fields (be8 3 ∷ be8 4 ∷ be8 p.prefix_len ∷ be8 (flag_bits p.flags) ∷ be32 valid ∷ be32 preferred ∷ be32 0 ∷ octets_of p.prefix ∷ [])
 
 norm-text : (v : OptionValue) → IsCanonical v → text (norm v) ≡ text v
-unfolding text
 norm-text (source address) c = link_text 1 (filled address) ∙ link_same 1 address c ∙ sym (link_text 1 address)
 norm-text (target address) c = link_text 2 (filled address) ∙ link_same 2 address c ∙ sym (link_text 2 address)
 norm-text (prefix_ p) c =
@@ -226,3 +225,13 @@ ndisc_option_format = record {
 
 pub ndisc_option_same_text : (a b : OptionValue) → SameText format a b
 ndisc_option_same_text a b = same_text format ndisc_option_format tt a b
+
+-- ---- what writing leaves
+
+pub option_emits : (v : OptionValue) (old new : List ℕ) → CanEmit v → text_len v ≤ length old → new ≡ over old (text v) → Emits v old new
+option_emits v old new can room left = record {
+  text_ = left;
+  exact = λ long. left ∙ over-exact old (text v) (long ∙ sym (length-text v can));
+  reads_back = λ c. subst (λ (bytes : List ℕ). BeginsWith bytes (norm v)) (sym left) (option_over old v (omega (arith, length-text v can, room)) c);
+  round_trips = round_trips format ndisc_option_format v;
+}

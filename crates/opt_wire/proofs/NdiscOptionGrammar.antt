@@ -1,9 +1,9 @@
 -- Blocks of neighbour discovery options against what is read in them: bytes begin with one option at the most.
-use Rattle.std.proofs.Common.{◌≡◌, ℕ, ◌*◌, List, refl, sym, ap, ◌∙◌, arith}
+use Rattle.std.proofs.Common.{◌≡◌, ℕ, List, refl, sym, ap, ◌∙◌, arith}
 use Rattle.std.specs.Prelude.{Result, Ok, Err}
 use Rattle.std.specs.Result.{IfOk, IsOkAnd, IsErr}
 use Rattle.wirebase.specs.Bytes.{byte_of, bytes_of}
-use Rattle.wirebase.specs.Ipv6.{IsPacket, payload_field}
+use Rattle.wirebase.specs.Ipv6.{IsPacket}
 use Rattle.wirebase.specs.declared.ipv6.address.Ipv6Address.{Ipv6Address}
 use Rattle.wirebase.specs.declared.ipv6.Ipv6Repr.{Ipv6Repr}
 use Rattle.wirebase.proofs.Numbered.{number-case_in}

@@ -1,7 +1,7 @@
 -- Texts of options are read back as their normal forms, whatever stands behind them.
-use Rattle.std.proofs.Common.{◌≡◌, ◌≢◌, ℕ, ◌+◌, ◌-◌, ◌*◌, ◌<◌, ◌≤◌, ◌^◌, List, [], ◌∷◌, ◌++◌, length, take, drop, replicate, refl, sym, ap, subst, ◌∙◌, arith, length-append}
+use Rattle.std.proofs.Common.{◌≡◌, ℕ, ◌+◌, ◌-◌, ◌*◌, ◌<◌, ◌≤◌, ◌^◌, List, [], ◌∷◌, ◌++◌, length, take, drop, refl, sym, ap, subst, ◌∙◌, arith, length-append}
 use Rattle.std.proofs.lemmas.List.{append-nil, append_assoc, length-replicate, take_at, drop_at}
-use Rattle.byteorder.specs.Endian.{big_bytes, big_number}
+use Rattle.byteorder.specs.Endian.{big_bytes}
 use Rattle.byteorder.specs.Numbers.{big_number-reads_back}
 use Rattle.wirebase.specs.Bytes.{part, over, bytes_of}
 use Rattle.wirebase.specs.ByteWriter.{be8, be16, be32, fields}
@@ -13,9 +13,10 @@ use Rattle.wirebase.specs.declared.ip.IpProtocol.TheVariants as protocol
 use Rattle.wirebase.specs.declared.ipv6.Ipv6Repr.{Ipv6Repr}
 use Rattle.wirebase.proofs.IpProtocols.{protocol_of-number}
 use Rattle.wirebase.proofs.Ipv6Header.{length-header_text}
+use Rattle.wirebase.proofs.Pieces.{over-fits}
 use Rattle.opt_wire.specs.NdiscOption.{redirected_field, BeginsWithBlock}
 use Rattle.opt_wire.specs.NdiscOptionTables.{flag_bits}
-use Rattle.opt_wire.specs.NdiscOptionRepr.{OptionValue, source, target, prefix_, redirected, mtu, unknown, seconds, whole, units, padding, filled, IsLinkAddr, IsPrefix, IsRedirected, IsMtu, IsUnknown, BeginsWith, IsCanonicalPrefix, IsCanonicalRedirected, IsCanonical, IsUnnamed, text, norm}
+use Rattle.opt_wire.specs.NdiscOptionRepr.{OptionValue, source, target, prefix_, redirected, mtu, unknown, seconds, whole, units, padding, filled, IsLinkAddr, BeginsWith, IsCanonicalPrefix, IsCanonicalRedirected, IsCanonical, IsUnnamed, text, norm}
 use Rattle.opt_wire.specs.declared.ndiscoption.repr.PrefixInformation.{PrefixInformation}
 use Rattle.opt_wire.proofs.NdiscOptionTexts.{link_text, prefix_text, redirected_text, mtu_text, unknown_text}
 
@@ -185,7 +186,6 @@ unknown_read t n d rest unnamed some long =
 -- ---- all of them
 
 pub option_read : (v : OptionValue) (rest : List ℕ) → IsCanonical v → BeginsWith (text v ++ rest) (norm v)
-unfolding text
 option_read (source address) rest c =
     let read = link_read 1 address rest (omega arith) c in
     subst (λ (l : List ℕ). BeginsWith (l ++ rest) (source (filled address))) (sym (link_text 1 address)) (record { block = read.0; reading = read.1 })
@@ -202,6 +202,6 @@ option_read (unknown t n d) rest c =
     subst (λ (l : List ℕ). BeginsWith (l ++ rest) (unknown t n d)) (sym (unknown_text t n d)) (unknown_read t n d rest c.0 c.2 c.4)
 
 -- the same where the text was written over the front of something
-pub option_over : (old : List ℕ) (v : OptionValue) → IsCanonical v → BeginsWith (over old (text v)) (norm v)
-unfolding over
-option_over old v c = option_read v (drop (length (text v)) old) c
+pub option_over : (old : List ℕ) (v : OptionValue) → length (text v) ≤ length old → IsCanonical v → BeginsWith (over old (text v)) (norm v)
+option_over old v room c =
+    subst (λ (bytes : List ℕ). BeginsWith bytes (norm v)) (sym (over-fits old (text v) room)) (option_read v (drop (length (text v)) old) c)

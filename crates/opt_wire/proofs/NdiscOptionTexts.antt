@@ -1,5 +1,5 @@
 -- The texts of options: their lengths.
-use Rattle.std.proofs.Common.{◌≡◌, ℕ, ◌+◌, ◌-◌, ◌*◌, ◌≤◌, List, ◌∷◌, ◌++◌, length, replicate, refl, ap, ◌∙◌, arith, length-append}
+use Rattle.std.proofs.Common.{◌≡◌, ℕ, ◌+◌, ◌-◌, ◌*◌, List, ◌∷◌, ◌++◌, length, refl, ap, arith, length-append}
 use Rattle.std.proofs.lemmas.List.{append-nil, length-replicate}
 use Rattle.byteorder.specs.Endian.{big_bytes}
 use Rattle.wirebase.specs.ByteWriter.{be8, be16, be32, fields}
@@ -8,7 +8,7 @@ use Rattle.wirebase.specs.Ipv6Address.{octets_of}
 use Rattle.wirebase.specs.declared.ipv6.Ipv6Repr.{Ipv6Repr}
 use Rattle.wirebase.proofs.Ipv6Header.{length-header_text}
 use Rattle.opt_wire.specs.NdiscOptionTables.{flag_bits}
-use Rattle.opt_wire.specs.NdiscOptionRepr.{OptionValue, source, target, prefix_, redirected, mtu, unknown, seconds, units, padding, link_fields, prefix_fields, redirected_fields, mtu_fields, unknown_fields, text, counted_len, CanEmit}
+use Rattle.opt_wire.specs.NdiscOptionRepr.{OptionValue, source, target, prefix_, redirected, mtu, unknown, seconds, units, padding, link_fields, prefix_fields, redirected_fields, mtu_fields, unknown_fields, text, text_len, CanEmit}
 use Rattle.opt_wire.specs.declared.ndiscoption.repr.PrefixInformation.{PrefixInformation}
 
 -- ---- field by field
@@ -43,8 +43,7 @@ length-mtu : (n : ℕ) → length (fields (mtu_fields n)) ≡ 8
 unfolding fields be8 be16 be32
 length-mtu n = refl
 
-pub length-text : (v : OptionValue) → CanEmit v → length (text v) ≡ counted_len v
-unfolding text
+pub length-text : (v : OptionValue) → CanEmit v → length (text v) ≡ text_len v
 length-text (source address) c = length-link 1 address
 length-text (target address) c = length-link 2 address
 length-text (prefix_ p) c = omega (arith, ap length (prefix_text p), p.prefix.whole)

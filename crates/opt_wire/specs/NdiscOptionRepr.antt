@@ -1,5 +1,5 @@
 -- Options of neighbour discovery (RFC 4861 section 4.6) by their content: their text, what is read in a block, and the format.
-use Rattle.std.specs.Prelude.{◌≡◌, ◌≢◌, ℕ, ◌+◌, ◌-◌, ◌*◌, ◌/◌, ◌≤◌, ◌<◌, ◌^◌, Bool, nat_lt, if◌then◌else◌, List, [], ◌∷◌, ◌++◌, codes, decimal, length, replicate}
+use Rattle.std.specs.Prelude.{◌≡◌, ◌≢◌, ℕ, ◌+◌, ◌-◌, ◌*◌, ◌/◌, ◌≤◌, ◌<◌, ◌^◌, nat_lt, if◌then◌else◌, List, [], ◌∷◌, ◌++◌, codes, decimal, length, replicate}
 use Rattle.wirebase.specs.Bytes.{bytes_of, byte_of, number_of, over}
 use Rattle.wirebase.specs.ByteWriter.{be8, be16, be32, fields}
 use Rattle.wirebase.specs.Ethernet.{hex_colons}
@@ -13,7 +13,6 @@ use Rattle.wirebase.specs.declared.ipv6.Ipv6Repr.{Ipv6Repr}
 use Rattle.opt_wire.specs.NdiscOption.{type_field, prefix_len_field, prefix_flags_field, valid_lifetime_field, preferred_lifetime_field, prefix_field, mtu_field, units_in, data_field, link_addr_field, redirected_field, BeginsWithBlock}
 use Rattle.opt_wire.specs.NdiscOptionTables.{flag_bits, known, IsKnown, HasAddrconf}
 use Rattle.opt_wire.specs.declared.ndiscoption.repr.PrefixInformation.{PrefixInformation}
-use Rattle.opt_wire.specs.declared.ndiscoption.repr.RedirectedHeader.{RedirectedHeader}
 use Rattle.opt_wire.specs.declared.ndiscoption.repr.Repr.{Repr}
 use Rattle.opt_wire.specs.declared.ndiscoption.repr.Repr.TheVariants as repr
 
@@ -83,17 +82,17 @@ option_fields (redirected h d) = redirected_fields h d
 option_fields (mtu n) = mtu_fields n
 option_fields (unknown t n d) = unknown_fields t n d
 
-unfoldable pub text : OptionValue → List ℕ
+abbrev pub text : OptionValue → List ℕ
 text v = fields (option_fields v)
 
 -- the bytes that it counts, whatever data it holds
-abbrev pub counted_len : OptionValue → ℕ
-counted_len (source address) = 8 * units (2 + length address)
-counted_len (target address) = 8 * units (2 + length address)
-counted_len (prefix_ p) = 32
-counted_len (redirected h d) = 8 * units (48 + length d)
-counted_len (mtu n) = 8
-counted_len (unknown t n d) = 8 * n
+abbrev pub text_len : OptionValue → ℕ
+text_len (source address) = 8 * units (2 + length address)
+text_len (target address) = 8 * units (2 + length address)
+text_len (prefix_ p) = 32
+text_len (redirected h d) = 8 * units (48 + length d)
+text_len (mtu n) = 8
+text_len (unknown t n d) = 8 * n
 
 -- a time whose whole seconds fit their field
 abbrev pub HasSeconds : ℕ → Type 0
@@ -209,7 +208,7 @@ format = record { Reads = BeginsWith; Fills = Unit {0}; text = text; IsCanonical
 -- and that of a canonical value is read back as its normal form, whatever stands behind.
 pub record Emits (v : OptionValue) (old new : List ℕ) : Type 0 where
   pub text_ : new ≡ over old (text v)
-  pub exact : length old ≡ counted_len v → new ≡ text v
+  pub exact : length old ≡ text_len v → new ≡ text v
   pub reads_back : IsCanonical v → BeginsWith new (norm v)
   pub round_trips : RoundTrips format v
 

@@ -2,14 +2,14 @@
 #![tactic(auto, using(wirebase::proofs::Pieces::pieces))]
 
 ghost use Rattle.std.specs.Prelude.{◌≡◌, ◌+◌, ◌*◌, ◌≤◌, ◌<◌, ◌^◌, ◌↔◌, [], ◌∷◌, ℕ, List, length, IsTrue, IfOk, IsErr, IsOkAnd, Some};
-ghost use Rattle.wirebase.specs.Bytes.{bytes_of, over_front};
+ghost use Rattle.wirebase.specs.Bytes.{bytes_of};
 ghost use Rattle.wirebase.specs.ByteWriter.{free, Puts, the_slice};
 ghost use Rattle.wirebase.specs.Format.{Rewrites, SameText};
 ghost use Rattle.wirebase.specs.Ipv6.{IsPacket, payload_field, header_text};
 ghost use Rattle.wirebase.specs.declared.ipv6.Ipv6Repr.{Ipv6Repr};
 ghost use Rattle.opt_wire.specs.NdiscOption.{inner, view_octets, redirected_field};
 ghost use Rattle.opt_wire.specs.NdiscOptionTables.{type_number};
-ghost use Rattle.opt_wire.specs.NdiscOptionRepr.{OptionValue, value_of, units, link_fields, prefix_fields, redirected_fields, HasSeconds, text, counted_len, CanEmit, BeginsWith, IsValidPrefix, format, Emits, display};
+ghost use Rattle.opt_wire.specs.NdiscOptionRepr.{OptionValue, value_of, units, link_fields, prefix_fields, redirected_fields, HasSeconds, option_fields, text, text_len, CanEmit, BeginsWith, IsValidPrefix, format, Emits, display};
 ghost use Rattle.opt_wire.specs.declared.ndiscoption.repr.PrefixInformation.{PrefixInformation};
 
 use super::{NdiscOption, PrefixInfoFlags, Type, field};
@@ -126,8 +126,8 @@ impl<'a> Repr<'a> {
     /// number.
     #[tactic(auto, using(crate::proofs::NdiscOptionTexts::texts))]
     pub fn buffer_len(&self) -> usize
-        requires { counted_len (value_of self.now) < 2 ^ 64 }
-        ensures value { result ≡ counted_len (value_of self.now) }
+        requires { text_len (value_of self.now) < 2 ^ 64 }
+        ensures value { result ≡ text_len (value_of self.now) }
         ensures exact { CanEmit (value_of self.now) → result ≡ length (text (value_of self.now)) }
     {
         match self {
@@ -148,7 +148,7 @@ impl<'a> Repr<'a> {
     /// more, fills those units.
     pub fn emit<T: OctetsMut>(&self, opt: &mut NdiscOption<T>)
         requires sound { CanEmit (value_of self.now) }
-        requires room { counted_len (value_of self.now) ≤ length (T.bytes (inner opt.old)) }
+        requires room { text_len (value_of self.now) ≤ length (T.bytes (inner opt.old)) }
         ensures place { inner opt.new ≡ T.put (inner opt.old) (T.bytes (inner opt.new)) }
         ensures emits { Emits (value_of self.now) (T.bytes (inner opt.old)) (T.bytes (inner opt.new)) }
     {
@@ -156,12 +156,14 @@ impl<'a> Repr<'a> {
     }
 
     /// The same into octets that stand by themselves.
+    #[tactic(auto, using(wirebase::proofs::Chains::chain))]
     pub fn emit_into(&self, octets: &mut [u8])
         requires sound { CanEmit (value_of self.now) }
-        requires room { counted_len (value_of self.now) ≤ length octets.old }
+        requires room { text_len (value_of self.now) ≤ length octets.old }
         ensures { Emits (value_of self.now) octets.old octets.new }
     {
-        self.write(octets);
+        let mut w = ByteWriter::new(octets);
+        self.put(&mut w);
     }
 
     /// Does nothing. Of two options that a packet can hold, equal texts mean equal normal forms, and conversely.
@@ -169,20 +171,19 @@ impl<'a> Repr<'a> {
         ensures { SameText format (value_of a.now) (value_of b.now) }
     {}
 
-    // Writes the fields of the option.
-    #[tactic(auto, using(wirebase::proofs::Chains::chain), unfolding(crate::specs::NdiscOptionRepr::text))]
-    fn write(&self, octets: &mut [u8])
+    // Writes each field of the option.
+    fn put(&self, w: &mut ByteWriter<'_>)
         requires sound { CanEmit (value_of self.now) }
-        requires room { counted_len (value_of self.now) ≤ length octets.old }
-        ensures { octets.new ≡ over_front octets.old (text (value_of self.now)) }
+        requires room { text_len (value_of self.now) ≤ length (free w.old) }
+        ensures puts { Puts w.old w.new (option_fields (value_of self.now)) }
+        ensures same_slice { the_slice w.new ≡ the_slice w.old }
     {
-        let mut w = ByteWriter::new(octets);
         match *self {
-            Repr::SourceLinkLayerAddr(addr) => put_link(&mut w, Type::SourceLinkLayerAddr, addr),
-            Repr::TargetLinkLayerAddr(addr) => put_link(&mut w, Type::TargetLinkLayerAddr, addr),
-            Repr::PrefixInformation(prefix) => put_prefix(&mut w, &prefix),
+            Repr::SourceLinkLayerAddr(addr) => put_link(w, Type::SourceLinkLayerAddr, addr),
+            Repr::TargetLinkLayerAddr(addr) => put_link(w, Type::TargetLinkLayerAddr, addr),
+            Repr::PrefixInformation(info) => put_prefix(w, &info),
             Repr::RedirectedHeader(RedirectedHeader { header, data }) => {
-                put_redirected(&mut w, &header, data);
+                put_redirected(w, &header, data);
             }
             Repr::Mtu(mtu) => {
                 w.put_u8(Type::Mtu.into());

@@ -1,9 +1,8 @@
-use Rattle.std.proofs.Common.{List, ℕ, length, drop, ap, ◌∙◌, arith, length-take-le}
-use Rattle.wirebase.specs.ByteWriter.{sheet}
+use Rattle.std.proofs.Common.{◌∙◌, arith}
+use Rattle.wirebase.proofs.Chains.{length-free_part}
 use Rattle.opt_wire.proofs.ndiscoption.repr.put_packet.Goals as goal
 
 pub write_header-requires-clause-room : goal.write_header-requires-clause-room
-unfolding sheet
 write_header-requires-clause-room c =
-    ap (λ (l : List ℕ). length l) c.part.ensures.value
-    ∙ (length-take-le c.buffer_len.result (drop c.args.w.now.position c.args.w.now.buffer.now) (omega (arith, c.requires.room, c.buffer_len.ensures)) ∙ c.buffer_len.ensures)
+    length-free_part c.args.w.now c.buffer_len.result c.part.result.now (omega (arith, c.requires.room, c.buffer_len.ensures)) c.part.ensures.value
+    ∙ c.buffer_len.ensures
