@@ -1,1 +1,2 @@
+pub mod Icmpv6Packet
 pub mod Icmpv6Tables

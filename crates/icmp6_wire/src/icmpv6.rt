@@ -1,5 +1,56 @@
 //! The Internet Control Message Protocol of IPv6 (RFC 4443).
 
+mod packet;
 mod tables;
 
+pub use packet::Packet;
 pub use tables::{DstUnreachable, Message, ParamProblem, TimeExceeded};
+
+// A message (RFC 4443 section 2.1), and what follows by its type.
+//
+// +---------------+---------------+-------------------------------+
+// |     type      |     code      |           checksum            |
+// +---------------+---------------+-------------------------------+
+// |  unused, largest packet, pointer; or identifier and sequence  |
+// +---------------------------------------------------------------+
+// | data
+// +- - - -
+pub(crate) mod field {
+    use wirebase::Field;
+
+    pub const TYPE: Field = 0..1;
+
+    pub const CODE: Field = 1..2;
+
+    pub const CHECKSUM: Field = 2..4;
+
+    pub const UNUSED: Field = 4..8;
+
+    pub const MTU: Field = 4..8;
+
+    pub const POINTER: Field = 4..8;
+
+    pub const ECHO_IDENT: Field = 4..6;
+
+    pub const ECHO_SEQNO: Field = 6..8;
+
+    pub const HEADER_END: usize = 8;
+
+    // Neighbor discovery (RFC 4861 section 4).
+    pub const RETRANS_TM: Field = 12..16;
+
+    pub const TARGET_ADDR: Field = 8..24;
+
+    pub const DEST_ADDR: Field = 24..40;
+
+    // Multicast listener discovery (RFC 3810 section 5).
+    pub const QUERY_RESERVED: Field = 6..8;
+
+    pub const SQRV: Field = 24..25;
+
+    pub const QUERY_NUM_SRCS: Field = 26..28;
+
+    pub const REPORT_RESERVED: Field = 4..6;
+
+    pub const NR_MCAST_RCRDS: Field = 6..8;
+}

@@ -1,0 +1,126 @@
+-- The view of an ICMPv6 message (RFC 4443 section 2.1).
+--
+--  0                   1                   2                   3
+--  0 1 2 3 4 5 6 7 8 9 0 1 2 3 4 5 6 7 8 9 0 1 2 3 4 5 6 7 8 9 0 1
+-- +---------------+---------------+-------------------------------+
+-- |     type      |     code      |           checksum            |
+-- +---------------+---------------+-------------------------------+
+-- |                            by type                            |
+-- +- - - -
+use Rattle.std.specs.Prelude.{◌≡◌, ℕ, ◌%◌, ◌^◌, ◌≤◌, Bool, true, false, List, [], ◌∷◌, length, drop}
+use Rattle.std.specs.Borrow.{Bor}
+use Rattle.wirebase.specs.Bytes.{Field, field, Reaches, Writes, byte_of, with_field}
+use Rattle.wirebase.specs.Icmp.{type_field, header}
+use Rattle.wirebase.specs.Ipv6.{pseudo_sum}
+use Rattle.wirebase.specs.declared.ip.IpProtocol.TheVariants.{Icmpv6}
+use Rattle.wirebase.specs.declared.ipv6.address.Ipv6Address.{Ipv6Address}
+use Rattle.icmp6_wire.specs.declared.icmpv6.packet.Packet.{Packet}
+use Rattle.icmp6_wire.specs.declared.icmpv6.tables.Message.{Message}
+use Rattle.icmp6_wire.specs.declared.icmpv6.tables.Message.TheVariants as message
+use Rattle.icmp6_wire.specs.Icmpv6Tables.{message_of}
+
+-- what a view was made from, and the view made from something else
+abbrev pub inner : {T : Type 0} → Packet T → T
+inner view = view.buffer
+
+abbrev pub with_inner : {T : Type 0} → Packet T → T → Packet T
+with_inner view buffer = record view { buffer = buffer }
+
+abbrev pub view_octets : Packet (Bor (List ℕ)) → List ℕ
+view_octets view = (inner view).now
+
+-- a field of the view is w, and all its other octets stay
+abbrev pub Sets : {T : Type 0} → (T → List ℕ) → (T → List ℕ → T) → Packet T → Packet T → Field → List ℕ → Type 0
+Sets bytes set old new f w = Writes bytes set (inner old) (inner new) f w
+
+-- as many octets as there were
+abbrev pub KeepsLen : {T : Type 0} → (T → List ℕ) → Packet T → Packet T → Type 0
+KeepsLen bytes old new = length (bytes (inner new)) ≡ length (bytes (inner old))
+
+-- ---- the fields
+
+-- the word behind the checksum: the size of the largest packet (RFC 4443 section 3.2), the place of a problem (section 3.4),
+-- or reserved
+abbrev pub word_field : Field
+word_field = field 4 8
+
+-- of a query for multicast listeners (RFC 3810 section 5.1), what is reserved: two bytes, and the upper half of the byte
+-- with the flag and the robustness variable; of a report (section 5.2) two bytes
+abbrev pub query_reserved_field : Field
+query_reserved_field = field 6 8
+
+abbrev pub sqrv_field : Field
+sqrv_field = field 24 25
+
+abbrev pub report_reserved_field : Field
+report_reserved_field = field 4 6
+
+-- ---- the header
+
+abbrev pub message_in : List ℕ → Message
+message_in bytes = message_of (byte_of type_field bytes)
+
+-- The bytes of the header of each type: the last field that every message of the type has (RFC 4443, RFC 4861 section 4,
+-- RFC 3810 section 5). Of a type that is not read here they are the type, the code and the checksum.
+abbrev pub header_len_of : Message → ℕ
+header_len_of message.DstUnreachable = 8
+header_len_of message.PktTooBig = 8
+header_len_of message.TimeExceeded = 8
+header_len_of message.ParamProblem = 8
+header_len_of message.EchoRequest = 8
+header_len_of message.EchoReply = 8
+header_len_of message.MldQuery = 28
+header_len_of message.RouterSolicit = 8
+header_len_of message.RouterAdvert = 16
+header_len_of message.NeighborSolicit = 24
+header_len_of message.NeighborAdvert = 24
+header_len_of message.Redirect = 40
+header_len_of message.MldReport = 8
+header_len_of _ = 4
+
+abbrev pub header_len_in : List ℕ → ℕ
+header_len_in bytes = header_len_of (message_in bytes)
+
+-- what stands after the header
+abbrev pub payload_in : List ℕ → List ℕ
+payload_in bytes = drop (header_len_in bytes) bytes
+
+-- the types whose messages are read here
+abbrev pub is_read : Message → Bool
+is_read message.RplControl = false
+is_read (message.Unknown n) = false
+is_read _ = true
+
+-- the bytes begin with a header of a type that is read here
+pub record BeginsWhole (bytes : List ℕ) : Type 0 where
+  pub fixed : Reaches header bytes
+  pub known : is_read (message_in bytes) ≡ true
+  pub whole : header_len_in bytes ≤ length bytes
+
+-- ---- what is reserved
+
+-- the bytes with all zero that is reserved in a message of this type
+abbrev pub cleared : Message → List ℕ → List ℕ
+cleared message.RouterSolicit bytes = with_field word_field (0 ∷ 0 ∷ 0 ∷ 0 ∷ []) bytes
+cleared message.NeighborSolicit bytes = with_field word_field (0 ∷ 0 ∷ 0 ∷ 0 ∷ []) bytes
+cleared message.NeighborAdvert bytes = with_field word_field (0 ∷ 0 ∷ 0 ∷ 0 ∷ []) bytes
+cleared message.Redirect bytes = with_field word_field (0 ∷ 0 ∷ 0 ∷ 0 ∷ []) bytes
+cleared message.MldQuery bytes = with_field sqrv_field (byte_of sqrv_field bytes % 16 ∷ []) (with_field query_reserved_field (0 ∷ 0 ∷ []) bytes)
+cleared message.MldReport bytes = with_field report_reserved_field (0 ∷ 0 ∷ []) bytes
+cleared _ bytes = bytes
+
+-- the type has something reserved, and the bytes reach it
+abbrev pub CanClear : Message → List ℕ → Type 0
+CanClear message.RouterSolicit bytes = Reaches word_field bytes
+CanClear message.NeighborSolicit bytes = Reaches word_field bytes
+CanClear message.NeighborAdvert bytes = Reaches word_field bytes
+CanClear message.Redirect bytes = Reaches word_field bytes
+CanClear message.MldQuery bytes = Reaches sqrv_field bytes
+CanClear message.MldReport bytes = Reaches report_reserved_field bytes
+CanClear _ bytes = ⊥
+
+-- ---- the checksum
+
+-- the sum of the pseudo header of a message of so many bytes (RFC 4443 section 2.3, RFC 8200 section 8.1)
+unfoldable pub message_sum : Ipv6Address → Ipv6Address → ℕ → ℕ
+message_sum source destination bytes = pseudo_sum source destination Icmpv6 (bytes % 2 ^ 32)
