@@ -1,2 +1,4 @@
 pub mod Icmpv6Packet
 pub mod Icmpv6Tables
+pub mod NdiscPacket
+pub mod NdiscTables
