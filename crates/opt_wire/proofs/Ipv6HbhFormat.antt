@@ -19,7 +19,8 @@ use Rattle.opt_wire.proofs.Ipv6HbhText.{text-cons, length-texts, length-norm, no
 
 -- ---- what was written
 
-tile-text : (options : List OptionValue) → AllByRecursion option.IsCanonical options → Tile (text options) (all (norm options))
+tile-text : (options : List OptionValue) → AllByRecursion option.IsCanonical options
+    → Tile (text options) (all (norm options))
 unfolding fields
 tile-text [] h = ends
 tile-text (v ∷ options) h = goes_on (option.text v) (text options) (option.norm v) (option_text v h.0) (tile-text options h.1) (text-cons v options)
@@ -36,10 +37,12 @@ texts_some [] l e = absurd (omega (arith, l))
 texts_some (v ∷ options) l e = front_some v (text options) (sym (text-cons v options) ∙ e)
 
 -- the text of canonical options is their header
-header-text : (most : ℕ) (options : List OptionValue) → IsCanonical most options → IsHeader most (text options) (norm options)
+header-text : (most : ℕ) (options : List OptionValue) → IsCanonical most options
+    → IsHeader most (text options) (norm options)
 header-text most options c = header-end most (text options) (norm options) (all (norm options)) (texts_some options c.some) (tile-text options c.each) refl (omega (arith, c.few, length-norm options))
 
-canonical_options : (options : List OptionValue) → AllByRecursion option.IsCanonical options → AllByRecursion option.IsCanonical (norm options)
+canonical_options : (options : List OptionValue) → AllByRecursion option.IsCanonical options
+    → AllByRecursion option.IsCanonical (norm options)
 canonical_options [] h = h
 canonical_options (v ∷ options) h = (norm-canonical v h.0, canonical_options options h.1)
 
@@ -64,7 +67,8 @@ each_read P is (suc n) bytes answers (v ∷ read) are (goes_on {answers = rests}
     (subst P same (is front u (IsBytes-front front rest here) h), each_read P is n rest rests read (IsBytes-rest front rest here) t more)
 each_read P is (suc n) bytes answers (v ∷ read) are (breaks refusal some none) e = cc
 
-each_kept : (P : OptionValue → Type 0) (n : ℕ) (options : List OptionValue) → AllByRecursion P options → AllByRecursion P (take n options)
+each_kept : (P : OptionValue → Type 0) (n : ℕ) (options : List OptionValue) → AllByRecursion P options
+    → AllByRecursion P (take n options)
 each_kept P zero options h = tt
 each_kept P (suc n) [] h = tt
 each_kept P (suc n) (v ∷ options) h = (h.0, each_kept P n options h.1)
@@ -74,7 +78,8 @@ header-each : (P : OptionValue → Type 0) → ((w : List ℕ) (v : OptionValue)
 header-each P is most bytes options are h =
     subst (AllByRecursion P) (sym h.kept) (each_kept P most h.read (each_read P is (most + 1) bytes h.answers h.read are h.tile h.good))
 
-some_option : (most : ℕ) (bytes : List ℕ) (answers : List Answer) (read : List OptionValue) → bytes ≢ [] → Tile bytes answers → take (most + 1) answers ≡ all read → 1 ≤ length read
+some_option : (most : ℕ) (bytes : List ℕ) (answers : List Answer) (read : List OptionValue) → bytes ≢ []
+    → Tile bytes answers → take (most + 1) answers ≡ all read → 1 ≤ length read
 some_option most bytes answers (v ∷ read) some tile e = omega arith
 some_option most bytes answers [] some ends e = absurd (some refl)
 some_option most bytes answers [] some (goes_on {answers = rests} front rest u h t w) e =
@@ -86,12 +91,14 @@ some_option most bytes answers [] some (breaks refusal is none) e =
     let never : Err refusal ∷ take most [] ≡ [] = sym one ∙ e in
     cc
 
-some_read : (most : ℕ) (bytes : List ℕ) (options : List OptionValue) → 1 ≤ most → IsHeader most bytes options → 1 ≤ length options
+some_read : (most : ℕ) (bytes : List ℕ) (options : List OptionValue) → 1 ≤ most → IsHeader most bytes options
+    → 1 ≤ length options
 some_read most bytes options room h =
     let some : 1 ≤ length h.read = some_option most bytes h.answers h.read h.some h.tile h.good in
     omega (arith, some, room, ap length h.kept, length-take {A = OptionValue} most h.read)
 
-header-canonical : (most : ℕ) (bytes : List ℕ) (options : List OptionValue) → 1 ≤ most → IsBytes bytes → IsHeader most bytes options → IsCanonical most options
+header-canonical : (most : ℕ) (bytes : List ℕ) (options : List OptionValue) → 1 ≤ most → IsBytes bytes
+    → IsHeader most bytes options → IsCanonical most options
 header-canonical most bytes options room are h = record {
   some = some_read most bytes options room h;
   few = omega (arith, ap length h.kept, length-take {A = OptionValue} most h.read);
@@ -120,9 +127,11 @@ pub header_same_text : (most : ℕ) → 1 ≤ most → (a b : List OptionValue) 
 header_same_text most room a b = same_text (format most) (header_format most room) tt a b
 
 -- what is left where a text was written that there is room for
-pub header_emits : (most : ℕ) (options : List OptionValue) (old new : List ℕ) → 1 ≤ most → HaveData options → text_len options ≤ length old → new ≡ over old (text options) → Emits most options old new
+pub header_emits : (most : ℕ) (options : List OptionValue) (old new : List ℕ) → 1 ≤ most → HaveData options
+    → text_len options ≤ length old → new ≡ over old (text options) → Emits most options old new
 header_emits most options old new some enough room e =
-    let exact : length old ≡ text_len options → new ≡ text options = λ long. e ∙ over-exact old (text options) (long ∙ sym (length-texts options enough)) in
+    let size = length-texts options enough in
+    let exact : length old ≡ text_len options → new ≡ text options = λ long. e ∙ over-exact old (text options) (long ∙ sym size) in
     record {
       text_ = e;
       exact = exact;

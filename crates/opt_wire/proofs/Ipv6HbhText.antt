@@ -17,7 +17,8 @@ pub length-texts : (options : List OptionValue) → HaveData options → length 
 unfolding fields
 length-texts [] h = refl
 length-texts (v ∷ options) h =
-    length-append (option.text v) (text options) ∙ (omega (arith, texts.length-text v h.0, length-texts options h.1)) ∙ sym (sum_by-cons option.text_len v options)
+    length-append (option.text v) (text options) ∙ (omega (arith, texts.length-text v h.0, length-texts options h.1))
+    ∙ sym (sum_by-cons option.text_len v options)
 
 -- ---- the normal form
 

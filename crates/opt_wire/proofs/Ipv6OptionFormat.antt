@@ -49,8 +49,7 @@ option-canonical w (unknown k n d) are h =
     let t = h.0 in
     let here : IsBytes (t ∷ n ∷ d) = subst IsBytes h.1 are in
     let number = ap type_number h.3 ∙ number-type t in
-    let first : t < 256 = here 0 in
-    (
+    let first : t < 256 = here 0 in (
       subst (λ (x : Kind.Type). IsProper kind.Unknown type_rows x) (sym h.3) (case_in-proper type_number kind.Unknown (λ k. refl) is_unknown_type (λ k. refl) type_rows t refl),
       λ e. h.4 (sym number ∙ ap type_number e),
       λ e. h.5 (sym number ∙ ap type_number e),
@@ -84,9 +83,11 @@ pub option_same_text : (a b : OptionValue) → SameText format a b
 option_same_text a b = same_text format option_format tt a b
 
 -- what is left where a text was written that there is room for
-pub option_emits : (v : OptionValue) (old new : List ℕ) → HasData v → text_len v ≤ length old → new ≡ over old (text v) → Emits v old new
+pub option_emits : (v : OptionValue) (old new : List ℕ) → HasData v → text_len v ≤ length old
+    → new ≡ over old (text v) → Emits v old new
 option_emits v old new enough room e =
-    let left : new ≡ text v ++ drop (length (text v)) old = e ∙ over-fits old (text v) (omega (arith, room, length-text v enough)) in
+    let left : new ≡ text v ++ drop (length (text v)) old = e
+    ∙ over-fits old (text v) (omega (arith, room, length-text v enough)) in
     record {
       text_ = e;
       exact = λ long. e ∙ over-exact old (text v) (long ∙ sym (length-text v enough));

@@ -1,5 +1,5 @@
 -- Options against their bytes: the grammar as it is computed, byte by byte.
-use Rattle.std.proofs.Common.{◌≡◌, ◌≢◌, ℕ, ◌+◌, ◌-◌, ◌*◌, ◌≤◌, Bool, true, false, cond, ltb, eqb, List, [], ◌∷◌, ◌++◌, length, take, drop, slice_index, Some, None, refl, sym, ap, subst, ◌∙◌, ◌⊎◌, inl, inr, arith, length-append}
+use Rattle.std.proofs.Common.{◌≡◌, ◌≢◌, ℕ, ◌+◌, ◌-◌, ◌*◌, ◌≤◌, Bool, true, false, cond, ltb, eqb, List, [], ◌∷◌, ◌++◌, length, take, drop, slice_index, Option, Some, None, refl, sym, ap, subst, ◌∙◌, ◌⊎◌, inl, inr, arith, length-append}
 use Rattle.std.proofs.lemmas.Bool.{ltb-false, le-ltb, eqb-true, eqb-false, ne_eqb}
 use Rattle.std.proofs.lemmas.Bool.Decides.{nat_tests}
 use Rattle.std.proofs.lemmas.List.{take-append-drop, take_at, length-take-le}
@@ -22,14 +22,16 @@ same_value v w e = cc
 
 -- THE COMPUTED FRONT
 
-front_of-counted : (t n : ℕ) (rest : List ℕ) → t ≢ 0 → n ≤ length rest → front_of (t ∷ n ∷ rest) ≡ known_at t n (take n rest)
+front_of-counted : (t n : ℕ) (rest : List ℕ) → t ≢ 0 → n ≤ length rest
+    → front_of (t ∷ n ∷ rest) ≡ known_at t n (take n rest)
 front_of-counted t n rest ne h =
     let e : eqb t 0 ≡ false = ne_eqb t 0 ne in
     let f : ltb (length rest) n ≡ false = le-ltb (length rest) n h in
     rw (e, f) refl
 
 -- where the check of the length accepts
-front_of-whole : (bytes : List ℕ) → BeginsWhole bytes → byte_of option_type_field bytes ≢ 0 → front_of bytes ≡ known_at (byte_of option_type_field bytes) (byte_of opt_data_len_field bytes) (bytes_of (option_data_field bytes) bytes)
+front_of-whole : (bytes : List ℕ) → BeginsWhole bytes → byte_of option_type_field bytes ≢ 0
+    → front_of bytes ≡ known_at (byte_of option_type_field bytes) (byte_of opt_data_len_field bytes) (bytes_of (option_data_field bytes) bytes)
 unfolding part
 front_of-whole [] w ne = absurd (omega (arith, w.0))
 front_of-whole (t ∷ []) w ne = absurd (omega (arith, w.1 ne))
@@ -43,16 +45,24 @@ type_number-of t = grind (arith, nat_tests)
 number_from : (t : ℕ) (k : Kind.Type) → type_of t ≡ k → t ≡ type_number k
 number_from t k e = sym (type_number-of t) ∙ ap type_number e
 
-pub front_of-pads : (bytes : List ℕ) (n : ℕ) → BeginsWhole bytes → type_of (byte_of option_type_field bytes) ≡ kind.PadN → n ≡ byte_of opt_data_len_field bytes → front_of bytes ≡ Some (pad_n n)
+pub front_of-pads : (bytes : List ℕ) (n : ℕ) → BeginsWhole bytes
+    → type_of (byte_of option_type_field bytes) ≡ kind.PadN → n ≡ byte_of opt_data_len_field bytes
+    → front_of bytes ≡ Some (pad_n n)
 front_of-pads bytes n w e same =
     let t : byte_of option_type_field bytes ≡ 1 = number_from _ _ e in
-    front_of-whole bytes w (λ z. absurd (omega (arith, z, t))) ∙ ap (λ (x : ℕ). known_at x (byte_of opt_data_len_field bytes) (bytes_of (option_data_field bytes) bytes)) t ∙ ap (λ (x : ℕ). Some (pad_n x)) (sym same)
+    front_of-whole bytes w (λ z. absurd (omega (arith, z, t)))
+    ∙ ap (λ (x : ℕ). known_at x (byte_of opt_data_len_field bytes) (bytes_of (option_data_field bytes) bytes)) t
+    ∙ ap (λ (x : ℕ). Some (pad_n x)) (sym same)
 
-pub front_of-alert : (bytes : List ℕ) (a : RouterAlert) → BeginsWhole bytes → type_of (byte_of option_type_field bytes) ≡ kind.RouterAlert → byte_of opt_data_len_field bytes ≡ 2 → a ≡ alert_of (big_number 2 (bytes_of (option_data_field bytes) bytes)) → front_of bytes ≡ Some (router_alert a)
+pub front_of-alert : (bytes : List ℕ) (a : RouterAlert) → BeginsWhole bytes
+    → type_of (byte_of option_type_field bytes) ≡ kind.RouterAlert → byte_of opt_data_len_field bytes ≡ 2
+    → a ≡ alert_of (big_number 2 (bytes_of (option_data_field bytes) bytes)) → front_of bytes ≡ Some (router_alert a)
 front_of-alert bytes a w e two same =
     let t : byte_of option_type_field bytes ≡ 5 = number_from _ _ e in
-    front_of-whole bytes w (λ z. absurd (omega (arith, z, t))) ∙ ap (λ (x : ℕ). known_at x (byte_of opt_data_len_field bytes) (bytes_of (option_data_field bytes) bytes)) t
-    ∙ ap (λ (x : ℕ). alert_at x (bytes_of (option_data_field bytes) bytes)) two ∙ ap (λ (x : RouterAlert). Some (router_alert x)) (sym same)
+    front_of-whole bytes w (λ z. absurd (omega (arith, z, t)))
+    ∙ ap (λ (x : ℕ). known_at x (byte_of opt_data_len_field bytes) (bytes_of (option_data_field bytes) bytes)) t
+    ∙ ap (λ (x : ℕ). alert_at x (bytes_of (option_data_field bytes) bytes)) two
+    ∙ ap (λ (x : RouterAlert). Some (router_alert x)) (sym same)
 
 known_at-other : (t n : ℕ) (d : List ℕ) → t ≢ 1 → t ≢ 5 → known_at t n d ≡ Some (unknown (type_of t) n d)
 known_at-other t n d p q =
@@ -60,13 +70,17 @@ known_at-other t n d p q =
     let f : eqb t 5 ≡ false = ne_eqb t 5 q in
     rw (e, f) refl
 
-pub front_of-other : (bytes : List ℕ) (k : Kind.Type) (n : ℕ) (d : List ℕ) → BeginsWhole bytes → k ≡ type_of (byte_of option_type_field bytes) → k ≢ kind.Pad1 → k ≢ kind.PadN → k ≢ kind.RouterAlert → n ≡ byte_of opt_data_len_field bytes → d ≡ bytes_of (option_data_field bytes) bytes
+pub front_of-other : (bytes : List ℕ) (k : Kind.Type) (n : ℕ) (d : List ℕ) → BeginsWhole bytes
+    → k ≡ type_of (byte_of option_type_field bytes) → k ≢ kind.Pad1 → k ≢ kind.PadN → k ≢ kind.RouterAlert
+    → n ≡ byte_of opt_data_len_field bytes → d ≡ bytes_of (option_data_field bytes) bytes
     → front_of bytes ≡ Some (unknown k n d)
 front_of-other bytes k n d w e p q r same same_data =
     let t = byte_of option_type_field bytes in
     let known = known_at-other t (byte_of opt_data_len_field bytes) (bytes_of (option_data_field bytes) bytes) (λ z. q (e ∙ ap type_of z)) (λ z. r (e ∙ ap type_of z)) in
-    front_of-whole bytes w (λ z. p (e ∙ ap type_of z)) ∙ known ∙ ap (λ (x : Kind.Type). Some (unknown x (byte_of opt_data_len_field bytes) (bytes_of (option_data_field bytes) bytes))) (sym e)
-    ∙ ap (λ (x : ℕ). Some (unknown k x (bytes_of (option_data_field bytes) bytes))) (sym same) ∙ ap (λ (x : List ℕ). Some (unknown k n x)) (sym same_data)
+    front_of-whole bytes w (λ z. p (e ∙ ap type_of z)) ∙ known
+    ∙ ap (λ (x : Kind.Type). Some (unknown x (byte_of opt_data_len_field bytes) (bytes_of (option_data_field bytes) bytes))) (sym e)
+    ∙ ap (λ (x : ℕ). Some (unknown k x (bytes_of (option_data_field bytes) bytes))) (sym same)
+    ∙ ap (λ (x : List ℕ). Some (unknown k n x)) (sym same_data)
 
 -- THE COMPUTED FRONT AND THE GRAMMAR
 
@@ -87,7 +101,8 @@ alert-option n d v e l = elim (chosen (eqb n 2) (Some (router_alert (alert_of (b
   | inr b ↦ let no = b.1 in cc
 ]
 
-known-option : (t n : ℕ) (d : List ℕ) (v : OptionValue) → known_at t n d ≡ Some v → length d ≡ n → t ≢ 0 → IsOption (t ∷ n ∷ d) v
+known-option : (t n : ℕ) (d : List ℕ) (v : OptionValue) → known_at t n d ≡ Some v → length d ≡ n → t ≢ 0
+    → IsOption (t ∷ n ∷ d) v
 known-option t n d v e l ne = elim (chosen (eqb t 1) (Some (pad_n n)) (cond (eqb t 5) (alert_at n d) (Some (unknown (type_of t) n d))) (Some v) e) [
   | inl a ↦
       let is : pad_n n ≡ v = same_value _ _ a.1 in
@@ -100,7 +115,8 @@ known-option t n d v e l ne = elim (chosen (eqb t 1) (Some (pad_n n)) (cond (eqb
   ]
 ]
 
-counted-option : (t : ℕ) (rest : List ℕ) (v : OptionValue) → counted_at t rest ≡ Some v → t ≢ 0 → BeginsWith (t ∷ rest) v
+counted-option : (t : ℕ) (rest : List ℕ) (v : OptionValue) → counted_at t rest ≡ Some v → t ≢ 0
+    → BeginsWith (t ∷ rest) v
 counted-option t [] v e ne = cc
 counted-option t (n ∷ rest) v e ne = elim (chosen (ltb (length rest) n) None (known_at t n (take n rest)) (Some v) e) [
   | inl a ↦ let no = a.1 in cc
@@ -129,13 +145,17 @@ begins_with (t ∷ rest) v e = elim (chosen (eqb t 0) (Some pad1) (counted_at t 
 option_front : (front rest : List ℕ) (v : OptionValue) → IsOption front v → front_of (front ++ rest) ≡ Some v
 option_front front rest pad1 h = rw h refl
 option_front front rest (pad_n n) h =
-    ap (λ (l : List ℕ). front_of (l ++ rest)) h.1 ∙ front_of-counted 1 n (h.0 ++ rest) (λ z. absurd (omega (arith, z))) (omega (arith, h.2, length-append h.0 rest))
+    ap (λ (l : List ℕ). front_of (l ++ rest)) h.1
+    ∙ front_of-counted 1 n (h.0 ++ rest) (λ z. absurd (omega (arith, z))) (omega (arith, h.2, length-append h.0 rest))
 option_front front rest (router_alert a) h =
     let number : big_number 2 (h.0 ∷ h.1 ∷ []) ≡ 256 * h.0 + h.1 = omega arith in
-    ap (λ (l : List ℕ). front_of (l ++ rest)) h.2 ∙ front_of-counted 5 2 (h.0 ∷ h.1 ∷ rest) (λ z. absurd (omega (arith, z))) (omega arith)
-    ∙ ap (λ (x : ℕ). Some (router_alert (alert_of x))) number ∙ ap (λ (x : RouterAlert). Some (router_alert x)) (sym h.3)
+    ap (λ (l : List ℕ). front_of (l ++ rest)) h.2
+    ∙ front_of-counted 5 2 (h.0 ∷ h.1 ∷ rest) (λ z. absurd (omega (arith, z))) (omega arith)
+    ∙ ap (λ (x : ℕ). Some (router_alert (alert_of x))) number
+    ∙ ap (λ (x : RouterAlert). Some (router_alert x)) (sym h.3)
 option_front front rest (unknown k n d) h =
-    ap (λ (l : List ℕ). front_of (l ++ rest)) h.1 ∙ front_of-counted h.0 n (d ++ rest) h.4 (omega (arith, h.2, length-append d rest))
+    ap (λ (l : List ℕ). front_of (l ++ rest)) h.1
+    ∙ front_of-counted h.0 n (d ++ rest) h.4 (omega (arith, h.2, length-append d rest))
     ∙ ap (λ (l : List ℕ). known_at h.0 n l) (take_at d rest n h.2) ∙ known_at-other h.0 n d h.5 h.6
     ∙ ap (λ (x : Kind.Type). Some (unknown x n d)) (sym h.3)
 
@@ -145,3 +165,11 @@ front_of-begins bytes v h = ap front_of h.whole ∙ option_front h.front h.rest 
 -- the bytes begin with one option at most
 pub begins_with-unique : (bytes : List ℕ) (v w : OptionValue) → BeginsWith bytes v → BeginsWith bytes w → v ≡ w
 begins_with-unique bytes v w a b = same_value v w (sym (front_of-begins bytes v a) ∙ front_of-begins bytes w b)
+
+none_at_front : (bytes : List ℕ) (o : Option OptionValue) → front_of bytes ≡ o
+    → ((v : OptionValue) → BeginsWith bytes v → ⊥) → o ≡ None
+none_at_front bytes None e none = refl
+none_at_front bytes (Some v) e none = absurd (none v (begins_with bytes v e))
+
+pub front_of-refused : (bytes : List ℕ) → ((v : OptionValue) → BeginsWith bytes v → ⊥) → front_of bytes ≡ None
+front_of-refused bytes none = none_at_front bytes (front_of bytes) refl none

@@ -60,14 +60,21 @@ pub record IsCanonical (most : ℕ) (options : List OptionValue) : Type 0 where
 abbrev pub norm : List OptionValue → List OptionValue
 norm options = map option.norm options
 
--- the format, where at most so many options are kept; no value is an exception, and what was read holds no more data than
--- it counts
+-- the format, where at most so many options are kept; no value is an exception, and what was read holds no more data
+-- than it counts
 abbrev pub format : ℕ → Format (List OptionValue)
-format most =
-    record { Reads = IsHeader most; Fills = Unit {0}; text = text; IsCanonical = IsCanonical most; IsException = λ options. ⊥; norm = norm; IsCut = λ options. ⊥ }
+format most = record {
+  Reads = IsHeader most;
+  Fills = Unit {0};
+  text = text;
+  IsCanonical = IsCanonical most;
+  IsException = λ options. ⊥;
+  norm = norm;
+  IsCut = λ options. ⊥;
+}
 
--- What writing options leaves where `old` stood, and where at most so many are kept. Where there is just their length, their
--- text is all that is left, and canonical options are read back as their normal form.
+-- What writing options leaves where `old` stood, and where at most so many are kept. Where there is just their length,
+-- their text is all that is left, and canonical options are read back as their normal form.
 pub record Emits (most : ℕ) (options : List OptionValue) (old new : List ℕ) : Type 0 where
   pub text_ : new ≡ over old (text options)
   pub exact : length old ≡ text_len options → new ≡ text options

@@ -90,12 +90,13 @@ abbrev pub HasData : OptionValue → Type 0
 HasData (unknown k n d) = n ≤ length d
 HasData _ = Unit {0}
 
--- The grammar (RFC 8200 section 4.2, RFC 2711 section 2.1): these bytes are one option of this value: a type, the number
--- of bytes of its data, and that data; a Pad1 is its type alone. What padding is filled with is not looked at.
+-- The grammar (RFC 8200 section 4.2, RFC 2711 section 2.1): these bytes are one option of this value: a type, the
+-- number of bytes of its data, and that data; a Pad1 is its type alone. What padding is filled with is not looked at.
 abbrev pub IsOption : List ℕ → OptionValue → Type 0
 IsOption w pad1 = w ≡ 0 ∷ []
 IsOption w (pad_n n) = (padding : List ℕ) × (w ≡ 1 ∷ n ∷ padding) × (length padding ≡ n)
-IsOption w (router_alert a) = (high : ℕ) × (low : ℕ) × (w ≡ 5 ∷ 2 ∷ high ∷ low ∷ []) × (a ≡ alert_of (256 * high + low))
+IsOption w (router_alert a) =
+    (high : ℕ) × (low : ℕ) × (w ≡ 5 ∷ 2 ∷ high ∷ low ∷ []) × (a ≡ alert_of (256 * high + low))
 IsOption w (unknown k n d) =
     (t : ℕ) × (w ≡ t ∷ n ∷ d) × (length d ≡ n) × (k ≡ type_of t) × (t ≢ 0) × (t ≢ 1) × (t ≢ 5)
 
@@ -112,8 +113,8 @@ IsCanonical pad1 = Unit {0}
 IsCanonical (pad_n n) = n < 256
 IsCanonical (router_alert a) = IsProper alert.Unknown alert_rows a × (alert_number a < 2 ^ 16)
 IsCanonical (unknown k n d) =
-    IsProper kind.Unknown type_rows k × (k ≢ kind.Pad1) × (k ≢ kind.PadN) × (k ≢ kind.RouterAlert) × (type_number k < 256)
-    × (n < 256) × (n ≤ length d)
+    IsProper kind.Unknown type_rows k × (k ≢ kind.Pad1) × (k ≢ kind.PadN) × (k ≢ kind.RouterAlert)
+    × (type_number k < 256) × (n < 256) × (n ≤ length d)
 
 -- the normal form: data as long as it is counted
 abbrev pub norm : OptionValue → OptionValue
@@ -122,11 +123,18 @@ norm v = v
 
 -- the format; no value is an exception, and what was read holds no more data than it counts
 abbrev pub format : Format OptionValue
-format =
-    record { Reads = BeginsWith; Fills = Unit {0}; text = text; IsCanonical = IsCanonical; IsException = λ v. ⊥; norm = norm; IsCut = λ v. ⊥ }
+format = record {
+  Reads = BeginsWith;
+  Fills = Unit {0};
+  text = text;
+  IsCanonical = IsCanonical;
+  IsException = λ v. ⊥;
+  norm = norm;
+  IsCut = λ v. ⊥;
+}
 
 -- What writing an option leaves where `old` stood: its text, and what stood behind it. Where there is just the option's
--- length, its text is all that is left. A canonical value is read back as its normal form, whatever stands behind the option.
+-- length, its text is all that is left. A canonical value is read back as its normal form, whatever stands behind it.
 pub record Emits (v : OptionValue) (old new : List ℕ) : Type 0 where
   pub text_ : new ≡ over old (text v)
   pub exact : length old ≡ text_len v → new ≡ text v

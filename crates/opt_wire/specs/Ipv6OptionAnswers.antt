@@ -11,5 +11,7 @@ Answer = Result OptionValue Error
 -- one refusal (RFC 8200 section 4.2).
 pub data Tile : List ℕ → List Answer → Type 0 where
   ends : Tile [] []
-  goes_on : {bytes : List ℕ} {answers : List Answer} (front rest : List ℕ) (v : OptionValue) → IsOption front v → Tile rest answers → bytes ≡ front ++ rest → Tile bytes (Ok v ∷ answers)
-  breaks : {bytes : List ℕ} (refusal : Error) → (bytes ≡ [] → ⊥) → ((v : OptionValue) → BeginsWith bytes v → ⊥) → Tile bytes (Err refusal ∷ [])
+  goes_on : {bytes : List ℕ} {answers : List Answer} (front rest : List ℕ) (v : OptionValue)
+      → IsOption front v → Tile rest answers → bytes ≡ front ++ rest → Tile bytes (Ok v ∷ answers)
+  breaks : {bytes : List ℕ} (refusal : Error)
+      → (bytes ≡ [] → ⊥) → ((v : OptionValue) → BeginsWith bytes v → ⊥) → Tile bytes (Err refusal ∷ [])

@@ -125,7 +125,8 @@ impl<'a> Repr<'a> {
     /// The bytes that the options take, by the lengths that they count.
     pub fn buffer_len(&self) -> usize
         ensures value { result ≡ text_len (options_of self.now) }
-        ensures exact { HaveData (options_of self.now) → result ≡ length (text (options_of self.now)) }
+        ensures exact { HaveData (options_of self.now)
+            → result ≡ length (text (options_of self.now)) }
     {
         let options = self.options.as_slice();
         let mut len = 0;

@@ -11,14 +11,16 @@ ghost use Rattle.opt_wire.specs.contracts.ipv6option.Ipv6Option.{the_row};
 ghost use Rattle.opt_wire.specs.Ipv6OptionTables.{type_number, type_of};
 
 use byteorder::{BigEndian, ByteOrder};
+use std::fmt;
 use std::marker::Model;
 use wirebase::{ByteWriter, Error, Octets, OctetsMut, Result, are_bytes};
 
 mod tables;
 
+use tables::AlertName;
 pub use tables::{FailureType, RouterAlert, Type};
 
-// The fields of an option (RFC 8200 section 4.2).
+// The fields of an option; their picture is in specs/Ipv6Option.antt.
 mod field {
     use wirebase::Field;
 
@@ -110,7 +112,8 @@ impl<'a> Ipv6Option<&'a [u8]> {
     pub fn data(&self) -> &'a [u8]
         requires counted { Reaches opt_data_len_field (view_octets self.now) }
         requires whole { Reaches (option_data_field (view_octets self.now)) (view_octets self.now) }
-        ensures value { result.now ≡ bytes_of (option_data_field (view_octets self.now)) (view_octets self.now) }
+        ensures value { result.now
+            ≡ bytes_of (option_data_field (view_octets self.now)) (view_octets self.now) }
         ensures len { length result.now ≡ byte_of opt_data_len_field (view_octets self.now) }
     {
         let octets: &'a [u8] = self.buffer;
@@ -122,7 +125,8 @@ impl<T: OctetsMut> Ipv6Option<T> {
     /// Writes the type. Asks 1 byte.
     pub fn set_option_type(&mut self, value: Type)
         requires { Reaches option_type_field (T.bytes (inner self.old)) }
-        ensures writes { Sets T.bytes T.put self.old self.new option_type_field (type_number value ∷ []) }
+        ensures writes { Sets T.bytes T.put self.old self.new option_type_field
+            (type_number value ∷ []) }
         ensures len { KeepsLen T.bytes self.old self.new }
     {
         self.buffer.set_u8(field::TYPE, value.into());
@@ -140,7 +144,8 @@ impl<T: OctetsMut> Ipv6Option<T> {
     /// Lends the data for writing; the other octets stay. Asks the bytes that the option counts.
     pub fn data_mut(&mut self) -> &mut [u8]
         requires counted { Reaches opt_data_len_field (T.bytes (inner self.old)) }
-        requires whole { Reaches (option_data_field (T.bytes (inner self.old))) (T.bytes (inner self.old)) }
+        requires whole { Reaches (option_data_field (T.bytes (inner self.old)))
+            (T.bytes (inner self.old)) }
         ensures* lends { sem 𝓛 (Lends (the_row T.row) (Array byte 0) self.entry result
             (λ w. with_inner self.old (T.put (inner self.old)
             (with_field (option_data_field (T.bytes (inner self.old))) w (T.bytes (inner self.old)))))) }
@@ -177,6 +182,30 @@ impl<T: Octets> Eq for Ipv6Option<T> {
     ghost use Rattle.std.specs.Cmp.Rules.{comparing};
 
     ghost laws = { Prim.search (comparing, rules) };
+}
+
+/// The option at the front of the octets; of octets that are refused `IPv6 Extension Option (wire::Error)`.
+impl<T: Octets> fmt::Display for Ipv6Option<T> {
+    ghost use Rattle.std.specs.Prelude.{Some};
+    ghost use Rattle.std.specs.Fmt.{WritesOnOk};
+    ghost use Rattle.wirebase.specs.Display.{Shows};
+    ghost use Rattle.opt_wire.specs.Ipv6OptionDisplay.{option_display, refusal_display, view_display};
+    ghost use Rattle.opt_wire.specs.Ipv6OptionModel.{front_of};
+
+    ghost output = { λ view. Some (view_display (front_of (T.bytes (inner view)))) };
+
+    fn fmt<W: fmt::Write>(&self, f: &mut fmt::Formatter<W>) -> fmt::Result
+        ensures shows { Shows (BeginsWith (T.bytes (inner self.now))) option_display refusal_display
+            (λ text. WritesOnOk W.write_str_gives f.old result text f.new) }
+        ensures writes { WritesOnOk W.write_str_gives f.old result
+            (view_display (front_of (T.bytes (inner self.now)))) f.new }
+    {
+        let option = Ipv6Option::new_unchecked(self.buffer.octets());
+        match Repr::parse(&option) {
+            Ok(repr) => write!(f, "{repr}"),
+            Err(error) => write!(f, "IPv6 Extension Option ({error})"),
+        }
+    }
 }
 
 /// An option of an IPv6 extension header (RFC 8200 section 4.2).
@@ -266,7 +295,8 @@ impl<'a> Repr<'a> {
         requires enough { HasData (value_of self.now) }
         requires room { text_len (value_of self.now) ≤ length (T.bytes (inner opt.old)) }
         ensures place { inner opt.new ≡ T.put (inner opt.old) (T.bytes (inner opt.new)) }
-        ensures emits { Emits (value_of self.now) (T.bytes (inner opt.old)) (T.bytes (inner opt.new)) }
+        ensures emits { Emits (value_of self.now)
+            (T.bytes (inner opt.old)) (T.bytes (inner opt.new)) }
     {
         self.emit_into(opt.buffer.octets_mut());
     }
@@ -319,6 +349,26 @@ impl<'a> Repr<'a> {
     }
 }
 
+impl fmt::Display for Repr<'_> {
+    ghost use Rattle.std.specs.Prelude.{Some};
+    ghost use Rattle.opt_wire.specs.Ipv6OptionDisplay.{option_display};
+
+    ghost output = { λ repr. Some (option_display (value_of repr)) };
+
+    fn fmt<W: fmt::Write>(&self, f: &mut fmt::Formatter<W>) -> fmt::Result {
+        match *self {
+            Repr::Pad1 => write!(f, "IPv6 Option Pad1 "),
+            Repr::PadN(length) => write!(f, "IPv6 Option PadN length={length} "),
+            Repr::RouterAlert(alert) => {
+                write!(f, "IPv6 Option RouterAlert value={}", AlertName(alert))
+            }
+            Repr::Unknown { type_, length, .. } => {
+                write!(f, "IPv6 Option {type_} length={length} ")
+            }
+        }
+    }
+}
+
 /// The options of a header in turn (RFC 8200 section 4.2): each one while they read, one refusal where no option
 /// stands, and then the end for good.
 #[derive(Debug, Drop)]
@@ -346,7 +396,8 @@ impl<'a> Ipv6OptionsIterator<'a> {
     /// no refusal among them, the options take up all the octets.
     pub fn new(octets: &'a [u8]) -> Ipv6OptionsIterator<'a>
         ensures tile { Tile octets.entry.now result }
-        ensures unique { (answers : List Answer) → Tile octets.entry.now answers → answers ≡ result }
+        ensures unique { (answers : List Answer)
+            → Tile octets.entry.now answers → answers ≡ result }
         ensures lengths { (options : List OptionValue) → result ≡ map Ok options
             → sum_by text_len options ≡ length octets.entry.now }
     {

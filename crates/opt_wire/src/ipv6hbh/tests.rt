@@ -7,7 +7,15 @@ use std::test::Fail;
 
 type Option<'a> = ipv6option::Repr<'a>;
 
-const PADS: [Option<'static>; 4] = [Option::Pad1; 4];
+const PADS: [Option<'static>; 8] = [Option::Pad1; 8];
+
+const PADS_AND_ALERT: [Option<'static>; 5] = [
+    Option::Pad1,
+    Option::Pad1,
+    Option::Pad1,
+    Option::Pad1,
+    Option::RouterAlert(RouterAlert::Unknown(0xbeef)),
+];
 
 const NO_DATA: [Option<'static>; 1] = [Option::Unknown {
     type_: Type::Unknown(0x11),
@@ -23,10 +31,15 @@ const RPL: [Option<'static>; 1] = [Option::Unknown {
 
 #[test]
 fn headers_and_the_options_that_they_keep(rt: HostRuntime) -> Result<(), Fail> {
-    let rows: [(&'static [u8], &'static [Option<'static>]); 5] = [
-        // A good fifth option is left out, and a bad sixth is not looked at.
-        (&[0x00, 0x00, 0x00, 0x00, 0x05, 0x02, 0xbe, 0xef], &PADS),
-        (&[0x00, 0x00, 0x00, 0x00, 0x00, 0x11], &PADS),
+    let rows: [(&'static [u8], &'static [Option<'static>]); 7] = [
+        (
+            &[0x00, 0x00, 0x00, 0x00, 0x05, 0x02, 0xbe, 0xef],
+            &PADS_AND_ALERT,
+        ),
+        (&[0x00; 8], &PADS),
+        // A good ninth option is left out, and a bad tenth is not looked at.
+        (&[0x00; 9], &PADS),
+        (&[0, 0, 0, 0, 0, 0, 0, 0, 0, 0x11], &PADS),
         (&[0x01, 0x04, 0x00, 0x00, 0x00, 0x00], &[Option::PadN(4)]),
         (&[0x11, 0x00], &NO_DATA),
         (&[0x63, 0x02, 0xaa, 0xbb], &RPL),
@@ -41,11 +54,15 @@ fn headers_and_the_options_that_they_keep(rt: HostRuntime) -> Result<(), Fail> {
 
 #[test]
 fn headers_refused(rt: HostRuntime) -> Result<(), Fail> {
-    let rows: [&[u8]; 3] = [
+    let rows: [&[u8]; 6] = [
         &[],
-        // A bad fifth option: a router alert of 3 bytes of data, and one whose length is left out.
+        // A bad option: a router alert of 3 bytes of data, and one whose length is left out.
         &[0x00, 0x00, 0x00, 0x00, 0x05, 0x03, 0x00, 0x00, 0x00],
         &[0x00, 0x00, 0x00, 0x00, 0x11],
+        &[0x00, 0x00, 0x00, 0x00, 0x00, 0x11],
+        // A bad ninth option, after as many as are kept.
+        &[0, 0, 0, 0, 0, 0, 0, 0, 0x11],
+        &[0, 0, 0, 0, 0, 0, 0, 0, 0x05, 0x03, 0x00, 0x00, 0x00],
     ];
     for octets in rows {
         let header = Header::new_unchecked(octets);
@@ -82,6 +99,10 @@ fn multicast_listener_report_with_padding(rt: HostRuntime) -> Result<(), Fail> {
     assert_eq!(rt; octets, [0x05, 0x02, 0x00, 0x00, 0x01, 0x00]);
     let read = Repr::parse(&Header::new_unchecked(octets.as_slice()))?;
     assert_eq!(rt; read, header);
+    Repr::same_text(&read, &header);
+    let mut plain = [0xff; 6];
+    header.emit_into(plain.as_mut_slice());
+    assert_eq!(rt; plain, octets);
     assert_eq!(rt; header.clone()?, header);
     compare_at_each_length(&rt, rt.alloc(), &octets)
 }

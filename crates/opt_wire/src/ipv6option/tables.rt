@@ -1,8 +1,11 @@
 //! The numbers of options, of router alerts and of what an unknown option asks (RFC 8200 section 4.2, RFC 2711).
 
-ghost use Rattle.std.specs.Prelude.{◌≡◌, ◌*◌, ◌/◌};
+ghost use Rattle.std.specs.Prelude.{◌≡◌, ◌*◌, ◌/◌, Some};
 ghost use Rattle.wirebase.specs.Numbered.{Ascends, IsProper, IsTable, IsEqualityOf};
 ghost use Rattle.opt_wire.specs.Ipv6OptionTables.{type_number, type_rows, type_of, alert_number, alert_rows, alert_of, failure_number, failures, failure_of};
+ghost use Rattle.opt_wire.specs.Ipv6OptionDisplay.{type_display, alert_display, failure_display};
+
+use std::fmt;
 
 /// The type of an option, one byte (RFC 8200 section 4.2).
 #[derive(Debug, PartialEq, Eq, PartialOrd, Ord, Clone, Copy)]
@@ -50,6 +53,21 @@ impl From<Type> for u8 {
             Type::RouterAlert => 5,
             Type::Rpl => 0x63,
             Type::Unknown(other) => other,
+        }
+    }
+}
+
+/// The name, or the number where it has none.
+impl fmt::Display for Type {
+    ghost output = { λ kind. Some (type_display kind) };
+
+    fn fmt<W: fmt::Write>(&self, f: &mut fmt::Formatter<W>) -> fmt::Result {
+        match *self {
+            Type::Pad1 => write!(f, "Pad1"),
+            Type::PadN => write!(f, "PadN"),
+            Type::RouterAlert => write!(f, "RouterAlert"),
+            Type::Rpl => write!(f, "RPL"),
+            Type::Unknown(number) => write!(f, "{number}"),
         }
     }
 }
@@ -105,6 +123,23 @@ impl From<RouterAlert> for u16 {
     }
 }
 
+// A router alert as it prints in an option.
+#[derive(Drop)]
+pub(super) struct AlertName(pub(super) RouterAlert);
+
+impl fmt::Display for AlertName {
+    ghost output = { λ name. Some (alert_display name.0) };
+
+    fn fmt<W: fmt::Write>(&self, f: &mut fmt::Formatter<W>) -> fmt::Result {
+        match self.0 {
+            RouterAlert::MulticastListenerDiscovery => write!(f, "MulticastListenerDiscovery"),
+            RouterAlert::Rsvp => write!(f, "Rsvp"),
+            RouterAlert::ActiveNetworks => write!(f, "ActiveNetworks"),
+            RouterAlert::Unknown(number) => write!(f, "Unknown({number})"),
+        }
+    }
+}
+
 /// What a node does with a packet that has an option of a type that it does not know: the two highest bits of the
 /// type (RFC 8200 section 4.2).
 #[derive(Debug, PartialEq, Eq, PartialOrd, Ord, Hash, Clone, Copy)]
@@ -149,6 +184,19 @@ impl From<FailureType> for u8 {
             FailureType::Discard => 0x40,
             FailureType::DiscardSendAll => 0x80,
             FailureType::DiscardSendUnicast => 0xc0,
+        }
+    }
+}
+
+impl fmt::Display for FailureType {
+    ghost output = { λ failure. Some (failure_display failure) };
+
+    fn fmt<W: fmt::Write>(&self, f: &mut fmt::Formatter<W>) -> fmt::Result {
+        match *self {
+            FailureType::Skip => write!(f, "skip"),
+            FailureType::Discard => write!(f, "discard"),
+            FailureType::DiscardSendAll => write!(f, "discard and send error"),
+            FailureType::DiscardSendUnicast => write!(f, "discard and send error if unicast"),
         }
     }
 }

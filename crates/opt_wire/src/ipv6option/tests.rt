@@ -3,9 +3,11 @@ ghost use Rattle.opt_wire.specs.Ipv6Option.{value_of, HasData};
 
 use super::{FailureType, Ipv6Option, Ipv6OptionsIterator, Repr, RouterAlert, Type};
 use crate::plain_reader::compare_at_each_length;
+use std::fmt::Write;
 use std::hash::{DefaultHasher, Hash, Hasher};
 use std::test::Fail;
 use wirebase::Error;
+use wirebase::failing_writer::FailingWriter;
 
 #[test]
 fn option_types_and_their_numbers(rt: HostRuntime) {
@@ -164,6 +166,13 @@ fn views_are_equal_as_their_octets(rt: HostRuntime) {
     assert!(rt; view == Ipv6Option::new_unchecked(there.as_slice()));
     assert!(rt; view != Ipv6Option::new_unchecked(other.as_slice()));
     assert!(rt; view != Ipv6Option::new_unchecked(&here[..2]));
+
+    let mut here = here;
+    let mut there = there;
+    let mut other = other;
+    let view = Ipv6Option::new_unchecked(here.as_mut_slice());
+    assert!(rt; view == Ipv6Option::new_unchecked(there.as_mut_slice()));
+    assert!(rt; view != Ipv6Option::new_unchecked(other.as_mut_slice()));
 }
 
 // tests/refused has each of these with its one line in the wrong place: the data used after its buffer is gone, and the
@@ -290,6 +299,9 @@ fn options_written_over_octets_of_any_kind(rt: HostRuntime) -> Result<(), Fail> 
             for tail in [0, 3] {
                 let mut octets = vec![in rt.alloc(); fill; text.len() + tail]?;
                 option.emit(&mut Ipv6Option::new_unchecked(octets.as_mut_slice()));
+                let mut plain = vec![in rt.alloc(); fill; text.len() + tail]?;
+                option.emit_into(plain.as_mut_slice());
+                assert_eq!(rt; octets.as_slice(), plain.as_slice(), "of {option:?}");
                 let (front, left) = octets.as_slice().split_at(text.len());
                 assert_eq!(rt; front, text, "over {fill}");
                 assert!(rt; left.iter().all(|octet| *octet == fill), "after {option:?}");
@@ -300,4 +312,120 @@ fn options_written_over_octets_of_any_kind(rt: HostRuntime) -> Result<(), Fail> 
         compare_at_each_length(&rt, rt.alloc(), text)?;
     }
     Ok(())
+}
+
+#[test]
+fn padding_loses_what_it_is_filled_with_when_it_is_rewritten(rt: HostRuntime) -> Result<(), Fail> {
+    for octets in [[0x01, 0x02, 0xaa, 0xbb], [0x01, 0x02, 0x00, 0x00]] {
+        let option = Repr::parse(&Ipv6Option::new_checked(octets.as_slice())?)?;
+        assert_eq!(rt; option, Repr::PadN(2));
+        assert!(rt; holds_its_data(&option) && option.buffer_len() == 4);
+        let mut text = [0xff; 4];
+        option.emit_into(text.as_mut_slice());
+        assert_eq!(rt; text, [0x01, 0x02, 0x00, 0x00]);
+    }
+    Ok(())
+}
+
+#[test]
+fn data_past_its_length_is_no_part_of_the_text(rt: HostRuntime) {
+    let of = |data| Repr::Unknown {
+        type_: Type::Unknown(0x11),
+        length: 2,
+        data,
+    };
+    let whole = of(&[0xa1, 0xa2]);
+    for (other, same) in [
+        (of(&[0xa1, 0xa2, 0xa3]), true),
+        (of(&[0xa1, 0xa3]), false),
+        (Repr::PadN(2), false),
+    ] {
+        Repr::same_text(&whole, &other);
+        let mut texts = [[0; 4]; 2];
+        assert!(rt; holds_its_data(&whole) && whole.buffer_len() == 4);
+        assert!(rt; holds_its_data(&other) && other.buffer_len() == 4);
+        whole.emit_into(texts[0].as_mut_slice());
+        other.emit_into(texts[1].as_mut_slice());
+        assert_eq!(rt; texts[0] == texts[1], same, "of {other:?}");
+    }
+}
+
+#[test]
+fn what_types_and_options_print(rt: HostRuntime) -> Result<(), Fail> {
+    for (kind, text) in [
+        (Type::Pad1, "Pad1"),
+        (Type::PadN, "PadN"),
+        (Type::RouterAlert, "RouterAlert"),
+        (Type::Rpl, "RPL"),
+        (Type::Unknown(0xc5), "197"),
+    ] {
+        assert_eq!(rt; kind.to_string(rt.alloc())?.as_str(), text);
+    }
+    for (failure, text) in [
+        (FailureType::Skip, "skip"),
+        (FailureType::Discard, "discard"),
+        (FailureType::DiscardSendAll, "discard and send error"),
+        (
+            FailureType::DiscardSendUnicast,
+            "discard and send error if unicast",
+        ),
+    ] {
+        assert_eq!(rt; failure.to_string(rt.alloc())?.as_str(), text);
+    }
+    let rows: [(&[u8], &str); 10] = [
+        (&[0x00], "IPv6 Option Pad1 "),
+        (&[0x01, 0x04, 0, 0, 0, 0], "IPv6 Option PadN length=4 "),
+        (
+            &[0x05, 0x02, 0, 0],
+            "IPv6 Option RouterAlert value=MulticastListenerDiscovery",
+        ),
+        (&[0x05, 0x02, 0, 1], "IPv6 Option RouterAlert value=Rsvp"),
+        (
+            &[0x05, 0x02, 0, 2],
+            "IPv6 Option RouterAlert value=ActiveNetworks",
+        ),
+        (
+            &[0x05, 0x02, 0xbe, 0xef],
+            "IPv6 Option RouterAlert value=Unknown(48879)",
+        ),
+        (&[0x63, 0x01, 0xaa], "IPv6 Option RPL length=1 "),
+        (&[0xc5, 0x00, 0xaa], "IPv6 Option 197 length=0 "),
+        (&[0x05, 0x01, 0xaa], "IPv6 Extension Option (wire::Error)"),
+        (&[], "IPv6 Extension Option (wire::Error)"),
+    ];
+    for (octets, text) in rows {
+        let view = Ipv6Option::new_unchecked(octets);
+        assert_eq!(rt; view.to_string(rt.alloc())?.as_str(), text, "of {octets:?}");
+        if let Ok(repr) = Repr::parse(&view) {
+            assert_eq!(rt; repr.to_string(rt.alloc())?.as_str(), text, "of {octets:?}");
+        }
+    }
+    Ok(())
+}
+
+#[test]
+fn printing_fails_only_with_its_writer(rt: HostRuntime) {
+    let rows: [(&[u8], u32); 6] = [
+        (&[0x00], 1),
+        (&[0x01, 0x04, 0, 0, 0, 0], 3),
+        (&[0x05, 0x02, 0, 1], 2),
+        (&[0x05, 0x02, 0xbe, 0xef], 4),
+        (&[0x63, 0x01, 0xaa], 5),
+        (&[], 3),
+    ];
+    for (octets, calls) in rows {
+        let view = Ipv6Option::new_unchecked(octets);
+        for left in 0..calls {
+            let mut writer = FailingWriter { left };
+            assert!(rt; write!(writer, "{view}").is_err(), "after {left} writes");
+        }
+        let mut writer = FailingWriter { left: calls };
+        assert!(rt; write!(writer, "{view}").is_ok(), "of {octets:?}");
+    }
+    let mut writer = FailingWriter { left: 2 };
+    let (kind, failure) = (Type::Unknown(7), FailureType::Skip);
+    assert!(rt; write!(writer, "{kind}").is_ok());
+    assert!(rt; write!(writer, "{failure}").is_ok());
+    assert!(rt; write!(writer, "{kind}").is_err());
+    assert!(rt; write!(writer, "{failure}").is_err());
 }

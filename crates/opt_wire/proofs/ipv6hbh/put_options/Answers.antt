@@ -11,6 +11,7 @@ pub returns-clause-puts : goal.returns-clause-puts
 returns-clause-puts c =
     let none = drop_all c.loop-option.option-index c.args.options.now (omega arith) in
     record {
-      puts = ap (λ (l : List Repr). put_all (sheet c.loop-option.w) (header_fields (map value_of l))) (sym none) ∙ c.loop-option.invariant.texts;
+      puts = ap (λ (l : List Repr). put_all (sheet c.loop-option.w) (header_fields (map value_of l))) (sym none)
+          ∙ c.loop-option.invariant.texts;
       whole = sym (whole-sheet c.loop-option.w);
     }

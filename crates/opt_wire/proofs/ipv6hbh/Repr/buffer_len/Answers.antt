@@ -8,5 +8,7 @@ use Rattle.opt_wire.proofs.ipv6hbh.Repr.buffer_len.Goals as goal
 
 pub returns-clause-exact : goal.returns-clause-exact
 returns-clause-exact c = λ enough.
-    let whole = take_all c.loop-option.option-index c.as_slice-options.result.now c.loop-option-test.false ∙ c.as_slice-options.ensures.value in
-    c.loop-option.invariant.so_far ∙ ap (λ (options : List Repr). text_len (map value_of options)) whole ∙ sym (length-texts (options_of c.args.self.now) enough)
+    let whole = take_all c.loop-option.option-index c.as_slice-options.result.now c.loop-option-test.false
+    ∙ c.as_slice-options.ensures.value in
+    c.loop-option.invariant.so_far ∙ ap (λ (options : List Repr). text_len (map value_of options)) whole
+    ∙ sym (length-texts (options_of c.args.self.now) enough)

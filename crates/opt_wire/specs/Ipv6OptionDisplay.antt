@@ -1,0 +1,49 @@
+-- What options and their parts print.
+use Rattle.std.specs.Prelude.{ℕ, List, [], ◌∷◌, Option, None, Some, codes, decimal}
+use Rattle.wirebase.specs.Display.{pieces}
+use Rattle.opt_wire.specs.declared.ipv6option.tables.Type as Kind
+use Rattle.opt_wire.specs.declared.ipv6option.tables.Type.TheVariants as kind
+use Rattle.opt_wire.specs.declared.ipv6option.tables.RouterAlert.{RouterAlert}
+use Rattle.opt_wire.specs.declared.ipv6option.tables.RouterAlert.TheVariants as alert
+use Rattle.opt_wire.specs.declared.ipv6option.tables.FailureType.{FailureType}
+use Rattle.opt_wire.specs.declared.ipv6option.tables.FailureType.TheVariants.{Skip, Discard, DiscardSendAll, DiscardSendUnicast}
+use Rattle.opt_wire.specs.Ipv6Option.{OptionValue, pad1, pad_n, router_alert, unknown}
+
+-- a type, by its name
+abbrev pub type_display : Kind.Type → List ℕ
+type_display kind.Pad1 = codes "Pad1"
+type_display kind.PadN = codes "PadN"
+type_display kind.RouterAlert = codes "RouterAlert"
+type_display kind.Rpl = codes "RPL"
+type_display (kind.Unknown n) = decimal n
+
+-- what a router alert tells of, by its name
+abbrev pub alert_display : RouterAlert → List ℕ
+alert_display alert.MulticastListenerDiscovery = codes "MulticastListenerDiscovery"
+alert_display alert.Rsvp = codes "Rsvp"
+alert_display alert.ActiveNetworks = codes "ActiveNetworks"
+alert_display (alert.Unknown n) = pieces (codes "Unknown(" ∷ decimal n ∷ codes ")" ∷ [])
+
+-- what a node does with an option that it does not know
+abbrev pub failure_display : FailureType → List ℕ
+failure_display Skip = codes "skip"
+failure_display Discard = codes "discard"
+failure_display DiscardSendAll = codes "discard and send error"
+failure_display DiscardSendUnicast = codes "discard and send error if unicast"
+
+-- an option; three of the four end with a space
+abbrev pub option_display : OptionValue → List ℕ
+option_display pad1 = codes "IPv6 Option Pad1 "
+option_display (pad_n n) = pieces (codes "IPv6 Option PadN length=" ∷ decimal n ∷ codes " " ∷ [])
+option_display (router_alert a) = pieces (codes "IPv6 Option RouterAlert value=" ∷ alert_display a ∷ [])
+option_display (unknown k n d) =
+    pieces (codes "IPv6 Option " ∷ type_display k ∷ codes " length=" ∷ decimal n ∷ codes " " ∷ [])
+
+-- octets that begin with no option
+abbrev pub refusal_display : List ℕ
+refusal_display = codes "IPv6 Extension Option (wire::Error)"
+
+-- octets, by the option that they begin with
+abbrev pub view_display : Option OptionValue → List ℕ
+view_display None = refusal_display
+view_display (Some v) = option_display v

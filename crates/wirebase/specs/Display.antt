@@ -1,0 +1,14 @@
+-- Texts that are printed.
+use Rattle.std.specs.Prelude.{ℕ, List, [], ◌∷◌, ◌++◌}
+
+-- a text by its pieces, one after another
+abbrev pub pieces : List (List ℕ) → List ℕ
+pieces [] = []
+pieces (piece ∷ []) = piece
+pieces (piece ∷ next ∷ more) = piece ++ pieces (next ∷ more)
+
+-- What a view prints, by its parser's own relation: the text of the value that its octets are read as, or else that they are
+-- refused.
+pub record Shows {V : Type 0} (Reads : V → Type 0) (text : V → List ℕ) (refused : List ℕ) (Prints : List ℕ → Type 0) : Type 0 where
+  pub reads : (v : V) → Reads v → Prints (text v)
+  pub refuses : ((v : V) → Reads v → ⊥) → Prints refused
