@@ -6,3 +6,7 @@ pub mod Ipv6OptionFormat
 pub mod Ipv6OptionGrammar
 pub mod Ipv6OptionText
 pub mod Ipv6OptionTiles
+pub mod NdiscOptionFormat
+pub mod NdiscOptionGrammar
+pub mod NdiscOptionReading
+pub mod NdiscOptionTexts

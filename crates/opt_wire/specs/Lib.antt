@@ -6,4 +6,5 @@ pub mod Ipv6OptionDisplay
 pub mod Ipv6OptionModel
 pub mod Ipv6OptionTables
 pub mod NdiscOption
+pub mod NdiscOptionRepr
 pub mod NdiscOptionTables

@@ -16,8 +16,10 @@ use wirebase::{
     Result,
 };
 
+mod repr;
 mod tables;
 
+pub use repr::{PrefixInformation, RedirectedHeader, Repr};
 pub use tables::{PrefixInfoFlags, Type};
 
 // The parts of an option (RFC 4861 section 4.6). One unit is 8 bytes.
@@ -79,6 +81,14 @@ mod field {
         ensures end { result.end ≡ 8 * units }
     {
         2..UNIT * units as usize
+    }
+
+    // The redirected packet in an option of so many units.
+    pub fn redirected(units: u8) -> Field
+        ensures start { result.start ≡ 8 }
+        ensures end { result.end ≡ 8 * units }
+    {
+        REDIRECTED_RESERVED.end..UNIT * units as usize
     }
 
     // A link-layer address of so many bytes.
@@ -391,3 +401,6 @@ impl<T: Octets> Eq for NdiscOption<T> {
 
     ghost laws = { Prim.search (comparing, rules) };
 }
+
+#[cfg(test)]
+mod tests;

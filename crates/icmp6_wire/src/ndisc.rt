@@ -1,0 +1,209 @@
+//! Neighbor discovery (RFC 4861): what its messages have behind the checksum.
+#![tactic(auto, using(wirebase::proofs::Pieces::pieces))]
+
+ghost use Rattle.std.specs.Prelude.{◌≡◌, ◌*◌, ◌≤◌, [], ◌∷◌};
+ghost use Rattle.byteorder.specs.Endian.{big_bytes};
+ghost use Rattle.wirebase.specs.Bytes.{Reaches, bytes_of, byte_of, number_of};
+ghost use Rattle.wirebase.specs.Ipv6Address.{octets_of};
+ghost use Rattle.icmp6_wire.specs.Icmpv6Packet.{inner, Sets, KeepsLen};
+ghost use Rattle.icmp6_wire.specs.NdiscPacket.{hop_limit_field, router_flags_field, router_lifetime_field, reachable_time_field, retrans_time_field, neighbor_flags_field, target_addr_field, dest_addr_field, seconds, millis};
+ghost use Rattle.icmp6_wire.specs.NdiscTables.{router_bits, neighbor_bits, known_router, known_neighbor};
+
+use crate::icmpv6::Packet;
+use bitflags::Flags as _;
+use wirebase::{Duration, Ipv6Address, Octets, OctetsMut};
+
+mod flags;
+
+pub use flags::{NeighborFlags, RouterFlags};
+
+// The fields behind the checksum (RFC 4861 section 4).
+//
+// +---------------+---------------+-------------------------------+
+// |   hop limit   |     flags     |        router lifetime        |  a router advertisement
+// +---------------+---------------+-------------------------------+
+// |                         reachable time                        |
+// +---------------------------------------------------------------+
+// |                        retransmit time                        |
+// +---------------------------------------------------------------+
+//
+// +---------------+-----------------------------------------------+
+// |     flags     |                   reserved                    |  neighbor messages and redirects
+// +---------------+-----------------------------------------------+
+// |                    target address, 16 bytes                   |
+// +---------------------------------------------------------------+
+// |                  destination address, 16 bytes                |  a redirect
+// +---------------------------------------------------------------+
+mod field {
+    use wirebase::Field;
+
+    pub const HOP_LIMIT: Field = 4..5;
+
+    pub const ROUTER_FLAGS: Field = 5..6;
+
+    pub const ROUTER_LIFETIME: Field = 6..8;
+
+    pub const REACHABLE_TIME: Field = 8..12;
+
+    pub const RETRANS_TIME: Field = 12..16;
+
+    pub const NEIGHBOR_FLAGS: Field = 4..5;
+
+    pub const TARGET_ADDR: Field = 8..24;
+
+    pub const DEST_ADDR: Field = 24..40;
+}
+
+impl<T: Octets> Packet<T> {
+    /// The hop limit that a router advertisement asks hosts to set, 0 for none. Asks 5 bytes.
+    pub fn current_hop_limit(&self) -> u8
+        requires { Reaches hop_limit_field (T.bytes (inner self.now)) }
+        ensures { result ≡ byte_of hop_limit_field (T.bytes (inner self.now)) }
+    {
+        self.buffer.u8_at(field::HOP_LIMIT)
+    }
+
+    /// The flags of a router advertisement that have a name. Asks 6 bytes.
+    #[tactic(auto, unfolding(bitflags::specs::Sets::known_from))]
+    pub fn router_flags(&self) -> RouterFlags
+        requires { Reaches router_flags_field (T.bytes (inner self.now)) }
+        ensures { router_bits result ≡ known_router (byte_of router_flags_field (T.bytes (inner self.now))) }
+    {
+        RouterFlags::from_bits_truncate(self.buffer.u8_at(field::ROUTER_FLAGS))
+    }
+
+    /// How long the sender of a router advertisement is a default router, in whole seconds. Asks 8 bytes.
+    pub fn router_lifetime(&self) -> Duration
+        requires { Reaches router_lifetime_field (T.bytes (inner self.now)) }
+        ensures { result ≡ 1000000 * number_of router_lifetime_field (T.bytes (inner self.now)) }
+    {
+        Duration::from_secs(self.buffer.u16_at(field::ROUTER_LIFETIME) as u64)
+    }
+
+    /// How long a neighbor counts as reachable, in whole milliseconds; 0 where it is not told. Asks 12 bytes.
+    pub fn reachable_time(&self) -> Duration
+        requires { Reaches reachable_time_field (T.bytes (inner self.now)) }
+        ensures { result ≡ 1000 * number_of reachable_time_field (T.bytes (inner self.now)) }
+    {
+        Duration::from_millis(self.buffer.u32_at(field::REACHABLE_TIME) as u64)
+    }
+
+    /// The time between solicitations, in whole milliseconds; 0 where it is not told. Asks 16 bytes.
+    pub fn retrans_time(&self) -> Duration
+        requires { Reaches retrans_time_field (T.bytes (inner self.now)) }
+        ensures { result ≡ 1000 * number_of retrans_time_field (T.bytes (inner self.now)) }
+    {
+        Duration::from_millis(self.buffer.u32_at(field::RETRANS_TIME) as u64)
+    }
+
+    /// The address that a neighbor message or a redirect speaks of. Asks 24 bytes.
+    pub fn target_addr(&self) -> Ipv6Address
+        requires { Reaches target_addr_field (T.bytes (inner self.now)) }
+        ensures { octets_of result ≡ bytes_of target_addr_field (T.bytes (inner self.now)) }
+    {
+        Ipv6Address::from_octets(self.buffer.field(field::TARGET_ADDR).try_into().unwrap())
+    }
+
+    /// The flags of a neighbor advertisement that have a name. Asks 5 bytes.
+    #[tactic(auto, unfolding(bitflags::specs::Sets::known_from))]
+    pub fn neighbor_flags(&self) -> NeighborFlags
+        requires { Reaches neighbor_flags_field (T.bytes (inner self.now)) }
+        ensures { neighbor_bits result ≡ known_neighbor (byte_of neighbor_flags_field (T.bytes (inner self.now))) }
+    {
+        NeighborFlags::from_bits_truncate(self.buffer.u8_at(field::NEIGHBOR_FLAGS))
+    }
+
+    /// The destination that a redirect redirects. Asks 40 bytes.
+    pub fn dest_addr(&self) -> Ipv6Address
+        requires { Reaches dest_addr_field (T.bytes (inner self.now)) }
+        ensures { octets_of result ≡ bytes_of dest_addr_field (T.bytes (inner self.now)) }
+    {
+        Ipv6Address::from_octets(self.buffer.field(field::DEST_ADDR).try_into().unwrap())
+    }
+}
+
+impl<T: OctetsMut> Packet<T> {
+    /// Writes the hop limit that hosts are to set. Asks 5 bytes.
+    pub fn set_current_hop_limit(&mut self, value: u8)
+        requires { Reaches hop_limit_field (T.bytes (inner self.old)) }
+        ensures writes { Sets T.bytes T.put self.old self.new hop_limit_field (value ∷ []) }
+        ensures len { KeepsLen T.bytes self.old self.new }
+    {
+        self.buffer.set_u8(field::HOP_LIMIT, value);
+    }
+
+    /// Writes the flags of a router advertisement, all their bits. Asks 6 bytes.
+    pub fn set_router_flags(&mut self, flags: RouterFlags)
+        requires { Reaches router_flags_field (T.bytes (inner self.old)) }
+        ensures writes { Sets T.bytes T.put self.old self.new router_flags_field (router_bits flags ∷ []) }
+        ensures len { KeepsLen T.bytes self.old self.new }
+    {
+        self.buffer.set_u8(field::ROUTER_FLAGS, flags.bits());
+    }
+
+    /// Writes how long the sender is a default router, in whole seconds; what is past them is left out. Asks 8 bytes,
+    /// and 65,535 seconds at most.
+    pub fn set_router_lifetime(&mut self, value: Duration)
+        requires room { Reaches router_lifetime_field (T.bytes (inner self.old)) }
+        requires fits { seconds value ≤ 65535 }
+        ensures writes { Sets T.bytes T.put self.old self.new router_lifetime_field (big_bytes 2 (seconds value)) }
+        ensures len { KeepsLen T.bytes self.old self.new }
+    {
+        self.buffer
+            .set_u16(field::ROUTER_LIFETIME, value.secs() as u16);
+    }
+
+    /// Writes how long a neighbor counts as reachable, in whole milliseconds; what is past them is left out. Asks 12
+    /// bytes, and 4,294,967,295 milliseconds at most.
+    pub fn set_reachable_time(&mut self, value: Duration)
+        requires room { Reaches reachable_time_field (T.bytes (inner self.old)) }
+        requires fits { millis value ≤ 4294967295 }
+        ensures writes { Sets T.bytes T.put self.old self.new reachable_time_field (big_bytes 4 (millis value)) }
+        ensures len { KeepsLen T.bytes self.old self.new }
+    {
+        self.buffer
+            .set_u32(field::REACHABLE_TIME, value.total_millis() as u32);
+    }
+
+    /// Writes the time between solicitations, in whole milliseconds; what is past them is left out. Asks 16 bytes, and
+    /// 4,294,967,295 milliseconds at most.
+    pub fn set_retrans_time(&mut self, value: Duration)
+        requires room { Reaches retrans_time_field (T.bytes (inner self.old)) }
+        requires fits { millis value ≤ 4294967295 }
+        ensures writes { Sets T.bytes T.put self.old self.new retrans_time_field (big_bytes 4 (millis value)) }
+        ensures len { KeepsLen T.bytes self.old self.new }
+    {
+        self.buffer
+            .set_u32(field::RETRANS_TIME, value.total_millis() as u32);
+    }
+
+    /// Writes the address that the message speaks of. Asks 24 bytes.
+    pub fn set_target_addr(&mut self, value: Ipv6Address)
+        requires { Reaches target_addr_field (T.bytes (inner self.old)) }
+        ensures writes { Sets T.bytes T.put self.old self.new target_addr_field (octets_of value) }
+        ensures len { KeepsLen T.bytes self.old self.new }
+    {
+        self.buffer.set_bytes(field::TARGET_ADDR, &value.octets());
+    }
+
+    /// Writes the flags of a neighbor advertisement, all their bits. Asks 5 bytes.
+    pub fn set_neighbor_flags(&mut self, flags: NeighborFlags)
+        requires { Reaches neighbor_flags_field (T.bytes (inner self.old)) }
+        ensures writes { Sets T.bytes T.put self.old self.new neighbor_flags_field (neighbor_bits flags ∷ []) }
+        ensures len { KeepsLen T.bytes self.old self.new }
+    {
+        self.buffer.set_u8(field::NEIGHBOR_FLAGS, flags.bits());
+    }
+
+    /// Writes the destination that a redirect redirects. Asks 40 bytes.
+    pub fn set_dest_addr(&mut self, value: Ipv6Address)
+        requires { Reaches dest_addr_field (T.bytes (inner self.old)) }
+        ensures writes { Sets T.bytes T.put self.old self.new dest_addr_field (octets_of value) }
+        ensures len { KeepsLen T.bytes self.old self.new }
+    {
+        self.buffer.set_bytes(field::DEST_ADDR, &value.octets());
+    }
+}
+
+#[cfg(test)]
+mod tests;

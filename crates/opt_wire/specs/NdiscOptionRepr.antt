@@ -1,0 +1,223 @@
+-- Options of neighbour discovery (RFC 4861 section 4.6) by their content: their text, what is read in a block, and the format.
+use Rattle.std.specs.Prelude.{◌≡◌, ◌≢◌, ℕ, ◌+◌, ◌-◌, ◌*◌, ◌/◌, ◌≤◌, ◌<◌, ◌^◌, nat_lt, if◌then◌else◌, List, [], ◌∷◌, ◌++◌, codes, decimal, length, replicate}
+use Rattle.wirebase.specs.Bytes.{bytes_of, byte_of, number_of, over}
+use Rattle.wirebase.specs.ByteWriter.{be8, be16, be32, fields}
+use Rattle.wirebase.specs.Ethernet.{hex_colons}
+use Rattle.wirebase.specs.Format.{Format, RoundTrips}
+use Rattle.wirebase.specs.Ip.{protocol_number, protocol_rows}
+use Rattle.wirebase.specs.Ipv6.{IsPacket, payload_field, header_text, header_display}
+use Rattle.wirebase.specs.Ipv6Address.{octets_of, address_text, IsLinkLocal}
+use Rattle.wirebase.specs.Numbered.{IsProper}
+use Rattle.wirebase.specs.declared.ip.IpProtocol.TheVariants as protocol
+use Rattle.wirebase.specs.declared.ipv6.Ipv6Repr.{Ipv6Repr}
+use Rattle.opt_wire.specs.NdiscOption.{type_field, prefix_len_field, prefix_flags_field, valid_lifetime_field, preferred_lifetime_field, prefix_field, mtu_field, units_in, data_field, link_addr_field, redirected_field, BeginsWithBlock}
+use Rattle.opt_wire.specs.NdiscOptionTables.{flag_bits, known, IsKnown, HasAddrconf}
+use Rattle.opt_wire.specs.declared.ndiscoption.repr.PrefixInformation.{PrefixInformation}
+use Rattle.opt_wire.specs.declared.ndiscoption.repr.Repr.{Repr}
+use Rattle.opt_wire.specs.declared.ndiscoption.repr.Repr.TheVariants as repr
+
+-- an option by its content: a link-layer address of the source or of the target, a prefix, a redirected packet by its header and
+-- its payload, an MTU, or a type, units and data
+pub data OptionValue : Type 0 where
+  source : List ℕ → OptionValue
+  target : List ℕ → OptionValue
+  prefix_ : PrefixInformation → OptionValue
+  redirected : Ipv6Repr → List ℕ → OptionValue
+  mtu : ℕ → OptionValue
+  unknown : ℕ → ℕ → List ℕ → OptionValue
+
+abbrev pub value_of : Repr → OptionValue
+value_of (repr.SourceLinkLayerAddr address) = source address
+value_of (repr.TargetLinkLayerAddr address) = target address
+value_of (repr.PrefixInformation p) = prefix_ p
+value_of (repr.RedirectedHeader r) = redirected r.header r.«data».now
+value_of (repr.Mtu n) = mtu n
+value_of (repr.Unknown t n d) = unknown t n d.now
+
+-- times are held in microseconds and sent in whole seconds
+abbrev pub seconds : ℕ → ℕ
+seconds micros = micros / 1000000
+
+-- the prefix may be used to make addresses of (RFC 4862 section 5.5.3, a to c)
+pub record IsValidPrefix (p : PrefixInformation) : Type 0 where
+  pub autonomous : HasAddrconf p.flags
+  pub global : IsLinkLocal p.prefix → ⊥
+  pub order : p.preferred_lifetime ≤ p.valid_lifetime
+
+-- ---- texts
+
+-- the units of 8 bytes that so many bytes take, and the bytes that are left of the last
+abbrev pub units : ℕ → ℕ
+units count = (count + 7) / 8
+
+abbrev pub padding : ℕ → List ℕ
+padding count = replicate (8 * units count - count) 0
+
+abbrev pub link_fields : ℕ → List ℕ → List (List ℕ)
+link_fields t address = be8 t ∷ be8 (units (2 + length address)) ∷ address ∷ padding (2 + length address) ∷ []
+
+abbrev pub prefix_fields : PrefixInformation → List (List ℕ)
+prefix_fields p =
+    be8 3 ∷ be8 4 ∷ be8 p.prefix_len ∷ be8 (flag_bits p.flags)
+    ∷ be32 (seconds p.valid_lifetime)
+    ∷ be32 (seconds p.preferred_lifetime)
+    ∷ be32 0
+    ∷ octets_of p.prefix ∷ []
+
+abbrev pub redirected_fields : Ipv6Repr → List ℕ → List (List ℕ)
+redirected_fields h d =
+    be8 4 ∷ be8 (units (48 + length d)) ∷ be16 0 ∷ be32 0 ∷ header_text h ∷ d ∷ padding (48 + length d) ∷ []
+
+abbrev pub mtu_fields : ℕ → List (List ℕ)
+mtu_fields n = be8 5 ∷ be8 1 ∷ be16 0 ∷ be32 n ∷ []
+
+abbrev pub unknown_fields : ℕ → ℕ → List ℕ → List (List ℕ)
+unknown_fields t n d = be8 t ∷ be8 n ∷ d ∷ []
+
+abbrev pub option_fields : OptionValue → List (List ℕ)
+option_fields (source address) = link_fields 1 address
+option_fields (target address) = link_fields 2 address
+option_fields (prefix_ p) = prefix_fields p
+option_fields (redirected h d) = redirected_fields h d
+option_fields (mtu n) = mtu_fields n
+option_fields (unknown t n d) = unknown_fields t n d
+
+abbrev pub text : OptionValue → List ℕ
+text v = fields (option_fields v)
+
+-- the bytes that it counts, whatever data it holds
+abbrev pub text_len : OptionValue → ℕ
+text_len (source address) = 8 * units (2 + length address)
+text_len (target address) = 8 * units (2 + length address)
+text_len (prefix_ p) = 32
+text_len (redirected h d) = 8 * units (48 + length d)
+text_len (mtu n) = 8
+text_len (unknown t n d) = 8 * n
+
+-- a time whose whole seconds fit their field
+abbrev pub HasSeconds : ℕ → Type 0
+HasSeconds micros = seconds micros ≤ 4294967295
+
+-- What is asked of a value that is written: seconds that fit, a redirected header that counts the data behind it as its
+-- payload and as much of it as an option can hold, and data that fills the units that an unknown option counts.
+abbrev pub CanEmit : OptionValue → Type 0
+CanEmit (source address) = length address ≤ 8
+CanEmit (target address) = length address ≤ 8
+CanEmit (prefix_ p) = HasSeconds p.valid_lifetime × HasSeconds p.preferred_lifetime
+CanEmit (redirected h d) = (h.payload_len ≡ length d) × (length d ≤ 1992)
+CanEmit (mtu n) = Unit {0}
+CanEmit (unknown t n d) = (1 ≤ n) × (2 + length d ≡ 8 * n)
+
+-- ---- what is read in a block
+
+-- a link-layer address of this type
+pub record IsLinkAddr (t : ℕ) (bytes address : List ℕ) : Type 0 where
+  pub kind : byte_of type_field bytes ≡ t
+  pub address_ : address ≡ bytes_of (link_addr_field bytes) bytes
+
+-- a prefix: four units
+pub record IsPrefix (bytes : List ℕ) (p : PrefixInformation) : Type 0 where
+  pub kind : byte_of type_field bytes ≡ 3
+  pub count : units_in bytes ≡ 4
+  pub len : p.prefix_len ≡ byte_of prefix_len_field bytes
+  pub flags : flag_bits p.flags ≡ known (byte_of prefix_flags_field bytes)
+  pub valid : p.valid_lifetime ≡ 1000000 * number_of valid_lifetime_field bytes
+  pub preferred : p.preferred_lifetime ≡ 1000000 * number_of preferred_lifetime_field bytes
+  pub octets : octets_of p.prefix ≡ bytes_of prefix_field bytes
+
+-- a redirected packet: from byte 8 on stands an IPv6 packet that is whole
+pub record IsRedirected (bytes : List ℕ) (h : Ipv6Repr) (d : List ℕ) : Type 0 where
+  pub kind : byte_of type_field bytes ≡ 4
+  pub packet : IsPacket (bytes_of (redirected_field bytes) bytes) h
+  pub payload : d ≡ bytes_of (payload_field (bytes_of (redirected_field bytes) bytes)) (bytes_of (redirected_field bytes) bytes)
+
+-- an MTU: one unit
+pub record IsMtu (bytes : List ℕ) (n : ℕ) : Type 0 where
+  pub kind : byte_of type_field bytes ≡ 5
+  pub count : units_in bytes ≡ 1
+  pub number : n ≡ number_of mtu_field bytes
+
+-- a type without a name
+abbrev pub IsUnnamed : ℕ → Type 0
+IsUnnamed t = (t ≢ 1) × (t ≢ 2) × (t ≢ 3) × (t ≢ 4) × (t ≢ 5)
+
+pub record IsUnknown (bytes : List ℕ) (t n : ℕ) (d : List ℕ) : Type 0 where
+  pub kind : byte_of type_field bytes ≡ t
+  pub unnamed : IsUnnamed t
+  pub count : n ≡ units_in bytes
+  pub data_ : d ≡ bytes_of (data_field bytes) bytes
+
+-- a block is read as this option; a prefix or an MTU of other units, and a redirected packet that isn't whole, aren't read
+abbrev pub IsReading : List ℕ → OptionValue → Type 0
+IsReading bytes (source address) = IsLinkAddr 1 bytes address
+IsReading bytes (target address) = IsLinkAddr 2 bytes address
+IsReading bytes (prefix_ p) = IsPrefix bytes p
+IsReading bytes (redirected h d) = IsRedirected bytes h d
+IsReading bytes (mtu n) = IsMtu bytes n
+IsReading bytes (unknown t n d) = IsUnknown bytes t n d
+
+-- The grammar: the bytes begin with a block, and it is read as this option.
+pub record BeginsWith (bytes : List ℕ) (v : OptionValue) : Type 0 where
+  pub block : BeginsWithBlock bytes
+  pub reading : IsReading bytes v
+
+-- ---- canonical values and the normal form
+
+-- a value that its own text gives back as its normal form
+pub record IsCanonicalPrefix (p : PrefixInformation) : Type 0 where
+  pub len : p.prefix_len < 256
+  pub flags : IsKnown (flag_bits p.flags)
+  pub valid : HasSeconds p.valid_lifetime
+  pub preferred : HasSeconds p.preferred_lifetime
+
+pub record IsCanonicalRedirected (h : Ipv6Repr) (d : List ℕ) : Type 0 where
+  pub proper : IsProper protocol.Unknown protocol_rows h.next_header
+  pub protocol_ : protocol_number h.next_header < 256
+  pub hops : h.hop_limit < 256
+  pub payload : h.payload_len ≡ length d
+  pub small : length d ≤ 1992
+
+abbrev pub IsCanonical : OptionValue → Type 0
+IsCanonical (source address) = length address ≤ 8
+IsCanonical (target address) = length address ≤ 8
+IsCanonical (prefix_ p) = IsCanonicalPrefix p
+IsCanonical (redirected h d) = IsCanonicalRedirected h d
+IsCanonical (mtu n) = n < 2 ^ 32
+IsCanonical (unknown t n d) = IsUnnamed t × (t < 256) × (1 ≤ n) × (n < 256) × (2 + length d ≡ 8 * n)
+
+-- an address fills its option up to 6 bytes, or up to 8
+abbrev pub filled : List ℕ → List ℕ
+filled address = address ++ replicate ((if nat_lt 6 (length address) then 8 else 6) - length address) 0
+
+-- a time in whole seconds
+abbrev pub whole : ℕ → ℕ
+whole micros = 1000000 * seconds micros
+
+-- the normal form: link-layer addresses filled with zeros, and times in whole seconds
+abbrev pub norm : OptionValue → OptionValue
+norm (source address) = source (filled address)
+norm (target address) = target (filled address)
+norm (prefix_ p) = prefix_ (record p { valid_lifetime = whole p.valid_lifetime; preferred_lifetime = whole p.preferred_lifetime })
+norm v = v
+
+-- the format; no value is an exception, and what is read is its own normal form
+abbrev pub format : Format OptionValue
+format = record { Reads = BeginsWith; Fills = Unit {0}; text = text; IsCanonical = IsCanonical; IsException = λ v. ⊥; norm = norm; IsCut = λ v. ⊥ }
+
+-- What writing an option leaves where `old` stood: its text over the front; where there is just its length, its text alone,
+-- and that of a canonical value is read back as its normal form, whatever stands behind.
+pub record Emits (v : OptionValue) (old new : List ℕ) : Type 0 where
+  pub text_ : new ≡ over old (text v)
+  pub exact : length old ≡ text_len v → new ≡ text v
+  pub reads_back : IsCanonical v → BeginsWith new (norm v)
+  pub round_trips : RoundTrips format v
+
+-- ---- what an option prints
+
+abbrev pub display : OptionValue → List ℕ
+display (source address) = codes "NDISC Option: SourceLinkLayer addr=" ++ hex_colons address
+display (target address) = codes "NDISC Option: TargetLinkLayer addr=" ++ hex_colons address
+display (prefix_ p) = codes "NDISC Option: PrefixInformation prefix=" ++ address_text p.prefix ++ codes "/" ++ decimal p.prefix_len
+display (redirected h d) = codes "NDISC Option: RedirectedHeader header=" ++ header_display h
+display (mtu n) = codes "NDISC Option: MTU mtu=" ++ decimal n
+display (unknown t n d) = codes "NDISC Option: Unknown(" ++ decimal t ++ codes ") length=" ++ decimal n

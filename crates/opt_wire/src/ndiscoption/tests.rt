@@ -1,0 +1,404 @@
+use super::{NdiscOption, PrefixInfoFlags, PrefixInformation, RedirectedHeader, Repr, Type};
+use bitflags::Flags as _;
+use std::test::Fail;
+use wirebase::{Duration, Error, IpProtocol, Ipv6Address, Ipv6Repr, RawHardwareAddress};
+
+fn here() -> Ipv6Address {
+    Ipv6Address::new(0xfe80, 0, 0, 0, 0, 0, 0, 1)
+}
+
+fn there() -> Ipv6Address {
+    Ipv6Address::new(0xfe80, 0, 0, 0, 0, 0, 0, 2)
+}
+
+// fe80::1/64 with all flags, valid for 900 seconds and preferred for 1,000.
+const PREFIX: [u8; 32] = [
+    0x03, 0x04, 0x40, 0xc0, 0x00, 0x00, 0x03, 0x84, 0x00, 0x00, 0x03, 0xe8, 0x00, 0x00, 0x00, 0x00,
+    0xfe, 0x80, 0, 0, 0, 0, 0, 0, 0, 0, 0, 0, 0, 0, 0, 0x01,
+];
+
+fn prefix_information() -> PrefixInformation {
+    PrefixInformation {
+        prefix_len: 64,
+        flags: PrefixInfoFlags::ON_LINK | PrefixInfoFlags::ADDRCONF,
+        valid_lifetime: Duration::from_secs(900),
+        preferred_lifetime: Duration::from_secs(1_000),
+        prefix: here(),
+    }
+}
+
+// From fe80::1 to fe80::2, 4 bytes of UDP.
+const REDIRECTED: [u8; 56] = [
+    0x04, 0x07, 0, 0, 0, 0, 0, 0, 0x60, 0x00, 0x00, 0x00, 0x00, 0x04, 0x11, 0x40, 0xfe, 0x80, 0, 0,
+    0, 0, 0, 0, 0, 0, 0, 0, 0, 0, 0, 0x01, 0xfe, 0x80, 0, 0, 0, 0, 0, 0, 0, 0, 0, 0, 0, 0, 0, 0x02,
+    0xaa, 0xbb, 0xcc, 0xdd, 0x00, 0x00, 0x00, 0x00,
+];
+
+fn redirected_header() -> RedirectedHeader<'static> {
+    RedirectedHeader {
+        header: Ipv6Repr {
+            src_addr: here(),
+            dst_addr: there(),
+            next_header: IpProtocol::Udp,
+            payload_len: 4,
+            hop_limit: 64,
+        },
+        data: &[0xaa, 0xbb, 0xcc, 0xdd],
+    }
+}
+
+// What reading these bytes gives.
+fn read(bytes: &[u8]) -> Result<Repr<'_>, Error> {
+    Repr::parse(&NdiscOption::new_unchecked(bytes))
+}
+
+#[test]
+fn options_read_and_written(rt: HostRuntime) {
+    let ethernet = RawHardwareAddress::from_bytes(&[0x52, 0x54, 0x00, 0x12, 0x34, 0x56]);
+    let eight = RawHardwareAddress::from_bytes(&[1, 2, 3, 4, 5, 6, 7, 8]);
+    let rows: [(Repr<'_>, &[u8]); 7] = [
+        (
+            Repr::SourceLinkLayerAddr(ethernet),
+            &[0x01, 0x01, 0x52, 0x54, 0x00, 0x12, 0x34, 0x56],
+        ),
+        (
+            Repr::TargetLinkLayerAddr(ethernet),
+            &[0x02, 0x01, 0x52, 0x54, 0x00, 0x12, 0x34, 0x56],
+        ),
+        (
+            Repr::TargetLinkLayerAddr(eight),
+            &[0x02, 0x02, 1, 2, 3, 4, 5, 6, 7, 8, 0, 0, 0, 0, 0, 0],
+        ),
+        (Repr::PrefixInformation(prefix_information()), &PREFIX),
+        (Repr::RedirectedHeader(redirected_header()), &REDIRECTED),
+        (
+            Repr::Mtu(1_500),
+            &[0x05, 0x01, 0x00, 0x00, 0x00, 0x00, 0x05, 0xdc],
+        ),
+        (
+            Repr::Unknown {
+                type_: 14,
+                length: 1,
+                data: &[1, 2, 3, 4, 5, 6],
+            },
+            &[0x0e, 0x01, 1, 2, 3, 4, 5, 6],
+        ),
+    ];
+    for (repr, bytes) in rows {
+        assert_eq!(rt; read(bytes), Ok(repr));
+        assert_eq!(rt; repr.buffer_len(), bytes.len());
+        for filler in [0x00, 0xff, 0x2a] {
+            let mut buffer = [filler; 64];
+            repr.emit_into(&mut buffer);
+            assert_eq!(rt; &buffer[..bytes.len()], bytes);
+            assert_eq!(rt; &buffer[bytes.len()..], &[filler; 64][bytes.len()..]);
+        }
+    }
+}
+
+#[test]
+fn addresses_of_other_lengths(rt: HostRuntime) {
+    // An address, its option, and the address that is read in it.
+    let rows: [(&[u8], &[u8], &[u8]); 4] = [
+        (&[], &[0x01, 0x01, 0, 0, 0, 0, 0, 0], &[0; 6]),
+        (
+            &[0xaa],
+            &[0x01, 0x01, 0xaa, 0, 0, 0, 0, 0],
+            &[0xaa, 0, 0, 0, 0, 0],
+        ),
+        (
+            &[1, 2, 3, 4, 5, 6, 7],
+            &[0x01, 0x02, 1, 2, 3, 4, 5, 6, 7, 0, 0, 0, 0, 0, 0, 0],
+            &[1, 2, 3, 4, 5, 6, 7, 0],
+        ),
+        (
+            &[1, 2, 3, 4, 5, 6, 7, 8],
+            &[0x01, 0x02, 1, 2, 3, 4, 5, 6, 7, 8, 0, 0, 0, 0, 0, 0],
+            &[1, 2, 3, 4, 5, 6, 7, 8],
+        ),
+    ];
+    for (address, bytes, again) in rows {
+        let repr = Repr::SourceLinkLayerAddr(RawHardwareAddress::from_bytes(address));
+        let mut buffer = [0xff; 16];
+        let len = repr.buffer_len();
+        repr.emit_into(&mut buffer[..len]);
+        assert_eq!(rt; &buffer[..len], bytes);
+        let value = Repr::SourceLinkLayerAddr(RawHardwareAddress::from_bytes(again));
+        assert_eq!(rt; read(bytes), Ok(value));
+    }
+}
+
+#[test]
+fn long_address_options_are_written_shorter(rt: HostRuntime) {
+    let mut bytes = [0xaa; 24];
+    bytes[0] = 0x01;
+    bytes[1] = 0x03;
+    let repr = Repr::SourceLinkLayerAddr(RawHardwareAddress::from_bytes(&[0xaa; 8]));
+    assert_eq!(rt; read(&bytes), Ok(repr));
+    let mut buffer = [0x2a; 16];
+    repr.emit_into(&mut buffer);
+    let text = [
+        0x01, 0x02, 0xaa, 0xaa, 0xaa, 0xaa, 0xaa, 0xaa, 0xaa, 0xaa, 0, 0, 0, 0, 0, 0,
+    ];
+    assert_eq!(rt; buffer, text);
+}
+
+#[test]
+fn options_of_each_type_and_number_of_units(rt: HostRuntime) {
+    // The type, and for 0 to 6 units whether the option is whole, and whether it is read.
+    let rows = [
+        (0x00, [true; 7], [false, true, true, true, true, true, true]),
+        (0x01, [true; 7], [false, true, true, true, true, true, true]),
+        (0x02, [true; 7], [false, true, true, true, true, true, true]),
+        (
+            0x03,
+            [false, false, false, false, true, true, true],
+            [false, false, false, false, true, false, false],
+        ),
+        (
+            0x04,
+            [false, false, false, false, false, false, true],
+            [false; 7],
+        ),
+        (
+            0x05,
+            [true; 7],
+            [false, true, false, false, false, false, false],
+        ),
+        (0x06, [true; 7], [false, true, true, true, true, true, true]),
+        (0xff, [true; 7], [false, true, true, true, true, true, true]),
+    ];
+    for (kind, whole, reads) in rows {
+        for units in 0..7 {
+            let mut bytes = [0; 48];
+            bytes[0] = kind;
+            bytes[1] = units as u8;
+            let view = NdiscOption::new_unchecked(&bytes[..]);
+            assert_eq!(rt;
+                view.check_len().is_ok(),
+                whole[units],
+                "type {kind}, {units} units"
+            );
+            let checked = NdiscOption::new_checked(&bytes[..]);
+            assert_eq!(rt;
+                checked.is_ok(),
+                whole[units] && units > 0,
+                "type {kind}, {units} units"
+            );
+            assert_eq!(rt;
+                read(&bytes).is_ok(),
+                reads[units],
+                "type {kind}, {units} units"
+            );
+            // All units but for a byte.
+            if units > 1 {
+                assert!(rt;
+                    read(&bytes[..8 * units - 1]).is_err(),
+                    "type {kind}, {units} units"
+                );
+            }
+        }
+        assert!(rt;
+            read(&[kind, 1, 0, 0, 0, 0, 0]).is_err(),
+            "type {kind} in 7 bytes"
+        );
+    }
+}
+
+#[test]
+fn redirected_packets_that_are_not_whole(rt: HostRuntime) {
+    // A byte of the option that is another, and whether the option is still read.
+    let rows = [
+        (8, 0x6f, true),
+        (8, 0x40, false),
+        (13, 0x08, true),
+        (13, 0x09, false),
+        (12, 0x01, false),
+        (7, 0xff, true),
+    ];
+    for (at, value, reads) in rows {
+        let mut bytes = REDIRECTED;
+        bytes[at] = value;
+        assert_eq!(rt; read(&bytes).is_ok(), reads, "byte {at} is {value}");
+    }
+}
+
+#[test]
+fn flags_without_a_name_are_not_read(rt: HostRuntime) {
+    let mut bytes = PREFIX;
+    bytes[3] = 0xff;
+    assert_eq!(rt;
+        read(&bytes),
+        Ok(Repr::PrefixInformation(prefix_information()))
+    );
+}
+
+#[test]
+fn prefixes_that_addresses_are_made_of(rt: HostRuntime) {
+    let global = Ipv6Address::new(0x2001, 0x0db8, 0, 0, 0, 0, 0, 0);
+    // The flags, the prefix, the seconds that it is valid and preferred, and whether addresses are made of it.
+    let rows = [
+        (PrefixInfoFlags::ADDRCONF, global, 900, 900, true),
+        (
+            PrefixInfoFlags::ON_LINK | PrefixInfoFlags::ADDRCONF,
+            global,
+            900,
+            0,
+            true,
+        ),
+        (PrefixInfoFlags::ON_LINK, global, 900, 900, false),
+        (PrefixInfoFlags::ADDRCONF, here(), 900, 900, false),
+        (PrefixInfoFlags::ADDRCONF, global, 900, 901, false),
+    ];
+    for (flags, prefix, valid, preferred, is_valid) in rows {
+        let info = PrefixInformation {
+            prefix_len: 64,
+            flags,
+            valid_lifetime: Duration::from_secs(valid),
+            preferred_lifetime: Duration::from_secs(preferred),
+            prefix,
+        };
+        assert_eq!(rt;
+            info.is_valid_prefix_info(),
+            is_valid,
+            "valid {valid}, preferred {preferred}"
+        );
+    }
+    assert!(rt; !prefix_information().is_valid_prefix_info());
+}
+
+#[test]
+fn parts_of_a_second_are_left_out(rt: HostRuntime) {
+    let mut info = prefix_information();
+    info.valid_lifetime = Duration::from_micros(900_999_999);
+    let mut buffer = [0xff; 32];
+    Repr::PrefixInformation(info).emit_into(&mut buffer);
+    assert_eq!(rt; buffer, PREFIX);
+}
+
+#[test]
+fn options_in_words(rt: HostRuntime) -> Result<(), Fail> {
+    let ethernet = RawHardwareAddress::from_bytes(&[0x52, 0x54, 0x00, 0x12, 0x34, 0x56]);
+    let rows = [
+        (
+            Repr::SourceLinkLayerAddr(ethernet),
+            "NDISC Option: SourceLinkLayer addr=52:54:00:12:34:56",
+        ),
+        (
+            Repr::TargetLinkLayerAddr(ethernet),
+            "NDISC Option: TargetLinkLayer addr=52:54:00:12:34:56",
+        ),
+        (
+            Repr::PrefixInformation(prefix_information()),
+            "NDISC Option: PrefixInformation prefix=fe80::1/64",
+        ),
+        (
+            Repr::RedirectedHeader(redirected_header()),
+            "NDISC Option: RedirectedHeader header=IPv6 src=fe80::1 dst=fe80::2 nxt_hdr=17 hop_limit=64",
+        ),
+        (Repr::Mtu(1_500), "NDISC Option: MTU mtu=1500"),
+        (
+            Repr::Unknown {
+                type_: 14,
+                length: 1,
+                data: &[0; 6],
+            },
+            "NDISC Option: Unknown(14) length=1",
+        ),
+    ];
+    for (repr, text) in rows {
+        assert_eq!(rt; repr.to_string(rt.alloc())?.as_str(), text);
+    }
+    Ok(())
+}
+
+#[test]
+fn types_and_their_numbers(rt: HostRuntime) -> Result<(), Fail> {
+    let rows = [
+        (1, Type::SourceLinkLayerAddr, "source link-layer address"),
+        (2, Type::TargetLinkLayerAddr, "target link-layer address"),
+        (3, Type::PrefixInformation, "prefix information"),
+        (4, Type::RedirectedHeader, "redirected header"),
+        (5, Type::Mtu, "mtu"),
+        (0, Type::Unknown(0), "0"),
+        (14, Type::Unknown(14), "14"),
+    ];
+    for (number, kind, text) in rows {
+        assert_eq!(rt; Type::from(number), kind);
+        assert_eq!(rt; u8::from(kind), number);
+        assert_eq!(rt; kind.to_string(rt.alloc())?.as_str(), text);
+    }
+    assert!(rt; Type::SourceLinkLayerAddr < Type::TargetLinkLayerAddr);
+    assert!(rt; Type::Mtu < Type::Unknown(0));
+    assert!(rt; Type::Unknown(0) < Type::Unknown(14));
+    Ok(())
+}
+
+#[test]
+fn sets_of_flags(rt: HostRuntime) {
+    let both = PrefixInfoFlags::ON_LINK | PrefixInfoFlags::ADDRCONF;
+    assert_eq!(rt; both.bits(), 0xc0);
+    assert_eq!(rt; PrefixInfoFlags::all(), both);
+    assert_eq!(rt; PrefixInfoFlags::empty().bits(), 0);
+    assert_eq!(rt; PrefixInfoFlags::from_bits(0xc1), None);
+    assert_eq!(rt; PrefixInfoFlags::from_bits_truncate(0xc1), both);
+    assert_eq!(rt; PrefixInfoFlags::from_bits_retain(0xc1).bits(), 0xc1);
+    assert_eq!(rt; (!PrefixInfoFlags::ON_LINK), PrefixInfoFlags::ADDRCONF);
+    assert_eq!(rt;
+        (both - PrefixInfoFlags::ON_LINK),
+        PrefixInfoFlags::ADDRCONF
+    );
+    assert_eq!(rt; (both & PrefixInfoFlags::ON_LINK), PrefixInfoFlags::ON_LINK);
+    assert_eq!(rt;
+        (both ^ PrefixInfoFlags::ON_LINK),
+        PrefixInfoFlags::ADDRCONF
+    );
+    assert!(rt; both.contains(PrefixInfoFlags::ON_LINK));
+    assert!(rt; !PrefixInfoFlags::ON_LINK.intersects(PrefixInfoFlags::ADDRCONF));
+    let mut flags = PrefixInfoFlags::empty();
+    flags.insert(PrefixInfoFlags::ON_LINK);
+    flags.toggle(both);
+    assert_eq!(rt; flags, PrefixInfoFlags::ADDRCONF);
+    flags.remove(both);
+    assert!(rt; flags.is_empty());
+}
+
+#[test]
+fn fields_by_their_places(rt: HostRuntime) {
+    let mut bytes = [0xff; 32];
+    let mut view = NdiscOption::new_unchecked(&mut bytes[..]);
+    view.set_option_type(Type::PrefixInformation);
+    view.set_data_len(4);
+    view.set_prefix_len(64);
+    view.set_prefix_flags(PrefixInfoFlags::all());
+    view.set_valid_lifetime(Duration::from_secs(900));
+    view.set_preferred_lifetime(Duration::from_secs(1_000));
+    view.clear_prefix_reserved();
+    view.set_prefix(here());
+    assert_eq!(rt; bytes, PREFIX);
+
+    let view = NdiscOption::new_unchecked(&bytes[..]);
+    assert_eq!(rt; view.option_type(), Type::PrefixInformation);
+    assert_eq!(rt; view.data_len(), 4);
+    assert_eq!(rt; view.prefix_len(), 64);
+    assert_eq!(rt; view.prefix_flags(), PrefixInfoFlags::all());
+    assert_eq!(rt; view.valid_lifetime(), Duration::from_secs(900));
+    assert_eq!(rt; view.preferred_lifetime(), Duration::from_secs(1_000));
+    assert_eq!(rt; view.prefix(), here());
+    assert_eq!(rt; view.data(), &PREFIX[2..]);
+    assert_eq!(rt; view.mtu(), 900);
+    assert_eq!(rt; view.link_layer_addr().as_bytes(), &PREFIX[2..10]);
+
+    let mut bytes = [0xff; 8];
+    let mut view = NdiscOption::new_unchecked(&mut bytes[..]);
+    view.clear_redirected_reserved();
+    view.set_mtu(1_500);
+    assert_eq!(rt;
+        view,
+        NdiscOption::new_unchecked(&mut [0xff, 0xff, 0, 0, 0, 0, 0x05, 0xdc][..])
+    );
+    view.set_data_len(1);
+    view.set_link_layer_addr(RawHardwareAddress::from_bytes(&[1, 2, 3]));
+    assert_eq!(rt; &*view.data_mut(), [1, 2, 3, 0, 0x05, 0xdc].as_slice());
+    assert_eq!(rt; view.into_inner().len(), 8);
+}
