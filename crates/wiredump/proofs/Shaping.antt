@@ -1,0 +1,67 @@
+-- The shape of a line, of which the first five words are known.
+use Rattle.std.proofs.Common.{◌≡◌, ◌≢◌, ℕ, ◌+◌, ◌-◌, ◌<◌, ◌≤◌, Bool, true, false, List, [], ◌∷◌, length, get_or, take, drop, refl, ap, sym, ◌∙◌, arith, drop-cons, add-one}
+use Rattle.std.proofs.lemmas.Bool.{le-leb}
+use Rattle.std.specs.Prelude.{map}
+use Rattle.wiredump.specs.Lines.{are_short}
+use Rattle.wiredump.specs.Words.{word_of}
+use Rattle.wiredump.specs.Listing.{Shape, bad, command_of, shape_with, shape_of, shape_of_words}
+use Rattle.wiredump.proofs.Keeping.{both_bad, le-leb-false}
+
+few : (words : List (List ℕ)) → shape_of (take 5 words) ≡ shape_of words
+few [] = refl
+few (a ∷ []) = refl
+few (a ∷ b ∷ []) = refl
+few (a ∷ b ∷ c ∷ []) = refl
+few (a ∷ b ∷ c ∷ d ∷ []) = refl
+few (a ∷ b ∷ c ∷ d ∷ e ∷ words) = both_bad (are_short (a ∷ b ∷ c ∷ d ∷ e ∷ [])) ∙ sym (both_bad (are_short (a ∷ b ∷ c ∷ d ∷ e ∷ words)))
+
+module _ {X : Type 0} (now : X → List ℕ) (xs : List X) (words : List (List ℕ)) (are : map now xs ≡ take 5 words) where
+  same : shape_of words ≡ shape_of (map now xs)
+  same = sym (few words) ∙ ap shape_of (sym are)
+
+  pub shape_of-long_words : are_short (map now xs) ≡ false → shape_of words ≡ bad
+  shape_of-long_words long = same ∙ rw long refl
+
+  pub shape_of-one : length xs ≢ 0 → length xs < 2 → shape_of words ≡ bad
+  shape_of-one some one = same ∙ at xs some one
+    where
+      at : (xs : List X) → length xs ≢ 0 → length xs < 2 → shape_of (map now xs) ≡ bad
+      at [] some one = absurd (some refl)
+      at (a ∷ []) some one = both_bad (are_short (now a ∷ []))
+      at (a ∷ b ∷ xs) some one = absurd (omega (arith, one))
+
+  pub shape_of-many : 4 < length xs → shape_of words ≡ bad
+  shape_of-many many = same ∙ at xs many
+    where
+      at : (xs : List X) → 4 < length xs → shape_of (map now xs) ≡ bad
+      at [] many = absurd (omega (arith, many))
+      at (a ∷ []) many = absurd (omega (arith, many))
+      at (a ∷ b ∷ []) many = absurd (omega (arith, many))
+      at (a ∷ b ∷ c ∷ []) many = absurd (omega (arith, many))
+      at (a ∷ b ∷ c ∷ d ∷ []) many = absurd (omega (arith, many))
+      at (a ∷ b ∷ c ∷ d ∷ e ∷ xs) many = both_bad (are_short (map now (a ∷ b ∷ c ∷ d ∷ e ∷ xs)))
+
+  -- a command, the words for it and a packet
+  pub shape_of-command : (x : X) → are_short (map now xs) ≡ true → 2 ≤ length xs → length xs ≤ 4
+      → shape_of words ≡ shape_with (command_of (now (get_or xs 0 x)) (map now (take (length xs - 1 - 1) (drop 1 xs)))) (word_of (now (get_or xs (length xs - 1) x)))
+  shape_of-command x short two four = same ∙ at xs short two four
+    where
+      at : (xs : List X) → are_short (map now xs) ≡ true → 2 ≤ length xs → length xs ≤ 4
+          → shape_of (map now xs) ≡ shape_with (command_of (now (get_or xs 0 x)) (map now (take (length xs - 1 - 1) (drop 1 xs)))) (word_of (now (get_or xs (length xs - 1) x)))
+      at [] short two four = absurd (omega (arith, two))
+      at (a ∷ []) short two four = absurd (omega (arith, two))
+      at (a ∷ b ∷ []) short two four = rw short refl
+      at (a ∷ b ∷ c ∷ []) short two four = rw short refl
+      at (a ∷ b ∷ c ∷ d ∷ []) short two four = rw short refl
+      at (a ∷ b ∷ c ∷ d ∷ e ∷ xs) short two four = absurd (omega (arith, four))
+
+-- one word more is short, or is not
+module _ {X : Type 0} (now : X → List ℕ) (xs : List X) (i : ℕ) (d : X) (within : i < length xs) where
+  rest_is : map now (drop i xs) ≡ now (get_or xs i d) ∷ map now (drop (i + 1) xs)
+  rest_is = rw (add-one, drop-cons xs i d) refl
+
+  pub are_short-next : length (now (get_or xs i d)) ≤ 131070 → are_short (map now (drop i xs)) ≡ are_short (map now (drop (i + 1) xs))
+  are_short-next short = rw (rest_is, le-leb (length (now (get_or xs i d))) 131070 short) refl
+
+  pub are_short-not : 131070 < length (now (get_or xs i d)) → are_short (map now (drop i xs)) ≡ false
+  are_short-not long = rw (rest_is, le-leb-false (length (now (get_or xs i d))) 131070 long) refl
