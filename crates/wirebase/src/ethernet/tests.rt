@@ -71,13 +71,10 @@ fn addresses_in_hexadecimal(rt: HostRuntime) -> Result<(), Fail> {
 #[test]
 fn printing_an_address_fails_only_with_its_writer(rt: HostRuntime) {
     let raw = RawHardwareAddress::from(ADDRESS);
-    let mut calls = 0;
-    loop {
-        let mut writer = FailingWriter { left: calls };
-        if write!(writer, "{raw}").is_ok() || calls == 100 {
-            break;
-        }
-        calls += 1;
+    for left in 0..17 {
+        let mut writer = FailingWriter { left };
+        assert!(rt; write!(writer, "{raw}").is_err(), "after {left} writes");
     }
-    assert!(rt; calls < 100, "the writer failed at each of {calls} calls");
+    let mut writer = FailingWriter { left: 17 };
+    assert!(rt; write!(writer, "{raw}").is_ok());
 }
