@@ -2,7 +2,7 @@
 use Rattle.std.proofs.Common.{◌≡◌, ℕ, ◌+◌, ◌-◌, ◌≤◌, List, [], ◌∷◌, ◌++◌, length, take, drop, refl, sym, ap, ◌∙◌, subst, arith, append_assoc}
 use Rattle.std.specs.List.{flat_map}
 use Rattle.std.proofs.lemmas.List.{length-append, take_at, drop_at, take_rest, drop-drop, length-drop}
-use Rattle.dns_wire.specs.DnsName.{written, Stop, ends, goes_on, IsMark, IsPart, IsOnePart}
+use Rattle.dns_wire.specs.DnsName.{written, Stop, ends, goes_on, IsMark, IsPart}
 use Rattle.dns_wire.specs.DnsNameAhead.{whole, pointer, stop, torn, front_of}
 use Rattle.dns_wire.specs.DnsPart.{IsSplit, BeginsWithPart}
 use Rattle.dns_wire.proofs.DnsNameTurns.{Whole-front, Points-front, stop-front, whole_parts}

@@ -1,6 +1,6 @@
 -- The text of a question, and what is read in it.
-use Rattle.std.proofs.Common.{◌≡◌, ℕ, ◌+◌, ◌<◌, ◌≤◌, ◌^◌, Bool, true, false, List, [], ◌∷◌, ◌++◌, length, take, drop, refl, sym, ap, ◌∙◌, subst, arith, append_assoc}
-use Rattle.std.proofs.lemmas.List.{append-nil, length-append, take_at, drop_at, drop-append-le, drop_all}
+use Rattle.std.proofs.Common.{◌≡◌, ℕ, ◌<◌, ◌≤◌, ◌^◌, Bool, true, false, List, [], ◌∷◌, ◌++◌, length, take, drop, refl, sym, ap, ◌∙◌, subst, arith, append_assoc}
+use Rattle.std.proofs.lemmas.List.{append-nil, length-append, take_at, drop_at}
 use Rattle.byteorder.specs.Endian.{big_bytes}
 use Rattle.wirebase.specs.Bytes.{IsBytes, part, number_of, over}
 use Rattle.wirebase.specs.ByteWriter.{be16, fields}
@@ -13,10 +13,7 @@ use Rattle.wirebase.proofs.Pieces.{over-exact, over-fits}
 use Rattle.dns_wire.specs.declared.dns.tables.Type.{«Type» as RecordType}
 use Rattle.dns_wire.specs.declared.dns.tables.Type.TheVariants as kind
 use Rattle.dns_wire.specs.DnsTables.{type_number, types, type_rows, type_of}
-use Rattle.dns_wire.specs.DnsName.{Stop, ends, goes_on, IsMark, IsOnePart}
-use Rattle.dns_wire.specs.DnsPart.{BeginsWithPart}
 use Rattle.dns_wire.specs.DnsQuestion.{QuestionValue, type_field, IsQuestion, text, text_len, IsCanonical, format, Emits}
-use Rattle.dns_wire.proofs.DnsNameParts.{part_one}
 use Rattle.dns_wire.proofs.DnsPartLen.{split_begins, begins_one}
 
 -- ---- types of record

@@ -120,4 +120,4 @@ abbrev pub HasPath : List ℕ → List ℕ → Type 0
 HasPath text message =
     ((targets : List ℕ) × (parts : List (List (List ℕ))) × IsCompletePath text message targets parts)
     ⊎ ((targets : List ℕ) × (parts : List (List (List ℕ))) × (front : List (List ℕ))
-        × IsBrokenPath text message targets parts front)
+    × IsBrokenPath text message targets parts front)

@@ -1,5 +1,5 @@
 -- The numbers of DNS messages: kinds of query, outcomes, types of record, and flags.
-use Rattle.std.specs.Prelude.{◌≡◌, ℕ, ◌+◌, List, [], ◌∷◌, codes}
+use Rattle.std.specs.Prelude.{◌≡◌, ℕ, List, [], ◌∷◌, codes}
 use Rattle.std.specs.Int.Bits.{bit_and}
 use Rattle.wirebase.specs.Numbered.{rows_of, case_in}
 use Rattle.dns_wire.specs.declared.dns.tables.Opcode.{Opcode}

@@ -84,5 +84,5 @@ CarriesOptions most =
     (n count : ℕ) (options : List OptionValue) → n < 256 → count < 256
     → hop_by_hop.IsCanonical most options → length (hop_by_hop.text options) ≡ 8 * count + 6
     → IsHeader (n ∷ count ∷ hop_by_hop.text options)
-        (record { next_header = protocol_of n; count = count; payload = hop_by_hop.text options })
+    (record { next_header = protocol_of n; count = count; payload = hop_by_hop.text options })
     × hop_by_hop.IsHeader most (hop_by_hop.text options) (hop_by_hop.norm options)

@@ -198,7 +198,8 @@ impl<T: OctetsMut> Packet<T> {
         requires known { IsKnown (flag_bits value) }
         requires room { Reaches flags_field (T.bytes (inner self.old)) }
         ensures writes { Sets T.bytes T.put self.old self.new flags_field
-            (big_bytes 2 (with_flags (number_of flags_field (T.bytes (inner self.old))) (flag_bits value))) }
+            (big_bytes 2 (with_flags (number_of flags_field (T.bytes (inner self.old)))
+            (flag_bits value))) }
         ensures len { KeepsLen T.bytes self.old self.new }
     {
         let word = self.buffer.u16_at(field::FLAGS);
@@ -211,7 +212,8 @@ impl<T: OctetsMut> Packet<T> {
         requires four_bits { opcode_number value < 16 }
         requires room { Reaches flags_field (T.bytes (inner self.old)) }
         ensures writes { Sets T.bytes T.put self.old self.new flags_field
-            (big_bytes 2 (with_opcode (number_of flags_field (T.bytes (inner self.old))) (opcode_number value))) }
+            (big_bytes 2 (with_opcode (number_of flags_field (T.bytes (inner self.old)))
+            (opcode_number value))) }
         ensures len { KeepsLen T.bytes self.old self.new }
     {
         let word = self.buffer.u16_at(field::FLAGS);
@@ -222,7 +224,8 @@ impl<T: OctetsMut> Packet<T> {
     /// Writes how many questions there are. Asks 6 bytes.
     pub fn set_question_count(&mut self, value: u16)
         requires { Reaches question_count_field (T.bytes (inner self.old)) }
-        ensures writes { Sets T.bytes T.put self.old self.new question_count_field (big_bytes 2 value) }
+        ensures writes { Sets T.bytes T.put self.old self.new
+            question_count_field (big_bytes 2 value) }
         ensures len { KeepsLen T.bytes self.old self.new }
     {
         self.buffer.set_u16(field::QUESTION_COUNT, value);
@@ -231,7 +234,8 @@ impl<T: OctetsMut> Packet<T> {
     /// Writes how many records answer. Asks 8 bytes.
     pub fn set_answer_record_count(&mut self, value: u16)
         requires { Reaches answer_count_field (T.bytes (inner self.old)) }
-        ensures writes { Sets T.bytes T.put self.old self.new answer_count_field (big_bytes 2 value) }
+        ensures writes { Sets T.bytes T.put self.old self.new
+            answer_count_field (big_bytes 2 value) }
         ensures len { KeepsLen T.bytes self.old self.new }
     {
         self.buffer.set_u16(field::ANSWER_COUNT, value);
@@ -240,7 +244,8 @@ impl<T: OctetsMut> Packet<T> {
     /// Writes how many records name an authority. Asks 10 bytes.
     pub fn set_authority_record_count(&mut self, value: u16)
         requires { Reaches authority_count_field (T.bytes (inner self.old)) }
-        ensures writes { Sets T.bytes T.put self.old self.new authority_count_field (big_bytes 2 value) }
+        ensures writes { Sets T.bytes T.put self.old self.new
+            authority_count_field (big_bytes 2 value) }
         ensures len { KeepsLen T.bytes self.old self.new }
     {
         self.buffer.set_u16(field::AUTHORITY_COUNT, value);
@@ -249,7 +254,8 @@ impl<T: OctetsMut> Packet<T> {
     /// Writes how many more records there are. Asks 12 bytes.
     pub fn set_additional_record_count(&mut self, value: u16)
         requires { Reaches additional_count_field (T.bytes (inner self.old)) }
-        ensures writes { Sets T.bytes T.put self.old self.new additional_count_field (big_bytes 2 value) }
+        ensures writes { Sets T.bytes T.put self.old self.new
+            additional_count_field (big_bytes 2 value) }
         ensures len { KeepsLen T.bytes self.old self.new }
     {
         self.buffer.set_u16(field::ADDITIONAL_COUNT, value);

@@ -38,7 +38,8 @@ impl<'a> Question<'a> {
     /// name of one part, a type and the class of the internet.
     pub fn parse(buffer: &'a [u8]) -> Result<(&'a [u8], Question<'a>)>
         ensures sound { IfOk result (λ read. IsQuestion buffer.now (value_of read.1) read.0.now) }
-        ensures complete { (value : QuestionValue) (rest : List ℕ) → IsQuestion buffer.now value rest
+        ensures complete { (value : QuestionValue) (rest : List ℕ)
+            → IsQuestion buffer.now value rest
             → IsOkAnd result (λ read. (value_of read.1 ≡ value) × (read.0.now ≡ rest)) }
         ensures rewrites { length buffer.now ≤ 65515
             → IfOk result (λ read. Rewrites format (value_of read.1)) }
@@ -50,7 +51,8 @@ impl<'a> Question<'a> {
     // The question at the front of the octets.
     fn read(buffer: &'a [u8]) -> Result<(&'a [u8], Question<'a>)>
         ensures sound { IfOk result (λ read. IsQuestion buffer.now (value_of read.1) read.0.now) }
-        ensures complete { (value : QuestionValue) (rest : List ℕ) → IsQuestion buffer.now value rest
+        ensures complete { (value : QuestionValue) (rest : List ℕ)
+            → IsQuestion buffer.now value rest
             → IsOkAnd result (λ read. (value_of read.1 ≡ value) × (read.0.now ≡ rest)) }
     {
         let (name, after) = split_name(buffer)?;

@@ -40,7 +40,8 @@ impl<'a> Repr<'a> {
     pub fn emit<T: OctetsMut>(&self, packet: &mut Packet<T>)
         requires { CanEmit (value_of self.now) (T.bytes (inner packet.old)) }
         ensures place { inner packet.new ≡ T.put (inner packet.old) (T.bytes (inner packet.new)) }
-        ensures emits { Emits (value_of self.now) (T.bytes (inner packet.old)) (T.bytes (inner packet.new)) }
+        ensures emits { Emits (value_of self.now)
+            (T.bytes (inner packet.old)) (T.bytes (inner packet.new)) }
     {
         self.emit_into(packet.buffer.octets_mut());
     }

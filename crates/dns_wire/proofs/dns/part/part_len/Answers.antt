@@ -2,7 +2,7 @@ use Rattle.std.proofs.Common.{◌≡◌, ◌∙◌, ◌+◌, ℕ, Ok, length, dr
 use Rattle.std.proofs.lemmas.List.{take_rest}
 use Rattle.dns_wire.specs.DnsNameAhead.{front_of}
 use Rattle.dns_wire.specs.DnsPart.{BeginsWithPart}
-use Rattle.dns_wire.proofs.DnsPartLen.{Fewer, label_more, label_fewer, behind_label, pointer_len, pointer_one, end_len, end_one, torn_none}
+use Rattle.dns_wire.proofs.DnsPartLen.{label_more, label_fewer, behind_label, pointer_len, pointer_one, end_len, end_one, torn_none}
 use Rattle.dns_wire.proofs.dns.part.part_len.Goals as goal
 
 pub loop-label-preserved : goal.loop-label-preserved

@@ -1,4 +1,4 @@
-use Rattle.std.proofs.Common.{◌≡◌, ℕ, ◌+◌, ◌-◌, ◌≤◌, length, drop}
+use Rattle.std.proofs.Common.{ℕ, ◌+◌, ◌-◌, ◌≤◌, length, drop}
 use Rattle.dns_wire.specs.DnsPart.{BeginsWithPart}
 use Rattle.dns_wire.proofs.DnsPartLen.{Fewer}
 use Rattle.dns_wire.proofs.dns.part.part_len.Given as goal

@@ -1,7 +1,7 @@
 use Rattle.std.proofs.Common.{◌≡◌, ◌∙◌, ℕ, ◌+◌, ◌<◌, ◌≤◌, List, ◌∷◌, Some, Ok, Err, refl, sym, ap, arith, take, drop, length, slice_range, false}
 use Rattle.std.proofs.lemmas.List.{take-take, length-take-le}
 use Rattle.dns_wire.specs.DnsNameWalk.{Coming, label, at_end, at_fault}
-use Rattle.dns_wire.specs.DnsNameAhead.{ahead_of, read_in, Front, front_of, whole, pointer, stop}
+use Rattle.dns_wire.specs.DnsNameAhead.{ahead_of, read_in, front_of, whole, pointer, stop}
 use Rattle.dns_wire.proofs.DnsNameTurns.{ahead_label, ahead_pointer, ahead_far, ahead_stop, ahead_torn, Points-length, Points-front}
 use Rattle.dns_wire.proofs.DnsNameRanges.{range_label, range_pointer, length_range}
 use Rattle.dns_wire.proofs.DnsNameGiving.{gives_item, gives_end, fewer_ahead, still, progress_item}
