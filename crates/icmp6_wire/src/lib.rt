@@ -2,3 +2,4 @@
 #![tactic(auto)]
 
 pub mod icmpv6;
+pub mod mld;
