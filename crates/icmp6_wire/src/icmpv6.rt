@@ -4,11 +4,10 @@ mod packet;
 mod repr;
 mod tables;
 
-use wirebase::{IPV6_HEADER_LEN, IPV6_MIN_MTU};
-
 pub use packet::Packet;
 pub use repr::Repr;
 pub use tables::{DstUnreachable, Message, ParamProblem, TimeExceeded};
+use wirebase::{IPV6_HEADER_LEN, IPV6_MIN_MTU};
 
 // The bytes that an error has at the most, and those of them that it quotes behind a header, so that its packet is one that
 // every link can carry (RFC 4443 section 2.4).

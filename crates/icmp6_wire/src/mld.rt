@@ -35,3 +35,6 @@ mod field {
 
     pub const RECORD_MCAST_ADDR: Field = 4..20;
 }
+
+#[cfg(test)]
+mod tests;

@@ -29,7 +29,12 @@ impl<T: Octets> Packet<T> {
         requires { Reaches mcast_addr_field (T.bytes (inner self.now)) }
         ensures { octets_of result ≡ bytes_of mcast_addr_field (T.bytes (inner self.now)) }
     {
-        Ipv6Address::from_octets(self.buffer.field(field::QUERY_MCAST_ADDR).try_into().unwrap())
+        Ipv6Address::from_octets(
+            self.buffer
+                .field(field::QUERY_MCAST_ADDR)
+                .try_into()
+                .unwrap(),
+        )
     }
 
     /// Whether routers are not to answer a query (RFC 3810 section 5.1.7). Asks 25 bytes.
@@ -89,7 +94,8 @@ impl<T: OctetsMut> Packet<T> {
         ensures writes { Sets T.bytes T.put self.old self.new mcast_addr_field (octets_of value) }
         ensures len { KeepsLen T.bytes self.old self.new }
     {
-        self.buffer.set_bytes(field::QUERY_MCAST_ADDR, &value.octets());
+        self.buffer
+            .set_bytes(field::QUERY_MCAST_ADDR, &value.octets());
     }
 
     /// Sets the flag by which routers are not to answer, and writes zeros into the reserved bits beside it. Asks 25

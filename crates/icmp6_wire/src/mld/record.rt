@@ -85,7 +85,12 @@ impl<T: Octets> AddressRecord<T> {
         requires { Reaches mcast_addr_field (T.bytes (inner self.now)) }
         ensures { octets_of result ≡ bytes_of mcast_addr_field (T.bytes (inner self.now)) }
     {
-        Ipv6Address::from_octets(self.buffer.field(field::RECORD_MCAST_ADDR).try_into().unwrap())
+        Ipv6Address::from_octets(
+            self.buffer
+                .field(field::RECORD_MCAST_ADDR)
+                .try_into()
+                .unwrap(),
+        )
     }
 }
 
@@ -134,7 +139,8 @@ impl<T: OctetsMut> AddressRecord<T> {
         ensures writes { Sets T.bytes T.put self.old self.new mcast_addr_field (octets_of value) }
         ensures len { KeepsLen T.bytes self.old self.new }
     {
-        self.buffer.set_bytes(field::RECORD_MCAST_ADDR, &value.octets());
+        self.buffer
+            .set_bytes(field::RECORD_MCAST_ADDR, &value.octets());
     }
 
     /// Lends what stands after the fields for writing; the fields stay. Asks 20 bytes.

@@ -126,7 +126,16 @@ impl<'a> Repr<'a> {
                 qqic,
                 num_srcs,
                 data,
-            } => put_query(&mut w, max_resp_code, mcast_addr, s_flag, qrv, qqic, num_srcs, data),
+            } => put_query(
+                &mut w,
+                max_resp_code,
+                mcast_addr,
+                s_flag,
+                qrv,
+                qqic,
+                num_srcs,
+                data,
+            ),
             Repr::Report {
                 nr_mcast_addr_rcrds,
                 data,
