@@ -9,8 +9,8 @@ pub use repr::Repr;
 pub use tables::{DstUnreachable, Message, ParamProblem, TimeExceeded};
 use wirebase::{IPV6_HEADER_LEN, IPV6_MIN_MTU};
 
-// The bytes that an error has at the most, and those of them that it quotes behind a header, so that its packet is one that
-// every link can carry (RFC 4443 section 2.4).
+// The bytes that an error has at the most, and those of them that it quotes behind a header, so that its packet is one
+// that every link can carry (RFC 4443 section 2.4).
 const MAX_ERROR_PACKET_LEN: usize = IPV6_MIN_MTU - IPV6_HEADER_LEN;
 
 const MAX_QUOTED_DATA: usize = MAX_ERROR_PACKET_LEN - field::HEADER_END - IPV6_HEADER_LEN;
