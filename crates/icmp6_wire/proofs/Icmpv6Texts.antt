@@ -149,6 +149,6 @@ message_text capabilities source destination v fills c =
     record {
       whole = whole-content (packet_text capabilities source destination v) (norm v) (omega (arith, some, long)) content;
       good = λ verified. subst (λ (n : ℕ). IsGood (packet_text capabilities source destination v) (message_sum source destination n)) (sym long)
-        (IsGood-sealed_where checksum_field (text v) (message_sum source destination (length (text v))) refl (omega (arith, some)) capabilities.icmpv6 refl fills verified);
+          (IsGood-sealed_where checksum_field (text v) (message_sum source destination (length (text v))) refl (omega (arith, some)) capabilities.icmpv6 refl fills verified);
       content = content;
     }

@@ -2,3 +2,5 @@ pub mod Icmpv6Format
 pub mod Icmpv6Grammar
 pub mod Icmpv6Seals
 pub mod Icmpv6Texts
+pub mod MldRecords
+pub mod MldTexts

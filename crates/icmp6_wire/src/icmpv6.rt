@@ -4,14 +4,13 @@ mod packet;
 mod repr;
 mod tables;
 
-use wirebase::{IPV6_HEADER_LEN, IPV6_MIN_MTU};
-
 pub use packet::Packet;
 pub use repr::Repr;
 pub use tables::{DstUnreachable, Message, ParamProblem, TimeExceeded};
+use wirebase::{IPV6_HEADER_LEN, IPV6_MIN_MTU};
 
-// The bytes that an error has at the most, and those of them that it quotes behind a header, so that its packet is one that
-// every link can carry (RFC 4443 section 2.4).
+// The bytes that an error has at the most, and those of them that it quotes behind a header, so that its packet is one
+// that every link can carry (RFC 4443 section 2.4).
 const MAX_ERROR_PACKET_LEN: usize = IPV6_MIN_MTU - IPV6_HEADER_LEN;
 
 const MAX_QUOTED_DATA: usize = MAX_ERROR_PACKET_LEN - field::HEADER_END - IPV6_HEADER_LEN;
@@ -64,3 +63,6 @@ pub(crate) mod field {
 
     pub const NR_MCAST_RCRDS: Field = 6..8;
 }
+
+#[cfg(test)]
+mod tests;

@@ -2,4 +2,5 @@
 #![tactic(auto)]
 
 pub mod icmpv6;
+pub mod mld;
 pub mod ndisc;

@@ -190,8 +190,8 @@ impl<T: OctetsMut> Packet<T> {
 
     /// Writes zeros where a message of the type that is there has something reserved: of router and neighbor
     /// solicitations, neighbor advertisements and redirects the word behind the checksum, of a query for listeners two
-    /// bytes and the upper half of the byte with the flag, of a report two bytes. Asks one of these types, and the bytes
-    /// up to what is reserved: 8, 25 of a query, 6 of a report.
+    /// bytes and the upper half of the byte with the flag, of a report two bytes. Asks one of these types, and the
+    /// bytes up to what is reserved: 8, 25 of a query, 6 of a report.
     pub fn clear_reserved(&mut self)
         requires kind { Reaches type_field (T.bytes (inner self.old)) }
         requires known { CanClear (message_in (T.bytes (inner self.old))) (T.bytes (inner self.old)) }

@@ -16,10 +16,10 @@ ghost use Rattle.icmp6_wire.specs.Icmpv6.{MessageValue, value_of, quoted_data, e
 
 use super::packet::{Packet, fill};
 use super::tables::{DstUnreachable, Message, ParamProblem, TimeExceeded};
-use super::{field, MAX_QUOTED_DATA};
+use super::{MAX_QUOTED_DATA, field};
 use wirebase::{
-    ByteWriter, ChecksumCapabilities, Error, IPV6_HEADER_LEN, Ipv6Address, Ipv6Packet, Ipv6Repr, Octets, OctetsMut,
-    Result, are_bytes,
+    ByteWriter, ChecksumCapabilities, Error, IPV6_HEADER_LEN, Ipv6Address, Ipv6Packet, Ipv6Repr,
+    Octets, OctetsMut, Result, are_bytes,
 };
 
 /// A message (RFC 4443).
@@ -215,7 +215,12 @@ impl<'a> Repr<'a> {
         ensures emits { Emits checksum_caps.now src_addr.now dst_addr.now (value_of self.now)
             (T.bytes (inner packet.old)) (T.bytes (inner packet.new)) }
     {
-        self.emit_into(src_addr, dst_addr, packet.buffer.octets_mut(), checksum_caps);
+        self.emit_into(
+            src_addr,
+            dst_addr,
+            packet.buffer.octets_mut(),
+            checksum_caps,
+        );
     }
 
     /// The same into octets that stand by themselves.
@@ -256,7 +261,14 @@ impl<'a> Repr<'a> {
                 reason,
                 header,
                 data,
-            } => put_error(&mut w, Message::DstUnreachable, reason.into(), 0, &header, data),
+            } => put_error(
+                &mut w,
+                Message::DstUnreachable,
+                reason.into(),
+                0,
+                &header,
+                data,
+            ),
             Repr::PktTooBig { mtu, header, data } => {
                 put_error(&mut w, Message::PktTooBig, 0, mtu, &header, data);
             }
@@ -264,13 +276,27 @@ impl<'a> Repr<'a> {
                 reason,
                 header,
                 data,
-            } => put_error(&mut w, Message::TimeExceeded, reason.into(), 0, &header, data),
+            } => put_error(
+                &mut w,
+                Message::TimeExceeded,
+                reason.into(),
+                0,
+                &header,
+                data,
+            ),
             Repr::ParamProblem {
                 reason,
                 pointer,
                 header,
                 data,
-            } => put_error(&mut w, Message::ParamProblem, reason.into(), pointer, &header, data),
+            } => put_error(
+                &mut w,
+                Message::ParamProblem,
+                reason.into(),
+                pointer,
+                &header,
+                data,
+            ),
             Repr::EchoRequest {
                 ident,
                 seq_no,
@@ -308,7 +334,14 @@ fn put_echo(w: &mut ByteWriter<'_>, kind: Message, ident: u16, seq_no: u16, data
 
 // Writes an error of this type, with as much of its data as it may quote.
 #[tactic(auto, using(wirebase::proofs::Chains::parts, wirebase::proofs::Ipv6Header::header_texts))]
-fn put_error(w: &mut ByteWriter<'_>, kind: Message, code: u8, word: u32, quoted: &Ipv6Repr, data: &[u8])
+fn put_error(
+    w: &mut ByteWriter<'_>,
+    kind: Message,
+    code: u8,
+    word: u32,
+    quoted: &Ipv6Repr,
+    data: &[u8],
+)
     requires room { error_len «data».now ≤ length (free w.old) }
     requires count { quoted.now.payload_len ≤ 65535 }
     ensures puts { Puts w.old w.new
@@ -343,7 +376,12 @@ fn quotable(data: &[u8]) -> &[u8]
 }
 
 // Writes the checksum, where it is computed.
-fn seal(octets: &mut [u8], src_addr: &Ipv6Address, dst_addr: &Ipv6Address, checksum_caps: &ChecksumCapabilities)
+fn seal(
+    octets: &mut [u8],
+    src_addr: &Ipv6Address,
+    dst_addr: &Ipv6Address,
+    checksum_caps: &ChecksumCapabilities,
+)
     requires { Reaches checksum_field octets.old }
     ensures { octets.new ≡ seal checksum_caps.now src_addr.now dst_addr.now octets.old }
 {

@@ -184,7 +184,8 @@ impl From<u8> for DstUnreachable {
     fn from(number: u8) -> DstUnreachable
         ensures value { result ≡ unreachable_of number }
         ensures back { unreachable_number result ≡ number }
-        ensures table { IsTable ⟦<DstUnreachable as Ord>⟧.cmp DstUnreachable.Unknown unreachable_rows }
+        ensures table { IsTable ⟦<DstUnreachable as Ord>⟧.cmp
+            DstUnreachable.Unknown unreachable_rows }
     {
         unreachable_numbered(number)
     }
@@ -211,7 +212,8 @@ impl From<DstUnreachable> for u8 {
 
     fn from(unreachable: DstUnreachable) -> u8
         ensures value { result ≡ unreachable_number unreachable }
-        ensures back { IsProper DstUnreachable.Unknown unreachable_rows unreachable → unreachable_of result ≡ unreachable }
+        ensures back { IsProper DstUnreachable.Unknown unreachable_rows unreachable
+            → unreachable_of result ≡ unreachable }
     {
         match unreachable {
             DstUnreachable::NoRoute => 0,
@@ -268,7 +270,8 @@ impl From<u8> for ParamProblem {
     fn from(number: u8) -> ParamProblem
         ensures value { result ≡ param_problem_of number }
         ensures back { param_problem_number result ≡ number }
-        ensures table { IsTable ⟦<ParamProblem as Ord>⟧.cmp ParamProblem.Unknown param_problem_rows }
+        ensures table { IsTable ⟦<ParamProblem as Ord>⟧.cmp
+            ParamProblem.Unknown param_problem_rows }
     {
         param_problem_numbered(number)
     }
@@ -291,7 +294,8 @@ impl From<ParamProblem> for u8 {
 
     fn from(param_problem: ParamProblem) -> u8
         ensures value { result ≡ param_problem_number param_problem }
-        ensures back { IsProper ParamProblem.Unknown param_problem_rows param_problem → param_problem_of result ≡ param_problem }
+        ensures back { IsProper ParamProblem.Unknown param_problem_rows param_problem
+            → param_problem_of result ≡ param_problem }
     {
         match param_problem {
             ParamProblem::ErroneousHdrField => 0,
@@ -332,7 +336,8 @@ impl From<u8> for TimeExceeded {
     fn from(number: u8) -> TimeExceeded
         ensures value { result ≡ time_exceeded_of number }
         ensures back { time_exceeded_number result ≡ number }
-        ensures table { IsTable ⟦<TimeExceeded as Ord>⟧.cmp TimeExceeded.Unknown time_exceeded_rows }
+        ensures table { IsTable ⟦<TimeExceeded as Ord>⟧.cmp
+            TimeExceeded.Unknown time_exceeded_rows }
     {
         time_exceeded_numbered(number)
     }
@@ -354,7 +359,8 @@ impl From<TimeExceeded> for u8 {
 
     fn from(time_exceeded: TimeExceeded) -> u8
         ensures value { result ≡ time_exceeded_number time_exceeded }
-        ensures back { IsProper TimeExceeded.Unknown time_exceeded_rows time_exceeded → time_exceeded_of result ≡ time_exceeded }
+        ensures back { IsProper TimeExceeded.Unknown time_exceeded_rows time_exceeded
+            → time_exceeded_of result ≡ time_exceeded }
     {
         match time_exceeded {
             TimeExceeded::HopLimitExceeded => 0,

@@ -18,6 +18,6 @@ returns c =
       text_ = left;
       exact = exact;
       reads_back = λ long fills canonical.
-        subst (λ (bytes : List ℕ). IsMessage capabilities source destination bytes (norm v)) (sym (exact long)) (message_text capabilities source destination v fills canonical);
+          subst (λ (bytes : List ℕ). IsMessage capabilities source destination bytes (norm v)) (sym (exact long)) (message_text capabilities source destination v fills canonical);
       round_trips = round_trips (format capabilities source destination) (icmpv6_format capabilities source destination) v;
     }

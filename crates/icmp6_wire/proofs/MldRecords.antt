@@ -1,0 +1,132 @@
+-- Records of reports: their texts, what is read in them, and their format.
+use Rattle.std.proofs.Common.{◌≡◌, ℕ, ◌<◌, ◌≤◌, ◌^◌, Bool, true, false, List, [], ◌∷◌, ◌++◌, length, take, drop, refl, sym, ap, subst, ◌∙◌, arith, Result, Ok, Err, IfOk}
+use Rattle.std.proofs.lemmas.List.{append-nil, take_all, drop_all, nil_from_length}
+use Rattle.byteorder.specs.Endian.{big_bytes}
+use Rattle.byteorder.specs.Numbers.{big_number-reads_back}
+use Rattle.std.proofs.lemmas.Result.{IfOk-weaker}
+use Rattle.wirebase.specs.Bytes.{IsBytes, part, byte_of}
+use Rattle.wirebase.specs.ByteWriter.{be8, be16, fields}
+use Rattle.wirebase.specs.Format.{Rewrites, SameText}
+use Rattle.wirebase.specs.Ipv6Address.{octets_of, IsMulticast}
+use Rattle.wirebase.specs.Numbered.{IsProper}
+use Rattle.wirebase.specs.declared.ipv6.address.Ipv6Address.{Ipv6Address}
+use Rattle.wirebase.proofs.ByteParts.{number_of-small}
+use Rattle.wirebase.proofs.Format.{IsFormat, rewrites, same_text}
+use Rattle.wirebase.proofs.Ipv6Header.{same_address}
+use Rattle.wirebase.proofs.Numbered.{case_in-unnamed, case_in-proper, number-case_in}
+use Rattle.icmp6_wire.specs.MldTables.{record_type_number, record_types, record_type_rows, record_type_of}
+use Rattle.icmp6_wire.specs.MldRecord.{RecordValue, address_record, record_type_field, text, group_of, IsFields, IsRecord, IsCanonical, norm, IsCut, IsGroupRecord, format}
+use Rattle.icmp6_wire.specs.declared.mld.tables.RecordType.{RecordType}
+use Rattle.icmp6_wire.specs.declared.mld.tables.RecordType.TheVariants as record_type
+
+-- ---- the text
+
+record_text : (kind : RecordType) (words sources : ℕ) (group : Ipv6Address) (rest : List ℕ) → text (address_record kind words sources group rest) ≡ record_type_number kind ∷ words ∷ (big_bytes 2 sources ++ octets_of group)
+unfolding fields be8 be16
+record_text kind words sources group rest = simp append-nil
+
+pub length-text : (v : RecordValue) → length (text v) ≡ 20
+length-text (address_record kind words sources group rest) = omega (arith, ap length (record_text kind words sources group rest), group.whole)
+
+-- ---- reading what was written
+
+record_type_of-number : (kind : RecordType) → IsProper record_type.Unknown record_type_rows kind → kind ≡ record_type_of (record_type_number kind)
+record_type_of-number (record_type.Unknown n) p = sym (case_in-unnamed record_type.Unknown record_type_rows n (p n refl))
+record_type_of-number _ p = refl
+
+fields_read : (kind : RecordType) (words sources : ℕ) (group : Ipv6Address) → IsProper record_type.Unknown record_type_rows kind → sources < 2 ^ 16
+    → IsFields (record_type_number kind ∷ words ∷ (big_bytes 2 sources ++ octets_of group)) kind words sources group []
+unfolding part
+fields_read kind words sources group proper small = record {
+  whole = omega (arith, group.whole);
+  kind_ = record_type_of-number kind proper;
+  words_ = refl;
+  sources_ = sym (big_number-reads_back 2 sources [] (omega (arith, small)));
+  group_ = sym (take_all 16 (octets_of group) (omega (arith, group.whole)));
+  rest_ = sym (drop_all 16 (octets_of group) (omega (arith, group.whole)));
+}
+
+record_read : (v : RecordValue) → IsCanonical v → IsGroupRecord (text v) (norm v)
+record_read (address_record kind words sources group rest) c =
+    (subst (λ (bytes : List ℕ). IsFields bytes kind words sources group []) (sym (record_text kind words sources group rest)) (fields_read kind words sources group c.0 c.3), c.4)
+
+-- bytes begin with one record at the most
+pub record-one : (bytes : List ℕ) (v w : RecordValue) → IsRecord bytes v → IsRecord bytes w → v ≡ w
+record-one bytes (address_record kind words sources group rest) (address_record other more many another behind) a b =
+    let one = a.kind_ ∙ sym b.kind_ in
+    let two = a.words_ ∙ sym b.words_ in
+    let three = a.sources_ ∙ sym b.sources_ in
+    let four = same_address group another (a.group_ ∙ sym b.group_) in
+    let five = a.rest_ ∙ sym b.rest_ in
+    cc
+
+-- ---- what was read
+
+is_unknown : RecordType → Bool
+is_unknown (record_type.Unknown n) = true
+is_unknown _ = false
+
+record-canonical : (bytes : List ℕ) (v : RecordValue) → IsBytes bytes → IsGroupRecord bytes v → IsCanonical v
+unfolding is_unknown
+record-canonical bytes (address_record kind words sources group rest) are m =
+    let n : ℕ = byte_of record_type_field bytes in
+    let first : n < 256 = are 0 in
+    let second = are 1 in
+    let number = ap record_type_number m.0.kind_ ∙ number-case_in record_type_number record_type.Unknown (λ k. refl) record_types n in (
+      subst (λ (r : RecordType). IsProper record_type.Unknown record_type_rows r) (sym m.0.kind_) (case_in-proper record_type_number record_type.Unknown (λ k. refl) is_unknown (λ k. refl) record_type_rows n refl),
+      omega (arith, number, first),
+      omega (arith, m.0.words_, second),
+      omega (arith, m.0.sources_, number_of-small 2 4 bytes refl are),
+      m.1,
+    )
+
+-- ---- the format
+
+norm-canonical : (v : RecordValue) → IsCanonical v → IsCanonical (norm v)
+norm-canonical (address_record kind words sources group rest) c = c
+
+norm-norm : (v : RecordValue) → norm (norm v) ≡ norm v
+norm-norm (address_record kind words sources group rest) = refl
+
+norm-text : (v : RecordValue) → text (norm v) ≡ text v
+norm-text (address_record kind words sources group rest) = refl
+
+nothing : (rest : List ℕ) → (0 < length rest → ⊥) → length rest ≡ 0
+nothing rest uncut = grind (arith, uncut)
+
+norm-uncut : (v : RecordValue) → (IsCut v → ⊥) → norm v ≡ v
+norm-uncut (address_record kind words sources group rest) uncut = ap (λ (l : List ℕ). address_record kind words sources group l) (sym (nil_from_length rest (nothing rest uncut)))
+
+pub record_format : IsFormat format
+record_format = record {
+  one_value = λ bytes v w a b. record-one bytes v w a.0 b.0;
+  reads_back = λ v fills c. record_read v c;
+  norm_canonical = norm-canonical;
+  norm_norm = norm-norm;
+  norm_text = λ v c regular. norm-text v;
+  accepted = λ bytes v are small m. record-canonical bytes v are m;
+  regular = λ bytes v m e. e;
+  kept = λ bytes v are c m uncut. norm-uncut v uncut;
+}
+
+pub record_same_text : (a b : RecordValue) → SameText format a b
+record_same_text a b = same_text format record_format tt a b
+
+pub ruleset same_texts = (record_same_text)
+
+-- what a parser owes of a record, where its address is multicast: it is canonical whatever stands after its fields
+pub record_rewrites : (bytes : List ℕ) (v : RecordValue) → IsBytes bytes → IsRecord bytes v → IsMulticast (group_of v) → Rewrites format v
+record_rewrites bytes v are is group =
+    let canonical = record-canonical bytes v are (is, group) in
+    record {
+      canonical = canonical;
+      regular = λ e. e;
+      reads_back = λ fills. record_read v canonical;
+      same_text = norm-text v;
+      same_value = norm-uncut v;
+    }
+
+pub all_record_rewrites : {T E : Type 0} (value : T → RecordValue) (bytes : List ℕ) (result : Result T E) → IsBytes bytes → IfOk result (λ x. IsRecord bytes (value x))
+    → IfOk result (λ x. IsMulticast (group_of (value x)) → Rewrites format (value x))
+all_record_rewrites value bytes result are sound =
+    IfOk-weaker result (λ x. IsRecord bytes (value x)) (λ x. IsMulticast (group_of (value x)) → Rewrites format (value x)) (λ x is. record_rewrites bytes (value x) are is) sound

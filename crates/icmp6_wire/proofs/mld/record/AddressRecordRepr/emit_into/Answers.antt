@@ -1,0 +1,17 @@
+use Rattle.std.proofs.Common.{sym, ◌∙◌, arith}
+use Rattle.wirebase.proofs.Chains.{over_front-fits}
+use Rattle.wirebase.proofs.Format.{round_trips}
+use Rattle.wirebase.proofs.Pieces.{over-exact}
+use Rattle.icmp6_wire.specs.MldRecord.{value_of, text, format}
+use Rattle.icmp6_wire.proofs.MldRecords.{length-text, record_format}
+use Rattle.icmp6_wire.proofs.mld.record.AddressRecordRepr.emit_into.Goals as goal
+
+pub returns : goal.returns
+returns c =
+    let v = value_of c.args.self.now in
+    let left = c.write.ensures ∙ over_front-fits c.args.octets.now (text v) (omega (arith, length-text v, c.requires.room)) in
+    record {
+      text_ = left;
+      exact = λ long. left ∙ over-exact c.args.octets.now (text v) (long ∙ sym (length-text v));
+      round_trips = round_trips format record_format v;
+    }

@@ -1,0 +1,108 @@
+-- Messages of multicast listener discovery, version 2 (RFC 3810 section 5).
+use Rattle.std.specs.Prelude.{◌≡◌, ◌↔◌, ℕ, ◌+◌, ◌*◌, ◌<◌, ◌≤◌, Bool, IsTrue, List, [], ◌∷◌, length, drop, if◌then◌else◌}
+use Rattle.wirebase.specs.Bytes.{Reaches, byte_of, bytes_of, number_of}
+use Rattle.wirebase.specs.ByteWriter.{be8, be16, fields}
+use Rattle.wirebase.specs.Icmp.{type_field}
+use Rattle.wirebase.specs.Ipv6Address.{octets_of, IsMulticast}
+use Rattle.wirebase.specs.declared.ipv6.address.Ipv6Address.{Ipv6Address}
+use Rattle.icmp6_wire.specs.MldPacket.{max_resp_code_field, mcast_addr_field, qqic_field, num_srcs_field, nr_mcast_addr_rcrds_field, s_flag_in, qrv_in}
+use Rattle.icmp6_wire.specs.MldRecord.{RecordValue, group_of}
+use Rattle.icmp6_wire.specs.MldRecord as a_record
+use Rattle.icmp6_wire.specs.declared.mld.record.AddressRecordRepr.{AddressRecordRepr}
+use Rattle.icmp6_wire.specs.declared.mld.repr.Repr.{Repr}
+use Rattle.icmp6_wire.specs.declared.mld.repr.Repr.TheVariants as repr
+
+-- A message by its content: a query with its response code, the group, its flag, the robustness variable, the interval's code,
+-- the number of sources and the bytes of them; a report with the number of its records and the bytes of them; or a report by
+-- its records.
+pub data MldValue : Type 0 where
+  query : ℕ → Ipv6Address → Bool → ℕ → ℕ → ℕ → List ℕ → MldValue
+  report : ℕ → List ℕ → MldValue
+  records : List RecordValue → MldValue
+
+abbrev pub values_of : List AddressRecordRepr → List RecordValue
+values_of [] = []
+values_of (r ∷ rs) = a_record.value_of r ∷ values_of rs
+
+abbrev pub value_of : Repr → MldValue
+value_of (repr.Query code group flag qrv qqic sources d) = query code group flag qrv qqic sources d.now
+value_of (repr.Report count d) = report count d.now
+value_of (repr.ReportRecordReprs rs) = records (values_of rs.now)
+
+-- ---- the text
+
+-- the flag S and the robustness variable in one byte
+abbrev pub sqrv : Bool → ℕ → ℕ
+sqrv flag qrv = (if flag then 8 else 0) + qrv
+
+-- the fields, with the checksum zero
+abbrev pub query_fields : ℕ → Ipv6Address → Bool → ℕ → ℕ → ℕ → List ℕ → List (List ℕ)
+query_fields code group flag qrv qqic sources d =
+    be8 0x82 ∷ be8 0 ∷ be16 0
+    ∷ be16 code ∷ be16 0
+    ∷ octets_of group
+    ∷ be8 (sqrv flag qrv) ∷ be8 qqic ∷ be16 sources
+    ∷ d ∷ []
+
+abbrev pub report_fields : ℕ → List (List ℕ) → List (List ℕ)
+report_fields count rest = be8 0x8f ∷ be8 0 ∷ be16 0 ∷ be16 0 ∷ be16 count ∷ rest
+
+-- the text of each record
+abbrev pub record_texts : List RecordValue → List (List ℕ)
+record_texts [] = []
+record_texts (r ∷ rs) = a_record.text r ∷ record_texts rs
+
+abbrev pub message_fields : MldValue → List (List ℕ)
+message_fields (query code group flag qrv qqic sources d) = query_fields code group flag qrv qqic sources d
+message_fields (report count d) = report_fields count (d ∷ [])
+message_fields (records rs) = report_fields (length rs) (record_texts rs)
+
+abbrev pub text : MldValue → List ℕ
+text v = fields (message_fields v)
+
+-- the bytes that it takes, and those that are told before a list of records is written
+abbrev pub text_len : MldValue → ℕ
+text_len (query code group flag qrv qqic sources d) = 28 + length d
+text_len (report count d) = 8 + length d
+text_len (records rs) = 8 + 20 * length rs
+
+abbrev pub told_len : MldValue → ℕ
+told_len (records rs) = 8
+told_len v = text_len v
+
+-- all records are of groups
+abbrev pub AreGroups : List RecordValue → Type 0
+AreGroups [] = Unit {0}
+AreGroups (r ∷ rs) = IsMulticast (group_of r) × AreGroups rs
+
+-- What is asked of a message and of the octets that it is written into: they are just its length; a query's robustness
+-- variable has three bits; records are of groups, and their number has two bytes.
+abbrev pub CanEmit : MldValue → List ℕ → Type 0
+CanEmit (query code group flag qrv qqic sources d) bytes = (length bytes ≡ 28 + length d) × (qrv < 8)
+CanEmit (report count d) bytes = length bytes ≡ 8 + length d
+CanEmit (records rs) bytes = (length bytes ≡ 8 + 20 * length rs) × (length rs ≤ 65535) × AreGroups rs
+
+-- ---- the grammar
+
+pub record IsQuery (bytes : List ℕ) (code : ℕ) (group : Ipv6Address) (flag : Bool) (qrv qqic sources : ℕ) (d : List ℕ) : Type 0 where
+  pub kind : byte_of type_field bytes ≡ 0x82
+  pub whole : Reaches num_srcs_field bytes
+  pub code_ : code ≡ number_of max_resp_code_field bytes
+  pub group_ : octets_of group ≡ bytes_of mcast_addr_field bytes
+  pub flag_ : IsTrue flag ↔ (s_flag_in bytes ≡ 1)
+  pub qrv_ : qrv ≡ qrv_in bytes
+  pub qqic_ : qqic ≡ byte_of qqic_field bytes
+  pub sources_ : sources ≡ number_of num_srcs_field bytes
+  pub data_ : d ≡ drop 28 bytes
+
+pub record IsReport (bytes : List ℕ) (count : ℕ) (d : List ℕ) : Type 0 where
+  pub kind : byte_of type_field bytes ≡ 0x8f
+  pub whole : Reaches nr_mcast_addr_rcrds_field bytes
+  pub count_ : count ≡ number_of nr_mcast_addr_rcrds_field bytes
+  pub data_ : d ≡ drop 8 bytes
+
+-- The grammar: the counts are not compared with the data, and no bytes are read as a list of records.
+abbrev pub IsMessage : List ℕ → MldValue → Type 0
+IsMessage bytes (query code group flag qrv qqic sources d) = IsQuery bytes code group flag qrv qqic sources d
+IsMessage bytes (report count d) = IsReport bytes count d
+IsMessage bytes (records rs) = ⊥

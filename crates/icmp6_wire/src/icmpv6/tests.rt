@@ -1,0 +1,363 @@
+ghost use Rattle.std.specs.Prelude.{◌≡◌, ◌≤◌, ◌+◌, length};
+
+use super::{DstUnreachable, Message, Packet, ParamProblem, Repr, TimeExceeded};
+use std::test::Fail;
+use wirebase::capabilities::Checksum;
+use wirebase::{ChecksumCapabilities, IpProtocol, Ipv6Address, Ipv6Repr};
+
+// The octets that stand in a buffer before it is written into.
+const FILLS: [u8; 4] = [0x00, 0xff, 0x2a, 0xa5];
+
+// The same for every protocol.
+const fn all(checksum: Checksum) -> ChecksumCapabilities {
+    ChecksumCapabilities {
+        ipv4: checksum,
+        udp: checksum,
+        tcp: checksum,
+        icmpv4: checksum,
+        icmpv6: checksum,
+    }
+}
+
+fn source() -> Ipv6Address {
+    Ipv6Address::new(0xfe80, 0, 0, 0, 0, 0, 0, 1)
+}
+
+fn destination() -> Ipv6Address {
+    Ipv6Address::new(0xfe80, 0, 0, 0, 0, 0, 0, 2)
+}
+
+// The header from fe80::1 to fe80::2 that the errors quote.
+fn quoted() -> Ipv6Repr
+    ensures { result.payload_len ≡ 12 }
+{
+    Ipv6Repr {
+        src_addr: source(),
+        dst_addr: destination(),
+        next_header: IpProtocol::Udp,
+        payload_len: 12,
+        hop_limit: 64,
+    }
+}
+
+// A packet that is too big: its header, the quoted header and what stands behind it.
+const TOO_BIG: [u8; 60] = [
+    0x02, 0x00, 0x0f, 0xc9, 0x00, 0x00, 0x05, 0xdc, 0x60, 0x00, 0x00, 0x00, 0x00, 0x0c, 0x11, 0x40,
+    0xfe, 0x80, 0x00, 0x00, 0x00, 0x00, 0x00, 0x00, 0x00, 0x00, 0x00, 0x00, 0x00, 0x00, 0x00, 0x01,
+    0xfe, 0x80, 0x00, 0x00, 0x00, 0x00, 0x00, 0x00, 0x00, 0x00, 0x00, 0x00, 0x00, 0x00, 0x00, 0x02,
+    0xbf, 0x00, 0x00, 0x35, 0x00, 0x0c, 0x12, 0x4d, 0xaa, 0x00, 0x00, 0xff,
+];
+
+const QUOTED_DATA: [u8; 12] = [
+    0xbf, 0x00, 0x00, 0x35, 0x00, 0x0c, 0x12, 0x4d, 0xaa, 0x00, 0x00, 0xff,
+];
+
+const ECHO: [u8; 12] = [
+    0x80, 0x00, 0x19, 0xb3, 0x12, 0x34, 0xab, 0xcd, 0xaa, 0x00, 0x00, 0xff,
+];
+
+#[test]
+fn echo_requests_are_written_and_read(rt: HostRuntime) -> Result<(), Fail> {
+    let caps = all(Checksum::Both);
+    for fill in FILLS {
+        let mut octets = [fill; 12];
+        let mut packet = Packet::new_unchecked(octets.as_mut_slice());
+        Repr::EchoRequest {
+            ident: 0x1234,
+            seq_no: 0xabcd,
+            data: &[0xaa, 0x00, 0x00, 0xff],
+        }
+        .emit(&source(), &destination(), &mut packet, &caps);
+        assert_eq!(rt; octets.as_slice(), ECHO.as_slice(), "over {fill}");
+    }
+    let octets = ECHO;
+    let packet = Packet::new_unchecked(octets.as_slice());
+    assert!(rt; packet.verify_checksum(&source(), &destination()));
+    assert!(rt;
+        Repr::parse(&source(), &destination(), &packet, &caps)
+            == Ok(Repr::EchoRequest {
+                ident: 0x1234,
+                seq_no: 0xabcd,
+                data: &[0xaa, 0x00, 0x00, 0xff]
+            })
+    );
+    assert!(rt;
+        Repr::parse(&source(), &Ipv6Address::UNSPECIFIED, &packet, &caps).is_err(),
+        "to another address"
+    );
+    Ok(())
+}
+
+#[test]
+fn errors_are_written_and_read(rt: HostRuntime) -> Result<(), Fail> {
+    let caps = all(Checksum::Both);
+    let data = QUOTED_DATA;
+    for fill in FILLS {
+        let mut octets = [fill; 60];
+        let mut packet = Packet::new_unchecked(octets.as_mut_slice());
+        Repr::PktTooBig {
+            mtu: 1500,
+            header: quoted(),
+            data: &data,
+        }
+        .emit(&source(), &destination(), &mut packet, &caps);
+        assert_eq!(rt; octets.as_slice(), TOO_BIG.as_slice(), "over {fill}");
+        let mut octets = [fill; 60];
+        let mut packet = Packet::new_unchecked(octets.as_mut_slice());
+        Repr::DstUnreachable {
+            reason: DstUnreachable::NoRoute,
+            header: quoted(),
+            data: &data,
+        }
+        .emit(&source(), &destination(), &mut packet, &caps);
+        let front = [0x01, 0x00, 0x16, 0xa5, 0x00, 0x00, 0x00, 0x00];
+        assert_eq!(rt; &octets[..8], front.as_slice(), "over {fill}");
+        assert_eq!(rt; &octets[8..], &TOO_BIG[8..], "over {fill}");
+    }
+    let octets = TOO_BIG;
+    let packet = Packet::new_unchecked(octets.as_slice());
+    assert!(rt;
+        Repr::parse(&source(), &destination(), &packet, &caps)
+            == Ok(Repr::PktTooBig {
+                mtu: 1500,
+                header: quoted(),
+                data: &data
+            })
+    );
+    let packet = Packet::new_unchecked(&octets[..47]);
+    assert!(rt; Repr::parse(&source(), &destination(), &packet, &all(Checksum::None)).is_err());
+    let packet = Packet::new_unchecked(&octets[..48]);
+    assert!(rt; Repr::parse(&source(), &destination(), &packet, &all(Checksum::None)).is_ok());
+    Ok(())
+}
+
+#[test]
+fn errors_quote_1192_bytes_at_the_most(rt: HostRuntime) -> Result<(), Fail> {
+    let data = [0x11; 9999];
+    for (count, len) in [(0, 48), (1, 49), (1192, 1240), (1193, 1240), (9999, 1240)] {
+        let repr = Repr::PktTooBig {
+            mtu: 1280,
+            header: quoted(),
+            data: &data[..count],
+        };
+        assert_eq!(rt; repr.buffer_len(), len, "{count} bytes");
+        assert_eq!(rt; repr.packet_len(), len, "{count} bytes");
+    }
+    let caps = all(Checksum::Both);
+    let mut octets = [0xff; 1240];
+    let mut packet = Packet::new_unchecked(octets.as_mut_slice());
+    Repr::PktTooBig {
+        mtu: 1280,
+        header: quoted(),
+        data: &data,
+    }
+    .emit(&source(), &destination(), &mut packet, &caps);
+    let packet = Packet::new_unchecked(octets.as_slice());
+    assert!(rt;
+        Repr::parse(&source(), &destination(), &packet, &caps)
+            == Ok(Repr::PktTooBig {
+                mtu: 1280,
+                header: quoted(),
+                data: &data[..1192]
+            })
+    );
+    Ok(())
+}
+
+#[test]
+fn each_type_asks_its_header(rt: HostRuntime) -> Result<(), Fail> {
+    let rows = [
+        (1u8, 8usize),
+        (2, 8),
+        (3, 8),
+        (4, 8),
+        (0x80, 8),
+        (0x81, 8),
+        (0x82, 28),
+        (0x85, 8),
+        (0x86, 16),
+        (0x87, 24),
+        (0x88, 24),
+        (0x89, 40),
+        (0x8f, 8),
+    ];
+    for (kind, least) in rows {
+        let mut octets = [0; 41];
+        octets[0] = kind;
+        assert_eq!(rt;
+            Packet::new_unchecked(octets.as_slice()).header_len(),
+            least,
+            "type {kind}"
+        );
+        for len in 0..=41 {
+            assert_eq!(rt;
+                Packet::new_checked(&octets[..len]).is_ok(),
+                least <= len,
+                "type {kind}, {len} bytes"
+            );
+        }
+    }
+    for kind in [0u8, 5, 127, 0x83, 0x84, 0x9b, 0xff] {
+        let mut octets = [0; 41];
+        octets[0] = kind;
+        assert_eq!(rt;
+            Packet::new_unchecked(octets.as_slice()).header_len(),
+            4,
+            "type {kind}"
+        );
+        assert!(rt;
+            Packet::new_checked(octets.as_slice()).is_err(),
+            "type {kind}"
+        );
+    }
+    Ok(())
+}
+
+#[test]
+fn a_code_is_asked_of_echoes_and_packets_that_are_too_big(rt: HostRuntime) -> Result<(), Fail> {
+    let caps = all(Checksum::None);
+    for code in 0..=255 {
+        for (kind, any) in [
+            (1u8, true),
+            (2, false),
+            (3, true),
+            (4, true),
+            (0x80, false),
+            (0x81, false),
+        ] {
+            let mut octets = TOO_BIG;
+            octets[0] = kind;
+            octets[1] = code;
+            let packet = Packet::new_unchecked(octets.as_slice());
+            let read = Repr::parse(&source(), &destination(), &packet, &caps).is_ok();
+            assert_eq!(rt; read, any || code == 0, "type {kind}, code {code}");
+        }
+    }
+    Ok(())
+}
+
+#[test]
+fn a_turned_bit_of_the_checksum_is_refused(rt: HostRuntime) -> Result<(), Fail> {
+    for bit in 0..16 {
+        let mut octets = TOO_BIG;
+        octets[2] ^= ((1 << bit) >> 8) as u8;
+        octets[3] ^= ((1 << bit) % 256) as u8;
+        let packet = Packet::new_unchecked(octets.as_slice());
+        assert!(rt;
+            !packet.verify_checksum(&source(), &destination()),
+            "bit {bit}"
+        );
+        assert!(rt;
+            Repr::parse(&source(), &destination(), &packet, &all(Checksum::Rx)).is_err(),
+            "bit {bit}"
+        );
+        assert!(rt;
+            Repr::parse(&source(), &destination(), &packet, &all(Checksum::Tx)).is_ok(),
+            "bit {bit}"
+        );
+    }
+    Ok(())
+}
+
+#[test]
+fn a_quote_is_not_looked_into(rt: HostRuntime) -> Result<(), Fail> {
+    let mut octets = TOO_BIG;
+    // Version 4, and a payload that is longer than what is there.
+    octets[8] = 0x45;
+    octets[12] = 0xff;
+    let packet = Packet::new_unchecked(octets.as_slice());
+    assert!(rt; Repr::parse(&source(), &destination(), &packet, &all(Checksum::None)).is_ok());
+    Ok(())
+}
+
+#[test]
+fn classes_and_texts_of_types(rt: HostRuntime) -> Result<(), Fail> {
+    let rows = [
+        (
+            Message::DstUnreachable,
+            true,
+            false,
+            false,
+            "destination unreachable",
+        ),
+        (Message::PktTooBig, true, false, false, "packet too big"),
+        (Message::TimeExceeded, true, false, false, "time exceeded"),
+        (
+            Message::ParamProblem,
+            true,
+            false,
+            false,
+            "parameter problem",
+        ),
+        (Message::EchoRequest, false, false, false, "echo request"),
+        (Message::EchoReply, false, false, false, "echo reply"),
+        (
+            Message::MldQuery,
+            false,
+            false,
+            true,
+            "multicast listener query",
+        ),
+        (
+            Message::RouterSolicit,
+            false,
+            true,
+            false,
+            "router solicitation",
+        ),
+        (
+            Message::RouterAdvert,
+            false,
+            true,
+            false,
+            "router advertisement",
+        ),
+        (
+            Message::NeighborSolicit,
+            false,
+            true,
+            false,
+            "neighbor solicitation",
+        ),
+        (
+            Message::NeighborAdvert,
+            false,
+            true,
+            false,
+            "neighbor advert",
+        ),
+        (Message::Redirect, false, true, false, "redirect"),
+        (
+            Message::MldReport,
+            false,
+            false,
+            true,
+            "multicast listener report",
+        ),
+        (
+            Message::RplControl,
+            false,
+            false,
+            false,
+            "RPL control message",
+        ),
+        (Message::Unknown(5), true, false, false, "5"),
+        (Message::Unknown(0xff), false, false, false, "255"),
+    ];
+    for (message, error, ndisc, mld, text) in rows {
+        assert_eq!(rt; message.is_error(), error, "{message}");
+        assert_eq!(rt; message.is_ndisc(), ndisc, "{message}");
+        assert_eq!(rt; message.is_mld(), mld, "{message}");
+        assert_eq!(rt; message.to_string(rt.alloc())?.as_str(), text);
+    }
+    let text = ParamProblem::UnrecognizedNxtHdr.to_string(rt.alloc())?;
+    assert_eq!(rt; text.as_str(), "unrecognized next header type.");
+    let text = TimeExceeded::Unknown(7).to_string(rt.alloc())?;
+    assert_eq!(rt; text.as_str(), "7");
+    let text = DstUnreachable::FailedPolicy.to_string(rt.alloc())?;
+    assert_eq!(rt;
+        text.as_str(),
+        "source address failed ingress/egress policy"
+    );
+    Ok(())
+}

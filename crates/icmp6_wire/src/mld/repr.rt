@@ -1,0 +1,236 @@
+//! Messages as values (RFC 3810 section 5).
+#![tactic(auto, using(wirebase::proofs::Pieces::pieces))]
+
+ghost use Rattle.std.specs.Prelude.{◌≡◌, ◌≤◌, ◌<◌, ◌+◌, ◌*◌, ◌^◌, length, [], ◌∷◌, IsOk, IfOk, IsOkAnd};
+ghost use Rattle.wirebase.specs.Bytes.{over_front};
+ghost use Rattle.wirebase.specs.ByteWriter.{free, Puts, the_slice};
+ghost use Rattle.wirebase.specs.Ipv6Address.{IsMulticast};
+ghost use Rattle.icmp6_wire.specs.Icmpv6Packet.{inner, view_octets};
+ghost use Rattle.icmp6_wire.specs.Mld.{MldValue, values_of, value_of, query_fields, report_fields, record_texts, text, text_len, told_len, AreGroups, CanEmit, IsMessage};
+ghost use Rattle.icmp6_wire.specs.MldRecord.{value_of as record_value, text as record_text};
+
+use super::field;
+use super::record::AddressRecordRepr;
+use crate::icmpv6::{Message, Packet};
+use wirebase::{ByteWriter, Error, Ipv6Address, OctetsMut, Result};
+
+/// A message (RFC 3810 section 5).
+#[derive(Debug, PartialEq, Eq, Clone, Copy)]
+pub enum Repr<'a> {
+    /// A router asks which groups have listeners, or whether this one has.
+    Query {
+        /// The code of the longest time to answer in.
+        max_resp_code: u16,
+        /// The group, or `::` for all.
+        mcast_addr: Ipv6Address,
+        /// Whether other routers are not to answer.
+        s_flag: bool,
+        /// The querier's robustness variable, below 8.
+        qrv: u8,
+        /// The code of the querier's interval.
+        qqic: u8,
+        /// The number of sources.
+        num_srcs: u16,
+        /// The sources, and what stands behind them.
+        data: &'a [u8],
+    },
+    /// A host reports what it listens to.
+    Report {
+        /// The number of records.
+        nr_mcast_addr_rcrds: u16,
+        /// The records, and what stands behind them.
+        data: &'a [u8],
+    },
+    /// A report to be written, by its records.
+    ReportRecordReprs(&'a [AddressRecordRepr<'a>]),
+}
+
+impl<'a> Repr<'a> {
+    /// The message in the octets. Refused where they don't begin with the header of their type, and where that is
+    /// neither a query nor a report. The counts are not compared with the data.
+    pub fn parse(packet: &Packet<&'a [u8]>) -> Result<Repr<'a>>
+        ensures sound { IfOk result (λ repr. IsMessage (view_octets packet.now) (value_of repr)) }
+        ensures complete { (value : MldValue) → IsMessage (view_octets packet.now) value
+            → IsOkAnd result (λ repr. value_of repr ≡ value) }
+    {
+        Repr::read(packet)
+    }
+
+    // The message in the octets.
+    fn read(packet: &Packet<&'a [u8]>) -> Result<Repr<'a>>
+        ensures sound { IfOk result (λ repr. IsMessage (view_octets packet.now) (value_of repr)) }
+        ensures reads { (value : MldValue) → IsMessage (view_octets packet.now) value → IsOk result }
+    {
+        packet.check_len()?;
+        match packet.msg_type() {
+            Message::MldQuery => Ok(Repr::Query {
+                max_resp_code: packet.max_resp_code(),
+                mcast_addr: packet.mcast_addr(),
+                s_flag: packet.s_flag(),
+                qrv: packet.qrv(),
+                qqic: packet.qqic(),
+                num_srcs: packet.num_srcs(),
+                data: packet.payload(),
+            }),
+            Message::MldReport => Ok(Repr::Report {
+                nr_mcast_addr_rcrds: packet.nr_mcast_addr_rcrds(),
+                data: packet.payload(),
+            }),
+            _ => Err(Error),
+        }
+    }
+
+    /// The bytes that the message takes; of a list of records those before it, 8. Asks that a `usize` holds their
+    /// number.
+    pub fn buffer_len(&self) -> usize
+        requires { told_len (value_of self.now) < 2 ^ 64 }
+        ensures { result ≡ told_len (value_of self.now) }
+    {
+        match self {
+            Repr::Query { data, .. } => field::QUERY_NUM_SRCS.end + data.len(),
+            Repr::Report { data, .. } => field::NR_MCAST_RCRDS.end + data.len(),
+            Repr::ReportRecordReprs(_) => field::NR_MCAST_RCRDS.end,
+        }
+    }
+
+    /// Writes the message, with the checksum zero. Asks octets of just its length, a robustness variable below 8, and
+    /// of records that they are of groups and at most 65,535.
+    pub fn emit<T: OctetsMut>(&self, packet: &mut Packet<T>)
+        requires { CanEmit (value_of self.now) (T.bytes (inner packet.old)) }
+        ensures { inner packet.new ≡ T.put (inner packet.old) (text (value_of self.now)) }
+    {
+        self.emit_into(packet.buffer.octets_mut());
+    }
+
+    /// The same into octets that stand by themselves.
+    pub fn emit_into(&self, octets: &mut [u8])
+        requires { CanEmit (value_of self.now) octets.old }
+        ensures { octets.new ≡ text (value_of self.now) }
+    {
+        self.write(octets);
+    }
+
+    // Writes the message into octets of just its length.
+    #[tactic(auto, using(wirebase::proofs::Chains::chain, crate::proofs::MldTexts::counts))]
+    fn write(&self, octets: &mut [u8])
+        requires { CanEmit (value_of self.now) octets.old }
+        ensures { octets.new ≡ over_front octets.old (text (value_of self.now)) }
+    {
+        let mut w = ByteWriter::new(octets);
+        match *self {
+            Repr::Query {
+                max_resp_code,
+                mcast_addr,
+                s_flag,
+                qrv,
+                qqic,
+                num_srcs,
+                data,
+            } => put_query(
+                &mut w,
+                max_resp_code,
+                mcast_addr,
+                s_flag,
+                qrv,
+                qqic,
+                num_srcs,
+                data,
+            ),
+            Repr::Report {
+                nr_mcast_addr_rcrds,
+                data,
+            } => put_report(&mut w, nr_mcast_addr_rcrds, data),
+            Repr::ReportRecordReprs(records) => {
+                put_report_header(&mut w, records.len() as u16);
+                put_records(&mut w, records);
+            }
+        }
+    }
+}
+
+// Writes a query.
+fn put_query(
+    w: &mut ByteWriter<'_>,
+    max_resp_code: u16,
+    mcast_addr: Ipv6Address,
+    s_flag: bool,
+    qrv: u8,
+    qqic: u8,
+    num_srcs: u16,
+    data: &[u8],
+)
+    requires room { 28 + length «data».now ≤ length (free w.old) }
+    requires small { qrv < 8 }
+    ensures puts { Puts w.old w.new
+        (query_fields max_resp_code mcast_addr s_flag qrv qqic num_srcs «data».now) }
+    ensures same_slice { the_slice w.new ≡ the_slice w.old }
+{
+    w.put_u8(Message::MldQuery.into());
+    w.put_u8(0);
+    w.put_u16(0);
+    w.put_u16(max_resp_code);
+    w.put_u16(0);
+    w.put_bytes(&mcast_addr.octets());
+    let flag = if s_flag { 8 } else { 0 };
+    w.put_u8(flag + qrv);
+    w.put_u8(qqic);
+    w.put_u16(num_srcs);
+    w.put_bytes(data);
+}
+
+// Writes a report of so many records, which the data holds.
+fn put_report(w: &mut ByteWriter<'_>, count: u16, data: &[u8])
+    requires room { 8 + length «data».now ≤ length (free w.old) }
+    ensures puts { Puts w.old w.new (report_fields count («data».now ∷ [])) }
+    ensures same_slice { the_slice w.new ≡ the_slice w.old }
+{
+    put_report_header(w, count);
+    w.put_bytes(data);
+}
+
+// Writes the header of a report of so many records.
+fn put_report_header(w: &mut ByteWriter<'_>, count: u16)
+    requires room { 8 ≤ length (free w.old) }
+    ensures puts { Puts w.old w.new (report_fields count []) }
+    ensures room { length (free w.old) ≡ 8 + length (free w.new) }
+    ensures same_slice { the_slice w.new ≡ the_slice w.old }
+{
+    w.put_u8(Message::MldReport.into());
+    w.put_u8(0);
+    w.put_u16(0);
+    w.put_u16(0);
+    w.put_u16(count);
+}
+
+// Writes each record.
+fn put_records(w: &mut ByteWriter<'_>, records: &[AddressRecordRepr<'_>])
+    requires room { 20 * length records.now ≤ length (free w.old) }
+    requires groups { AreGroups (values_of records.now) }
+    ensures puts { Puts w.old w.new (record_texts (values_of records.now)) }
+    ensures same_slice { the_slice w.new ≡ the_slice w.old }
+{
+    for record in records {
+        put_record(w, record);
+    }
+}
+
+// Writes a record.
+#[tactic(auto, using(wirebase::proofs::Chains::parts, crate::proofs::MldTexts::record_texts))]
+fn put_record(w: &mut ByteWriter<'_>, repr: &AddressRecordRepr<'_>)
+    requires room { 20 ≤ length (free w.old) }
+    requires group { IsMulticast repr.now.mcast_addr }
+    ensures puts { Puts w.old w.new (record_text (record_value repr.now) ∷ []) }
+    ensures room { length (free w.old) ≡ 20 + length (free w.new) }
+    ensures same_slice { the_slice w.new ≡ the_slice w.old }
+{
+    write_record(repr, w.part(repr.buffer_len()));
+}
+
+// Writes a record into octets of just its length.
+fn write_record(repr: &AddressRecordRepr<'_>, octets: &mut [u8])
+    requires room { length octets.old ≡ 20 }
+    requires group { IsMulticast repr.now.mcast_addr }
+    ensures { octets.new ≡ record_text (record_value repr.now) }
+{
+    repr.emit_into(octets);
+}

@@ -1,0 +1,71 @@
+//! The numbers of multicast listener discovery (RFC 3810 section 5.2.12).
+
+ghost use Rattle.std.specs.Prelude.{◌≡◌};
+ghost use Rattle.wirebase.specs.Numbered.{IsProper, IsTable};
+ghost use Rattle.icmp6_wire.specs.MldTables.{record_type_number, record_type_rows, record_type_of};
+
+/// What a record tells of the sources that a listener asks of a group, one byte (RFC 3810 section 5.2.12).
+#[derive(Debug, PartialEq, Eq, PartialOrd, Ord, Clone, Copy)]
+pub enum RecordType {
+    /// It listens to these sources alone.
+    ModeIsInclude,
+    /// It listens to all sources but these.
+    ModeIsExclude,
+    /// From now on it listens to these sources alone.
+    ChangeToInclude,
+    /// From now on it listens to all sources but these.
+    ChangeToExclude,
+    /// It listens to these sources too.
+    AllowNewSources,
+    /// It listens to these sources no longer.
+    BlockOldSources,
+    /// Any other type, by its number.
+    Unknown(u8),
+}
+
+impl From<u8> for RecordType {
+    ghost from_gives = { λ number record_type. record_type ≡ record_type_of number };
+
+    fn from(number: u8) -> RecordType
+        ensures value { result ≡ record_type_of number }
+        ensures back { record_type_number result ≡ number }
+        ensures table { IsTable ⟦<RecordType as Ord>⟧.cmp RecordType.Unknown record_type_rows }
+    {
+        record_type_numbered(number)
+    }
+}
+
+// The type of a number.
+fn record_type_numbered(number: u8) -> RecordType
+    ensures { result ≡ record_type_of number }
+{
+    match number {
+        1 => RecordType::ModeIsInclude,
+        2 => RecordType::ModeIsExclude,
+        3 => RecordType::ChangeToInclude,
+        4 => RecordType::ChangeToExclude,
+        5 => RecordType::AllowNewSources,
+        6 => RecordType::BlockOldSources,
+        other => RecordType::Unknown(other),
+    }
+}
+
+impl From<RecordType> for u8 {
+    ghost from_gives = { λ record_type number. number ≡ record_type_number record_type };
+
+    fn from(record_type: RecordType) -> u8
+        ensures value { result ≡ record_type_number record_type }
+        ensures back { IsProper RecordType.Unknown record_type_rows record_type
+            → record_type_of result ≡ record_type }
+    {
+        match record_type {
+            RecordType::ModeIsInclude => 1,
+            RecordType::ModeIsExclude => 2,
+            RecordType::ChangeToInclude => 3,
+            RecordType::ChangeToExclude => 4,
+            RecordType::AllowNewSources => 5,
+            RecordType::BlockOldSources => 6,
+            RecordType::Unknown(other) => other,
+        }
+    }
+}
