@@ -1,1 +1,2 @@
+pub mod Dhcpv4Packet
 pub mod Dhcpv4Tables
