@@ -1,0 +1,3 @@
+pub mod Dhcpv4Lists
+pub mod Dhcpv4Writes
+pub mod Dhcpv4Text

@@ -30,7 +30,6 @@
 --
 -- (*) In the RFC chaddr has 16 bytes and sname begins at byte 44; here sname begins after the 6 octets.
 use Rattle.std.specs.Prelude.{◌≡◌, ◌≢◌, ℕ, List, [], ◌∷◌, ◌++◌, length, drop}
-use Rattle.std.specs.List.{AllByRecursion}
 use Rattle.std.specs.Str.{IsUtf8}
 use Rattle.wirebase.specs.Bytes.{Field, field, Writes}
 use Rattle.dhcp_wire.specs.declared.dhcpv4.packet.Packet.{Packet}
@@ -104,10 +103,15 @@ magic_field = field 236 240
 abbrev pub options_in : List ℕ → List ℕ
 options_in bytes = drop 240 bytes
 
+-- none of the bytes is zero
+abbrev pub HasNoZero : List ℕ → Type 0
+HasNoZero [] = Unit {0}
+HasNoZero (byte ∷ rest) = (byte ≢ 0) × HasNoZero rest
+
 -- A text that a field of fixed size holds: its bytes stand before the first zero, there are some, and they are UTF-8.
 pub record IsTextIn (bytes text : List ℕ) : Type 0 where
   pub rest : List ℕ
   pub whole : bytes ≡ text ++ 0 ∷ rest
   pub some : text ≢ []
-  pub no_zero : AllByRecursion (λ byte. byte ≢ 0) text
+  pub no_zero : HasNoZero text
   pub utf8 : IsUtf8 text

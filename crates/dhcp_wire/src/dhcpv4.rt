@@ -1,7 +1,9 @@
 //! The Dynamic Host Configuration Protocol (RFC 2131) with its options (RFC 2132).
 
 mod kinds;
+mod options;
 mod packet;
+mod repr;
 mod tables;
 
 pub use kinds::{
@@ -26,7 +28,9 @@ pub use kinds::{
     OPT_VENDOR_CLASS_ID, OPT_VENDOR_SPECIFIC_INFO, OPT_WWW_SERVER, OPT_X_WINDOW_DISPLAY_MANAGER,
     OPT_X_WINDOW_FONT_SERVER,
 };
+pub use options::{DhcpOption, DhcpOptionWriter, OptionsIter};
 pub use packet::Packet;
+pub use repr::Repr;
 pub use tables::{Flags, MessageType, OpCode};
 
 /// The UDP port of servers (RFC 2131 section 4.1).

@@ -1,16 +1,17 @@
 //! A view of the octets of a packet.
 #![tactic(auto, using(wirebase::proofs::Pieces::pieces))]
 
-ghost use Rattle.std.specs.Prelude.{◌≡◌, ◌≤◌, ◌↔◌, [], ◌∷◌, List, ℕ, length, IsTrue, IsOk, IfOk, IsOkAnd, replicate};
+ghost use Rattle.std.specs.Prelude.{◌≡◌, ◌≤◌, ◌<◌, ◌↔◌, [], ◌∷◌, List, ℕ, length, take, slice_index, IsTrue, IsOk, IfOk, OnErr, IsOkAnd, replicate};
 ghost use Rattle.std.specs.Int.RustNames.{bit_and};
 ghost use Rattle.byteorder.specs.Endian.{big_bytes};
 ghost use Rattle.wirebase.specs.Bytes.{Reaches, byte_of, bytes_of, number_of};
 ghost use Rattle.wirebase.specs.Ethernet.{octets_of as ethernet_octets};
 ghost use Rattle.wirebase.specs.Hardware.{hardware_number, hardware_of};
 ghost use Rattle.wirebase.specs.Ipv4.{octets_of};
-ghost use Rattle.dhcp_wire.specs.Dhcpv4Packet.{inner, Sets, KeepsLen, op_field, htype_field, hlen_field, hops_field, xid_field, secs_field, flags_field, ciaddr_field, yiaddr_field, siaddr_field, giaddr_field, chaddr_field, sname_field, file_field, names_field, magic_field, IsTextIn};
+ghost use Rattle.dhcp_wire.specs.Dhcpv4Packet.{inner, Sets, KeepsLen, op_field, htype_field, hlen_field, hops_field, xid_field, secs_field, flags_field, ciaddr_field, yiaddr_field, siaddr_field, giaddr_field, chaddr_field, sname_field, file_field, names_field, magic_field, options_in, HasNoZero, IsTextIn};
 ghost use Rattle.dhcp_wire.specs.Dhcpv4Tables.{opcode_number, opcode_of, flag_bits};
 
+use super::options::OptionsIter;
 use super::tables::{Flags, OpCode};
 use bitflags::Flags as _;
 use wirebase::{Error, EthernetAddress, Hardware, Ipv4Address, Octets, OctetsMut, Result};
@@ -229,13 +230,54 @@ impl<T: Octets> Packet<T> {
         ipv4_address(self.buffer.field(field::GIADDR))
     }
 
-    #[tactic(auto, unfolding(bitflags::specs::Sets::known_from))]
     /// The flags that have a name; the other bits are not looked at. Asks 12 bytes.
+    #[tactic(auto, unfolding(bitflags::specs::Sets::known_from))]
     pub fn flags(&self) -> Flags
         requires { Reaches flags_field (T.bytes (inner self.now)) }
         ensures { flag_bits result ≡ bit_and (number_of flags_field (T.bytes (inner self.now))) 0x8000 }
     {
         Flags::from_bits_truncate(self.buffer.u16_at(field::FLAGS))
+    }
+}
+
+impl<'a> Packet<&'a [u8]> {
+    ghost use Rattle.dhcp_wire.specs.Dhcpv4Options.{OptionValue, Options};
+
+    /// The options in turn, for as long as the octets live. Asks 240 bytes.
+    pub fn options(&self) -> OptionsIter<'a>
+        requires { Reaches magic_field (inner self.now).now }
+        ensures options { Options (options_in (inner self.now).now) result }
+        ensures unique { (others : List OptionValue) → Options (options_in (inner self.now).now) others
+            → others ≡ result }
+    {
+        let octets: &'a [u8] = self.buffer;
+        OptionsIter::new(&octets[field::OPTIONS..])
+    }
+
+    /// The name of a server, for as long as the octets live: the bytes before the first zero. Refused where there is
+    /// no zero byte, or nothing before it, or no UTF-8. Asks 108 bytes.
+    #[tactic(auto, unfolding(wirebase::specs::Bytes::part))]
+    pub fn get_sname(&self) -> Result<&'a str>
+        requires { Reaches sname_field (inner self.now).now }
+        ensures sound { IfOk result (λ text. IsTextIn (bytes_of sname_field (inner self.now).now) text.now) }
+        ensures complete { (text : List ℕ) → IsTextIn (bytes_of sname_field (inner self.now).now) text
+            → IsOkAnd result (λ read. read.now ≡ text) }
+    {
+        let octets: &'a [u8] = self.buffer;
+        text_in(&octets[field::SNAME])
+    }
+
+    /// The name of a file to start from, for as long as the octets live: the bytes before the first zero. Refused
+    /// where there is no zero byte, or nothing before it, or no UTF-8. Asks 236 bytes.
+    #[tactic(auto, unfolding(wirebase::specs::Bytes::part))]
+    pub fn get_boot_file(&self) -> Result<&'a str>
+        requires { Reaches file_field (inner self.now).now }
+        ensures sound { IfOk result (λ text. IsTextIn (bytes_of file_field (inner self.now).now) text.now) }
+        ensures complete { (text : List ℕ) → IsTextIn (bytes_of file_field (inner self.now).now) text
+            → IsOkAnd result (λ read. read.now ≡ text) }
+    {
+        let octets: &'a [u8] = self.buffer;
+        text_in(&octets[field::FILE])
     }
 }
 
@@ -374,4 +416,35 @@ fn ipv4_address(octets: &[u8]) -> Ipv4Address
     ensures { octets_of result ≡ octets.now }
 {
     Ipv4Address::from_octets(octets.try_into().unwrap())
+}
+
+// The text that a field of fixed size holds.
+fn text_in(octets: &[u8]) -> Result<&str>
+    ensures sound { IfOk result (λ text. IsTextIn octets.now text.now) }
+    ensures complete { (text : List ℕ) → IsTextIn octets.now text
+        → IsOkAnd result (λ read. read.now ≡ text) }
+{
+    let count = before_zero(octets)?;
+    if count == 0 {
+        return Err(Error);
+    }
+    match str::from_utf8(&octets[..count]) {
+        Ok(text) => Ok(text),
+        Err(_) => Err(Error),
+    }
+}
+
+// How many bytes stand before the first zero; refused where there is none.
+fn before_zero(octets: &[u8]) -> Result<usize>
+    ensures zero { IfOk result (λ count. slice_index octets.now count ≡ 0) }
+    ensures inside { IfOk result (λ count. count < length octets.now) }
+    ensures before { IfOk result (λ count. HasNoZero (take count octets.now)) }
+    ensures refused { OnErr result (HasNoZero octets.now) }
+{
+    for (i, byte) in octets.iter().enumerate() {
+        if *byte == 0 {
+            return Ok(i);
+        }
+    }
+    Err(Error)
 }
