@@ -1,6 +1,7 @@
 -- What a DHCP packet says: its value, its text, and the grammar that reads it (RFC 2131, RFC 2132).
-use Rattle.std.specs.Prelude.{◌≡◌, ◌≢◌, ℕ, ◌+◌, ◌-◌, ◌*◌, ◌/◌, ◌≤◌, ◌<◌, ◌^◌, ◌==◌, ◌&&◌, ◌↔◌, min, Bool, true, false, nat_le, List, [], ◌∷◌, ◌++◌, length, take, drop, map, flat_map, replicate, slice_index, if◌then◌else◌, Option, None, Some, Result, IsOk, OnOk, OnErr, is_ok}
+use Rattle.std.specs.Prelude.{◌≡◌, ◌≢◌, ℕ, zero, suc, ◌+◌, ◌-◌, ◌*◌, ◌/◌, ◌≤◌, ◌<◌, ◌^◌, ◌==◌, ◌&&◌, ◌↔◌, min, Bool, true, false, nat_le, List, [], ◌∷◌, ◌++◌, length, take, drop, map, flat_map, replicate, slice_index, if◌then◌else◌, Option, None, Some, Result, IsOk, OnOk, OnErr, is_ok}
 use Rattle.std.specs.Option.{option_map, option_or}
+use Rattle.std.specs.Int.RustNames.{bit_and}
 use Rattle.byteorder.specs.Endian.{big_number}
 use Rattle.wirebase.specs.Bytes.{Reaches, byte_of, bytes_of, number_of, over}
 use Rattle.wirebase.specs.ByteWriter.{be8, be16, be32, fields}
@@ -157,9 +158,17 @@ number_in n d = option_map (big_number n) (of_len n d)
 abbrev pub identifier_in : List ℕ → Option (List ℕ)
 identifier_in d = option_map (drop 1) (of_len 7 d)
 
--- the first five whole addresses
+-- the first whole addresses of four bytes, at most so many
+unfoldable pub whole_addresses : ℕ → List ℕ → List ℕ
+whole_addresses zero d = []
+whole_addresses (suc most) [] = []
+whole_addresses (suc most) (a ∷ []) = []
+whole_addresses (suc most) (a ∷ b ∷ []) = []
+whole_addresses (suc most) (a ∷ b ∷ c ∷ []) = []
+whole_addresses (suc most) (a ∷ b ∷ c ∷ d ∷ rest) = a ∷ b ∷ c ∷ d ∷ whole_addresses most rest
+
 abbrev pub addresses_in : List ℕ → Option (List ℕ)
-addresses_in d = Some (take (4 * min 5 (length d / 4)) d)
+addresses_in d = Some (whole_addresses 5 d)
 
 -- the type of a message whose operation is that of the packet
 abbrev pub type_in : ℕ → List ℕ → Option MessageType
@@ -175,14 +184,22 @@ abbrev pub AreOfEthernet : List OptionValue → Type 0
 AreOfEthernet [] = Unit {0}
 AreOfEthernet (o ∷ os) = IsOfEthernet o × AreOfEthernet os
 
--- The bytes are a packet of this value: of Ethernet, with the cookie of DHCP, and with a type of message that has the operation
--- of the packet. Each field that an option gives is that of the last option of its kind and length.
-pub record IsPacket (bytes : List ℕ) (v : Value) : Type 0 where
-  pub options : List OptionValue
+-- of the flags that have a name, the one of a packet that is to be answered to everyone (RFC 2131 section 4.1)
+abbrev pub has_broadcast : ℕ → Bool
+has_broadcast flags = bit_and (bit_and flags 0x8000) 0x8000 == 0x8000
+
+-- whole, of Ethernet, and with the cookie of DHCP (RFC 2131 section 3)
+pub record HasHeader (bytes : List ℕ) : Type 0 where
   pub whole : Reaches magic_field bytes
   pub hardware : byte_of htype_field bytes ≡ 1
   pub hardware_len : byte_of hlen_field bytes ≡ 6
   pub cookie : number_of magic_field bytes ≡ 0x63825363
+
+-- The bytes are a packet of this value: of Ethernet, with the cookie of DHCP, and with a type of message that has the operation
+-- of the packet. Each field that an option gives is that of the last option of its kind and length.
+pub record IsPacket (bytes : List ℕ) (v : Value) : Type 0 where
+  pub options : List OptionValue
+  pub header : HasHeader bytes
   pub listed : Options (options_in bytes) options
   pub identifiers : AreOfEthernet options
   pub message_type : last_of (said 53 (type_in (byte_of op_field bytes))) options ≡ Some v.message_type
@@ -193,7 +210,7 @@ pub record IsPacket (bytes : List ℕ) (v : Value) : Type 0 where
   pub your_ip : octets_of v.your_ip ≡ bytes_of yiaddr_field bytes
   pub server_ip : octets_of v.server_ip ≡ bytes_of siaddr_field bytes
   pub relay_agent_ip : octets_of v.relay_agent_ip ≡ bytes_of giaddr_field bytes
-  pub broadcast : v.broadcast ≡ nat_le 0x8000 (number_of flags_field bytes)
+  pub broadcast : v.broadcast ≡ has_broadcast (number_of flags_field bytes)
   pub router : option_map octets_of v.router ≡ last_of (said 3 (of_len 4)) options
   pub subnet_mask : option_map octets_of v.subnet_mask ≡ last_of (said 1 (of_len 4)) options
   pub requested_ip : option_map octets_of v.requested_ip ≡ last_of (said 50 (of_len 4)) options

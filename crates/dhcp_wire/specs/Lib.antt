@@ -1,4 +1,5 @@
 pub mod Dhcpv4
+pub mod Dhcpv4Found
 pub mod Dhcpv4Options
 pub mod Dhcpv4Packet
 pub mod Dhcpv4Tables
