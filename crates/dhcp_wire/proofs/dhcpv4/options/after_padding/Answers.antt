@@ -1,0 +1,11 @@
+use Rattle.std.proofs.Common.{ℕ, List, ◌∷◌, suc, drop, ap, sym, ◌∙◌, add-one, drop-cons}
+use Rattle.dhcp_wire.specs.Dhcpv4Options.{list_of}
+use Rattle.dhcp_wire.proofs.Dhcpv4Lists.{list-padding}
+use Rattle.dhcp_wire.proofs.dhcpv4.options.after_padding.Goals as goal
+
+pub loop-i-preserved : goal.loop-i-preserved
+loop-i-preserved c =
+    let octets = c.args.octets.now in
+    let i = c.loop-i.i in
+    ap (λ (n : ℕ). list_of (drop n octets)) (add-one i) ∙ sym (list-padding (drop (suc i) octets))
+    ∙ ap (λ (k : ℕ). list_of (k ∷ drop (suc i) octets)) (sym c.if-kind-ne-OPT_PAD.false) ∙ ap list_of (sym (drop-cons octets i 0 c.loop-i-test.true)) ∙ c.loop-i.invariant

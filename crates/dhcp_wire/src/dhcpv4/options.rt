@@ -1,0 +1,152 @@
+//! Options, read in turn and written in turn (RFC 2132 section 2).
+
+ghost use Rattle.std.specs.Prelude.{◌≡◌, ◌≤◌, ◌<◌, ◌+◌, ◌++◌, ◌∷◌, [], ◌↔◌, List, ℕ, length, drop, IsOk, OnOk, OnErr};
+ghost use Rattle.dhcp_wire.specs.Dhcpv4Options.{OptionValue, value_of_option, option_text, Options, list_of, GivesFirst, HasNoPadding};
+
+use super::kinds::{OPT_END, OPT_PAD};
+use std::marker::Model;
+use wirebase::{Error, Result};
+
+// The greatest number of bytes of data: an option counts them in one byte.
+const MAX_DATA_LEN: usize = 255;
+
+/// An option: a kind, and at most 255 bytes of data where it is to be written.
+#[derive(Debug, PartialEq, Eq, Clone, Copy)]
+pub struct DhcpOption<'a> {
+    pub kind: u8,
+    pub data: &'a [u8],
+}
+
+/// The options of a packet in turn. Padding is skipped; the end mark and an option that is cut off end them for good.
+#[derive(Debug, Drop)]
+pub struct OptionsIter<'a> {
+    // The octets after the options that were given.
+    rest: &'a [u8],
+}
+
+impl<'a> Model for OptionsIter<'a> {
+    ghost use Rattle.std.specs.Prelude.{List};
+    ghost use Rattle.dhcp_wire.specs.Dhcpv4Options.{OptionValue, list_of};
+
+    ghost Value = { List OptionValue };
+
+    ghost view = { λ it. list_of it.rest.now };
+}
+
+impl<'a> OptionsIter<'a> {
+    // The options in these octets.
+    pub(super) fn new(octets: &'a [u8]) -> OptionsIter<'a>
+        ensures options { Options octets.entry.now result }
+        ensures unique { (others : List OptionValue) → Options octets.entry.now others
+            → others ≡ result }
+    {
+        OptionsIter { rest: octets }
+    }
+}
+
+impl<'a> Iterator for OptionsIter<'a> {
+    ghost use Rattle.std.specs.Iterator.{at_most};
+
+    type Item = DhcpOption<'a>;
+
+    ghost next_gives = { GivesFirst };
+
+    ghost remaining = { λ options. at_most (length options) };
+
+    fn next(&mut self) -> Option<DhcpOption<'a>> {
+        let [kind, count, rest @ ..] = after_padding(self.rest) else {
+            return None;
+        };
+        if *kind == OPT_END || rest.len() < *count as usize {
+            return None;
+        }
+        let (data, rest) = rest.split_at(*count as usize);
+        self.rest = rest;
+        Some(DhcpOption { kind: *kind, data })
+    }
+}
+
+// The octets from the first on that is no padding.
+fn after_padding(octets: &[u8]) -> &[u8]
+    ensures same { list_of result.now ≡ list_of octets.now }
+    ensures none { HasNoPadding result.now }
+{
+    for (i, kind) in octets.iter().enumerate() {
+        if *kind != OPT_PAD {
+            return &octets[i..];
+        }
+    }
+    &[]
+}
+
+/// Writes options over a slice, one after another from its front on, and then the end mark.
+#[derive(Debug, Drop)]
+pub struct DhcpOptionWriter<'a> {
+    buffer: &'a mut [u8],
+    position: usize,
+    ghost within: { position ≤ length buffer.now },
+}
+
+impl<'a> DhcpOptionWriter<'a> {
+    ghost use Rattle.dhcp_wire.specs.Dhcpv4Writer.{settled, free, the_slice, Fits, IsUnchanged};
+
+    /// A writer over this slice, all of whose bytes are free.
+    pub fn new(buffer: &'a mut [u8]) -> DhcpOptionWriter<'a>
+        ensures settled { settled result ≡ [] }
+        ensures free { free result ≡ buffer.old }
+        ensures same_slice { the_slice result ≡ buffer.entry.ghost_name }
+    {
+        DhcpOptionWriter {
+            buffer,
+            position: 0,
+        }
+    }
+
+    /// Writes an option: its kind, the number of bytes of its data, and the data. Refused where the data has more than
+    /// 255 bytes, and where fewer bytes are free than that takes; then nothing changes.
+    #[tactic(auto, using(crate::proofs::Dhcpv4Writes::writes))]
+    pub fn emit(&mut self, option: DhcpOption<'_>) -> Result<()>
+        ensures accepts { IsOk result
+            ↔ Fits (length (free self.old)) (value_of_option option.entry) }
+        ensures settled { OnOk result
+            (settled self.new ≡ settled self.old ++ option_text (value_of_option option.entry)) }
+        ensures free { OnOk result
+            (free self.new ≡ drop (2 + length option.entry.data.now) (free self.old)) }
+        ensures refused { OnErr result (IsUnchanged self.old self.new) }
+        ensures same_slice { the_slice self.new ≡ the_slice self.old }
+    {
+        let data = option.data;
+        let count = data.len();
+        if count > MAX_DATA_LEN {
+            return Err(Error);
+        }
+        let start = self.position;
+        if self.buffer.len() - start < 2 + count {
+            return Err(Error);
+        }
+        self.buffer[start] = option.kind;
+        self.buffer[start + 1] = count as u8;
+        self.buffer[start + 2..start + 2 + count].copy_from_slice(data);
+        self.position = start + 2 + count;
+        Ok(())
+    }
+
+    /// Writes the end mark. After that no byte is free. Refused where none is; then nothing changes.
+    #[tactic(auto, using(crate::proofs::Dhcpv4Writes::writes))]
+    pub fn end(&mut self) -> Result<()>
+        ensures accepts { IsOk result ↔ (0 < length (free self.old)) }
+        ensures settled { OnOk result
+            (settled self.new ≡ settled self.old ++ 255 ∷ drop 1 (free self.old)) }
+        ensures free { OnOk result (free self.new ≡ []) }
+        ensures refused { OnErr result (IsUnchanged self.old self.new) }
+        ensures same_slice { the_slice self.new ≡ the_slice self.old }
+    {
+        let start = self.position;
+        if start == self.buffer.len() {
+            return Err(Error);
+        }
+        self.buffer[start] = OPT_END;
+        self.position = self.buffer.len();
+        Ok(())
+    }
+}

@@ -1,0 +1,450 @@
+//! A view of the octets of a packet.
+#![tactic(auto, using(wirebase::proofs::Pieces::pieces))]
+
+ghost use Rattle.std.specs.Prelude.{◌≡◌, ◌≤◌, ◌<◌, ◌↔◌, [], ◌∷◌, List, ℕ, length, take, slice_index, IsTrue, IsOk, IfOk, OnErr, IsOkAnd, replicate};
+ghost use Rattle.std.specs.Int.RustNames.{bit_and};
+ghost use Rattle.byteorder.specs.Endian.{big_bytes};
+ghost use Rattle.wirebase.specs.Bytes.{Reaches, byte_of, bytes_of, number_of};
+ghost use Rattle.wirebase.specs.Ethernet.{octets_of as ethernet_octets};
+ghost use Rattle.wirebase.specs.Hardware.{hardware_number, hardware_of};
+ghost use Rattle.wirebase.specs.Ipv4.{octets_of};
+ghost use Rattle.dhcp_wire.specs.Dhcpv4Packet.{inner, Sets, KeepsLen, op_field, htype_field, hlen_field, hops_field, xid_field, secs_field, flags_field, ciaddr_field, yiaddr_field, siaddr_field, giaddr_field, chaddr_field, sname_field, file_field, names_field, magic_field, options_in, HasNoZero, IsTextIn};
+ghost use Rattle.dhcp_wire.specs.Dhcpv4Tables.{opcode_number, opcode_of, flag_bits};
+
+use super::options::OptionsIter;
+use super::tables::{Flags, OpCode};
+use bitflags::Flags as _;
+use wirebase::{Error, EthernetAddress, Hardware, Ipv4Address, Octets, OctetsMut, Result};
+
+// A packet (RFC 2131 section 2).
+//
+// +---------------+---------------+---------------+---------------+
+// |      op       |     htype     |     hlen      |     hops      |
+// +---------------+---------------+---------------+---------------+
+// |                              xid                              |
+// +-------------------------------+-------------------------------+
+// |             secs              |             flags             |
+// +-------------------------------+-------------------------------+
+// |  ciaddr, yiaddr, siaddr, giaddr: four bytes each              |
+// +---------------------------------------------------------------+
+// |  chaddr, sname and file, magic cookie, options
+// +- - - - -
+pub(super) mod field {
+    use wirebase::Field;
+
+    pub const OP: Field = 0..1;
+
+    pub const HTYPE: Field = 1..2;
+
+    pub const HLEN: Field = 2..3;
+
+    pub const HOPS: Field = 3..4;
+
+    pub const XID: Field = 4..8;
+
+    pub const SECS: Field = 8..10;
+
+    pub const FLAGS: Field = 10..12;
+
+    pub const CIADDR: Field = 12..16;
+
+    pub const YIADDR: Field = 16..20;
+
+    pub const SIADDR: Field = 20..24;
+
+    pub const GIADDR: Field = 24..28;
+
+    pub const CHADDR: Field = 28..34;
+
+    pub const SNAME: Field = 34..108;
+
+    pub const FILE: Field = 108..236;
+
+    pub const SNAME_AND_FILE: Field = 34..236;
+
+    pub const MAGIC_NUMBER: Field = 236..240;
+
+    pub const OPTIONS: usize = 240;
+}
+
+/// A view of the octets of a packet.
+#[derive(Debug, Clone, Copy)]
+pub struct Packet<T: Octets> {
+    buffer: T,
+}
+
+/// Views are equal exactly when their octets are.
+impl<T: Octets> PartialEq for Packet<T> {
+    ghost use Rattle.std.specs.Prelude.{◌==◌};
+    ghost use Rattle.std.proofs.Common.{rules};
+    ghost use Rattle.std.specs.Cmp.Lexicographic.{pointwise};
+    ghost use Rattle.std.specs.Cmp.Rules.{comparing};
+    ghost use Rattle.std.specs.Ordering.{on};
+
+    ghost eq = { on (λ view. T.bytes (inner view)) (pointwise ◌==◌) };
+
+    ghost laws = { Prim.search (comparing, rules) };
+
+    fn eq(&self, other: &Packet<T>) -> bool
+        ensures { IsTrue result ↔ (T.bytes (inner self.now) ≡ T.bytes (inner other.now)) }
+    {
+        self.buffer.octets() == other.buffer.octets()
+    }
+}
+
+impl<T: Octets> Eq for Packet<T> {
+    ghost use Rattle.std.proofs.Common.{rules};
+    ghost use Rattle.std.specs.Cmp.Rules.{comparing};
+
+    ghost laws = { Prim.search (comparing, rules) };
+}
+
+impl<T: Octets> Packet<T> {
+    /// The view of these octets, whatever they are.
+    pub fn new_unchecked(buffer: T) -> Packet<T>
+        ensures { inner result ≡ buffer }
+    {
+        Packet { buffer }
+    }
+
+    /// The view of these octets, where they are 240 or more; refused where they are fewer.
+    pub fn new_checked(buffer: T) -> Result<Packet<T>>
+        ensures accepts { IsOk result ↔ Reaches magic_field (T.bytes buffer) }
+        ensures buffer { IfOk result (λ view. inner view ≡ buffer) }
+    {
+        let packet = Packet::new_unchecked(buffer);
+        packet.check_len()?;
+        Ok(packet)
+    }
+
+    /// Accepts 240 octets or more. Then each accessor may be called.
+    pub fn check_len(&self) -> Result<()>
+        ensures accepts { IsOk result ↔ Reaches magic_field (T.bytes (inner self.now)) }
+    {
+        if self.buffer.octets().len() < field::OPTIONS {
+            return Err(Error);
+        }
+        Ok(())
+    }
+
+    /// What the view was made from, as it is now.
+    pub fn into_inner(self) -> T
+        ensures { result ≡ inner self }
+    {
+        self.buffer
+    }
+
+    /// What the packet is. Asks 1 byte.
+    pub fn opcode(&self) -> OpCode
+        requires { Reaches op_field (T.bytes (inner self.now)) }
+        ensures { result ≡ opcode_of (byte_of op_field (T.bytes (inner self.now))) }
+    {
+        OpCode::from(self.buffer.u8_at(field::OP))
+    }
+
+    /// The kind of hardware of the client's network. Asks 2 bytes.
+    pub fn hardware_type(&self) -> Hardware
+        requires { Reaches htype_field (T.bytes (inner self.now)) }
+        ensures { result ≡ hardware_of (byte_of htype_field (T.bytes (inner self.now))) }
+    {
+        Hardware::from(self.buffer.u8_at(field::HTYPE) as u16)
+    }
+
+    /// The bytes of a hardware address. Asks 3 bytes.
+    pub fn hardware_len(&self) -> u8
+        requires { Reaches hlen_field (T.bytes (inner self.now)) }
+        ensures { result ≡ byte_of hlen_field (T.bytes (inner self.now)) }
+    {
+        self.buffer.u8_at(field::HLEN)
+    }
+
+    /// The number that a client chose for this exchange. Asks 8 bytes.
+    pub fn transaction_id(&self) -> u32
+        requires { Reaches xid_field (T.bytes (inner self.now)) }
+        ensures { result ≡ number_of xid_field (T.bytes (inner self.now)) }
+    {
+        self.buffer.u32_at(field::XID)
+    }
+
+    /// The client's address on its network, of Ethernet. Asks 34 bytes.
+    pub fn client_hardware_address(&self) -> EthernetAddress
+        requires { Reaches chaddr_field (T.bytes (inner self.now)) }
+        ensures { ethernet_octets result ≡ bytes_of chaddr_field (T.bytes (inner self.now)) }
+    {
+        EthernetAddress::from_bytes(self.buffer.field(field::CHADDR))
+    }
+
+    /// How many relays the packet has passed. Asks 4 bytes.
+    pub fn hops(&self) -> u8
+        requires { Reaches hops_field (T.bytes (inner self.now)) }
+        ensures { result ≡ byte_of hops_field (T.bytes (inner self.now)) }
+    {
+        self.buffer.u8_at(field::HOPS)
+    }
+
+    /// The seconds since the client began. Asks 10 bytes.
+    pub fn secs(&self) -> u16
+        requires { Reaches secs_field (T.bytes (inner self.now)) }
+        ensures { result ≡ number_of secs_field (T.bytes (inner self.now)) }
+    {
+        self.buffer.u16_at(field::SECS)
+    }
+
+    /// The number before the options; that of DHCP is 0x63825363 (RFC 2131 section 3). Asks 240 bytes.
+    pub fn magic_number(&self) -> u32
+        requires { Reaches magic_field (T.bytes (inner self.now)) }
+        ensures { result ≡ number_of magic_field (T.bytes (inner self.now)) }
+    {
+        self.buffer.u32_at(field::MAGIC_NUMBER)
+    }
+
+    /// The address that the client has, or 0.0.0.0. Asks 16 bytes.
+    pub fn client_ip(&self) -> Ipv4Address
+        requires { Reaches ciaddr_field (T.bytes (inner self.now)) }
+        ensures { octets_of result ≡ bytes_of ciaddr_field (T.bytes (inner self.now)) }
+    {
+        ipv4_address(self.buffer.field(field::CIADDR))
+    }
+
+    /// The address that the client is given, or 0.0.0.0. Asks 20 bytes.
+    pub fn your_ip(&self) -> Ipv4Address
+        requires { Reaches yiaddr_field (T.bytes (inner self.now)) }
+        ensures { octets_of result ≡ bytes_of yiaddr_field (T.bytes (inner self.now)) }
+    {
+        ipv4_address(self.buffer.field(field::YIADDR))
+    }
+
+    /// The server to start from, or 0.0.0.0. Asks 24 bytes.
+    pub fn server_ip(&self) -> Ipv4Address
+        requires { Reaches siaddr_field (T.bytes (inner self.now)) }
+        ensures { octets_of result ≡ bytes_of siaddr_field (T.bytes (inner self.now)) }
+    {
+        ipv4_address(self.buffer.field(field::SIADDR))
+    }
+
+    /// The relay that the packet came by, or 0.0.0.0. Asks 28 bytes.
+    pub fn relay_agent_ip(&self) -> Ipv4Address
+        requires { Reaches giaddr_field (T.bytes (inner self.now)) }
+        ensures { octets_of result ≡ bytes_of giaddr_field (T.bytes (inner self.now)) }
+    {
+        ipv4_address(self.buffer.field(field::GIADDR))
+    }
+
+    /// The flags that have a name; the other bits are not looked at. Asks 12 bytes.
+    #[tactic(auto, unfolding(bitflags::specs::Sets::known_from))]
+    pub fn flags(&self) -> Flags
+        requires { Reaches flags_field (T.bytes (inner self.now)) }
+        ensures { flag_bits result ≡ bit_and (number_of flags_field (T.bytes (inner self.now))) 0x8000 }
+    {
+        Flags::from_bits_truncate(self.buffer.u16_at(field::FLAGS))
+    }
+}
+
+impl<'a> Packet<&'a [u8]> {
+    ghost use Rattle.dhcp_wire.specs.Dhcpv4Options.{OptionValue, Options};
+
+    /// The options in turn, for as long as the octets live. Asks 240 bytes.
+    pub fn options(&self) -> OptionsIter<'a>
+        requires { Reaches magic_field (inner self.now).now }
+        ensures options { Options (options_in (inner self.now).now) result }
+        ensures unique { (others : List OptionValue) → Options (options_in (inner self.now).now) others
+            → others ≡ result }
+    {
+        let octets: &'a [u8] = self.buffer;
+        OptionsIter::new(&octets[field::OPTIONS..])
+    }
+
+    /// The name of a server, for as long as the octets live: the bytes before the first zero. Refused where there is
+    /// no zero byte, or nothing before it, or no UTF-8. Asks 108 bytes.
+    #[tactic(auto, unfolding(wirebase::specs::Bytes::part))]
+    pub fn get_sname(&self) -> Result<&'a str>
+        requires { Reaches sname_field (inner self.now).now }
+        ensures sound { IfOk result (λ text. IsTextIn (bytes_of sname_field (inner self.now).now) text.now) }
+        ensures complete { (text : List ℕ) → IsTextIn (bytes_of sname_field (inner self.now).now) text
+            → IsOkAnd result (λ read. read.now ≡ text) }
+    {
+        let octets: &'a [u8] = self.buffer;
+        text_in(&octets[field::SNAME])
+    }
+
+    /// The name of a file to start from, for as long as the octets live: the bytes before the first zero. Refused
+    /// where there is no zero byte, or nothing before it, or no UTF-8. Asks 236 bytes.
+    #[tactic(auto, unfolding(wirebase::specs::Bytes::part))]
+    pub fn get_boot_file(&self) -> Result<&'a str>
+        requires { Reaches file_field (inner self.now).now }
+        ensures sound { IfOk result (λ text. IsTextIn (bytes_of file_field (inner self.now).now) text.now) }
+        ensures complete { (text : List ℕ) → IsTextIn (bytes_of file_field (inner self.now).now) text
+            → IsOkAnd result (λ read. read.now ≡ text) }
+    {
+        let octets: &'a [u8] = self.buffer;
+        text_in(&octets[field::FILE])
+    }
+}
+
+impl<T: OctetsMut> Packet<T> {
+    /// Writes zeros for the names of a server and of a file to start from. Asks 236 bytes.
+    pub fn set_sname_and_boot_file_to_zero(&mut self)
+        requires { Reaches names_field (T.bytes (inner self.old)) }
+        ensures writes { Sets T.bytes T.put self.old self.new names_field (replicate 202 0) }
+        ensures len { KeepsLen T.bytes self.old self.new }
+    {
+        self.buffer.field_mut(field::SNAME_AND_FILE).fill(0);
+    }
+
+    /// Writes what the packet is. Asks 1 byte.
+    pub fn set_opcode(&mut self, value: OpCode)
+        requires { Reaches op_field (T.bytes (inner self.old)) }
+        ensures writes { Sets T.bytes T.put self.old self.new op_field (opcode_number value ∷ []) }
+        ensures len { KeepsLen T.bytes self.old self.new }
+    {
+        self.buffer.set_u8(field::OP, value.into());
+    }
+
+    /// Writes the kind of hardware, whose number has to fit a byte. Asks 2 bytes.
+    pub fn set_hardware_type(&mut self, value: Hardware)
+        requires room { Reaches htype_field (T.bytes (inner self.old)) }
+        requires small { hardware_number value ≤ 255 }
+        ensures writes { Sets T.bytes T.put self.old self.new htype_field (hardware_number value ∷ []) }
+        ensures len { KeepsLen T.bytes self.old self.new }
+    {
+        self.buffer.set_u8(field::HTYPE, u16::from(value) as u8);
+    }
+
+    /// Writes the bytes of a hardware address. Asks 3 bytes.
+    pub fn set_hardware_len(&mut self, value: u8)
+        requires { Reaches hlen_field (T.bytes (inner self.old)) }
+        ensures writes { Sets T.bytes T.put self.old self.new hlen_field (value ∷ []) }
+        ensures len { KeepsLen T.bytes self.old self.new }
+    {
+        self.buffer.set_u8(field::HLEN, value);
+    }
+
+    /// Writes the number that a client chose for this exchange. Asks 8 bytes.
+    pub fn set_transaction_id(&mut self, value: u32)
+        requires { Reaches xid_field (T.bytes (inner self.old)) }
+        ensures writes { Sets T.bytes T.put self.old self.new xid_field (big_bytes 4 value) }
+        ensures len { KeepsLen T.bytes self.old self.new }
+    {
+        self.buffer.set_u32(field::XID, value);
+    }
+
+    /// Writes the client's address on its network. Asks 34 bytes.
+    pub fn set_client_hardware_address(&mut self, value: EthernetAddress)
+        requires { Reaches chaddr_field (T.bytes (inner self.old)) }
+        ensures writes { Sets T.bytes T.put self.old self.new chaddr_field (ethernet_octets value) }
+        ensures len { KeepsLen T.bytes self.old self.new }
+    {
+        self.buffer.set_bytes(field::CHADDR, value.as_bytes());
+    }
+
+    /// Writes how many relays the packet has passed. Asks 4 bytes.
+    pub fn set_hops(&mut self, value: u8)
+        requires { Reaches hops_field (T.bytes (inner self.old)) }
+        ensures writes { Sets T.bytes T.put self.old self.new hops_field (value ∷ []) }
+        ensures len { KeepsLen T.bytes self.old self.new }
+    {
+        self.buffer.set_u8(field::HOPS, value);
+    }
+
+    /// Writes the seconds since the client began. Asks 10 bytes.
+    pub fn set_secs(&mut self, value: u16)
+        requires { Reaches secs_field (T.bytes (inner self.old)) }
+        ensures writes { Sets T.bytes T.put self.old self.new secs_field (big_bytes 2 value) }
+        ensures len { KeepsLen T.bytes self.old self.new }
+    {
+        self.buffer.set_u16(field::SECS, value);
+    }
+
+    /// Writes the number before the options. Asks 240 bytes.
+    pub fn set_magic_number(&mut self, value: u32)
+        requires { Reaches magic_field (T.bytes (inner self.old)) }
+        ensures writes { Sets T.bytes T.put self.old self.new magic_field (big_bytes 4 value) }
+        ensures len { KeepsLen T.bytes self.old self.new }
+    {
+        self.buffer.set_u32(field::MAGIC_NUMBER, value);
+    }
+
+    /// Writes the address that the client has. Asks 16 bytes.
+    pub fn set_client_ip(&mut self, value: Ipv4Address)
+        requires { Reaches ciaddr_field (T.bytes (inner self.old)) }
+        ensures writes { Sets T.bytes T.put self.old self.new ciaddr_field (octets_of value) }
+        ensures len { KeepsLen T.bytes self.old self.new }
+    {
+        self.buffer.set_bytes(field::CIADDR, &value.octets());
+    }
+
+    /// Writes the address that the client is given. Asks 20 bytes.
+    pub fn set_your_ip(&mut self, value: Ipv4Address)
+        requires { Reaches yiaddr_field (T.bytes (inner self.old)) }
+        ensures writes { Sets T.bytes T.put self.old self.new yiaddr_field (octets_of value) }
+        ensures len { KeepsLen T.bytes self.old self.new }
+    {
+        self.buffer.set_bytes(field::YIADDR, &value.octets());
+    }
+
+    /// Writes the server to start from. Asks 24 bytes.
+    pub fn set_server_ip(&mut self, value: Ipv4Address)
+        requires { Reaches siaddr_field (T.bytes (inner self.old)) }
+        ensures writes { Sets T.bytes T.put self.old self.new siaddr_field (octets_of value) }
+        ensures len { KeepsLen T.bytes self.old self.new }
+    {
+        self.buffer.set_bytes(field::SIADDR, &value.octets());
+    }
+
+    /// Writes the relay that the packet came by. Asks 28 bytes.
+    pub fn set_relay_agent_ip(&mut self, value: Ipv4Address)
+        requires { Reaches giaddr_field (T.bytes (inner self.old)) }
+        ensures writes { Sets T.bytes T.put self.old self.new giaddr_field (octets_of value) }
+        ensures len { KeepsLen T.bytes self.old self.new }
+    {
+        self.buffer.set_bytes(field::GIADDR, &value.octets());
+    }
+
+    /// Writes the flags, with every bit of the value. Asks 12 bytes.
+    pub fn set_flags(&mut self, value: Flags)
+        requires { Reaches flags_field (T.bytes (inner self.old)) }
+        ensures writes { Sets T.bytes T.put self.old self.new flags_field (big_bytes 2 (flag_bits value)) }
+        ensures len { KeepsLen T.bytes self.old self.new }
+    {
+        self.buffer.set_u16(field::FLAGS, value.bits());
+    }
+}
+
+// The address of four octets.
+fn ipv4_address(octets: &[u8]) -> Ipv4Address
+    requires { length octets.now ≡ 4 }
+    ensures { octets_of result ≡ octets.now }
+{
+    Ipv4Address::from_octets(octets.try_into().unwrap())
+}
+
+// The text that a field of fixed size holds.
+fn text_in(octets: &[u8]) -> Result<&str>
+    ensures sound { IfOk result (λ text. IsTextIn octets.now text.now) }
+    ensures complete { (text : List ℕ) → IsTextIn octets.now text
+        → IsOkAnd result (λ read. read.now ≡ text) }
+{
+    let count = before_zero(octets)?;
+    if count == 0 {
+        return Err(Error);
+    }
+    match str::from_utf8(&octets[..count]) {
+        Ok(text) => Ok(text),
+        Err(_) => Err(Error),
+    }
+}
+
+// How many bytes stand before the first zero; refused where there is none.
+fn before_zero(octets: &[u8]) -> Result<usize>
+    ensures zero { IfOk result (λ count. slice_index octets.now count ≡ 0) }
+    ensures inside { IfOk result (λ count. count < length octets.now) }
+    ensures before { IfOk result (λ count. HasNoZero (take count octets.now)) }
+    ensures refused { OnErr result (HasNoZero octets.now) }
+{
+    for (i, byte) in octets.iter().enumerate() {
+        if *byte == 0 {
+            return Ok(i);
+        }
+    }
+    Err(Error)
+}

@@ -1,0 +1,4 @@
+//! The Dynamic Host Configuration Protocol of IPv4.
+#![tactic(auto)]
+
+pub mod dhcpv4;

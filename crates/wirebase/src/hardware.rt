@@ -1,0 +1,46 @@
+//! The kinds of hardware that a protocol of one hardware type or another speaks of.
+
+ghost use Rattle.std.specs.Prelude.{◌≡◌};
+ghost use Rattle.wirebase.specs.Hardware.{hardware_number, hardware_rows, hardware_of};
+ghost use Rattle.wirebase.specs.Numbered.{IsProper, IsTable};
+
+/// A kind of hardware, by its assigned number (RFC 826, RFC 2131 section 2). DHCP has it in one byte.
+#[derive(Debug, PartialEq, Eq, PartialOrd, Ord, Clone, Copy)]
+pub enum Hardware {
+    /// Addresses have six octets.
+    Ethernet,
+    /// Any other kind, by its number.
+    Unknown(u16),
+}
+
+impl From<u16> for Hardware {
+    ghost from_gives = { λ number hardware. hardware ≡ hardware_of number };
+
+    fn from(number: u16) -> Hardware
+        ensures value { result ≡ hardware_of number }
+        ensures back { hardware_number result ≡ number }
+        ensures table { IsTable ⟦<Hardware as Ord>⟧.cmp Hardware.Unknown hardware_rows }
+    {
+        match number {
+            1 => Hardware::Ethernet,
+            other => Hardware::Unknown(other),
+        }
+    }
+}
+
+impl From<Hardware> for u16 {
+    ghost from_gives = { λ hardware number. number ≡ hardware_number hardware };
+
+    fn from(hardware: Hardware) -> u16
+        ensures value { result ≡ hardware_number hardware }
+        ensures back { IsProper Hardware.Unknown hardware_rows hardware → hardware_of result ≡ hardware }
+    {
+        match hardware {
+            Hardware::Ethernet => 1,
+            Hardware::Unknown(other) => other,
+        }
+    }
+}
+
+#[cfg(test)]
+mod tests;

@@ -1,0 +1,18 @@
+use super::Hardware;
+use std::test::Fail;
+
+#[test]
+fn hardware_by_its_number(rt: HostRuntime) -> Result<(), Fail> {
+    for (number, hardware) in [
+        (0, Hardware::Unknown(0)),
+        (1, Hardware::Ethernet),
+        (2, Hardware::Unknown(2)),
+        (0xffff, Hardware::Unknown(0xffff)),
+    ] {
+        assert_eq!(rt; Hardware::from(number), hardware, "{number}");
+        assert_eq!(rt; u16::from(hardware), number, "{hardware:?}");
+    }
+    assert!(rt; Hardware::Ethernet < Hardware::Unknown(0));
+    assert!(rt; Hardware::Unknown(0) < Hardware::Unknown(2));
+    Ok(())
+}
