@@ -1,0 +1,1 @@
+pub mod Icmpv6Tables

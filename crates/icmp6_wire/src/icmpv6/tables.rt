@@ -1,0 +1,377 @@
+//! The numbers of messages and of their codes (RFC 4443 section 2.1).
+
+ghost use Rattle.std.specs.Prelude.{◌≡◌, ◌<◌, ◌↔◌, IsTrue, Some};
+ghost use Rattle.wirebase.specs.Numbered.{IsProper, IsTable};
+ghost use Rattle.icmp6_wire.specs.Icmpv6Tables.{message_number, message_rows, message_of, message_text, unreachable_number, unreachable_rows, unreachable_of, unreachable_text, param_problem_number, param_problem_rows, param_problem_of, param_problem_text, time_exceeded_number, time_exceeded_rows, time_exceeded_of, time_exceeded_text, is_ndisc, is_mld};
+
+use std::fmt;
+
+/// The type of a message, one byte. Errors have numbers below 128 (RFC 4443 section 2.1).
+#[derive(Debug, PartialEq, Eq, PartialOrd, Ord, Clone, Copy)]
+pub enum Message {
+    /// An error: the destination of a packet is unreachable (RFC 4443 section 3.1).
+    DstUnreachable,
+    /// An error: a packet is longer than the link can carry (RFC 4443 section 3.2).
+    PktTooBig,
+    /// An error: a time of a packet was exceeded (RFC 4443 section 3.3).
+    TimeExceeded,
+    /// An error: a field of a packet makes no sense (RFC 4443 section 3.4).
+    ParamProblem,
+    /// Echo request (RFC 4443 section 4.1).
+    EchoRequest,
+    /// Echo reply (RFC 4443 section 4.2).
+    EchoReply,
+    /// Multicast listener query (RFC 3810 section 5.1).
+    MldQuery,
+    /// Router solicitation (RFC 4861 section 4.1).
+    RouterSolicit,
+    /// Router advertisement (RFC 4861 section 4.2).
+    RouterAdvert,
+    /// Neighbor solicitation (RFC 4861 section 4.3).
+    NeighborSolicit,
+    /// Neighbor advertisement (RFC 4861 section 4.4).
+    NeighborAdvert,
+    /// Redirect (RFC 4861 section 4.5).
+    Redirect,
+    /// Multicast listener report, version 2 (RFC 3810 section 5.2).
+    MldReport,
+    /// Control message of RPL (RFC 6550 section 6).
+    RplControl,
+    /// Any other type, by its number.
+    Unknown(u8),
+}
+
+impl Message {
+    /// Whether messages of this type tell of an error: the highest bit of their number is clear (RFC 4443 section 2.1).
+    pub fn is_error(&self) -> bool
+        ensures { IsTrue result ↔ (message_number self.now < 128) }
+    {
+        u8::from(*self) < 0x80
+    }
+
+    /// Whether messages of this type are of neighbor discovery (RFC 4861 section 4).
+    pub const fn is_ndisc(&self) -> bool
+        ensures { result ≡ is_ndisc self.now }
+    {
+        matches!(
+            *self,
+            Message::RouterSolicit
+                | Message::RouterAdvert
+                | Message::NeighborSolicit
+                | Message::NeighborAdvert
+                | Message::Redirect
+        )
+    }
+
+    /// Whether messages of this type are of multicast listener discovery (RFC 3810 section 5).
+    pub const fn is_mld(&self) -> bool
+        ensures { result ≡ is_mld self.now }
+    {
+        matches!(*self, Message::MldQuery | Message::MldReport)
+    }
+}
+
+impl From<u8> for Message {
+    ghost from_gives = { λ number message. message ≡ message_of number };
+
+    fn from(number: u8) -> Message
+        ensures value { result ≡ message_of number }
+        ensures back { message_number result ≡ number }
+        ensures table { IsTable ⟦<Message as Ord>⟧.cmp Message.Unknown message_rows }
+    {
+        message_numbered(number)
+    }
+}
+
+// The type of a number.
+fn message_numbered(number: u8) -> Message
+    ensures { result ≡ message_of number }
+{
+    match number {
+        1 => Message::DstUnreachable,
+        2 => Message::PktTooBig,
+        3 => Message::TimeExceeded,
+        4 => Message::ParamProblem,
+        0x80 => Message::EchoRequest,
+        0x81 => Message::EchoReply,
+        0x82 => Message::MldQuery,
+        0x85 => Message::RouterSolicit,
+        0x86 => Message::RouterAdvert,
+        0x87 => Message::NeighborSolicit,
+        0x88 => Message::NeighborAdvert,
+        0x89 => Message::Redirect,
+        0x8f => Message::MldReport,
+        0x9b => Message::RplControl,
+        other => Message::Unknown(other),
+    }
+}
+
+impl From<Message> for u8 {
+    ghost from_gives = { λ message number. number ≡ message_number message };
+
+    fn from(message: Message) -> u8
+        ensures value { result ≡ message_number message }
+        ensures back { IsProper Message.Unknown message_rows message → message_of result ≡ message }
+    {
+        match message {
+            Message::DstUnreachable => 1,
+            Message::PktTooBig => 2,
+            Message::TimeExceeded => 3,
+            Message::ParamProblem => 4,
+            Message::EchoRequest => 0x80,
+            Message::EchoReply => 0x81,
+            Message::MldQuery => 0x82,
+            Message::RouterSolicit => 0x85,
+            Message::RouterAdvert => 0x86,
+            Message::NeighborSolicit => 0x87,
+            Message::NeighborAdvert => 0x88,
+            Message::Redirect => 0x89,
+            Message::MldReport => 0x8f,
+            Message::RplControl => 0x9b,
+            Message::Unknown(other) => other,
+        }
+    }
+}
+
+impl fmt::Display for Message {
+    ghost output = { λ message. Some (message_text message) };
+
+    fn fmt<W: fmt::Write>(&self, f: &mut fmt::Formatter<W>) -> fmt::Result {
+        match self {
+            Message::DstUnreachable => write!(f, "destination unreachable"),
+            Message::PktTooBig => write!(f, "packet too big"),
+            Message::TimeExceeded => write!(f, "time exceeded"),
+            Message::ParamProblem => write!(f, "parameter problem"),
+            Message::EchoRequest => write!(f, "echo request"),
+            Message::EchoReply => write!(f, "echo reply"),
+            Message::MldQuery => write!(f, "multicast listener query"),
+            Message::RouterSolicit => write!(f, "router solicitation"),
+            Message::RouterAdvert => write!(f, "router advertisement"),
+            Message::NeighborSolicit => write!(f, "neighbor solicitation"),
+            Message::NeighborAdvert => write!(f, "neighbor advert"),
+            Message::Redirect => write!(f, "redirect"),
+            Message::MldReport => write!(f, "multicast listener report"),
+            Message::RplControl => write!(f, "RPL control message"),
+            Message::Unknown(number) => write!(f, "{number}"),
+        }
+    }
+}
+
+/// Why a destination is unreachable: the code of such a message, one byte (RFC 4443 section 3.1).
+#[derive(Debug, PartialEq, Eq, PartialOrd, Ord, Clone, Copy)]
+pub enum DstUnreachable {
+    /// No route leads to the destination.
+    NoRoute,
+    /// Communication with the destination is administratively prohibited.
+    AdminProhibit,
+    /// The destination lies beyond the scope of the source address.
+    BeyondScope,
+    /// The address is unreachable.
+    AddrUnreachable,
+    /// The port is unreachable.
+    PortUnreachable,
+    /// The source address failed an ingress or egress policy.
+    FailedPolicy,
+    /// The route to the destination rejects.
+    RejectRoute,
+    /// Any other code, by its number.
+    Unknown(u8),
+}
+
+impl From<u8> for DstUnreachable {
+    ghost from_gives = { λ number unreachable. unreachable ≡ unreachable_of number };
+
+    fn from(number: u8) -> DstUnreachable
+        ensures value { result ≡ unreachable_of number }
+        ensures back { unreachable_number result ≡ number }
+        ensures table { IsTable ⟦<DstUnreachable as Ord>⟧.cmp DstUnreachable.Unknown unreachable_rows }
+    {
+        unreachable_numbered(number)
+    }
+}
+
+// The code of a number.
+fn unreachable_numbered(number: u8) -> DstUnreachable
+    ensures { result ≡ unreachable_of number }
+{
+    match number {
+        0 => DstUnreachable::NoRoute,
+        1 => DstUnreachable::AdminProhibit,
+        2 => DstUnreachable::BeyondScope,
+        3 => DstUnreachable::AddrUnreachable,
+        4 => DstUnreachable::PortUnreachable,
+        5 => DstUnreachable::FailedPolicy,
+        6 => DstUnreachable::RejectRoute,
+        other => DstUnreachable::Unknown(other),
+    }
+}
+
+impl From<DstUnreachable> for u8 {
+    ghost from_gives = { λ unreachable number. number ≡ unreachable_number unreachable };
+
+    fn from(unreachable: DstUnreachable) -> u8
+        ensures value { result ≡ unreachable_number unreachable }
+        ensures back { IsProper DstUnreachable.Unknown unreachable_rows unreachable → unreachable_of result ≡ unreachable }
+    {
+        match unreachable {
+            DstUnreachable::NoRoute => 0,
+            DstUnreachable::AdminProhibit => 1,
+            DstUnreachable::BeyondScope => 2,
+            DstUnreachable::AddrUnreachable => 3,
+            DstUnreachable::PortUnreachable => 4,
+            DstUnreachable::FailedPolicy => 5,
+            DstUnreachable::RejectRoute => 6,
+            DstUnreachable::Unknown(other) => other,
+        }
+    }
+}
+
+impl fmt::Display for DstUnreachable {
+    ghost output = { λ unreachable. Some (unreachable_text unreachable) };
+
+    fn fmt<W: fmt::Write>(&self, f: &mut fmt::Formatter<W>) -> fmt::Result {
+        match self {
+            DstUnreachable::NoRoute => write!(f, "no route to destination"),
+            DstUnreachable::AdminProhibit => write!(
+                f,
+                "communication with destination administratively prohibited"
+            ),
+            DstUnreachable::BeyondScope => write!(f, "beyond scope of source address"),
+            DstUnreachable::AddrUnreachable => write!(f, "address unreachable"),
+            DstUnreachable::PortUnreachable => write!(f, "port unreachable"),
+            DstUnreachable::FailedPolicy => write!(
+                f,
+                "source address failed ingress/egress policy"
+            ),
+            DstUnreachable::RejectRoute => write!(f, "reject route to destination"),
+            DstUnreachable::Unknown(number) => write!(f, "{number}"),
+        }
+    }
+}
+
+/// What is wrong with a packet: the code of a parameter problem, one byte (RFC 4443 section 3.4).
+#[derive(Debug, PartialEq, Eq, PartialOrd, Ord, Clone, Copy)]
+pub enum ParamProblem {
+    /// A field of a header is erroneous.
+    ErroneousHdrField,
+    /// The type of the next header is unrecognized.
+    UnrecognizedNxtHdr,
+    /// An IPv6 option is unrecognized.
+    UnrecognizedOption,
+    /// Any other code, by its number.
+    Unknown(u8),
+}
+
+impl From<u8> for ParamProblem {
+    ghost from_gives = { λ number param_problem. param_problem ≡ param_problem_of number };
+
+    fn from(number: u8) -> ParamProblem
+        ensures value { result ≡ param_problem_of number }
+        ensures back { param_problem_number result ≡ number }
+        ensures table { IsTable ⟦<ParamProblem as Ord>⟧.cmp ParamProblem.Unknown param_problem_rows }
+    {
+        param_problem_numbered(number)
+    }
+}
+
+// The code of a number.
+fn param_problem_numbered(number: u8) -> ParamProblem
+    ensures { result ≡ param_problem_of number }
+{
+    match number {
+        0 => ParamProblem::ErroneousHdrField,
+        1 => ParamProblem::UnrecognizedNxtHdr,
+        2 => ParamProblem::UnrecognizedOption,
+        other => ParamProblem::Unknown(other),
+    }
+}
+
+impl From<ParamProblem> for u8 {
+    ghost from_gives = { λ param_problem number. number ≡ param_problem_number param_problem };
+
+    fn from(param_problem: ParamProblem) -> u8
+        ensures value { result ≡ param_problem_number param_problem }
+        ensures back { IsProper ParamProblem.Unknown param_problem_rows param_problem → param_problem_of result ≡ param_problem }
+    {
+        match param_problem {
+            ParamProblem::ErroneousHdrField => 0,
+            ParamProblem::UnrecognizedNxtHdr => 1,
+            ParamProblem::UnrecognizedOption => 2,
+            ParamProblem::Unknown(other) => other,
+        }
+    }
+}
+
+impl fmt::Display for ParamProblem {
+    ghost output = { λ param_problem. Some (param_problem_text param_problem) };
+
+    fn fmt<W: fmt::Write>(&self, f: &mut fmt::Formatter<W>) -> fmt::Result {
+        match self {
+            ParamProblem::ErroneousHdrField => write!(f, "erroneous header field."),
+            ParamProblem::UnrecognizedNxtHdr => write!(f, "unrecognized next header type."),
+            ParamProblem::UnrecognizedOption => write!(f, "unrecognized IPv6 option."),
+            ParamProblem::Unknown(number) => write!(f, "{number}"),
+        }
+    }
+}
+
+/// Which time was exceeded: the code of such a message, one byte (RFC 4443 section 3.3).
+#[derive(Debug, PartialEq, Eq, PartialOrd, Ord, Clone, Copy)]
+pub enum TimeExceeded {
+    /// The hop limit was exceeded in transit.
+    HopLimitExceeded,
+    /// The time to reassemble fragments was exceeded.
+    FragReassemExceeded,
+    /// Any other code, by its number.
+    Unknown(u8),
+}
+
+impl From<u8> for TimeExceeded {
+    ghost from_gives = { λ number time_exceeded. time_exceeded ≡ time_exceeded_of number };
+
+    fn from(number: u8) -> TimeExceeded
+        ensures value { result ≡ time_exceeded_of number }
+        ensures back { time_exceeded_number result ≡ number }
+        ensures table { IsTable ⟦<TimeExceeded as Ord>⟧.cmp TimeExceeded.Unknown time_exceeded_rows }
+    {
+        time_exceeded_numbered(number)
+    }
+}
+
+// The code of a number.
+fn time_exceeded_numbered(number: u8) -> TimeExceeded
+    ensures { result ≡ time_exceeded_of number }
+{
+    match number {
+        0 => TimeExceeded::HopLimitExceeded,
+        1 => TimeExceeded::FragReassemExceeded,
+        other => TimeExceeded::Unknown(other),
+    }
+}
+
+impl From<TimeExceeded> for u8 {
+    ghost from_gives = { λ time_exceeded number. number ≡ time_exceeded_number time_exceeded };
+
+    fn from(time_exceeded: TimeExceeded) -> u8
+        ensures value { result ≡ time_exceeded_number time_exceeded }
+        ensures back { IsProper TimeExceeded.Unknown time_exceeded_rows time_exceeded → time_exceeded_of result ≡ time_exceeded }
+    {
+        match time_exceeded {
+            TimeExceeded::HopLimitExceeded => 0,
+            TimeExceeded::FragReassemExceeded => 1,
+            TimeExceeded::Unknown(other) => other,
+        }
+    }
+}
+
+impl fmt::Display for TimeExceeded {
+    ghost output = { λ time_exceeded. Some (time_exceeded_text time_exceeded) };
+
+    fn fmt<W: fmt::Write>(&self, f: &mut fmt::Formatter<W>) -> fmt::Result {
+        match self {
+            TimeExceeded::HopLimitExceeded => write!(f, "hop limit exceeded in transit"),
+            TimeExceeded::FragReassemExceeded => write!(f, "fragment reassembly time exceeded"),
+            TimeExceeded::Unknown(number) => write!(f, "{number}"),
+        }
+    }
+}

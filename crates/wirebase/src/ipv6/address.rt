@@ -1,0 +1,94 @@
+//! IPv6 addresses (RFC 4291).
+
+ghost use Rattle.std.specs.Prelude.{◌≡◌, length};
+
+use byteorder::{BigEndian, ByteOrder};
+use std::fmt;
+use std::net::Ipv6Addr;
+
+/// An IPv6 address, sixteen octets (RFC 4291 section 2).
+#[derive(Debug, PartialEq, Eq, Clone, Copy)]
+pub struct Ipv6Address {
+    octets: [u8; 16],
+    pub ghost whole: { length octets ≡ 16 },
+}
+
+impl Ipv6Address {
+    ghost use Rattle.std.specs.Prelude.{◌↔◌, [], ◌∷◌, ◌++◌, IsTrue, replicate};
+    ghost use Rattle.byteorder.specs.Endian.{big_bytes};
+    ghost use Rattle.wirebase.specs.declared.ipv6.address.Ipv6Address.{Ipv6Address};
+    ghost use Rattle.wirebase.specs.Ipv6Address.{octets_of, IsMulticast, IsLinkLocal};
+
+    /// No address, `::`.
+    pub const UNSPECIFIED: Ipv6Address = Ipv6Address { octets: [0; 16] };
+
+    /// The address of these eight groups of 16 bits, the highest first.
+    pub fn new(a: u16, b: u16, c: u16, d: u16, e: u16, f: u16, g: u16, h: u16) -> Ipv6Address
+        ensures { octets_of result ≡ big_bytes 2 a ++ big_bytes 2 b ++ big_bytes 2 c
+            ++ big_bytes 2 d ++ big_bytes 2 e ++ big_bytes 2 f ++ big_bytes 2 g ++ big_bytes 2 h }
+    {
+        let mut octets = [0; 16];
+        BigEndian::write_u16_into(&[a, b, c, d, e, f, g, h], &mut octets);
+        Ipv6Address { octets }
+    }
+
+    /// The address of these octets, the highest first. Addresses are equal exactly when their octets are.
+    pub const fn from_octets(octets: [u8; 16]) -> Ipv6Address
+        ensures value { octets_of result ≡ octets }
+        ensures same { (x y : Ipv6Address) → (x ≡ y) ↔ (octets_of x ≡ octets_of y) }
+        ensures equality { (x y : Ipv6Address) → IsTrue (⟦<Ipv6Address as PartialEq>⟧.eq x y)
+            ↔ (octets_of x ≡ octets_of y) }
+    {
+        Ipv6Address { octets }
+    }
+
+    /// The octets, the highest first.
+    pub const fn octets(&self) -> [u8; 16]
+        ensures { result ≡ octets_of self.now }
+    {
+        self.octets
+    }
+
+    /// Whether this is `::`.
+    pub fn is_unspecified(&self) -> bool
+        ensures { IsTrue result ↔ (octets_of self.now ≡ replicate 16 0) }
+    {
+        *self == Self::UNSPECIFIED
+    }
+
+    /// Whether packets to this address go to many receivers: its first octet is 0xff (RFC 4291 section 2.7).
+    pub const fn is_multicast(&self) -> bool
+        ensures { IsTrue result ↔ IsMulticast self.now }
+    {
+        self.octets[0] == 0xff
+    }
+
+    /// Whether this address is for use on one link alone: `fe80::/64` (RFC 4291 section 2.5.6).
+    pub fn is_link_local(&self) -> bool
+        ensures { IsTrue result ↔ IsLinkLocal self.now }
+    {
+        self.octets[..8] == [0xfe, 0x80, 0, 0, 0, 0, 0, 0]
+    }
+}
+
+/// All nodes of a link, `ff02::1` (RFC 4291 section 2.7.1).
+pub const IPV6_LINK_LOCAL_ALL_NODES: Ipv6Address = Ipv6Address {
+    octets: [0xff, 0x02, 0, 0, 0, 0, 0, 0, 0, 0, 0, 0, 0, 0, 0, 1],
+};
+
+/// All routers of a link, `ff02::2` (RFC 4291 section 2.7.1).
+pub const IPV6_LINK_LOCAL_ALL_ROUTERS: Ipv6Address = Ipv6Address {
+    octets: [0xff, 0x02, 0, 0, 0, 0, 0, 0, 0, 0, 0, 0, 0, 0, 0, 2],
+};
+
+/// The groups in hexadecimal, as `fe80::1` (RFC 5952 section 4).
+impl fmt::Display for Ipv6Address {
+    ghost use Rattle.std.specs.Prelude.{Some};
+    ghost use Rattle.wirebase.specs.Ipv6Address.{address_text};
+
+    ghost output = { λ address. Some (address_text address) };
+
+    fn fmt<W: fmt::Write>(&self, f: &mut fmt::Formatter<W>) -> fmt::Result {
+        write!(f, "{}", Ipv6Addr::from(self.octets).hex_groups())
+    }
+}
