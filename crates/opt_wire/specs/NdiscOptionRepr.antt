@@ -221,3 +221,7 @@ display (prefix_ p) = codes "NDISC Option: PrefixInformation prefix=" ++ address
 display (redirected h d) = codes "NDISC Option: RedirectedHeader header=" ++ header_display h
 display (mtu n) = codes "NDISC Option: MTU mtu=" ++ decimal n
 display (unknown t n d) = codes "NDISC Option: Unknown(" ++ decimal t ++ codes ") length=" ++ decimal n
+
+-- octets that are read as no option
+abbrev pub refusal_display : List ℕ
+refusal_display = codes "NDISC Option (wire::Error)"

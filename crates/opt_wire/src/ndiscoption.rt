@@ -11,6 +11,7 @@ ghost use Rattle.opt_wire.specs.NdiscOptionTables.{type_number, type_of, flag_bi
 ghost use Rattle.opt_wire.specs.contracts.ndiscoption.NdiscOption.{the_row};
 
 use bitflags::Flags as _;
+use std::fmt;
 use wirebase::{
     Duration, Error, Ipv6Address, MAX_HARDWARE_ADDRESS_LEN, Octets, OctetsMut, RawHardwareAddress,
     Result,
@@ -179,8 +180,10 @@ impl<T: Octets> NdiscOption<T> {
     pub fn link_layer_addr(&self) -> RawHardwareAddress
         requires counted { Reaches length_field (T.bytes (inner self.now)) }
         requires some { 1 ≤ units_in (T.bytes (inner self.now)) }
-        requires whole { Reaches (link_addr_field (T.bytes (inner self.now))) (T.bytes (inner self.now)) }
-        ensures { result ≡ bytes_of (link_addr_field (T.bytes (inner self.now))) (T.bytes (inner self.now)) }
+        requires whole { Reaches (link_addr_field (T.bytes (inner self.now)))
+            (T.bytes (inner self.now)) }
+        ensures { result ≡ bytes_of (link_addr_field (T.bytes (inner self.now)))
+            (T.bytes (inner self.now)) }
     {
         let room = field::UNIT * self.data_len() as usize - field::LENGTH.end;
         let len = MAX_HARDWARE_ADDRESS_LEN.min(room);
@@ -244,7 +247,8 @@ impl<'a> NdiscOption<&'a [u8]> {
         requires counted { Reaches length_field (view_octets self.now) }
         requires some { 1 ≤ units_in (view_octets self.now) }
         requires whole { Reaches (data_field (view_octets self.now)) (view_octets self.now) }
-        ensures value { result.now ≡ bytes_of (data_field (view_octets self.now)) (view_octets self.now) }
+        ensures value { result.now ≡ bytes_of (data_field (view_octets self.now))
+            (view_octets self.now) }
         ensures len { length result.now ≡ 8 * units_in (view_octets self.now) - 2 }
     {
         let octets: &'a [u8] = self.buffer;
@@ -274,7 +278,8 @@ impl<T: OctetsMut> NdiscOption<T> {
     /// Writes the link-layer address of a source or target. Asks 2 bytes and those of the address.
     pub fn set_link_layer_addr(&mut self, addr: RawHardwareAddress)
         requires { 2 + length addr ≤ length (T.bytes (inner self.old)) }
-        ensures writes { Sets T.bytes T.put self.old self.new (bytes_field 2 (2 + length addr)) addr }
+        ensures writes { Sets T.bytes T.put self.old self.new
+            (bytes_field 2 (2 + length addr)) addr }
         ensures len { KeepsLen T.bytes self.old self.new }
     {
         self.buffer
@@ -302,7 +307,8 @@ impl<T: OctetsMut> NdiscOption<T> {
     /// Writes the flags of a prefix, all their bits. Asks 4 bytes.
     pub fn set_prefix_flags(&mut self, flags: PrefixInfoFlags)
         requires { Reaches prefix_flags_field (T.bytes (inner self.old)) }
-        ensures writes { Sets T.bytes T.put self.old self.new prefix_flags_field (flag_bits flags ∷ []) }
+        ensures writes { Sets T.bytes T.put self.old self.new prefix_flags_field
+            (flag_bits flags ∷ []) }
         ensures len { KeepsLen T.bytes self.old self.new }
     {
         self.buffer.set_u8(field::PREFIX_FLAGS, flags.bits());
@@ -313,7 +319,8 @@ impl<T: OctetsMut> NdiscOption<T> {
     pub fn set_valid_lifetime(&mut self, time: Duration)
         requires room { Reaches valid_lifetime_field (T.bytes (inner self.old)) }
         requires fits { time / 1000000 ≤ 4294967295 }
-        ensures writes { Sets T.bytes T.put self.old self.new valid_lifetime_field (big_bytes 4 (time / 1000000)) }
+        ensures writes { Sets T.bytes T.put self.old self.new valid_lifetime_field
+            (big_bytes 4 (time / 1000000)) }
         ensures len { KeepsLen T.bytes self.old self.new }
     {
         self.buffer
@@ -325,7 +332,8 @@ impl<T: OctetsMut> NdiscOption<T> {
     pub fn set_preferred_lifetime(&mut self, time: Duration)
         requires room { Reaches preferred_lifetime_field (T.bytes (inner self.old)) }
         requires fits { time / 1000000 ≤ 4294967295 }
-        ensures writes { Sets T.bytes T.put self.old self.new preferred_lifetime_field (big_bytes 4 (time / 1000000)) }
+        ensures writes { Sets T.bytes T.put self.old self.new preferred_lifetime_field
+            (big_bytes 4 (time / 1000000)) }
         ensures len { KeepsLen T.bytes self.old self.new }
     {
         self.buffer
@@ -335,7 +343,8 @@ impl<T: OctetsMut> NdiscOption<T> {
     /// Writes zeros into what is reserved in a prefix. Asks 16 bytes.
     pub fn clear_prefix_reserved(&mut self)
         requires { Reaches prefix_reserved_field (T.bytes (inner self.old)) }
-        ensures writes { Sets T.bytes T.put self.old self.new prefix_reserved_field (replicate 4 0) }
+        ensures writes { Sets T.bytes T.put self.old self.new prefix_reserved_field
+            (replicate 4 0) }
         ensures len { KeepsLen T.bytes self.old self.new }
     {
         self.buffer.set_u32(field::PREFIX_RESERVED, 0);
@@ -353,7 +362,8 @@ impl<T: OctetsMut> NdiscOption<T> {
     /// Writes zeros into what is reserved before a redirected header. Asks 8 bytes.
     pub fn clear_redirected_reserved(&mut self)
         requires { Reaches redirected_reserved_field (T.bytes (inner self.old)) }
-        ensures writes { Sets T.bytes T.put self.old self.new redirected_reserved_field (replicate 6 0) }
+        ensures writes { Sets T.bytes T.put self.old self.new redirected_reserved_field
+            (replicate 6 0) }
         ensures len { KeepsLen T.bytes self.old self.new }
     {
         self.buffer.set_bytes(field::REDIRECTED_RESERVED, &[0; 6]);
@@ -363,7 +373,8 @@ impl<T: OctetsMut> NdiscOption<T> {
     pub fn data_mut(&mut self) -> &mut [u8]
         requires counted { Reaches length_field (T.bytes (inner self.old)) }
         requires some { 1 ≤ units_in (T.bytes (inner self.old)) }
-        requires whole { Reaches (data_field (T.bytes (inner self.old))) (T.bytes (inner self.old)) }
+        requires whole { Reaches (data_field (T.bytes (inner self.old)))
+            (T.bytes (inner self.old)) }
         ensures* lends { sem 𝓛 (Lends (the_row T.row) (Array byte 0) self.entry result
             (λ w. with_inner self.old (T.put (inner self.old)
             (with_field (data_field (T.bytes (inner self.old))) w (T.bytes (inner self.old)))))) }
@@ -400,6 +411,27 @@ impl<T: Octets> Eq for NdiscOption<T> {
     ghost use Rattle.std.specs.Cmp.Rules.{comparing};
 
     ghost laws = { Prim.search (comparing, rules) };
+}
+
+/// The option at the front of the octets; of octets that are refused `NDISC Option (wire::Error)`.
+impl<T: Octets> fmt::Display for NdiscOption<T> {
+    ghost use Rattle.std.specs.Prelude.{None};
+    ghost use Rattle.std.specs.Fmt.{WritesOnOk};
+    ghost use Rattle.wirebase.specs.Display.{Shows};
+    ghost use Rattle.opt_wire.specs.NdiscOptionRepr.{BeginsWith, display, refusal_display};
+
+    ghost output = { λ view. None };
+
+    fn fmt<W: fmt::Write>(&self, f: &mut fmt::Formatter<W>) -> fmt::Result
+        ensures shows { Shows (BeginsWith (T.bytes (inner self.now))) display refusal_display
+            (λ text. WritesOnOk W.write_str_gives f.old result text f.new) }
+    {
+        let option = NdiscOption::new_unchecked(self.buffer.octets());
+        match Repr::parse(&option) {
+            Ok(repr) => write!(f, "{repr}"),
+            Err(error) => write!(f, "NDISC Option ({error})"),
+        }
+    }
 }
 
 #[cfg(test)]

@@ -25,7 +25,14 @@ impl Model for EthernetAddress {
 
     ghost Value = { Ethernet };
 
-    ghost view = { λ s. record { a = slice_index s.0 0; b = slice_index s.0 1; c = slice_index s.0 2; d = slice_index s.0 3; e = slice_index s.0 4; f = slice_index s.0 5 } };
+    ghost view = { λ s. record {
+      a = slice_index s.0 0;
+      b = slice_index s.0 1;
+      c = slice_index s.0 2;
+      d = slice_index s.0 3;
+      e = slice_index s.0 4;
+      f = slice_index s.0 5;
+    } };
 
     ghost invariant = { λ s. length s.0 ≡ 6 };
 

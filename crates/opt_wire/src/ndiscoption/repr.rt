@@ -91,7 +91,8 @@ impl<'a> Repr<'a> {
     // The option at the front of the octets.
     fn read(opt: &NdiscOption<&'a [u8]>) -> Result<Repr<'a>>
         ensures sound { IfOk result (λ repr. BeginsWith (view_octets opt.now) (value_of repr)) }
-        ensures refuses { IsErr result → (value : OptionValue) → BeginsWith (view_octets opt.now) value → ⊥ }
+        ensures refuses { IsErr result → (value : OptionValue)
+            → BeginsWith (view_octets opt.now) value → ⊥ }
     {
         opt.check_len()?;
         let length = opt.data_len();
@@ -150,7 +151,8 @@ impl<'a> Repr<'a> {
         requires sound { CanEmit (value_of self.now) }
         requires room { text_len (value_of self.now) ≤ length (T.bytes (inner opt.old)) }
         ensures place { inner opt.new ≡ T.put (inner opt.old) (T.bytes (inner opt.new)) }
-        ensures emits { Emits (value_of self.now) (T.bytes (inner opt.old)) (T.bytes (inner opt.new)) }
+        ensures emits { Emits (value_of self.now) (T.bytes (inner opt.old))
+            (T.bytes (inner opt.new)) }
     {
         self.emit_into(opt.buffer.octets_mut());
     }
@@ -214,7 +216,8 @@ impl<'a> NdiscOption<&'a [u8]> {
         requires counted { Reaches length_field (view_octets self.now) }
         requires some { 1 ≤ units_in (view_octets self.now) }
         requires whole { Reaches (redirected_field (view_octets self.now)) (view_octets self.now) }
-        ensures { result.now ≡ bytes_of (redirected_field (view_octets self.now)) (view_octets self.now) }
+        ensures { result.now ≡ bytes_of (redirected_field (view_octets self.now))
+            (view_octets self.now) }
     {
         let octets: &'a [u8] = self.buffer;
         &octets[field::redirected(self.data_len())]

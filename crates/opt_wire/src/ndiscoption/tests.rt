@@ -402,3 +402,24 @@ fn fields_by_their_places(rt: HostRuntime) {
     assert_eq!(rt; &*view.data_mut(), [1, 2, 3, 0, 0x05, 0xdc].as_slice());
     assert_eq!(rt; view.into_inner().len(), 8);
 }
+
+#[test]
+fn views_in_words(rt: HostRuntime) -> Result<(), Fail> {
+    let rows: [(&[u8], &str); 4] = [
+        (
+            &[0x05, 0x01, 0, 0, 0, 0, 0x05, 0xdc],
+            "NDISC Option: MTU mtu=1500",
+        ),
+        (&PREFIX, "NDISC Option: PrefixInformation prefix=fe80::1/64"),
+        (
+            &[0x05, 0x02, 0, 0, 0, 0, 0x05, 0xdc],
+            "NDISC Option (wire::Error)",
+        ),
+        (&[], "NDISC Option (wire::Error)"),
+    ];
+    for (bytes, text) in rows {
+        let view = NdiscOption::new_unchecked(bytes);
+        assert_eq!(rt; view.to_string(rt.alloc())?.as_str(), text);
+    }
+    Ok(())
+}

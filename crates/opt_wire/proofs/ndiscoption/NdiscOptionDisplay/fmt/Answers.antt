@@ -1,0 +1,13 @@
+use Rattle.std.proofs.Common.{ℕ, List, Bor, sym, ap, subst, ◌∙◌}
+use Rattle.opt_wire.specs.NdiscOptionRepr.{BeginsWith}
+use Rattle.opt_wire.proofs.ndiscoption.NdiscOptionDisplay.fmt.Goals as goal
+
+pub returns-in-Err : goal.returns-in-Err
+returns-in-Err g c =
+    let same = ap (λ (b : Bor (List ℕ)). b.now) c.new_unchecked-option.ensures ∙ c.octets.ensures in
+    record {
+      shows = record {
+        reads = λ v h. absurd (c.in-Err.ensures.complete v (subst (λ (b : List ℕ). BeginsWith b v) (sym same) h));
+        refuses = λ none. c.write-in-Err.ensures.writes;
+      };
+    }
