@@ -2,12 +2,12 @@
 use Rattle.std.proofs.Common.{◌≡◌, ◌↔◌, ℕ, suc, ◌+◌, ◌*◌, Bool, true, false, IsTrue, List, [], ◌∷◌, ◌++◌, length, refl, sym, ap, ◌∙◌, arith, length-append}
 use Rattle.std.proofs.lemmas.List.{append-nil}
 use Rattle.byteorder.specs.Endian.{big_bytes}
-use Rattle.wirebase.specs.Bytes.{over_front}
+use Rattle.wirebase.specs.Bytes.{over}
 use Rattle.wirebase.specs.ByteWriter.{be8, be16, fields}
 use Rattle.wirebase.specs.Ipv6Address.{octets_of}
 use Rattle.wirebase.specs.declared.ipv6.address.Ipv6Address.{Ipv6Address}
 use Rattle.wirebase.proofs.Ipv6Header.{same_address}
-use Rattle.wirebase.proofs.Pieces.{over_front-exact}
+use Rattle.wirebase.proofs.Pieces.{over-exact}
 use Rattle.icmp6_wire.specs.Mld.{MldValue, values_of, query, report, records, sqrv, query_fields, report_fields, record_texts as texts_of, text, text_len, CanEmit, IsMessage}
 use Rattle.icmp6_wire.specs.MldRecord.{RecordValue, text as record_text}
 use Rattle.icmp6_wire.specs.declared.mld.record.AddressRecordRepr.{AddressRecordRepr}
@@ -54,8 +54,8 @@ can-length (report count d) bytes can = can
 can-length (records rs) bytes can = can.0
 
 -- a message in octets of just its length
-pub over_front-message : (old : List ℕ) (v : MldValue) → CanEmit v old → over_front old (text v) ≡ text v
-over_front-message old v can = over_front-exact old (text v) (can-length v old can ∙ sym (length-text v))
+pub over-message : (old : List ℕ) (v : MldValue) → CanEmit v old → over old (text v) ≡ text v
+over-message old v can = over-exact old (text v) (can-length v old can ∙ sym (length-text v))
 
 -- ---- one message at the most
 

@@ -12,7 +12,7 @@
 use Rattle.std.specs.Prelude.{◌≡◌, ◌≢◌, ℕ, ◌+◌, ◌≤◌, ◌<◌, ◌^◌, min, true, List, [], ◌∷◌, length, drop, take}
 use Rattle.wirebase.specs.declared.capabilities.ChecksumCapabilities.{ChecksumCapabilities}
 use Rattle.wirebase.specs.declared.capabilities.Checksum.TheVariants.{Rx}
-use Rattle.wirebase.specs.Bytes.{Reaches, byte_of, number_of, over_front}
+use Rattle.wirebase.specs.Bytes.{Reaches, byte_of, number_of, over}
 use Rattle.wirebase.specs.ByteWriter.{be8, be16, be32, fields}
 use Rattle.wirebase.specs.Capabilities.{is_verified, sealed_where}
 use Rattle.wirebase.specs.Checksum.{IsGood}
@@ -103,7 +103,7 @@ abbrev pub packet_text : ChecksumCapabilities → Ipv6Address → Ipv6Address �
 packet_text capabilities source destination v = seal capabilities source destination (text v)
 
 abbrev pub emitted : ChecksumCapabilities → Ipv6Address → Ipv6Address → MessageValue → List ℕ → List ℕ
-emitted capabilities source destination v old = seal capabilities source destination (over_front old (text v))
+emitted capabilities source destination v old = seal capabilities source destination (over old (text v))
 
 -- What is asked of a message and of the octets that it is written into: of an echo that its header has room, of an error
 -- that all of it has, and that the quoted header can tell its payload's length.

@@ -1,33 +1,23 @@
 -- Hop-by-hop headers against the tiling of their bytes.
 use Rattle.std.proofs.Common.{◌≡◌, ◌≢◌, ℕ, zero, suc, ◌+◌, ◌≤◌, List, [], ◌∷◌, ◌++◌, length, take, map, Ok, Err, refl, sym, ap, ◌∙◌, arith, add-one, length-append}
-use Rattle.std.specs.List.{AllByRecursion}
-use Rattle.std.proofs.lemmas.List.{append_assoc, take_all, take_at, length-take, length-take-le}
-use Rattle.std.proofs.lemmas.List.Concat.{flat_map-cons}
+use Rattle.std.proofs.lemmas.List.{append_assoc, take_all, take_at}
 use Rattle.wirebase.specs.declared.error.Error.{Error}
-use Rattle.opt_wire.specs.Ipv6Option.{OptionValue, pad1, pad_n, router_alert, unknown}
-use Rattle.opt_wire.specs.Ipv6Option as option
-use Rattle.opt_wire.specs.Ipv6OptionAnswers.{Answer, Tile, ends, goes_on}
-use Rattle.opt_wire.specs.Ipv6Hbh.{text, IsHeader, IsCanonical, norm}
-use Rattle.opt_wire.proofs.Ipv6OptionGrammar.{option_text}
+use Rattle.opt_wire.specs.Ipv6Option.{OptionValue}
+use Rattle.opt_wire.specs.Ipv6OptionAnswers.{Answer, Tile}
+use Rattle.opt_wire.specs.Ipv6Hbh.{IsHeader}
 use Rattle.opt_wire.proofs.Ipv6OptionTiles.{tile-unique}
 
--- READING
-
 -- answers without a refusal
-abbrev all : List OptionValue → List Answer
+abbrev pub all : List OptionValue → List Answer
 all options = map Ok options
 
-length-all : (options : List OptionValue) → length (all options) ≡ length options
+pub length-all : (options : List OptionValue) → length (all options) ≡ length options
 length-all [] = refl
 length-all (v ∷ options) = ap (λ (n : ℕ). suc n) (length-all options)
 
 all-append : (xs ys : List OptionValue) → all (xs ++ ys) ≡ all xs ++ all ys
 all-append [] ys = refl
 all-append (x ∷ xs) ys = ap (λ (l : List Answer). Ok x ∷ l) (all-append xs ys)
-
-length-norm : (options : List OptionValue) → length (norm options) ≡ length options
-length-norm [] = refl
-length-norm (v ∷ options) = ap (λ (n : ℕ). suc n) (length-norm options)
 
 -- all options were read
 pub header-end : (most : ℕ) (bytes : List ℕ) (options : List OptionValue) (answers : List Answer) → bytes ≢ [] → Tile bytes answers → answers ≡ all options → length options ≤ most → IsHeader most bytes options
@@ -84,54 +74,3 @@ header-unique most bytes options other a b =
     let answers : a.answers ≡ b.answers = tile-unique bytes a.answers b.answers a.tile b.tile in
     let read : a.read ≡ b.read = same_options a.read b.read (sym a.good ∙ ap (take (most + 1)) answers ∙ b.good) in
     a.kept ∙ ap (take most) read ∙ sym b.kept
-
--- WRITING
-
-tile-text : (options : List OptionValue) → AllByRecursion option.IsCanonical options → Tile (text options) (all (norm options))
-tile-text [] h = ends
-tile-text (v ∷ options) h = goes_on (option.text v) (text options) (option.norm v) (option_text v h.0) (tile-text options h.1) (flat_map-cons option.text v options)
-
-text_some : (v : OptionValue) → option.text v ≢ []
-text_some pad1 e = cc
-text_some (pad_n n) e = cc
-text_some (router_alert a) e = cc
-text_some (unknown k n d) e = cc
-
-front_some : (xs ys : List ℕ) → xs ≢ [] → xs ++ ys ≢ []
-front_some [] ys h e = h refl
-front_some (x ∷ xs) ys h e = cc
-
-texts_some : (options : List OptionValue) → 1 ≤ length options → text options ≢ []
-texts_some [] l e = absurd (omega (arith, l))
-texts_some (v ∷ options) l e = front_some (option.text v) (text options) (text_some v) (sym (flat_map-cons option.text v options) ∙ e)
-
--- the text of canonical options is their header
-pub header-text : (most : ℕ) (options : List OptionValue) → IsCanonical most options → IsHeader most (text options) (norm options)
-header-text most options c = header-end most (text options) (norm options) (all (norm options)) (texts_some options c.some) (tile-text options c.each) refl (omega (arith, c.few, length-norm options))
-
-canonical_option : (v : OptionValue) → option.IsCanonical v → option.IsCanonical (option.norm v)
-canonical_option pad1 c = c
-canonical_option (pad_n n) c = c
-canonical_option (router_alert a) c = c
-canonical_option (unknown k n d) c = (c.0, c.1, c.2, c.3, c.4, c.5, omega (arith, length-take-le n d c.6))
-
-canonical_options : (options : List OptionValue) → AllByRecursion option.IsCanonical options → AllByRecursion option.IsCanonical (norm options)
-canonical_options [] h = h
-canonical_options (v ∷ options) h = (canonical_option v h.0, canonical_options options h.1)
-
-pub canonical-norm : (most : ℕ) (options : List OptionValue) → IsCanonical most options → IsCanonical most (norm options)
-canonical-norm most options c = record {
-  some = omega (arith, c.some, length-norm options);
-  few = omega (arith, c.few, length-norm options);
-  each = canonical_options options c.each;
-}
-
-settled_option : (v : OptionValue) → option.norm (option.norm v) ≡ option.norm v
-settled_option pad1 = refl
-settled_option (pad_n n) = refl
-settled_option (router_alert a) = refl
-settled_option (unknown k n d) = ap (unknown k n) (take_all n (take n d) (omega (arith, length-take {A = ℕ} n d)))
-
-pub norm-norm : (options : List OptionValue) → norm (norm options) ≡ norm options
-norm-norm [] = refl
-norm-norm (v ∷ options) = ap (λ (x : OptionValue). x ∷ norm (norm options)) (settled_option v) ∙ ap (λ (xs : List OptionValue). option.norm v ∷ xs) (norm-norm options)

@@ -1,50 +1,37 @@
 -- The texts of options one after another.
-use Rattle.std.proofs.Common.{◌≡◌, ℕ, zero, suc, ◌+◌, ◌<◌, ◌≤◌, List, [], ◌∷◌, ◌++◌, length, take, map, get_or, sum_by, refl, sym, ap, ◌∙◌, arith, length-append}
-use Rattle.std.specs.List.{flat_map, AllByRecursion}
-use Rattle.std.proofs.lemmas.List.{length-replicate, length-take-le, append-nil, take_more}
-use Rattle.std.proofs.lemmas.List.Folds.{flat_map-map, length-flat_map-take}
-use Rattle.std.proofs.lemmas.Grind.{flat_map-append}
+use Rattle.std.proofs.Common.{◌≡◌, ℕ, suc, List, [], ◌∷◌, ◌++◌, length, refl, sym, ap, ◌∙◌, arith, length-append}
 use Rattle.std.proofs.lemmas.List.Sums.{sum_by-cons}
-use Rattle.std.proofs.lemmas.List.Concat.{flat_map-cons}
-use Rattle.opt_wire.specs.declared.ipv6option.Repr.{Repr}
-use Rattle.opt_wire.specs.Ipv6Option.{OptionValue, value_of, pad1, pad_n, router_alert, unknown, text, counted_len, HasData}
-use Rattle.opt_wire.specs.Ipv6Hbh.{HaveData}
-use Rattle.opt_wire.specs.Ipv6Hbh.{text as texts}
+use Rattle.wirebase.specs.ByteWriter.{fields}
+use Rattle.opt_wire.specs.Ipv6Option as option
+use Rattle.opt_wire.specs.Ipv6Option.{OptionValue, pad1, pad_n, router_alert, unknown}
+use Rattle.opt_wire.specs.Ipv6Hbh.{text, text_len, HaveData, norm}
+use Rattle.opt_wire.proofs.Ipv6OptionText as texts
 
--- an option that holds its data takes the bytes that it counts
-pub counted-text : (v : OptionValue) → HasData v → counted_len v ≡ length (text v)
-counted-text pad1 h = refl
-counted-text (pad_n n) h = omega (arith, length-replicate {A = ℕ} n 0)
-counted-text (router_alert a) h = refl
-counted-text (unknown k n d) h = omega (arith, length-take-le n d h)
+-- the text of one more option
+pub text-cons : (v : OptionValue) (options : List OptionValue) → text (v ∷ options) ≡ option.text v ++ text options
+unfolding fields
+text-cons v options = refl
 
-pub counted-texts : (options : List OptionValue) → HaveData options → sum_by counted_len options ≡ length (flat_map text options)
-counted-texts [] h = refl
-counted-texts (v ∷ options) h =
-    sum_by-cons counted_len v options ∙ (omega (arith, counted-text v h.0, counted-texts options h.1, length-append (text v) (flat_map text options))) ∙ ap length (sym (flat_map-cons text v options))
+-- options that hold their data take the bytes that they count
+pub length-texts : (options : List OptionValue) → HaveData options → length (text options) ≡ text_len options
+unfolding fields
+length-texts [] h = refl
+length-texts (v ∷ options) h =
+    length-append (option.text v) (text options) ∙ (omega (arith, texts.length-text v h.0, length-texts options h.1)) ∙ sym (sum_by-cons option.text_len v options)
 
--- what each of a list has, the one at a place has
-pub all_at : {X V : Type 0} (P : V → Type 0) (value : X → V) (xs : List X) (i : ℕ) (d : X) → AllByRecursion P (map value xs) → i < length xs → P (value (get_or xs i d))
-all_at P value [] i d h l = absurd (omega arith)
-all_at P value (x ∷ xs) zero d h l = h.0
-all_at P value (x ∷ xs) (suc i) d h l = all_at P value xs i d h.1 (omega (arith, l))
+-- ---- the normal form
 
--- one more of the pieces
-pub flat_map-more : {X : Type 0} (f : X → List ℕ) (xs : List X) (i : ℕ) (d : X) → i < length xs → flat_map f (take (i + 1) xs) ≡ flat_map f (take i xs) ++ f (get_or xs i d)
-flat_map-more f xs i d l =
-    let next : take (i + 1) xs ≡ take i xs ++ (get_or xs i d ∷ []) = take_more xs i d l in
-    ap (flat_map f) next ∙ flat_map-append f (take i xs) (get_or xs i d ∷ []) ∙ ap (λ (w : List ℕ). flat_map f (take i xs) ++ w) (flat_map-cons f (get_or xs i d) [] ∙ append-nil (f (get_or xs i d)))
+pub length-norm : (options : List OptionValue) → length (norm options) ≡ length options
+length-norm [] = refl
+length-norm (v ∷ options) = ap (λ (n : ℕ). suc n) (length-norm options)
 
-texts-map : (options : List Repr) → texts (map value_of options) ≡ flat_map (λ o. text (value_of o)) options
-texts-map options = flat_map-map text value_of options
+pub norm-norm : (options : List OptionValue) → norm (norm options) ≡ norm options
+norm-norm [] = refl
+norm-norm (v ∷ options) = ap (λ (x : OptionValue). x ∷ norm (norm options)) (texts.norm-norm v) ∙ ap (λ (xs : List OptionValue). option.norm v ∷ xs) (norm-norm options)
 
-pub texts-more : (options : List Repr) (i : ℕ) (d : Repr) → i < length options → texts (map value_of (take (i + 1) options)) ≡ texts (map value_of (take i options)) ++ text (value_of (get_or options i d))
-texts-more options i d l =
-    texts-map (take (i + 1) options) ∙ flat_map-more (λ o. text (value_of o)) options i d l
-    ∙ ap (λ (w : List ℕ). w ++ text (value_of (get_or options i d))) (sym (texts-map (take i options)))
+pub norm-text : (options : List OptionValue) → text (norm options) ≡ text options
+unfolding fields
+norm-text [] = refl
+norm-text (v ∷ options) = ap (λ (l : List ℕ). l ++ text (norm options)) (texts.norm-text v) ∙ ap (λ (l : List ℕ). option.text v ++ l) (norm-text options)
 
--- there is room for one more
-pub texts-room : (options : List Repr) (i : ℕ) (d : Repr) → i < length options → length (texts (map value_of (take i options))) + length (text (value_of (get_or options i d))) ≤ length (texts (map value_of options))
-texts-room options i d l =
-    let part = length-flat_map-take (λ o. text (value_of o)) options i d l in
-    omega (arith, part, ap length (texts-map (take i options)), ap length (texts-map options))
+pub ruleset sizes = (length-texts, sum_by-cons)

@@ -1,19 +1,16 @@
--- Options against their bytes: the grammar as it is computed, byte by byte, and against the text.
-use Rattle.std.proofs.Common.{◌≡◌, ◌≢◌, ℕ, ◌+◌, ◌-◌, ◌*◌, ◌/◌, ◌%◌, ◌≤◌, Bool, true, false, cond, ltb, eqb, List, [], ◌∷◌, ◌++◌, length, take, drop, replicate, slice_index, Some, None, refl, sym, ap, subst, ◌∙◌, ◌⊎◌, inl, inr, arith, length-append}
+-- Options against their bytes: the grammar as it is computed, byte by byte.
+use Rattle.std.proofs.Common.{◌≡◌, ◌≢◌, ℕ, ◌+◌, ◌-◌, ◌*◌, ◌≤◌, Bool, true, false, cond, ltb, eqb, List, [], ◌∷◌, ◌++◌, length, take, drop, slice_index, Some, None, refl, sym, ap, subst, ◌∙◌, ◌⊎◌, inl, inr, arith, length-append}
 use Rattle.std.proofs.lemmas.Bool.{ltb-false, le-ltb, eqb-true, eqb-false, ne_eqb}
 use Rattle.std.proofs.lemmas.Bool.Decides.{nat_tests}
-use Rattle.std.proofs.lemmas.List.{take-append-drop, take_at, length-replicate, length-take-le}
+use Rattle.std.proofs.lemmas.List.{take-append-drop, take_at, length-take-le}
 use Rattle.byteorder.specs.Endian.{big_number}
-use Rattle.wirebase.specs.Bytes.{part, over, byte_of, bytes_of}
-use Rattle.wirebase.specs.Numbered.{IsProper}
-use Rattle.wirebase.proofs.Numbered.{case_in-unnamed}
+use Rattle.wirebase.specs.Bytes.{part, byte_of, bytes_of}
 use Rattle.opt_wire.specs.declared.ipv6option.tables.Type as Kind
 use Rattle.opt_wire.specs.declared.ipv6option.tables.Type.TheVariants as kind
 use Rattle.opt_wire.specs.declared.ipv6option.tables.RouterAlert.{RouterAlert}
-use Rattle.opt_wire.specs.declared.ipv6option.tables.RouterAlert.TheVariants as alert
-use Rattle.opt_wire.specs.Ipv6OptionTables.{type_number, type_rows, type_of, alert_number, alert_rows, alert_of}
-use Rattle.opt_wire.specs.Ipv6Option.{type_field, length_field, data_field, BeginsWhole, OptionValue, pad1, pad_n, router_alert, unknown, text, IsOption, BeginsWith, IsCanonical, norm}
-use Rattle.opt_wire.specs.Ipv6OptionAnswers.{front_of, counted_at, known_at, alert_at}
+use Rattle.opt_wire.specs.Ipv6OptionTables.{type_number, type_of, alert_of}
+use Rattle.opt_wire.specs.Ipv6Option.{option_type_field, opt_data_len_field, option_data_field, BeginsWhole, OptionValue, pad1, pad_n, router_alert, unknown, IsOption, BeginsWith}
+use Rattle.opt_wire.specs.Ipv6OptionModel.{front_of, counted_at, known_at, alert_at}
 
 -- which way a test went
 chosen : {A : Type 0} (b : Bool) (x y z : A) → cond b x y ≡ z → ((b ≡ true) × (x ≡ z)) ⊎ ((b ≡ false) × (y ≡ z))
@@ -32,7 +29,7 @@ front_of-counted t n rest ne h =
     rw (e, f) refl
 
 -- where the check of the length accepts
-front_of-whole : (bytes : List ℕ) → BeginsWhole bytes → byte_of type_field bytes ≢ 0 → front_of bytes ≡ known_at (byte_of type_field bytes) (byte_of length_field bytes) (bytes_of (data_field bytes) bytes)
+front_of-whole : (bytes : List ℕ) → BeginsWhole bytes → byte_of option_type_field bytes ≢ 0 → front_of bytes ≡ known_at (byte_of option_type_field bytes) (byte_of opt_data_len_field bytes) (bytes_of (option_data_field bytes) bytes)
 unfolding part
 front_of-whole [] w ne = absurd (omega (arith, w.0))
 front_of-whole (t ∷ []) w ne = absurd (omega (arith, w.1 ne))
@@ -46,16 +43,16 @@ type_number-of t = grind (arith, nat_tests)
 number_from : (t : ℕ) (k : Kind.Type) → type_of t ≡ k → t ≡ type_number k
 number_from t k e = sym (type_number-of t) ∙ ap type_number e
 
-pub front_of-pads : (bytes : List ℕ) (n : ℕ) → BeginsWhole bytes → type_of (byte_of type_field bytes) ≡ kind.PadN → n ≡ byte_of length_field bytes → front_of bytes ≡ Some (pad_n n)
+pub front_of-pads : (bytes : List ℕ) (n : ℕ) → BeginsWhole bytes → type_of (byte_of option_type_field bytes) ≡ kind.PadN → n ≡ byte_of opt_data_len_field bytes → front_of bytes ≡ Some (pad_n n)
 front_of-pads bytes n w e same =
-    let t : byte_of type_field bytes ≡ 1 = number_from _ _ e in
-    front_of-whole bytes w (λ z. absurd (omega (arith, z, t))) ∙ ap (λ (x : ℕ). known_at x (byte_of length_field bytes) (bytes_of (data_field bytes) bytes)) t ∙ ap (λ (x : ℕ). Some (pad_n x)) (sym same)
+    let t : byte_of option_type_field bytes ≡ 1 = number_from _ _ e in
+    front_of-whole bytes w (λ z. absurd (omega (arith, z, t))) ∙ ap (λ (x : ℕ). known_at x (byte_of opt_data_len_field bytes) (bytes_of (option_data_field bytes) bytes)) t ∙ ap (λ (x : ℕ). Some (pad_n x)) (sym same)
 
-pub front_of-alert : (bytes : List ℕ) (a : RouterAlert) → BeginsWhole bytes → type_of (byte_of type_field bytes) ≡ kind.RouterAlert → byte_of length_field bytes ≡ 2 → a ≡ alert_of (big_number 2 (bytes_of (data_field bytes) bytes)) → front_of bytes ≡ Some (router_alert a)
+pub front_of-alert : (bytes : List ℕ) (a : RouterAlert) → BeginsWhole bytes → type_of (byte_of option_type_field bytes) ≡ kind.RouterAlert → byte_of opt_data_len_field bytes ≡ 2 → a ≡ alert_of (big_number 2 (bytes_of (option_data_field bytes) bytes)) → front_of bytes ≡ Some (router_alert a)
 front_of-alert bytes a w e two same =
-    let t : byte_of type_field bytes ≡ 5 = number_from _ _ e in
-    front_of-whole bytes w (λ z. absurd (omega (arith, z, t))) ∙ ap (λ (x : ℕ). known_at x (byte_of length_field bytes) (bytes_of (data_field bytes) bytes)) t
-    ∙ ap (λ (x : ℕ). alert_at x (bytes_of (data_field bytes) bytes)) two ∙ ap (λ (x : RouterAlert). Some (router_alert x)) (sym same)
+    let t : byte_of option_type_field bytes ≡ 5 = number_from _ _ e in
+    front_of-whole bytes w (λ z. absurd (omega (arith, z, t))) ∙ ap (λ (x : ℕ). known_at x (byte_of opt_data_len_field bytes) (bytes_of (option_data_field bytes) bytes)) t
+    ∙ ap (λ (x : ℕ). alert_at x (bytes_of (option_data_field bytes) bytes)) two ∙ ap (λ (x : RouterAlert). Some (router_alert x)) (sym same)
 
 known_at-other : (t n : ℕ) (d : List ℕ) → t ≢ 1 → t ≢ 5 → known_at t n d ≡ Some (unknown (type_of t) n d)
 known_at-other t n d p q =
@@ -63,13 +60,13 @@ known_at-other t n d p q =
     let f : eqb t 5 ≡ false = ne_eqb t 5 q in
     rw (e, f) refl
 
-pub front_of-other : (bytes : List ℕ) (k : Kind.Type) (n : ℕ) (d : List ℕ) → BeginsWhole bytes → k ≡ type_of (byte_of type_field bytes) → k ≢ kind.Pad1 → k ≢ kind.PadN → k ≢ kind.RouterAlert → n ≡ byte_of length_field bytes → d ≡ bytes_of (data_field bytes) bytes
+pub front_of-other : (bytes : List ℕ) (k : Kind.Type) (n : ℕ) (d : List ℕ) → BeginsWhole bytes → k ≡ type_of (byte_of option_type_field bytes) → k ≢ kind.Pad1 → k ≢ kind.PadN → k ≢ kind.RouterAlert → n ≡ byte_of opt_data_len_field bytes → d ≡ bytes_of (option_data_field bytes) bytes
     → front_of bytes ≡ Some (unknown k n d)
 front_of-other bytes k n d w e p q r same same_data =
-    let t = byte_of type_field bytes in
-    let known = known_at-other t (byte_of length_field bytes) (bytes_of (data_field bytes) bytes) (λ z. q (e ∙ ap type_of z)) (λ z. r (e ∙ ap type_of z)) in
-    front_of-whole bytes w (λ z. p (e ∙ ap type_of z)) ∙ known ∙ ap (λ (x : Kind.Type). Some (unknown x (byte_of length_field bytes) (bytes_of (data_field bytes) bytes))) (sym e)
-    ∙ ap (λ (x : ℕ). Some (unknown k x (bytes_of (data_field bytes) bytes))) (sym same) ∙ ap (λ (x : List ℕ). Some (unknown k n x)) (sym same_data)
+    let t = byte_of option_type_field bytes in
+    let known = known_at-other t (byte_of opt_data_len_field bytes) (bytes_of (option_data_field bytes) bytes) (λ z. q (e ∙ ap type_of z)) (λ z. r (e ∙ ap type_of z)) in
+    front_of-whole bytes w (λ z. p (e ∙ ap type_of z)) ∙ known ∙ ap (λ (x : Kind.Type). Some (unknown x (byte_of opt_data_len_field bytes) (bytes_of (option_data_field bytes) bytes))) (sym e)
+    ∙ ap (λ (x : ℕ). Some (unknown k x (bytes_of (option_data_field bytes) bytes))) (sym same) ∙ ap (λ (x : List ℕ). Some (unknown k n x)) (sym same_data)
 
 -- THE COMPUTED FRONT AND THE GRAMMAR
 
@@ -148,39 +145,3 @@ front_of-begins bytes v h = ap front_of h.whole ∙ option_front h.front h.rest 
 -- the bytes begin with one option at most
 pub begins_with-unique : (bytes : List ℕ) (v w : OptionValue) → BeginsWith bytes v → BeginsWith bytes w → v ≡ w
 begins_with-unique bytes v w a b = same_value v w (sym (front_of-begins bytes v a) ∙ front_of-begins bytes w b)
-
--- THE TEXT
-
-alert_of-number : (a : RouterAlert) → IsProper alert.Unknown alert_rows a → alert_of (alert_number a) ≡ a
-alert_of-number alert.MulticastListenerDiscovery p = refl
-alert_of-number alert.Rsvp p = refl
-alert_of-number alert.ActiveNetworks p = refl
-alert_of-number (alert.Unknown n) p = case_in-unnamed alert.Unknown alert_rows n (p n refl)
-
-type_of-number : (k : Kind.Type) → IsProper kind.Unknown type_rows k → type_of (type_number k) ≡ k
-type_of-number kind.Pad1 p = refl
-type_of-number kind.PadN p = refl
-type_of-number kind.RouterAlert p = refl
-type_of-number kind.Rpl p = refl
-type_of-number (kind.Unknown n) p = case_in-unnamed kind.Unknown type_rows n (p n refl)
-
--- its own text is an option of the normal form
-pub option_text : (v : OptionValue) → IsCanonical v → IsOption (text v) (norm v)
-option_text pad1 c = refl
-option_text (pad_n n) c = (replicate n 0, refl, length-replicate n 0)
-option_text (router_alert a) c =
-    let m = alert_number a in
-    let number : m ≡ 256 * (m / 256 % 256) + m % 256 = omega (arith, c.1) in
-    (m / 256 % 256, m % 256, refl, sym (alert_of-number a c.0) ∙ ap alert_of number)
-option_text (unknown k n d) c =
-    let back : type_of (type_number k) ≡ k = type_of-number k c.0 in
-    (type_number k, refl, length-take-le n d c.6, sym back, (λ z. c.1 (sym back ∙ ap type_of z)), (λ z. c.2 (sym back ∙ ap type_of z)), (λ z. c.3 (sym back ∙ ap type_of z)))
-
-pub begins_with-over : (old : List ℕ) (v : OptionValue) → IsCanonical v → BeginsWith (over old (text v)) (norm v)
-unfolding over
-begins_with-over old v c = record {
-  front = text v;
-  rest = drop (length (text v)) old;
-  whole = refl;
-  option = option_text v c;
-}

@@ -3,32 +3,33 @@ use Rattle.std.proofs.Common.{◌≡◌, ◌⊎◌, inl, inr, Bool, true, false,
 use Rattle.std.proofs.lemmas.List.{drop_at}
 use Rattle.std.proofs.lemmas.List.Sums.{sum_by-cons}
 use Rattle.wirebase.specs.declared.error.Error.{Error}
-use Rattle.opt_wire.specs.Ipv6Option.{OptionValue, pad1, pad_n, router_alert, unknown, counted_len, IsOption, BeginsWith}
-use Rattle.opt_wire.specs.Ipv6OptionAnswers.{Answer, Tile, ends, goes_on, breaks, front_of, after_front, answers_within, answers_of, answers_to_come}
+use Rattle.opt_wire.specs.Ipv6Option.{OptionValue, pad1, pad_n, router_alert, unknown, text_len, IsOption, BeginsWith}
+use Rattle.opt_wire.specs.Ipv6OptionAnswers.{Answer, Tile, ends, goes_on, breaks}
+use Rattle.opt_wire.specs.Ipv6OptionModel.{front_of, after_front, answers_within, answers_of, answers_to_come}
 use Rattle.opt_wire.proofs.Ipv6OptionGrammar.{begins_with, front_of-begins, begins_with-unique}
 
 -- an option takes the bytes that it counts
-length-option : (w : List ℕ) (v : OptionValue) → IsOption w v → length w ≡ counted_len v
+length-option : (w : List ℕ) (v : OptionValue) → IsOption w v → length w ≡ text_len v
 length-option w pad1 h = ap length h
 length-option w (pad_n n) h = omega (arith, ap length h.1, h.2)
 length-option w (router_alert a) h = ap length h.2
 length-option w (unknown k n d) h = omega (arith, ap length h.1, h.2)
 
-counted_some : (v : OptionValue) → 1 ≤ counted_len v
+counted_some : (v : OptionValue) → 1 ≤ text_len v
 counted_some pad1 = omega arith
 counted_some (pad_n n) = omega arith
 counted_some (router_alert a) = omega arith
 counted_some (unknown k n d) = omega arith
 
 -- the bytes after the option at the front
-rest_after : (front rest : List ℕ) (v : OptionValue) → IsOption front v → drop (counted_len v) (front ++ rest) ≡ rest
-rest_after front rest v h = drop_at front rest (counted_len v) (length-option front v h)
+rest_after : (front rest : List ℕ) (v : OptionValue) → IsOption front v → drop (text_len v) (front ++ rest) ≡ rest
+rest_after front rest v h = drop_at front rest (text_len v) (length-option front v h)
 
 tile_front : (most : ℕ) (bytes : List ℕ) → ((rest : List ℕ) → length rest ≤ most → Tile rest (answers_within most rest)) → (bytes ≡ [] → ⊥) → length bytes ≤ suc most → (o : Option OptionValue) → front_of bytes ≡ o → Tile bytes (after_front o bytes (answers_within most))
 tile_front most bytes go some l None e = breaks (record {}) some (λ v h. let f = front_of-begins bytes v h in cc)
 tile_front most bytes go some l (Some v) e =
     let h = begins_with bytes v e in
-    let rest : drop (counted_len v) bytes ≡ h.rest = ap (λ (b : List ℕ). drop (counted_len v) b) h.whole ∙ rest_after h.front h.rest v h.option in
+    let rest : drop (text_len v) bytes ≡ h.rest = ap (λ (b : List ℕ). drop (text_len v) b) h.whole ∙ rest_after h.front h.rest v h.option in
     let fewer : length h.rest ≤ most = omega (arith, ap length h.whole, length-append h.front h.rest, length-option h.front v h.option, counted_some v) in
     goes_on h.front h.rest v h.option (subst (λ (b : List ℕ). Tile h.rest (answers_within most b)) (sym rest) (go h.rest fewer)) h.whole
 
@@ -56,7 +57,7 @@ tile-unique bytes answers others ends (breaks x some none) = absurd (some refl)
 tile-unique bytes answers others (goes_on f r v h t e) ends = absurd (none_in_nothing v (begins_by [] f r v h e))
 tile-unique bytes answers others (goes_on {answers = a} f r v h t e) (goes_on {answers = b} g s w k u i) =
     let same : v ≡ w = begins_with-unique bytes v w (begins_by bytes f r v h e) (begins_by bytes g s w k i) in
-    let rests : r ≡ s = sym (rest_after f r v h) ∙ ap (λ (l : List ℕ). drop (counted_len v) l) (sym e ∙ i) ∙ ap (λ (x : OptionValue). drop (counted_len x) (g ++ s)) same ∙ rest_after g s w k in
+    let rests : r ≡ s = sym (rest_after f r v h) ∙ ap (λ (l : List ℕ). drop (text_len v) l) (sym e ∙ i) ∙ ap (λ (x : OptionValue). drop (text_len x) (g ++ s)) same ∙ rest_after g s w k in
     let more : a ≡ b = tile-unique r a b t (subst (λ (l : List ℕ). Tile l b) (sym rests) u) in
     ap (λ (x : OptionValue). Ok x ∷ a) same ∙ ap (λ (l : List Answer). Ok w ∷ l) more
 tile-unique bytes answers others (goes_on f r v h t e) (breaks x some none) = absurd (none v (begins_by bytes f r v h e))
@@ -65,14 +66,14 @@ tile-unique bytes answers others (breaks x some none) (goes_on f r v h t e) = ab
 tile-unique bytes answers others (breaks x some none) (breaks y more nothing) = refl
 
 -- where all answers are options, they take up all the bytes
-pub sum-tile : (bytes : List ℕ) (answers : List Answer) → Tile bytes answers → (options : List OptionValue) → answers ≡ map Ok options → sum_by counted_len options ≡ length bytes
+pub sum-tile : (bytes : List ℕ) (answers : List Answer) → Tile bytes answers → (options : List OptionValue) → answers ≡ map Ok options → sum_by text_len options ≡ length bytes
 sum-tile bytes answers ends [] e = refl
 sum-tile bytes answers ends (v ∷ options) e = cc
 sum-tile bytes answers (goes_on f r v h t w) [] e = cc
 sum-tile bytes answers (goes_on {answers = a} f r v h t w) (u ∷ options) e =
     let same : v ≡ u = cc in
-    let more : sum_by counted_len options ≡ length r = sum-tile r a t options cc in
-    omega (arith, sum_by-cons counted_len u options, more, ap counted_len same, length-option f v h, ap length w, length-append f r)
+    let more : sum_by text_len options ≡ length r = sum-tile r a t options cc in
+    omega (arith, sum_by-cons text_len u options, more, ap text_len same, length-option f v h, ap length w, length-append f r)
 sum-tile bytes answers (breaks x some none) [] e = cc
 sum-tile bytes answers (breaks x some none) (v ∷ options) e = cc
 
@@ -81,15 +82,15 @@ pub answers_of-nothing : answers_of [] ≡ []
 unfolding answers_within
 answers_of-nothing = refl
 
-pub answers_of-begins : (bytes : List ℕ) (v : OptionValue) → BeginsWith bytes v → answers_of bytes ≡ Ok v ∷ answers_of (drop (counted_len v) bytes)
+pub answers_of-begins : (bytes : List ℕ) (v : OptionValue) → BeginsWith bytes v → answers_of bytes ≡ Ok v ∷ answers_of (drop (text_len v) bytes)
 answers_of-begins bytes v h =
-    let rest : drop (counted_len v) bytes ≡ h.rest = ap (λ (b : List ℕ). drop (counted_len v) b) h.whole ∙ rest_after h.front h.rest v h.option in
+    let rest : drop (text_len v) bytes ≡ h.rest = ap (λ (b : List ℕ). drop (text_len v) b) h.whole ∙ rest_after h.front h.rest v h.option in
     tile-unique bytes _ _ (tile_of bytes) (goes_on h.front h.rest v h.option (tile_of h.rest) h.whole) ∙ ap (λ (b : List ℕ). Ok v ∷ answers_of b) (sym rest)
 
 pub answers_of-broken : (bytes : List ℕ) → (bytes ≡ [] → ⊥) → ((v : OptionValue) → BeginsWith bytes v → ⊥) → answers_of bytes ≡ Err (record {}) ∷ []
 answers_of-broken bytes some none = tile-unique bytes _ _ (tile_of bytes) (breaks (record {}) some none)
 
-pub next-option : (hit : Bool) (bytes rest : List ℕ) (v : OptionValue) → hit ≡ false → BeginsWith bytes v → rest ≡ drop (counted_len v) bytes → answers_to_come hit bytes ≡ Ok v ∷ answers_to_come hit rest
+pub next-option : (hit : Bool) (bytes rest : List ℕ) (v : OptionValue) → hit ≡ false → BeginsWith bytes v → rest ≡ drop (text_len v) bytes → answers_to_come hit bytes ≡ Ok v ∷ answers_to_come hit rest
 next-option hit bytes rest v e h r =
     rw e (answers_of-begins bytes v h ∙ ap (λ (b : List ℕ). Ok v ∷ answers_of b) (sym r))
 

@@ -1,10 +1,14 @@
 -- A hop-by-hop header, from its options on (RFC 8200 section 4.3).
-use Rattle.std.specs.Prelude.{◌≡◌, ◌≢◌, ℕ, ◌+◌, ◌≤◌, List, [], length, map, take, flat_map, sum_by, Ok}
+use Rattle.std.specs.Prelude.{◌≡◌, ◌≢◌, ℕ, ◌+◌, ◌≤◌, List, [], length, map, take, sum_by, Ok}
+use Rattle.std.specs.Borrow.{Bor}
 use Rattle.std.specs.List.{AllByRecursion}
+use Rattle.wirebase.specs.Bytes.{over}
+use Rattle.wirebase.specs.ByteWriter.{fields}
+use Rattle.wirebase.specs.Format.{Format, RoundTrips}
 use Rattle.opt_wire.specs.declared.ipv6hbh.Header.{Header}
 use Rattle.opt_wire.specs.declared.ipv6hbh.Repr.{Repr}
 use Rattle.opt_wire.specs.Ipv6Option as option
-use Rattle.opt_wire.specs.Ipv6Option.{OptionValue, value_of, counted_len}
+use Rattle.opt_wire.specs.Ipv6Option.{OptionValue, value_of}
 use Rattle.opt_wire.specs.Ipv6OptionAnswers.{Answer, Tile}
 
 -- what a view was made from, and the view made from something else
@@ -14,17 +18,23 @@ inner view = view.buffer
 abbrev pub with_inner : {T : Type 0} → Header T → T → Header T
 with_inner view buffer = record view { buffer = buffer }
 
+abbrev pub view_octets : Header (Bor (List ℕ)) → List ℕ
+view_octets view = (inner view).now
+
 -- the options by their content
 abbrev pub options_of : Repr → List OptionValue
 options_of repr = map value_of repr.options.items
 
--- their text: that of each in turn
-abbrev pub text : List OptionValue → List ℕ
-text options = flat_map option.text options
+-- their texts one after another, and the text of a header
+abbrev pub header_fields : List OptionValue → List (List ℕ)
+header_fields options = map option.text options
 
--- the bytes that they count
-abbrev pub counted_len_of : List OptionValue → ℕ
-counted_len_of options = sum_by counted_len options
+abbrev pub text : List OptionValue → List ℕ
+text options = fields (header_fields options)
+
+-- the bytes that they take by the lengths that they count
+abbrev pub text_len : List OptionValue → ℕ
+text_len options = sum_by option.text_len options
 
 -- each holds as many bytes of data as it counts
 abbrev pub HaveData : List OptionValue → Type 0
@@ -49,3 +59,17 @@ pub record IsCanonical (most : ℕ) (options : List OptionValue) : Type 0 where
 -- the normal form: that of each option
 abbrev pub norm : List OptionValue → List OptionValue
 norm options = map option.norm options
+
+-- the format, where at most so many options are kept; no value is an exception, and what was read holds no more data than
+-- it counts
+abbrev pub format : ℕ → Format (List OptionValue)
+format most =
+    record { Reads = IsHeader most; Fills = Unit {0}; text = text; IsCanonical = IsCanonical most; IsException = λ options. ⊥; norm = norm; IsCut = λ options. ⊥ }
+
+-- What writing options leaves where `old` stood, and where at most so many are kept. Where there is just their length, their
+-- text is all that is left, and canonical options are read back as their normal form.
+pub record Emits (most : ℕ) (options : List OptionValue) (old new : List ℕ) : Type 0 where
+  pub text_ : new ≡ over old (text options)
+  pub exact : length old ≡ text_len options → new ≡ text options
+  pub reads_back : IsCanonical most options → length old ≡ text_len options → IsHeader most new (norm options)
+  pub round_trips : RoundTrips (format most) options

@@ -3,12 +3,15 @@
 --  0                   1
 --  0 1 2 3 4 5 6 7 8 9 0 1 2 3 4 5 ..
 -- +---------------+---------------+- -
--- |     type      |    length     | data, as many bytes
+-- |  Option Type  | Opt Data Len  | Option Data, as many bytes
 -- +---------------+---------------+- -
+--
+-- A Pad1 is its type alone.
 use Rattle.std.specs.Prelude.{◌≡◌, ◌≢◌, ℕ, ◌+◌, ◌*◌, ◌≤◌, ◌<◌, ◌^◌, List, [], ◌∷◌, ◌++◌, length, take, replicate}
 use Rattle.std.specs.Borrow.{Bor}
-use Rattle.byteorder.specs.Endian.{big_bytes}
-use Rattle.wirebase.specs.Bytes.{Field, field, Reaches, byte_of}
+use Rattle.wirebase.specs.Bytes.{Field, field, Reaches, Writes, byte_of, over}
+use Rattle.wirebase.specs.ByteWriter.{be8, be16, fields}
+use Rattle.wirebase.specs.Format.{Format, RoundTrips}
 use Rattle.wirebase.specs.Numbered.{IsProper}
 use Rattle.opt_wire.specs.declared.ipv6option.Ipv6Option.{Ipv6Option}
 use Rattle.opt_wire.specs.declared.ipv6option.tables.Type as Kind
@@ -26,22 +29,31 @@ inner view = view.buffer
 abbrev pub with_inner : {T : Type 0} → Ipv6Option T → T → Ipv6Option T
 with_inner view buffer = record view { buffer = buffer }
 
-abbrev pub octets_of : Ipv6Option (Bor (List ℕ)) → List ℕ
-octets_of view = (inner view).now
+abbrev pub view_octets : Ipv6Option (Bor (List ℕ)) → List ℕ
+view_octets view = (inner view).now
+
+-- a field of the view is w, and all its other octets stay
+abbrev pub Sets : {T : Type 0} → (T → List ℕ) → (T → List ℕ → T) → Ipv6Option T → Ipv6Option T → Field → List ℕ → Type 0
+Sets bytes set old new f w = Writes bytes set (inner old) (inner new) f w
+
+-- as many octets as there were
+abbrev pub KeepsLen : {T : Type 0} → (T → List ℕ) → Ipv6Option T → Ipv6Option T → Type 0
+KeepsLen bytes old new = length (bytes (inner new)) ≡ length (bytes (inner old))
 
 -- the fields
-abbrev pub type_field : Field
-type_field = field 0 1
+abbrev pub option_type_field : Field
+option_type_field = field 0 1
 
-abbrev pub length_field : Field
-length_field = field 1 2
+abbrev pub opt_data_len_field : Field
+opt_data_len_field = field 1 2
 
-abbrev pub data_field : List ℕ → Field
-data_field bytes = field 2 (2 + byte_of length_field bytes)
+abbrev pub option_data_field : List ℕ → Field
+option_data_field bytes = field 2 (2 + byte_of opt_data_len_field bytes)
 
 -- the bytes begin with a whole option: a Pad1, or a type, a length and as many bytes of data
 abbrev pub BeginsWhole : List ℕ → Type 0
-BeginsWhole bytes = Reaches type_field bytes × (byte_of type_field bytes ≢ 0 → Reaches (data_field bytes) bytes)
+BeginsWhole bytes =
+    Reaches option_type_field bytes × (byte_of option_type_field bytes ≢ 0 → Reaches (option_data_field bytes) bytes)
 
 -- an option by its content: padding, a router alert (RFC 2711), or a type, a length and data
 pub data OptionValue : Type 0 where
@@ -56,27 +68,30 @@ value_of (repr.PadN n) = pad_n n
 value_of (repr.RouterAlert a) = router_alert a
 value_of (repr.Unknown k n d) = unknown k n d.now
 
--- its text
-abbrev pub text : OptionValue → List ℕ
-text pad1 = 0 ∷ []
-text (pad_n n) = 1 ∷ n ∷ replicate n 0
-text (router_alert a) = 5 ∷ 2 ∷ big_bytes 2 (alert_number a)
-text (unknown k n d) = type_number k ∷ n ∷ take n d
+-- its fields, and its text
+abbrev pub option_fields : OptionValue → List (List ℕ)
+option_fields pad1 = be8 0 ∷ []
+option_fields (pad_n n) = be8 1 ∷ be8 n ∷ replicate n 0 ∷ []
+option_fields (router_alert a) = be8 5 ∷ be8 2 ∷ be16 (alert_number a) ∷ []
+option_fields (unknown k n d) = be8 (type_number k) ∷ be8 n ∷ take n d ∷ []
 
--- the bytes that it counts, whatever data it holds
-abbrev pub counted_len : OptionValue → ℕ
-counted_len pad1 = 1
-counted_len (pad_n n) = 2 + n
-counted_len (router_alert a) = 4
-counted_len (unknown k n d) = 2 + n
+abbrev pub text : OptionValue → List ℕ
+text v = fields (option_fields v)
+
+-- the bytes that it takes by the length that it counts, whatever data it holds
+abbrev pub text_len : OptionValue → ℕ
+text_len pad1 = 1
+text_len (pad_n n) = 2 + n
+text_len (router_alert a) = 4
+text_len (unknown k n d) = 2 + n
 
 -- it holds as many bytes of data as it counts
 abbrev pub HasData : OptionValue → Type 0
 HasData (unknown k n d) = n ≤ length d
 HasData _ = Unit {0}
 
--- The grammar (RFC 8200 section 4.2, RFC 2711 section 2.1): these bytes are one option of this value: a type, the number of
--- bytes of its data, and that data; a Pad1 is its type alone. What padding is filled with is not looked at.
+-- The grammar (RFC 8200 section 4.2, RFC 2711 section 2.1): these bytes are one option of this value: a type, the number
+-- of bytes of its data, and that data; a Pad1 is its type alone. What padding is filled with is not looked at.
 abbrev pub IsOption : List ℕ → OptionValue → Type 0
 IsOption w pad1 = w ≡ 0 ∷ []
 IsOption w (pad_n n) = (padding : List ℕ) × (w ≡ 1 ∷ n ∷ padding) × (length padding ≡ n)
@@ -104,3 +119,16 @@ IsCanonical (unknown k n d) =
 abbrev pub norm : OptionValue → OptionValue
 norm (unknown k n d) = unknown k n (take n d)
 norm v = v
+
+-- the format; no value is an exception, and what was read holds no more data than it counts
+abbrev pub format : Format OptionValue
+format =
+    record { Reads = BeginsWith; Fills = Unit {0}; text = text; IsCanonical = IsCanonical; IsException = λ v. ⊥; norm = norm; IsCut = λ v. ⊥ }
+
+-- What writing an option leaves where `old` stood: its text, and what stood behind it. Where there is just the option's
+-- length, its text is all that is left. A canonical value is read back as its normal form, whatever stands behind the option.
+pub record Emits (v : OptionValue) (old new : List ℕ) : Type 0 where
+  pub text_ : new ≡ over old (text v)
+  pub exact : length old ≡ text_len v → new ≡ text v
+  pub reads_back : IsCanonical v → BeginsWith new (norm v)
+  pub round_trips : RoundTrips format v

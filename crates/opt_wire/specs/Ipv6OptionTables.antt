@@ -17,8 +17,11 @@ type_number kind.RouterAlert = 5
 type_number kind.Rpl = 0x63
 type_number (kind.Unknown n) = n
 
+abbrev pub types : List Kind.Type
+types = kind.Pad1 ∷ kind.PadN ∷ kind.RouterAlert ∷ kind.Rpl ∷ []
+
 abbrev pub type_rows : List (Kind.Type × ℕ)
-type_rows = rows_of type_number (kind.Pad1 ∷ kind.PadN ∷ kind.RouterAlert ∷ kind.Rpl ∷ [])
+type_rows = rows_of type_number types
 
 abbrev pub type_of : ℕ → Kind.Type
 type_of n = case_in kind.Unknown type_rows n
@@ -30,8 +33,11 @@ alert_number alert.Rsvp = 1
 alert_number alert.ActiveNetworks = 2
 alert_number (alert.Unknown n) = n
 
+abbrev pub alerts : List RouterAlert
+alerts = alert.MulticastListenerDiscovery ∷ alert.Rsvp ∷ alert.ActiveNetworks ∷ []
+
 abbrev pub alert_rows : List (RouterAlert × ℕ)
-alert_rows = rows_of alert_number (alert.MulticastListenerDiscovery ∷ alert.Rsvp ∷ alert.ActiveNetworks ∷ [])
+alert_rows = rows_of alert_number alerts
 
 abbrev pub alert_of : ℕ → RouterAlert
 alert_of n = case_in alert.Unknown alert_rows n

@@ -1,18 +1,20 @@
 //! Hop-by-hop options headers (RFC 8200 section 4.3), from their options on.
 #![tactic(auto, using(wirebase::proofs::Pieces::pieces))]
 
-ghost use Rattle.std.specs.Prelude.{◌≡◌, ◌≢◌, ◌≤◌, ◌<◌, ◌↔◌, ◌++◌, [], ◌∷◌, List, length, map, IsOk, IfOk, IsOkAnd};
+ghost use Rattle.std.specs.Prelude.{◌≡◌, ◌≢◌, ◌+◌, ◌≤◌, ◌<◌, ◌↔◌, ◌++◌, [], ◌∷◌, List, length, map, IsOk, IfOk, IsOkAnd};
 ghost use Rattle.std.specs.Borrow.{sem, Lends, Array, u8 as byte};
-ghost use Rattle.wirebase.specs.Bytes.{over};
-ghost use Rattle.opt_wire.specs.Ipv6Option.{OptionValue, value_of, pad_n, router_alert};
-ghost use Rattle.opt_wire.specs.Ipv6Hbh.{inner, with_inner, options_of, text, counted_len_of, HaveData, IsHeader, IsCanonical, norm};
+ghost use Rattle.wirebase.specs.ByteWriter.{free, Puts, the_slice};
+ghost use Rattle.wirebase.specs.Format.{Rewrites, SameText};
+ghost use Rattle.opt_wire.specs.Ipv6Option.{OptionValue, value_of, pad_n, router_alert, HasData};
+ghost use Rattle.opt_wire.specs.Ipv6Option.{text as option_text, text_len as option_len};
+ghost use Rattle.opt_wire.specs.Ipv6Hbh.{inner, with_inner, view_octets, options_of, header_fields, text, text_len, HaveData, IsHeader, format, Emits};
 ghost use Rattle.opt_wire.specs.declared.ipv6option.tables.RouterAlert.TheVariants.{MulticastListenerDiscovery};
 ghost use Rattle.opt_wire.specs.contracts.ipv6hbh.Header.{the_row};
 
 use crate::ipv6option;
-use crate::ipv6option::{Ipv6OptionsIterator, RouterAlert, write_option};
+use crate::ipv6option::{Ipv6OptionsIterator, RouterAlert};
 use arrayvec::ArrayVec;
-use wirebase::{Error, IPV6_HBH_MAX_OPTIONS, Octets, OctetsMut, Result};
+use wirebase::{ByteWriter, Error, IPV6_HBH_MAX_OPTIONS, Octets, OctetsMut, Result, are_bytes};
 
 /// A view of the options of a hop-by-hop header: all that stands after its first two bytes.
 #[derive(Drop)]
@@ -88,8 +90,24 @@ impl<'a> Repr<'a> {
     /// The options of a header, the first `IPV6_HBH_MAX_OPTIONS` of them. Refused where there are no octets, and
     /// where one of these options, or the one after them, can't be read; what follows is not looked at.
     pub fn parse(header: &Header<&'a [u8]>) -> Result<Repr<'a>>
-        ensures sound { IfOk result (λ repr. IsHeader IPV6_HBH_MAX_OPTIONS (inner header.now).now (options_of repr)) }
-        ensures complete { (options : List OptionValue) → IsHeader IPV6_HBH_MAX_OPTIONS (inner header.now).now options
+        ensures sound { IfOk result (λ repr.
+            IsHeader IPV6_HBH_MAX_OPTIONS (view_octets header.now) (options_of repr)) }
+        ensures complete { (options : List OptionValue)
+            → IsHeader IPV6_HBH_MAX_OPTIONS (view_octets header.now) options
+            → IsOkAnd result (λ repr. options_of repr ≡ options) }
+        ensures rewrites { length (view_octets header.now) ≤ 65515
+            → IfOk result (λ repr. Rewrites (format IPV6_HBH_MAX_OPTIONS) (options_of repr)) }
+    {
+        are_bytes(header.buffer);
+        Repr::read(header)
+    }
+
+    // The options of a header.
+    fn read(header: &Header<&'a [u8]>) -> Result<Repr<'a>>
+        ensures sound { IfOk result (λ repr.
+            IsHeader IPV6_HBH_MAX_OPTIONS (view_octets header.now) (options_of repr)) }
+        ensures complete { (options : List OptionValue)
+            → IsHeader IPV6_HBH_MAX_OPTIONS (view_octets header.now) options
             → IsOkAnd result (λ repr. options_of repr ≡ options) }
     {
         header.check_len()?;
@@ -106,7 +124,7 @@ impl<'a> Repr<'a> {
 
     /// The bytes that the options take, by the lengths that they count.
     pub fn buffer_len(&self) -> usize
-        ensures value { result ≡ counted_len_of (options_of self.now) }
+        ensures value { result ≡ text_len (options_of self.now) }
         ensures exact { HaveData (options_of self.now) → result ≡ length (text (options_of self.now)) }
     {
         let options = self.options.as_slice();
@@ -138,36 +156,54 @@ impl<'a> Repr<'a> {
     /// each holds as much data as it counts.
     pub fn emit<T: OctetsMut>(&self, header: &mut Header<T>)
         requires enough { HaveData (options_of self.now) }
-        requires room { length (text (options_of self.now)) ≤ length (T.bytes (inner header.old)) }
-        ensures text { inner header.new ≡ T.put (inner header.old)
-            (over (T.bytes (inner header.old)) (text (options_of self.now))) }
-
-        // In a buffer of the packet's length there is its text alone, and a canonical value is read back as its
-        // normal form, which is canonical and its own normal form.
-        ensures exact { length (T.bytes (inner header.old)) ≡ length (text (options_of self.now))
-            → T.bytes (inner header.new) ≡ text (options_of self.now) }
-        ensures reads_back { IsCanonical IPV6_HBH_MAX_OPTIONS (options_of self.now)
-            → length (T.bytes (inner header.old)) ≡ length (text (options_of self.now))
-            → IsHeader IPV6_HBH_MAX_OPTIONS (T.bytes (inner header.new)) (norm (options_of self.now)) }
-        ensures canonical { IsCanonical IPV6_HBH_MAX_OPTIONS (options_of self.now)
-            → IsCanonical IPV6_HBH_MAX_OPTIONS (norm (options_of self.now)) }
-        ensures settled { norm (norm (options_of self.now)) ≡ norm (options_of self.now) }
+        requires room { text_len (options_of self.now) ≤ length (T.bytes (inner header.old)) }
+        ensures place { inner header.new ≡ T.put (inner header.old) (T.bytes (inner header.new)) }
+        ensures emits { Emits IPV6_HBH_MAX_OPTIONS (options_of self.now)
+            (T.bytes (inner header.old)) (T.bytes (inner header.new)) }
     {
-        write_options(self.options.as_slice(), header.options_mut());
+        self.emit_into(header.options_mut());
+    }
+
+    /// The same into octets that stand by themselves.
+    #[tactic(auto, using(wirebase::proofs::Chains::chain))]
+    pub fn emit_into(&self, octets: &mut [u8])
+        requires enough { HaveData (options_of self.now) }
+        requires room { text_len (options_of self.now) ≤ length octets.old }
+        ensures { Emits IPV6_HBH_MAX_OPTIONS (options_of self.now) octets.old octets.new }
+    {
+        let mut w = ByteWriter::new(octets);
+        put_options(&mut w, self.options.as_slice());
+    }
+
+    /// Does nothing. Of two lists of options that a header can hold, equal texts mean equal normal forms, and
+    /// conversely.
+    pub fn same_text(a: &Self, b: &Self)
+        ensures { SameText (format IPV6_HBH_MAX_OPTIONS) (options_of a.now) (options_of b.now) }
+    {}
+}
+
+// Writes options one after another.
+fn put_options(w: &mut ByteWriter<'_>, options: &[ipv6option::Repr<'_>])
+    requires enough { HaveData (map value_of options.now) }
+    requires room { text_len (map value_of options.now) ≤ length (free w.old) }
+    ensures puts { Puts w.old w.new (header_fields (map value_of options.now)) }
+    ensures same_slice { the_slice w.new ≡ the_slice w.old }
+{
+    for option in options {
+        put_option(w, option);
     }
 }
 
-// Writes options one after another over the front of the bytes.
-fn write_options(options: &[ipv6option::Repr<'_>], bytes: &mut [u8])
-    requires enough { HaveData (map value_of options.now) }
-    requires room { length (text (map value_of options.now)) ≤ length bytes.old }
-    ensures { bytes.new ≡ over bytes.old (text (map value_of options.now)) }
+// Writes an option.
+#[tactic(auto, using(wirebase::proofs::Chains::parts, crate::proofs::Ipv6OptionText::texts))]
+fn put_option(w: &mut ByteWriter<'_>, option: &ipv6option::Repr<'_>)
+    requires enough { HasData (value_of option.now) }
+    requires room { option_len (value_of option.now) ≤ length (free w.old) }
+    ensures puts { Puts w.old w.new (option_text (value_of option.now) ∷ []) }
+    ensures room { length (free w.old) ≡ option_len (value_of option.now) + length (free w.new) }
+    ensures same_slice { the_slice w.new ≡ the_slice w.old }
 {
-    let mut at = 0;
-    for option in options {
-        write_option(option, &mut bytes[at..]);
-        at += option.buffer_len();
-    }
+    option.emit_into(w.part(option.buffer_len()));
 }
 
 #[cfg(test)]

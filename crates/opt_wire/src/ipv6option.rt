@@ -1,26 +1,24 @@
 //! Options of IPv6 extension headers (RFC 8200 section 4.2).
 #![tactic(auto, using(wirebase::proofs::Pieces::pieces))]
 
-ghost use Rattle.std.specs.Prelude.{◌≡◌, ◌≤◌, ◌-◌, ◌*◌, ◌/◌, ◌+◌, ◌↔◌, [], ◌∷◌, length, IsOk, IfOk, IsOkAnd};
+ghost use Rattle.std.specs.Prelude.{◌≡◌, ◌≤◌, ◌-◌, ◌*◌, ◌/◌, ◌+◌, ◌↔◌, [], ◌∷◌, length, IsTrue, IsOk, IfOk, IsOkAnd};
 ghost use Rattle.std.specs.Borrow.{sem, Lends, Array, u8 as byte};
-ghost use Rattle.wirebase.specs.Bytes.{Reaches, Writes, ComparesOctets, bytes_of, byte_of, with_field, over};
-ghost use Rattle.opt_wire.specs.Ipv6Option.{inner, with_inner, octets_of, type_field, length_field, data_field, BeginsWhole, OptionValue, value_of, text, counted_len, HasData, BeginsWith, IsCanonical, norm};
+ghost use Rattle.wirebase.specs.Bytes.{Reaches, bytes_of, byte_of, with_field};
+ghost use Rattle.wirebase.specs.ByteWriter.{free, Puts, the_slice};
+ghost use Rattle.wirebase.specs.Format.{Rewrites, SameText};
+ghost use Rattle.opt_wire.specs.Ipv6Option.{inner, with_inner, view_octets, Sets, KeepsLen, option_type_field, opt_data_len_field, option_data_field, BeginsWhole, OptionValue, value_of, option_fields, text, text_len, HasData, BeginsWith, format, Emits};
 ghost use Rattle.opt_wire.specs.contracts.ipv6option.Ipv6Option.{the_row};
 ghost use Rattle.opt_wire.specs.Ipv6OptionTables.{type_number, type_of};
 
 use byteorder::{BigEndian, ByteOrder};
 use std::marker::Model;
-use wirebase::{Error, Octets, OctetsMut, Result};
+use wirebase::{ByteWriter, Error, Octets, OctetsMut, Result, are_bytes};
 
 mod tables;
 
 pub use tables::{FailureType, RouterAlert, Type};
 
-// An option (RFC 8200 section 4.2); a Pad1 is its type alone.
-//
-// +---------------+---------------+- - - - - - - -
-// |     type      |    length     | data
-// +---------------+---------------+- - - - - - - -
+// The fields of an option (RFC 8200 section 4.2).
 mod field {
     use wirebase::Field;
 
@@ -28,7 +26,7 @@ mod field {
 
     pub const LENGTH: Field = 1..2;
 
-    // The data of an option with this length.
+    // The data of an option that counts so many bytes of it.
     pub fn data(length: u8) -> Field
         ensures start { result.start ≡ 2 }
         ensures end { result.end ≡ 2 + length }
@@ -38,7 +36,7 @@ mod field {
 }
 
 /// A view of the octets of one option.
-#[derive(Debug, PartialEq, Eq, Drop)]
+#[derive(Debug, Drop)]
 pub struct Ipv6Option<T: Octets> {
     buffer: T,
 }
@@ -46,8 +44,7 @@ pub struct Ipv6Option<T: Octets> {
 impl<T: Octets> Ipv6Option<T> {
     /// The view of these octets, whatever they are.
     pub fn new_unchecked(buffer: T) -> Ipv6Option<T>
-        ensures buffer { inner result ≡ buffer }
-        ensures equality { ComparesOctets octets_of ⟦<Ipv6Option<&'static [u8]> as PartialEq>⟧.eq }
+        ensures { inner result ≡ buffer }
     {
         Ipv6Option { buffer }
     }
@@ -92,18 +89,18 @@ impl<T: Octets> Ipv6Option<T> {
 
     /// The type. Asks 1 byte.
     pub fn option_type(&self) -> Type
-        requires { Reaches type_field (T.bytes (inner self.now)) }
-        ensures { result ≡ type_of (byte_of type_field (T.bytes (inner self.now))) }
+        requires { Reaches option_type_field (T.bytes (inner self.now)) }
+        ensures { result ≡ type_of (byte_of option_type_field (T.bytes (inner self.now))) }
     {
-        Type::from(self.buffer.field(field::TYPE)[0])
+        Type::from(self.buffer.u8_at(field::TYPE))
     }
 
     /// The bytes of data that the option counts. Asks 2 bytes.
     pub fn data_len(&self) -> u8
-        requires { Reaches length_field (T.bytes (inner self.now)) }
-        ensures { result ≡ byte_of length_field (T.bytes (inner self.now)) }
+        requires { Reaches opt_data_len_field (T.bytes (inner self.now)) }
+        ensures { result ≡ byte_of opt_data_len_field (T.bytes (inner self.now)) }
     {
-        self.buffer.field(field::LENGTH)[0]
+        self.buffer.u8_at(field::LENGTH)
     }
 }
 
@@ -111,10 +108,10 @@ impl<'a> Ipv6Option<&'a [u8]> {
     /// The data, for as long as the octets live. Asks the bytes that the option counts.
     #[tactic(auto, using(wirebase::proofs::Pieces::pieces), unfolding(wirebase::specs::Bytes::part))]
     pub fn data(&self) -> &'a [u8]
-        requires counted { Reaches length_field (inner self.now).now }
-        requires whole { Reaches (data_field (inner self.now).now) (inner self.now).now }
-        ensures value { result.now ≡ bytes_of (data_field (inner self.now).now) (inner self.now).now }
-        ensures len { length result.now ≡ byte_of length_field (inner self.now).now }
+        requires counted { Reaches opt_data_len_field (view_octets self.now) }
+        requires whole { Reaches (option_data_field (view_octets self.now)) (view_octets self.now) }
+        ensures value { result.now ≡ bytes_of (option_data_field (view_octets self.now)) (view_octets self.now) }
+        ensures len { length result.now ≡ byte_of opt_data_len_field (view_octets self.now) }
     {
         let octets: &'a [u8] = self.buffer;
         &octets[field::data(self.data_len())]
@@ -124,37 +121,62 @@ impl<'a> Ipv6Option<&'a [u8]> {
 impl<T: OctetsMut> Ipv6Option<T> {
     /// Writes the type. Asks 1 byte.
     pub fn set_option_type(&mut self, value: Type)
-        requires { Reaches type_field (T.bytes (inner self.old)) }
-        ensures writes { Writes T.bytes T.put (inner self.old) (inner self.new) type_field (type_number value ∷ []) }
-        ensures len { length (T.bytes (inner self.new)) ≡ length (T.bytes (inner self.old)) }
+        requires { Reaches option_type_field (T.bytes (inner self.old)) }
+        ensures writes { Sets T.bytes T.put self.old self.new option_type_field (type_number value ∷ []) }
+        ensures len { KeepsLen T.bytes self.old self.new }
     {
-        self.buffer.field_mut(field::TYPE)[0] = value.into();
+        self.buffer.set_u8(field::TYPE, value.into());
     }
 
     /// Writes the bytes of data that the option counts. Asks 2 bytes.
     pub fn set_data_len(&mut self, value: u8)
-        requires { Reaches length_field (T.bytes (inner self.old)) }
-        ensures writes { Writes T.bytes T.put (inner self.old) (inner self.new) length_field (value ∷ []) }
-        ensures len { length (T.bytes (inner self.new)) ≡ length (T.bytes (inner self.old)) }
-        ensures value { byte_of length_field (T.bytes (inner self.new)) ≡ value }
+        requires { Reaches opt_data_len_field (T.bytes (inner self.old)) }
+        ensures writes { Sets T.bytes T.put self.old self.new opt_data_len_field (value ∷ []) }
+        ensures len { KeepsLen T.bytes self.old self.new }
     {
-        self.buffer.field_mut(field::LENGTH)[0] = value;
+        self.buffer.set_u8(field::LENGTH, value);
     }
 
     /// Lends the data for writing; the other octets stay. Asks the bytes that the option counts.
     pub fn data_mut(&mut self) -> &mut [u8]
-        requires counted { Reaches length_field (T.bytes (inner self.old)) }
-        requires whole { Reaches (data_field (T.bytes (inner self.old))) (T.bytes (inner self.old)) }
+        requires counted { Reaches opt_data_len_field (T.bytes (inner self.old)) }
+        requires whole { Reaches (option_data_field (T.bytes (inner self.old))) (T.bytes (inner self.old)) }
         ensures* lends { sem 𝓛 (Lends (the_row T.row) (Array byte 0) self.entry result
             (λ w. with_inner self.old (T.put (inner self.old)
-            (with_field (data_field (T.bytes (inner self.old))) w (T.bytes (inner self.old)))))) }
+            (with_field (option_data_field (T.bytes (inner self.old))) w (T.bytes (inner self.old)))))) }
         ensures value { result.now
-            ≡ bytes_of (data_field (T.bytes (inner self.old))) (T.bytes (inner self.old)) }
-        ensures len { length result.now ≡ byte_of length_field (T.bytes (inner self.old)) }
+            ≡ bytes_of (option_data_field (T.bytes (inner self.old))) (T.bytes (inner self.old)) }
+        ensures len { length result.now ≡ byte_of opt_data_len_field (T.bytes (inner self.old)) }
     {
         let data = field::data(self.data_len());
         self.buffer.field_mut(data)
     }
+}
+
+/// Views are equal where their octets are.
+impl<T: Octets> PartialEq for Ipv6Option<T> {
+    ghost use Rattle.std.specs.Prelude.{◌==◌};
+    ghost use Rattle.std.proofs.Common.{rules};
+    ghost use Rattle.std.specs.Cmp.Lexicographic.{pointwise};
+    ghost use Rattle.std.specs.Cmp.Rules.{comparing};
+    ghost use Rattle.std.specs.Ordering.{on};
+
+    ghost eq = { on (λ view. T.bytes (inner view)) (pointwise ◌==◌) };
+
+    ghost laws = { Prim.search (comparing, rules) };
+
+    fn eq(&self, other: &Ipv6Option<T>) -> bool
+        ensures { IsTrue result ↔ (T.bytes (inner self.now) ≡ T.bytes (inner other.now)) }
+    {
+        self.buffer.octets() == other.buffer.octets()
+    }
+}
+
+impl<T: Octets> Eq for Ipv6Option<T> {
+    ghost use Rattle.std.proofs.Common.{rules};
+    ghost use Rattle.std.specs.Cmp.Rules.{comparing};
+
+    ghost laws = { Prim.search (comparing, rules) };
 }
 
 /// An option of an IPv6 extension header (RFC 8200 section 4.2).
@@ -189,8 +211,20 @@ impl<'a> Repr<'a> {
     /// The option at the front of the octets. Refused where none stands there whole, and where a router alert
     /// doesn't count 2 bytes of data. What padding is filled with is not looked at.
     pub fn parse(opt: &Ipv6Option<&'a [u8]>) -> Result<Repr<'a>>
-        ensures sound { IfOk result (λ repr. BeginsWith (inner opt.now).now (value_of repr)) }
-        ensures complete { (value : OptionValue) → BeginsWith (inner opt.now).now value
+        ensures sound { IfOk result (λ repr. BeginsWith (view_octets opt.now) (value_of repr)) }
+        ensures complete { (value : OptionValue) → BeginsWith (view_octets opt.now) value
+            → IsOkAnd result (λ repr. value_of repr ≡ value) }
+        ensures rewrites { length (view_octets opt.now) ≤ 65515
+            → IfOk result (λ repr. Rewrites format (value_of repr)) }
+    {
+        are_bytes(opt.buffer);
+        Repr::read(opt)
+    }
+
+    // The option at the front of the octets.
+    fn read(opt: &Ipv6Option<&'a [u8]>) -> Result<Repr<'a>>
+        ensures sound { IfOk result (λ repr. BeginsWith (view_octets opt.now) (value_of repr)) }
+        ensures complete { (value : OptionValue) → BeginsWith (view_octets opt.now) value
             → IsOkAnd result (λ repr. value_of repr ≡ value) }
     {
         opt.check_len()?;
@@ -212,8 +246,9 @@ impl<'a> Repr<'a> {
     }
 
     /// The bytes that the option takes, by the length that it counts.
+    #[tactic(auto, using(crate::proofs::Ipv6OptionText::texts))]
     pub fn buffer_len(&self) -> usize
-        ensures value { result ≡ counted_len (value_of self.now) }
+        ensures value { result ≡ text_len (value_of self.now) }
         ensures exact { HasData (value_of self.now) → result ≡ length (text (value_of self.now)) }
         ensures small { result ≤ 257 }
     {
@@ -229,62 +264,59 @@ impl<'a> Repr<'a> {
     /// that it holds as much data as it counts.
     pub fn emit<T: OctetsMut>(&self, opt: &mut Ipv6Option<T>)
         requires enough { HasData (value_of self.now) }
-        requires room { length (text (value_of self.now)) ≤ length (T.bytes (inner opt.old)) }
-        ensures text { inner opt.new ≡ T.put (inner opt.old)
-            (over (T.bytes (inner opt.old)) (text (value_of self.now))) }
-
-        // In a buffer of the option's length there is its text alone, and a canonical value is read back as its
-        // normal form, which is canonical and its own normal form.
-        ensures exact { length (T.bytes (inner opt.old)) ≡ length (text (value_of self.now))
-            → T.bytes (inner opt.new) ≡ text (value_of self.now) }
-        ensures reads_back { IsCanonical (value_of self.now)
-            → BeginsWith (T.bytes (inner opt.new)) (norm (value_of self.now)) }
-        ensures canonical { IsCanonical (value_of self.now) → IsCanonical (norm (value_of self.now)) }
-        ensures settled { norm (norm (value_of self.now)) ≡ norm (value_of self.now) }
+        requires room { text_len (value_of self.now) ≤ length (T.bytes (inner opt.old)) }
+        ensures place { inner opt.new ≡ T.put (inner opt.old) (T.bytes (inner opt.new)) }
+        ensures emits { Emits (value_of self.now) (T.bytes (inner opt.old)) (T.bytes (inner opt.new)) }
     {
-        self.write(opt);
+        self.emit_into(opt.buffer.octets_mut());
     }
 
-    // Writes the fields of the option.
-    fn write<T: OctetsMut>(&self, opt: &mut Ipv6Option<T>)
+    /// The same into octets that stand by themselves.
+    #[tactic(auto, using(wirebase::proofs::Chains::chain))]
+    pub fn emit_into(&self, octets: &mut [u8])
         requires enough { HasData (value_of self.now) }
-        requires room { length (text (value_of self.now)) ≤ length (T.bytes (inner opt.old)) }
-        ensures { inner opt.new ≡ T.put (inner opt.old)
-            (over (T.bytes (inner opt.old)) (text (value_of self.now))) }
+        requires room { text_len (value_of self.now) ≤ length octets.old }
+        ensures { Emits (value_of self.now) octets.old octets.new }
+    {
+        let mut w = ByteWriter::new(octets);
+        self.put(&mut w);
+    }
+
+    /// Does nothing. Of two options that bytes can hold, equal texts mean equal normal forms, and conversely.
+    pub fn same_text(a: &Self, b: &Self)
+        ensures { SameText format (value_of a.now) (value_of b.now) }
+    {}
+
+    // Writes each field of the option.
+    fn put(&self, w: &mut ByteWriter<'_>)
+        requires enough { HasData (value_of self.now) }
+        requires room { text_len (value_of self.now) ≤ length (free w.old) }
+        ensures puts { Puts w.old w.new (option_fields (value_of self.now)) }
+        ensures same_slice { the_slice w.new ≡ the_slice w.old }
     {
         match *self {
-            Repr::Pad1 => opt.set_option_type(Type::Pad1),
+            Repr::Pad1 => w.put_u8(Type::Pad1.into()),
             Repr::PadN(length) => {
-                opt.set_option_type(Type::PadN);
-                opt.set_data_len(length);
-                opt.data_mut().fill(0);
+                w.put_u8(Type::PadN.into());
+                w.put_u8(length);
+                w.put_zeros(length as usize);
             }
             Repr::RouterAlert(alert) => {
-                opt.set_option_type(Type::RouterAlert);
-                opt.set_data_len(RouterAlert::DATA_LEN);
-                BigEndian::write_u16(opt.data_mut(), alert.into());
+                w.put_u8(Type::RouterAlert.into());
+                w.put_u8(RouterAlert::DATA_LEN);
+                w.put_u16(alert.into());
             }
             Repr::Unknown {
                 type_,
                 length,
                 data,
             } => {
-                opt.set_option_type(type_);
-                opt.set_data_len(length);
-                opt.data_mut().copy_from_slice(&data[..length as usize]);
+                w.put_u8(type_.into());
+                w.put_u8(length);
+                w.put_bytes(&data[..length as usize]);
             }
         }
     }
-}
-
-// Writes an option over the front of the bytes.
-pub(crate) fn write_option(option: &Repr<'_>, bytes: &mut [u8])
-    requires enough { HasData (value_of option.now) }
-    requires room { length (text (value_of option.now)) ≤ length bytes.old }
-    ensures { bytes.new ≡ over bytes.old (text (value_of option.now)) }
-{
-    let mut view = Ipv6Option::new_unchecked(bytes);
-    option.emit(&mut view);
 }
 
 /// The options of a header in turn (RFC 8200 section 4.2): each one while they read, one refusal where no option
@@ -298,7 +330,8 @@ pub struct Ipv6OptionsIterator<'a> {
 
 impl<'a> Model for Ipv6OptionsIterator<'a> {
     ghost use Rattle.std.specs.Prelude.{List};
-    ghost use Rattle.opt_wire.specs.Ipv6OptionAnswers.{Answer, answers_to_come};
+    ghost use Rattle.opt_wire.specs.Ipv6OptionAnswers.{Answer};
+    ghost use Rattle.opt_wire.specs.Ipv6OptionModel.{answers_to_come};
 
     ghost Value = { List Answer };
 
@@ -315,7 +348,7 @@ impl<'a> Ipv6OptionsIterator<'a> {
         ensures tile { Tile octets.entry.now result }
         ensures unique { (answers : List Answer) → Tile octets.entry.now answers → answers ≡ result }
         ensures lengths { (options : List OptionValue) → result ≡ map Ok options
-            → sum_by counted_len options ≡ length octets.entry.now }
+            → sum_by text_len options ≡ length octets.entry.now }
     {
         Ipv6OptionsIterator {
             data: octets,

@@ -3,5 +3,6 @@
 
 pub mod ipv6hbh;
 pub mod ipv6option;
+pub mod ndiscoption;
 #[cfg(test)]
 mod plain_reader;

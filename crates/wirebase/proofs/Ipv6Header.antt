@@ -7,16 +7,16 @@ use Rattle.byteorder.specs.Numbers.{big_number-reads_back}
 use Rattle.wirebase.specs.declared.ip.IpProtocol.{IpProtocol}
 use Rattle.wirebase.specs.declared.ipv6.address.Ipv6Address.{Ipv6Address}
 use Rattle.wirebase.specs.declared.ipv6.Ipv6Repr.{Ipv6Repr}
-use Rattle.wirebase.specs.Bytes.{part, over, over_front}
+use Rattle.wirebase.specs.Bytes.{part, over}
 use Rattle.wirebase.specs.ByteWriter.{Sheet, blank, put_all, be8, be16, be32, fields}
 use Rattle.wirebase.specs.declared.ip.IpProtocol.TheVariants as protocol
 use Rattle.wirebase.specs.Ip.{protocol_number, protocol_rows}
 use Rattle.wirebase.specs.Numbered.{IsProper}
 use Rattle.wirebase.specs.Ipv6.{IsHeader, IsPacket, header_fields, header_text, pseudo_fields}
 use Rattle.wirebase.specs.Ipv6Address.{octets_of}
-use Rattle.wirebase.proofs.Pieces.{over-exact, over_front-exact}
 use Rattle.wirebase.proofs.IpProtocols.{protocol_of-number}
-use Rattle.wirebase.proofs.Chains.{over_front-fits, over-blank, put-fields}
+use Rattle.wirebase.proofs.Pieces.{over-exact}
+use Rattle.wirebase.proofs.Chains.{over-blank, put-fields}
 
 -- ---- addresses
 
@@ -62,10 +62,10 @@ one_header bytes r s a b =
 -- ---- what the emitter needs
 
 -- a writer that had longer octets, all of them free, leaves the header over their front
-pub over-header : (old : List ℕ) (r : Ipv6Repr) → 40 ≤ length old → over old (header_text r) ≡ (put_all (blank old) (header_fields r)).written ++ (put_all (blank old) (header_fields r)).free
+pub over-header : (old : List ℕ) (r : Ipv6Repr) → over old (header_text r) ≡ (put_all (blank old) (header_fields r)).written ++ (put_all (blank old) (header_fields r)).free
 unfolding header_text
-over-header old r room =
-    sym (over_front-fits old (header_text r) (omega (arith, length-header_text r))) ∙ over-blank old (header_text r)
+over-header old r =
+    over-blank old (header_text r)
     ∙ ap (λ (s : Sheet). s.written ++ s.free) (put-fields (blank old) (header_fields r))
 
 pub ruleset header_writes = (over-header)
@@ -114,6 +114,6 @@ length-pseudo source destination protocol n =
     omega (arith, length-append (octets_of source) (octets_of destination ++ rest), length-append (octets_of destination) rest, source.whole, destination.whole)
 
 -- it is written over octets of just its length
-pub over_front-pseudo : (old : List ℕ) (source destination : Ipv6Address) (protocol : IpProtocol) (n : ℕ) → length old ≡ 40 → over_front old (fields (pseudo_fields source destination protocol n)) ≡ fields (pseudo_fields source destination protocol n)
-over_front-pseudo old source destination protocol n whole =
-    over_front-exact old (fields (pseudo_fields source destination protocol n)) (whole ∙ sym (length-pseudo source destination protocol n))
+pub over-pseudo : (old : List ℕ) (source destination : Ipv6Address) (protocol : IpProtocol) (n : ℕ) → length old ≡ 40 → over old (fields (pseudo_fields source destination protocol n)) ≡ fields (pseudo_fields source destination protocol n)
+over-pseudo old source destination protocol n whole =
+    over-exact old (fields (pseudo_fields source destination protocol n)) (whole ∙ sym (length-pseudo source destination protocol n))

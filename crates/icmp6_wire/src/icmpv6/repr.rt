@@ -2,7 +2,7 @@
 #![tactic(auto, using(wirebase::proofs::Pieces::pieces))]
 
 ghost use Rattle.std.specs.Prelude.{◌≡◌, ◌≤◌, ◌<◌, ◌+◌, ◌^◌, min, List, ℕ, length, drop, IsOk, IfOk, IsOkAnd};
-ghost use Rattle.wirebase.specs.Bytes.{Reaches, over_front};
+ghost use Rattle.wirebase.specs.Bytes.{Reaches, over};
 ghost use Rattle.wirebase.specs.ByteWriter.{free, Puts, the_slice};
 ghost use Rattle.wirebase.specs.Format.{Rewrites, SameText};
 ghost use Rattle.wirebase.specs.Icmp.{header, checksum_field, echo_fields};
@@ -253,7 +253,7 @@ impl<'a> Repr<'a> {
     #[tactic(auto, using(wirebase::proofs::Chains::chain))]
     fn write(&self, octets: &mut [u8])
         requires { CanEmit (value_of self.now) octets.old }
-        ensures { octets.new ≡ over_front octets.old (text (value_of self.now)) }
+        ensures { octets.new ≡ over octets.old (text (value_of self.now)) }
     {
         let mut w = ByteWriter::new(octets);
         match *self {

@@ -4,7 +4,7 @@
 ghost use Rattle.std.specs.Prelude.{◌≡◌, ◌↔◌, ◌-◌, [], ◌∷◌, ◌≤◌, length, IsTrue, IsOk, IfOk, IsOkAnd};
 ghost use Rattle.std.specs.Borrow.{sem, Lends, Array, u8 as byte};
 ghost use Rattle.byteorder.specs.Endian.{big_bytes};
-ghost use Rattle.wirebase.specs.Bytes.{splice, Reaches, byte_of, bytes_of, number_of, over, over_front};
+ghost use Rattle.wirebase.specs.Bytes.{splice, Reaches, byte_of, bytes_of, number_of, over};
 ghost use Rattle.wirebase.specs.Format.{Rewrites, SameText};
 ghost use Rattle.wirebase.specs.Ipv6Address.{octets_of, IsMulticast};
 ghost use Rattle.icmp6_wire.specs.MldTables.{record_type_number, record_type_of};
@@ -279,7 +279,7 @@ impl<'a> AddressRecordRepr<'a> {
     #[tactic(auto, using(wirebase::proofs::Chains::chain))]
     fn write(&self, octets: &mut [u8])
         requires { Reaches mcast_addr_field octets.old }
-        ensures { octets.new ≡ over_front octets.old (text (value_of self.now)) }
+        ensures { octets.new ≡ over octets.old (text (value_of self.now)) }
     {
         let mut w = ByteWriter::new(octets);
         w.put_u8(self.record_type.into());

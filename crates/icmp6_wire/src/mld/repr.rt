@@ -2,7 +2,7 @@
 #![tactic(auto, using(wirebase::proofs::Pieces::pieces))]
 
 ghost use Rattle.std.specs.Prelude.{◌≡◌, ◌≤◌, ◌<◌, ◌+◌, ◌*◌, ◌^◌, length, [], ◌∷◌, IsOk, IfOk, IsOkAnd};
-ghost use Rattle.wirebase.specs.Bytes.{over_front};
+ghost use Rattle.wirebase.specs.Bytes.{over};
 ghost use Rattle.wirebase.specs.ByteWriter.{free, Puts, the_slice};
 ghost use Rattle.wirebase.specs.Ipv6Address.{IsMulticast};
 ghost use Rattle.icmp6_wire.specs.Icmpv6Packet.{inner, view_octets};
@@ -114,7 +114,7 @@ impl<'a> Repr<'a> {
     #[tactic(auto, using(wirebase::proofs::Chains::chain, crate::proofs::MldTexts::counts))]
     fn write(&self, octets: &mut [u8])
         requires { CanEmit (value_of self.now) octets.old }
-        ensures { octets.new ≡ over_front octets.old (text (value_of self.now)) }
+        ensures { octets.new ≡ over octets.old (text (value_of self.now)) }
     {
         let mut w = ByteWriter::new(octets);
         match *self {

@@ -1,7 +1,7 @@
 //! The numbers of options, of router alerts and of what an unknown option asks (RFC 8200 section 4.2, RFC 2711).
 
 ghost use Rattle.std.specs.Prelude.{◌≡◌, ◌*◌, ◌/◌};
-ghost use Rattle.wirebase.specs.Numbered.{Ascends, IsProper, IsTableOrder, IsEqualityOf};
+ghost use Rattle.wirebase.specs.Numbered.{Ascends, IsProper, IsTable, IsEqualityOf};
 ghost use Rattle.opt_wire.specs.Ipv6OptionTables.{type_number, type_rows, type_of, alert_number, alert_rows, alert_of, failure_number, failures, failure_of};
 
 /// The type of an option, one byte (RFC 8200 section 4.2).
@@ -25,8 +25,7 @@ impl From<u8> for Type {
     fn from(number: u8) -> Type
         ensures value { result ≡ type_of number }
         ensures back { type_number result ≡ number }
-        ensures order { IsTableOrder ⟦<Type as Ord>⟧.cmp Type.Unknown type_rows }
-        ensures equality { IsEqualityOf ⟦<Type as Ord>⟧.cmp }
+        ensures table { IsTable ⟦<Type as Ord>⟧.cmp Type.Unknown type_rows }
     {
         match number {
             0 => Type::Pad1,
@@ -79,8 +78,7 @@ impl From<u16> for RouterAlert {
     fn from(number: u16) -> RouterAlert
         ensures value { result ≡ alert_of number }
         ensures back { alert_number result ≡ number }
-        ensures order { IsTableOrder ⟦<RouterAlert as Ord>⟧.cmp RouterAlert.Unknown alert_rows }
-        ensures equality { IsEqualityOf ⟦<RouterAlert as Ord>⟧.cmp }
+        ensures table { IsTable ⟦<RouterAlert as Ord>⟧.cmp RouterAlert.Unknown alert_rows }
     {
         match number {
             0 => RouterAlert::MulticastListenerDiscovery,

@@ -1,9 +1,9 @@
 use Rattle.std.proofs.Common.{List, ℕ, refl, ap, ◌∙◌}
 use Rattle.wirebase.specs.Checksum.{word_sum, fold}
 use Rattle.wirebase.specs.Ipv6.{pseudo_sum}
-use Rattle.wirebase.proofs.Ipv6Header.{over_front-pseudo}
+use Rattle.wirebase.proofs.Ipv6Header.{over-pseudo}
 use Rattle.wirebase.proofs.checksum.pseudo_header_v6.Goals as goal
 
 pub returns : goal.returns
 unfolding pseudo_sum
-returns c = c.data.ensures ∙ ap (λ (l : List ℕ). fold (word_sum l)) (c.write_pseudo_header.ensures ∙ over_front-pseudo _ _ _ _ _ refl)
+returns c = c.data.ensures ∙ ap (λ (l : List ℕ). fold (word_sum l)) (c.write_pseudo_header.ensures ∙ over-pseudo _ _ _ _ _ refl)

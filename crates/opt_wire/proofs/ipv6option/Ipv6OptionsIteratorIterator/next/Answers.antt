@@ -19,7 +19,7 @@ returns-then-self-clause-steps c =
 pub returns-in-Ok-clause-steps : goal.returns-in-Ok-clause-steps
 returns-in-Ok-clause-steps c =
     let it = c.self.inside in
-    let same : (inner c.new_unchecked.result).now ≡ it.data.now = ap (λ (b : Bor (List ℕ)). b.now) c.new_unchecked.ensures.buffer in
+    let same : (inner c.new_unchecked.result).now ≡ it.data.now = ap (λ (b : Bor (List ℕ)). b.now) c.new_unchecked.ensures in
     sym c.self.view_is ∙ next-option it.hit_error it.data.now _ (value_of c.in-Ok.repr) c.if-self.false (subst (λ (b : List ℕ). BeginsWith b (value_of c.in-Ok.repr)) same c.in-Ok.ensures.sound)
     (take_rest it.data.now c.buffer_len.result ∙ ap (λ (n : ℕ). drop n it.data.now) c.buffer_len.ensures.value)
 
@@ -29,7 +29,7 @@ returns-in-Ok-clause-goes c = answer-progress value_of _ _ _ (returns-in-Ok-clau
 pub returns-in-Err-clause-steps : goal.returns-in-Err-clause-steps
 returns-in-Err-clause-steps c =
     let it = c.self.inside in
-    let same : (inner c.new_unchecked.result).now ≡ it.data.now = ap (λ (b : Bor (List ℕ)). b.now) c.new_unchecked.ensures.buffer in
+    let same : (inner c.new_unchecked.result).now ≡ it.data.now = ap (λ (b : Bor (List ℕ)). b.now) c.new_unchecked.ensures in
     let some : 0 < length it.data.now = omega (arith, eqb-false (length it.data.now) 0 (sym c.is_empty.ensures ∙ c.if-is_empty.false)) in
     sym c.self.view_is ∙ next-refusal it.hit_error it.data.now c.in-Err.error c.if-self.false some (λ v h. c.in-Err.ensures.complete v (subst (λ (b : List ℕ). BeginsWith b v) (sym same) h))
 

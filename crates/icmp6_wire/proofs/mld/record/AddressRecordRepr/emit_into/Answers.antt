@@ -1,5 +1,4 @@
-use Rattle.std.proofs.Common.{sym, ◌∙◌, arith}
-use Rattle.wirebase.proofs.Chains.{over_front-fits}
+use Rattle.std.proofs.Common.{sym, ◌∙◌}
 use Rattle.wirebase.proofs.Format.{round_trips}
 use Rattle.wirebase.proofs.Pieces.{over-exact}
 use Rattle.icmp6_wire.specs.MldRecord.{value_of, text, format}
@@ -9,7 +8,7 @@ use Rattle.icmp6_wire.proofs.mld.record.AddressRecordRepr.emit_into.Goals as goa
 pub returns : goal.returns
 returns c =
     let v = value_of c.args.self.now in
-    let left = c.write.ensures ∙ over_front-fits c.args.octets.now (text v) (omega (arith, length-text v, c.requires.room)) in
+    let left = c.write.ensures in
     record {
       text_ = left;
       exact = λ long. left ∙ over-exact c.args.octets.now (text v) (long ∙ sym (length-text v));

@@ -1,0 +1,56 @@
+-- The numbers of a neighbour discovery option: its type, and the flags of a prefix.
+use Rattle.std.specs.Prelude.{◌≡◌, ℕ, List, [], ◌∷◌, codes, decimal}
+use Rattle.std.specs.Int.RustNames.{bit_and}
+use Rattle.wirebase.specs.Numbered.{rows_of, case_in}
+use Rattle.opt_wire.specs.declared.ndiscoption.tables.Type as Kind
+use Rattle.opt_wire.specs.declared.ndiscoption.tables.Type.TheVariants as kind
+use Rattle.opt_wire.specs.declared.ndiscoption.tables.PrefixInfoFlags.{PrefixInfoFlags}
+
+-- option types (RFC 4861 section 4.6)
+abbrev pub type_number : Kind.Type → ℕ
+type_number kind.SourceLinkLayerAddr = 1
+type_number kind.TargetLinkLayerAddr = 2
+type_number kind.PrefixInformation = 3
+type_number kind.RedirectedHeader = 4
+type_number kind.Mtu = 5
+type_number (kind.Unknown n) = n
+
+abbrev pub types : List Kind.Type
+types =
+    kind.SourceLinkLayerAddr ∷ kind.TargetLinkLayerAddr ∷ kind.PrefixInformation ∷ kind.RedirectedHeader ∷ kind.Mtu ∷ []
+
+abbrev pub type_rows : List (Kind.Type × ℕ)
+type_rows = rows_of type_number types
+
+abbrev pub type_of : ℕ → Kind.Type
+type_of n = case_in kind.Unknown type_rows n
+
+-- what a type prints
+abbrev pub type_text : Kind.Type → List ℕ
+type_text kind.SourceLinkLayerAddr = codes "source link-layer address"
+type_text kind.TargetLinkLayerAddr = codes "target link-layer address"
+type_text kind.PrefixInformation = codes "prefix information"
+type_text kind.RedirectedHeader = codes "redirected header"
+type_text kind.Mtu = codes "mtu"
+type_text (kind.Unknown n) = decimal n
+
+-- each flag of a prefix with its bit (RFC 4861 section 4.6.2)
+abbrev pub flag_rows : List (List ℕ × ℕ)
+flag_rows = (codes "ON_LINK", 0x80) ∷ (codes "ADDRCONF", 0x40) ∷ []
+
+-- the bits of a set of flags, all bits that have a name, those among some bits, and bits that all have a name
+abbrev pub flag_bits : PrefixInfoFlags → ℕ
+flag_bits flags = flags.0
+
+abbrev pub known_bits : ℕ
+known_bits = 0xc0
+
+abbrev pub known : ℕ → ℕ
+known bits = bit_and bits known_bits
+
+abbrev pub IsKnown : ℕ → Type 0
+IsKnown bits = known bits ≡ bits
+
+-- the prefix may be used to make addresses of
+abbrev pub HasAddrconf : PrefixInfoFlags → Type 0
+HasAddrconf flags = bit_and flags.0 0x40 ≡ 0x40

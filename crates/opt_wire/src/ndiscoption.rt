@@ -1,0 +1,393 @@
+//! Options of neighbour discovery (RFC 4861 section 4.6).
+#![tactic(auto, using(wirebase::proofs::Pieces::pieces))]
+
+ghost use Rattle.std.specs.Prelude.{◌≡◌, ◌+◌, ◌*◌, ◌/◌, ◌-◌, ◌≤◌, ◌↔◌, [], ◌∷◌, length, min, replicate, IsOk, IfOk};
+ghost use Rattle.std.specs.Borrow.{sem, Lends, Array, u8 as byte};
+ghost use Rattle.byteorder.specs.Endian.{big_bytes};
+ghost use Rattle.wirebase.specs.Bytes.{Reaches, field as bytes_field, bytes_of, byte_of, number_of, with_field};
+ghost use Rattle.wirebase.specs.Ipv6Address.{octets_of};
+ghost use Rattle.opt_wire.specs.NdiscOption.{inner, with_inner, Sets, KeepsLen, type_field, length_field, units_in, data_field, link_addr_field, mtu_field, prefix_len_field, prefix_flags_field, valid_lifetime_field, preferred_lifetime_field, prefix_reserved_field, prefix_field, redirected_reserved_field, BeginsWhole, BeginsWithBlock, view_octets};
+ghost use Rattle.opt_wire.specs.NdiscOptionTables.{type_number, type_of, flag_bits, known};
+ghost use Rattle.opt_wire.specs.contracts.ndiscoption.NdiscOption.{the_row};
+
+use bitflags::Flags as _;
+use wirebase::{
+    Duration, Error, Ipv6Address, MAX_HARDWARE_ADDRESS_LEN, Octets, OctetsMut, RawHardwareAddress,
+    Result,
+};
+
+mod tables;
+
+pub use tables::{PrefixInfoFlags, Type};
+
+// The parts of an option (RFC 4861 section 4.6). One unit is 8 bytes.
+//
+// +---------------+---------------+- - - - - - - - - - - - - - - -
+// |     type      |     units     | data, or a link-layer address
+// +---------------+---------------+- - - - - - - - - - - - - - - -
+//
+// +---------------+---------------+---------------+---------------+
+// |       3       |       4       | prefix length |     flags     |
+// +---------------+---------------+---------------+---------------+
+// |                         valid lifetime                        |
+// +---------------------------------------------------------------+
+// |                       preferred lifetime                      |
+// +---------------------------------------------------------------+
+// |                            reserved                           |
+// +---------------------------------------------------------------+
+// |                        prefix, 16 bytes                       |
+// +- - - - - - - -
+//
+// +---------------+---------------+-------------------------------+
+// |       4       |     units     |        reserved, 6 bytes      |
+// +---------------+---------------+- - - - - - - - - - - - - - - -
+//
+// +---------------+---------------+-------------------------------+
+// |       5       |       1       |            reserved           |
+// +---------------+---------------+-------------------------------+
+// |                              MTU                              |
+// +---------------------------------------------------------------+
+mod field {
+    use wirebase::Field;
+
+    pub const TYPE: Field = 0..1;
+
+    pub const LENGTH: Field = 1..2;
+
+    pub const PREFIX_LEN: Field = 2..3;
+
+    pub const PREFIX_FLAGS: Field = 3..4;
+
+    pub const VALID_LIFETIME: Field = 4..8;
+
+    pub const PREFERRED_LIFETIME: Field = 8..12;
+
+    pub const PREFIX_RESERVED: Field = 12..16;
+
+    pub const PREFIX: Field = 16..32;
+
+    pub const REDIRECTED_RESERVED: Field = 2..8;
+
+    pub const MTU: Field = 4..8;
+
+    // The bytes of a unit.
+    pub const UNIT: usize = 8;
+
+    // The data of an option of so many units.
+    pub fn data(units: u8) -> Field
+        ensures start { result.start ≡ 2 }
+        ensures end { result.end ≡ 8 * units }
+    {
+        2..UNIT * units as usize
+    }
+
+    // A link-layer address of so many bytes.
+    pub fn link_layer_addr(len: usize) -> Field
+        requires { len ≤ 8 }
+        ensures start { result.start ≡ 2 }
+        ensures end { result.end ≡ 2 + len }
+    {
+        2..2 + len
+    }
+}
+
+/// A view of the octets of one option.
+#[derive(Debug, Drop)]
+pub struct NdiscOption<T: Octets> {
+    buffer: T,
+}
+
+impl<T: Octets> NdiscOption<T> {
+    /// The view of these octets, whatever they are.
+    pub fn new_unchecked(buffer: T) -> NdiscOption<T>
+        ensures { inner result ≡ buffer }
+    {
+        NdiscOption { buffer }
+    }
+
+    /// The view of these octets, where they begin with a whole option of one unit or more; refused where they don't.
+    pub fn new_checked(buffer: T) -> Result<NdiscOption<T>>
+        ensures accepts { IsOk result ↔ BeginsWithBlock (T.bytes buffer) }
+        ensures buffer { IfOk result (λ view. inner view ≡ buffer) }
+    {
+        let option = NdiscOption::new_unchecked(buffer);
+        option.check_len()?;
+        if option.data_len() == 0 {
+            return Err(Error);
+        }
+        Ok(option)
+    }
+
+    /// Accepts 8 octets or more that hold all the units that the option counts, which are 4 or more of a prefix and
+    /// 6 or more of a redirected header. Then each accessor of its type may be called, but for the data and the
+    /// link-layer address of an option that counts no units.
+    pub fn check_len(&self) -> Result<()>
+        ensures accepts { IsOk result ↔ BeginsWhole (T.bytes (inner self.now)) }
+    {
+        let len = self.buffer.octets().len();
+        if len < field::UNIT {
+            return Err(Error);
+        }
+        let units = self.data_len();
+        let least = match self.option_type() {
+            Type::PrefixInformation => 4,
+            Type::RedirectedHeader => 6,
+            _ => 0,
+        };
+        if len < field::UNIT * units as usize || units < least {
+            return Err(Error);
+        }
+        Ok(())
+    }
+
+    /// What the view was made from, as it is now.
+    pub fn into_inner(self) -> T
+        ensures { result ≡ inner self }
+    {
+        self.buffer
+    }
+
+    /// The type. Asks 1 byte.
+    pub fn option_type(&self) -> Type
+        requires { Reaches type_field (T.bytes (inner self.now)) }
+        ensures { result ≡ type_of (byte_of type_field (T.bytes (inner self.now))) }
+    {
+        Type::from(self.buffer.u8_at(field::TYPE))
+    }
+
+    /// The units of 8 bytes that the option counts. Asks 2 bytes.
+    pub fn data_len(&self) -> u8
+        requires { Reaches length_field (T.bytes (inner self.now)) }
+        ensures { result ≡ units_in (T.bytes (inner self.now)) }
+    {
+        self.buffer.u8_at(field::LENGTH)
+    }
+
+    /// The link-layer address of a source or target: what the option has room for, but no more than 8 bytes. Asks
+    /// those bytes, and that the option counts one unit or more.
+    #[tactic(auto, using(wirebase::proofs::Pieces::pieces))]
+    pub fn link_layer_addr(&self) -> RawHardwareAddress
+        requires counted { Reaches length_field (T.bytes (inner self.now)) }
+        requires some { 1 ≤ units_in (T.bytes (inner self.now)) }
+        requires whole { Reaches (link_addr_field (T.bytes (inner self.now))) (T.bytes (inner self.now)) }
+        ensures { result ≡ bytes_of (link_addr_field (T.bytes (inner self.now))) (T.bytes (inner self.now)) }
+    {
+        let room = field::UNIT * self.data_len() as usize - field::LENGTH.end;
+        let len = MAX_HARDWARE_ADDRESS_LEN.min(room);
+        RawHardwareAddress::from_bytes(self.buffer.field(field::link_layer_addr(len)))
+    }
+
+    /// The greatest packet of the link, in bytes. Asks 8 bytes.
+    pub fn mtu(&self) -> u32
+        requires { Reaches mtu_field (T.bytes (inner self.now)) }
+        ensures { result ≡ number_of mtu_field (T.bytes (inner self.now)) }
+    {
+        self.buffer.u32_at(field::MTU)
+    }
+
+    /// The bits of a prefix that count. Asks 3 bytes.
+    pub fn prefix_len(&self) -> u8
+        requires { Reaches prefix_len_field (T.bytes (inner self.now)) }
+        ensures { result ≡ byte_of prefix_len_field (T.bytes (inner self.now)) }
+    {
+        self.buffer.u8_at(field::PREFIX_LEN)
+    }
+
+    /// The flags of a prefix that have a name. Asks 4 bytes.
+    #[tactic(auto, unfolding(bitflags::specs::Sets::known_from))]
+    pub fn prefix_flags(&self) -> PrefixInfoFlags
+        requires { Reaches prefix_flags_field (T.bytes (inner self.now)) }
+        ensures { flag_bits result ≡ known (byte_of prefix_flags_field (T.bytes (inner self.now))) }
+    {
+        PrefixInfoFlags::from_bits_truncate(self.buffer.u8_at(field::PREFIX_FLAGS))
+    }
+
+    /// How long a prefix is on the link, in whole seconds. Asks 8 bytes.
+    pub fn valid_lifetime(&self) -> Duration
+        requires { Reaches valid_lifetime_field (T.bytes (inner self.now)) }
+        ensures { result ≡ 1000000 * number_of valid_lifetime_field (T.bytes (inner self.now)) }
+    {
+        Duration::from_secs(self.buffer.u32_at(field::VALID_LIFETIME) as u64)
+    }
+
+    /// How long addresses made of a prefix are preferred, in whole seconds. Asks 12 bytes.
+    pub fn preferred_lifetime(&self) -> Duration
+        requires { Reaches preferred_lifetime_field (T.bytes (inner self.now)) }
+        ensures { result ≡ 1000000 * number_of preferred_lifetime_field (T.bytes (inner self.now)) }
+    {
+        Duration::from_secs(self.buffer.u32_at(field::PREFERRED_LIFETIME) as u64)
+    }
+
+    /// The prefix. Asks 32 bytes.
+    pub fn prefix(&self) -> Ipv6Address
+        requires { Reaches prefix_field (T.bytes (inner self.now)) }
+        ensures { octets_of result ≡ bytes_of prefix_field (T.bytes (inner self.now)) }
+    {
+        Ipv6Address::from_octets(self.buffer.field(field::PREFIX).try_into().unwrap())
+    }
+}
+
+impl<'a> NdiscOption<&'a [u8]> {
+    /// The data, for as long as the octets live. Asks the units that the option counts, one or more.
+    #[tactic(auto, using(wirebase::proofs::Pieces::pieces), unfolding(wirebase::specs::Bytes::part))]
+    pub fn data(&self) -> &'a [u8]
+        requires counted { Reaches length_field (view_octets self.now) }
+        requires some { 1 ≤ units_in (view_octets self.now) }
+        requires whole { Reaches (data_field (view_octets self.now)) (view_octets self.now) }
+        ensures value { result.now ≡ bytes_of (data_field (view_octets self.now)) (view_octets self.now) }
+        ensures len { length result.now ≡ 8 * units_in (view_octets self.now) - 2 }
+    {
+        let octets: &'a [u8] = self.buffer;
+        &octets[field::data(self.data_len())]
+    }
+}
+
+impl<T: OctetsMut> NdiscOption<T> {
+    /// Writes the type. Asks 1 byte.
+    pub fn set_option_type(&mut self, value: Type)
+        requires { Reaches type_field (T.bytes (inner self.old)) }
+        ensures writes { Sets T.bytes T.put self.old self.new type_field (type_number value ∷ []) }
+        ensures len { KeepsLen T.bytes self.old self.new }
+    {
+        self.buffer.set_u8(field::TYPE, value.into());
+    }
+
+    /// Writes the units of 8 bytes that the option counts. Asks 2 bytes.
+    pub fn set_data_len(&mut self, value: u8)
+        requires { Reaches length_field (T.bytes (inner self.old)) }
+        ensures writes { Sets T.bytes T.put self.old self.new length_field (value ∷ []) }
+        ensures len { KeepsLen T.bytes self.old self.new }
+    {
+        self.buffer.set_u8(field::LENGTH, value);
+    }
+
+    /// Writes the link-layer address of a source or target. Asks 2 bytes and those of the address.
+    pub fn set_link_layer_addr(&mut self, addr: RawHardwareAddress)
+        requires { 2 + length addr ≤ length (T.bytes (inner self.old)) }
+        ensures writes { Sets T.bytes T.put self.old self.new (bytes_field 2 (2 + length addr)) addr }
+        ensures len { KeepsLen T.bytes self.old self.new }
+    {
+        self.buffer
+            .set_bytes(field::link_layer_addr(addr.len()), addr.as_bytes());
+    }
+
+    /// Writes the greatest packet of the link, in bytes. Asks 8 bytes.
+    pub fn set_mtu(&mut self, value: u32)
+        requires { Reaches mtu_field (T.bytes (inner self.old)) }
+        ensures writes { Sets T.bytes T.put self.old self.new mtu_field (big_bytes 4 value) }
+        ensures len { KeepsLen T.bytes self.old self.new }
+    {
+        self.buffer.set_u32(field::MTU, value);
+    }
+
+    /// Writes the bits of a prefix that count. Asks 3 bytes.
+    pub fn set_prefix_len(&mut self, value: u8)
+        requires { Reaches prefix_len_field (T.bytes (inner self.old)) }
+        ensures writes { Sets T.bytes T.put self.old self.new prefix_len_field (value ∷ []) }
+        ensures len { KeepsLen T.bytes self.old self.new }
+    {
+        self.buffer.set_u8(field::PREFIX_LEN, value);
+    }
+
+    /// Writes the flags of a prefix, all their bits. Asks 4 bytes.
+    pub fn set_prefix_flags(&mut self, flags: PrefixInfoFlags)
+        requires { Reaches prefix_flags_field (T.bytes (inner self.old)) }
+        ensures writes { Sets T.bytes T.put self.old self.new prefix_flags_field (flag_bits flags ∷ []) }
+        ensures len { KeepsLen T.bytes self.old self.new }
+    {
+        self.buffer.set_u8(field::PREFIX_FLAGS, flags.bits());
+    }
+
+    /// Writes how long a prefix is on the link, in whole seconds; what is past them is left out. Asks 8 bytes, and
+    /// 4,294,967,295 seconds at most.
+    pub fn set_valid_lifetime(&mut self, time: Duration)
+        requires room { Reaches valid_lifetime_field (T.bytes (inner self.old)) }
+        requires fits { time / 1000000 ≤ 4294967295 }
+        ensures writes { Sets T.bytes T.put self.old self.new valid_lifetime_field (big_bytes 4 (time / 1000000)) }
+        ensures len { KeepsLen T.bytes self.old self.new }
+    {
+        self.buffer
+            .set_u32(field::VALID_LIFETIME, time.secs() as u32);
+    }
+
+    /// Writes how long addresses made of a prefix are preferred, in whole seconds; what is past them is left out.
+    /// Asks 12 bytes, and 4,294,967,295 seconds at most.
+    pub fn set_preferred_lifetime(&mut self, time: Duration)
+        requires room { Reaches preferred_lifetime_field (T.bytes (inner self.old)) }
+        requires fits { time / 1000000 ≤ 4294967295 }
+        ensures writes { Sets T.bytes T.put self.old self.new preferred_lifetime_field (big_bytes 4 (time / 1000000)) }
+        ensures len { KeepsLen T.bytes self.old self.new }
+    {
+        self.buffer
+            .set_u32(field::PREFERRED_LIFETIME, time.secs() as u32);
+    }
+
+    /// Writes zeros into what is reserved in a prefix. Asks 16 bytes.
+    pub fn clear_prefix_reserved(&mut self)
+        requires { Reaches prefix_reserved_field (T.bytes (inner self.old)) }
+        ensures writes { Sets T.bytes T.put self.old self.new prefix_reserved_field (replicate 4 0) }
+        ensures len { KeepsLen T.bytes self.old self.new }
+    {
+        self.buffer.set_u32(field::PREFIX_RESERVED, 0);
+    }
+
+    /// Writes the prefix. Asks 32 bytes.
+    pub fn set_prefix(&mut self, addr: Ipv6Address)
+        requires { Reaches prefix_field (T.bytes (inner self.old)) }
+        ensures writes { Sets T.bytes T.put self.old self.new prefix_field (octets_of addr) }
+        ensures len { KeepsLen T.bytes self.old self.new }
+    {
+        self.buffer.set_bytes(field::PREFIX, &addr.octets());
+    }
+
+    /// Writes zeros into what is reserved before a redirected header. Asks 8 bytes.
+    pub fn clear_redirected_reserved(&mut self)
+        requires { Reaches redirected_reserved_field (T.bytes (inner self.old)) }
+        ensures writes { Sets T.bytes T.put self.old self.new redirected_reserved_field (replicate 6 0) }
+        ensures len { KeepsLen T.bytes self.old self.new }
+    {
+        self.buffer.set_bytes(field::REDIRECTED_RESERVED, &[0; 6]);
+    }
+
+    /// Lends the data for writing; the other octets stay. Asks the units that the option counts, one or more.
+    pub fn data_mut(&mut self) -> &mut [u8]
+        requires counted { Reaches length_field (T.bytes (inner self.old)) }
+        requires some { 1 ≤ units_in (T.bytes (inner self.old)) }
+        requires whole { Reaches (data_field (T.bytes (inner self.old))) (T.bytes (inner self.old)) }
+        ensures* lends { sem 𝓛 (Lends (the_row T.row) (Array byte 0) self.entry result
+            (λ w. with_inner self.old (T.put (inner self.old)
+            (with_field (data_field (T.bytes (inner self.old))) w (T.bytes (inner self.old)))))) }
+        ensures value { result.now
+            ≡ bytes_of (data_field (T.bytes (inner self.old))) (T.bytes (inner self.old)) }
+        ensures len { length result.now ≡ 8 * units_in (T.bytes (inner self.old)) - 2 }
+    {
+        let data = field::data(self.data_len());
+        self.buffer.field_mut(data)
+    }
+}
+
+/// Views are equal where their octets are.
+impl<T: Octets> PartialEq for NdiscOption<T> {
+    ghost use Rattle.std.specs.Prelude.{◌==◌, IsTrue};
+    ghost use Rattle.std.proofs.Common.{rules};
+    ghost use Rattle.std.specs.Cmp.Lexicographic.{pointwise};
+    ghost use Rattle.std.specs.Cmp.Rules.{comparing};
+    ghost use Rattle.std.specs.Ordering.{on};
+
+    ghost eq = { on (λ view. T.bytes (inner view)) (pointwise ◌==◌) };
+
+    ghost laws = { Prim.search (comparing, rules) };
+
+    fn eq(&self, other: &NdiscOption<T>) -> bool
+        ensures { IsTrue result ↔ (T.bytes (inner self.now) ≡ T.bytes (inner other.now)) }
+    {
+        self.buffer.octets() == other.buffer.octets()
+    }
+}
+
+impl<T: Octets> Eq for NdiscOption<T> {
+    ghost use Rattle.std.proofs.Common.{rules};
+    ghost use Rattle.std.specs.Cmp.Rules.{comparing};
+
+    ghost laws = { Prim.search (comparing, rules) };
+}
