@@ -157,8 +157,9 @@ fn headers_are_written_over_the_front(rt: HostRuntime) -> Result<(), Fail> {
         let mut octets = [fill; 41];
         let mut packet = Ipv6Packet::new_unchecked(octets.as_mut_slice());
         quoted().emit(&mut packet);
-        assert_eq!(rt; octets[..40], PACKET[..40], "over {fill}");
-        assert_eq!(rt; octets[40], fill);
+        let mut want = [fill; 41];
+        want[..40].copy_from_slice(&PACKET[..40]);
+        assert_eq!(rt; octets.as_slice(), want.as_slice(), "over {fill}");
     }
     assert_eq!(rt; quoted().buffer_len(), 40);
     Ok(())
