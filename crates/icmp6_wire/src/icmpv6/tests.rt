@@ -238,23 +238,24 @@ fn a_code_is_asked_of_echoes_and_packets_that_are_too_big(rt: HostRuntime) -> Re
 
 #[test]
 fn a_turned_bit_of_the_checksum_is_refused(rt: HostRuntime) -> Result<(), Fail> {
-    for bit in 0..16 {
-        let mut octets = TOO_BIG;
-        octets[2] ^= ((1 << bit) >> 8) as u8;
-        octets[3] ^= ((1 << bit) % 256) as u8;
-        let packet = Packet::new_unchecked(octets.as_slice());
-        assert!(rt;
-            !packet.verify_checksum(&source(), &destination()),
-            "bit {bit}"
-        );
-        assert!(rt;
-            Repr::parse(&source(), &destination(), &packet, &all(Checksum::Rx)).is_err(),
-            "bit {bit}"
-        );
-        assert!(rt;
-            Repr::parse(&source(), &destination(), &packet, &all(Checksum::Tx)).is_ok(),
-            "bit {bit}"
-        );
+    for at in [2, 3] {
+        for mask in [0x01, 0x02, 0x04, 0x08, 0x10, 0x20, 0x40, 0x80] {
+            let mut octets = TOO_BIG;
+            octets[at] ^= mask;
+            let packet = Packet::new_unchecked(octets.as_slice());
+            assert!(rt;
+                !packet.verify_checksum(&source(), &destination()),
+                "bit {mask} of byte {at}"
+            );
+            assert!(rt;
+                Repr::parse(&source(), &destination(), &packet, &all(Checksum::Rx)).is_err(),
+                "bit {mask} of byte {at}"
+            );
+            assert!(rt;
+                Repr::parse(&source(), &destination(), &packet, &all(Checksum::Tx)).is_ok(),
+                "bit {mask} of byte {at}"
+            );
+        }
     }
     Ok(())
 }

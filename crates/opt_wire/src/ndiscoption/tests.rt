@@ -52,47 +52,66 @@ fn read(bytes: &[u8]) -> Result<Repr<'_>, Error> {
     Repr::parse(&NdiscOption::new_unchecked(bytes))
 }
 
+fn ethernet() -> RawHardwareAddress {
+    RawHardwareAddress::from_bytes(&[0x52, 0x54, 0x00, 0x12, 0x34, 0x56])
+}
+
+const MTU: [u8; 8] = [0x05, 0x01, 0x00, 0x00, 0x00, 0x00, 0x05, 0xdc];
+
+const UNKNOWN: [u8; 8] = [0x0e, 0x01, 1, 2, 3, 4, 5, 6];
+
+fn unknown() -> Repr<'static> {
+    Repr::Unknown {
+        type_: 14,
+        length: 1,
+        data: &[1, 2, 3, 4, 5, 6],
+    }
+}
+
 #[test]
-fn options_read_and_written(rt: HostRuntime) {
-    let ethernet = RawHardwareAddress::from_bytes(&[0x52, 0x54, 0x00, 0x12, 0x34, 0x56]);
-    let eight = RawHardwareAddress::from_bytes(&[1, 2, 3, 4, 5, 6, 7, 8]);
-    let rows: [(Repr<'_>, &[u8]); 7] = [
-        (
-            Repr::SourceLinkLayerAddr(ethernet),
-            &[0x01, 0x01, 0x52, 0x54, 0x00, 0x12, 0x34, 0x56],
-        ),
-        (
-            Repr::TargetLinkLayerAddr(ethernet),
-            &[0x02, 0x01, 0x52, 0x54, 0x00, 0x12, 0x34, 0x56],
-        ),
-        (
-            Repr::TargetLinkLayerAddr(eight),
-            &[0x02, 0x02, 1, 2, 3, 4, 5, 6, 7, 8, 0, 0, 0, 0, 0, 0],
-        ),
-        (Repr::PrefixInformation(prefix_information()), &PREFIX),
-        (Repr::RedirectedHeader(redirected_header()), &REDIRECTED),
-        (
-            Repr::Mtu(1_500),
-            &[0x05, 0x01, 0x00, 0x00, 0x00, 0x00, 0x05, 0xdc],
-        ),
-        (
-            Repr::Unknown {
-                type_: 14,
-                length: 1,
-                data: &[1, 2, 3, 4, 5, 6],
-            },
-            &[0x0e, 0x01, 1, 2, 3, 4, 5, 6],
-        ),
-    ];
-    for (repr, bytes) in rows {
-        assert_eq!(rt; read(bytes), Ok(repr));
-        assert_eq!(rt; repr.buffer_len(), bytes.len());
-        for filler in [0x00, 0xff, 0x2a] {
-            let mut buffer = [filler; 64];
-            repr.emit_into(&mut buffer);
-            assert_eq!(rt; &buffer[..bytes.len()], bytes);
-            assert_eq!(rt; &buffer[bytes.len()..], &[filler; 64][bytes.len()..]);
-        }
+fn options_are_read(rt: HostRuntime) {
+    let source = [0x01, 0x01, 0x52, 0x54, 0x00, 0x12, 0x34, 0x56];
+    assert_eq!(rt; read(&source), Ok(Repr::SourceLinkLayerAddr(ethernet())));
+    let target = [0x02, 0x01, 0x52, 0x54, 0x00, 0x12, 0x34, 0x56];
+    assert_eq!(rt; read(&target), Ok(Repr::TargetLinkLayerAddr(ethernet())));
+    assert_eq!(rt;
+        read(&PREFIX),
+        Ok(Repr::PrefixInformation(prefix_information()))
+    );
+    assert_eq!(rt;
+        read(&REDIRECTED),
+        Ok(Repr::RedirectedHeader(redirected_header()))
+    );
+    assert_eq!(rt; read(&MTU), Ok(Repr::Mtu(1_500)));
+    assert_eq!(rt; read(&UNKNOWN), Ok(unknown()));
+}
+
+#[test]
+fn options_are_written_over_octets_of_any_kind(rt: HostRuntime) {
+    for filler in [0x00, 0xff, 0x2a] {
+        let mut octets = [filler; 32];
+        let repr = Repr::PrefixInformation(prefix_information());
+        assert_eq!(rt; repr.buffer_len(), 32);
+        repr.emit_into(&mut octets);
+        assert_eq!(rt; octets.as_slice(), PREFIX.as_slice());
+
+        let mut octets = [filler; 56];
+        let repr = Repr::RedirectedHeader(redirected_header());
+        assert_eq!(rt; repr.buffer_len(), 56);
+        repr.emit_into(&mut octets);
+        assert_eq!(rt; octets.as_slice(), REDIRECTED.as_slice());
+
+        let mut octets = [filler; 8];
+        let repr = Repr::Mtu(1_500);
+        assert_eq!(rt; repr.buffer_len(), 8);
+        repr.emit_into(&mut octets);
+        assert_eq!(rt; octets.as_slice(), MTU.as_slice());
+
+        let mut octets = [filler; 8];
+        let repr = unknown();
+        assert_eq!(rt; repr.buffer_len(), 8);
+        repr.emit_into(&mut octets);
+        assert_eq!(rt; octets.as_slice(), UNKNOWN.as_slice());
     }
 }
 
@@ -133,14 +152,15 @@ fn long_address_options_are_written_shorter(rt: HostRuntime) {
     let mut bytes = [0xaa; 24];
     bytes[0] = 0x01;
     bytes[1] = 0x03;
-    let repr = Repr::SourceLinkLayerAddr(RawHardwareAddress::from_bytes(&[0xaa; 8]));
-    assert_eq!(rt; read(&bytes), Ok(repr));
-    let mut buffer = [0x2a; 16];
-    repr.emit_into(&mut buffer);
+    let address = RawHardwareAddress::from_bytes(&[0xaa; 8]);
+    assert_eq!(rt; read(&bytes), Ok(Repr::SourceLinkLayerAddr(address)));
     let text = [
         0x01, 0x02, 0xaa, 0xaa, 0xaa, 0xaa, 0xaa, 0xaa, 0xaa, 0xaa, 0, 0, 0, 0, 0, 0,
     ];
-    assert_eq!(rt; buffer, text);
+    let mut octets = [0x2a; 16];
+    let repr = Repr::SourceLinkLayerAddr(address);
+    repr.emit_into(&mut octets);
+    assert_eq!(rt; octets.as_slice(), text.as_slice());
 }
 
 #[test]
@@ -271,44 +291,38 @@ fn prefixes_that_addresses_are_made_of(rt: HostRuntime) {
 fn parts_of_a_second_are_left_out(rt: HostRuntime) {
     let mut info = prefix_information();
     info.valid_lifetime = Duration::from_micros(900_999_999);
-    let mut buffer = [0xff; 32];
-    Repr::PrefixInformation(info).emit_into(&mut buffer);
-    assert_eq!(rt; buffer, PREFIX);
+    let mut octets = [0xff; 32];
+    let repr = Repr::PrefixInformation(info);
+    repr.emit_into(&mut octets);
+    assert_eq!(rt; octets.as_slice(), PREFIX.as_slice());
 }
 
 #[test]
 fn options_in_words(rt: HostRuntime) -> Result<(), Fail> {
-    let ethernet = RawHardwareAddress::from_bytes(&[0x52, 0x54, 0x00, 0x12, 0x34, 0x56]);
-    let rows = [
-        (
-            Repr::SourceLinkLayerAddr(ethernet),
-            "NDISC Option: SourceLinkLayer addr=52:54:00:12:34:56",
-        ),
-        (
-            Repr::TargetLinkLayerAddr(ethernet),
-            "NDISC Option: TargetLinkLayer addr=52:54:00:12:34:56",
-        ),
-        (
-            Repr::PrefixInformation(prefix_information()),
-            "NDISC Option: PrefixInformation prefix=fe80::1/64",
-        ),
-        (
-            Repr::RedirectedHeader(redirected_header()),
-            "NDISC Option: RedirectedHeader header=IPv6 src=fe80::1 dst=fe80::2 nxt_hdr=17 hop_limit=64",
-        ),
-        (Repr::Mtu(1_500), "NDISC Option: MTU mtu=1500"),
-        (
-            Repr::Unknown {
-                type_: 14,
-                length: 1,
-                data: &[0; 6],
-            },
-            "NDISC Option: Unknown(14) length=1",
-        ),
-    ];
-    for (repr, text) in rows {
-        assert_eq!(rt; repr.to_string(rt.alloc())?.as_str(), text);
-    }
+    let source = Repr::SourceLinkLayerAddr(ethernet()).to_string(rt.alloc())?;
+    assert_eq!(rt;
+        source.as_str(),
+        "NDISC Option: SourceLinkLayer addr=52:54:00:12:34:56"
+    );
+    let target = Repr::TargetLinkLayerAddr(ethernet()).to_string(rt.alloc())?;
+    assert_eq!(rt;
+        target.as_str(),
+        "NDISC Option: TargetLinkLayer addr=52:54:00:12:34:56"
+    );
+    let prefix = Repr::PrefixInformation(prefix_information()).to_string(rt.alloc())?;
+    assert_eq!(rt;
+        prefix.as_str(),
+        "NDISC Option: PrefixInformation prefix=fe80::1/64"
+    );
+    let redirected = Repr::RedirectedHeader(redirected_header()).to_string(rt.alloc())?;
+    assert_eq!(rt;
+        redirected.as_str(),
+        "NDISC Option: RedirectedHeader header=IPv6 src=fe80::1 dst=fe80::2 nxt_hdr=17 hop_limit=64"
+    );
+    let mtu = Repr::Mtu(1_500).to_string(rt.alloc())?;
+    assert_eq!(rt; mtu.as_str(), "NDISC Option: MTU mtu=1500");
+    let other = unknown().to_string(rt.alloc())?;
+    assert_eq!(rt; other.as_str(), "NDISC Option: Unknown(14) length=1");
     Ok(())
 }
 
@@ -399,8 +413,15 @@ fn fields_by_their_places(rt: HostRuntime) {
     );
     view.set_data_len(1);
     view.set_link_layer_addr(RawHardwareAddress::from_bytes(&[1, 2, 3]));
-    assert_eq!(rt; &*view.data_mut(), [1, 2, 3, 0, 0x05, 0xdc].as_slice());
     assert_eq!(rt; view.into_inner().len(), 8);
+    assert_eq!(rt;
+        bytes.as_slice(),
+        [0xff, 0x01, 1, 2, 3, 0, 0x05, 0xdc].as_slice()
+    );
+
+    let mut octets = MTU;
+    let mut view = NdiscOption::new_unchecked(octets.as_mut_slice());
+    assert_eq!(rt; &*view.data_mut(), &MTU[2..]);
 }
 
 #[test]
