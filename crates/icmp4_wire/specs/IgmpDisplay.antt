@@ -33,3 +33,7 @@ repr_display (MembershipReport group version) =
     pieces (codes "IGMP membership report group_addr=" ∷ address_text group
     ∷ codes " version=" ∷ version_display version ∷ [])
 repr_display (LeaveGroup group) = pieces (codes "IGMP leave group group_addr=" ∷ address_text group ∷ codes ")" ∷ [])
+
+-- of octets that are refused
+abbrev pub refused_display : List ℕ
+refused_display = codes "IGMP (wire::Error)"

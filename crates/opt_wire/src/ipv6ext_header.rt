@@ -44,6 +44,8 @@ impl<T: Octets> Header<T> {
 
     /// The view of these octets, where they are 8 or more and as many as the length counts; refused where they are
     /// fewer.
+    /// A refusal gives a `&mut [u8]` up: who wants the octets back, as they were, takes `new_unchecked` and then
+    /// `check_len`.
     pub fn new_checked(buffer: T) -> Result<Header<T>>
         ensures accepts { IsOk result ↔ IsWhole (T.bytes buffer) }
         ensures buffer { IfOk result (λ view. inner view ≡ buffer) }

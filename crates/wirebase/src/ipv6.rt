@@ -75,6 +75,8 @@ impl<T: Octets> Ipv6Packet<T> {
     }
 
     /// The view of these octets, where they begin with a whole packet; refused where they don't.
+    /// A refusal gives a `&mut [u8]` up: who wants the octets back, as they were, takes `new_unchecked` and then
+    /// `check_len`.
     pub fn new_checked(buffer: T) -> Result<Ipv6Packet<T>>
         ensures accepts { IsOk result ↔ BeginsWhole (T.bytes buffer) }
         ensures buffer { IfOk result (λ view. inner view ≡ buffer) }

@@ -67,6 +67,8 @@ impl<T: Octets> Packet<T> {
     }
 
     /// The view of these octets, where they are 12 or more; refused where they are fewer.
+    /// A refusal gives a `&mut [u8]` up: who wants the octets back, as they were, takes `new_unchecked` and then
+    /// `check_len`.
     pub fn new_checked(buffer: T) -> Result<Packet<T>>
         ensures accepts { IsOk result ↔ Reaches header (T.bytes buffer) }
         ensures buffer { IfOk result (λ view. inner view ≡ buffer) }

@@ -30,6 +30,8 @@ impl<T: Octets> AddressRecord<T> {
     }
 
     /// The view of these octets, where they are 20 or more; refused where they are fewer.
+    /// A refusal gives a `&mut [u8]` up: who wants the octets back, as they were, takes `new_unchecked` and then
+    /// `check_len`.
     pub fn new_checked(buffer: T) -> Result<AddressRecord<T>>
         ensures accepts { IsOk result ↔ Reaches mcast_addr_field (T.bytes buffer) }
         ensures buffer { IfOk result (λ view. inner view ≡ buffer) }
