@@ -1,3 +1,6 @@
+ghost use Rattle.opt_wire.specs.NdiscOptionRepr.{HasSeconds, CanEmit, value_of};
+ghost use Rattle.opt_wire.specs.declared.ndiscoption.repr.Repr.TheVariants as repr;
+
 use super::{NdiscOption, PrefixInfoFlags, PrefixInformation, RedirectedHeader, Repr, Type};
 use bitflags::Flags as _;
 use std::test::Fail;
@@ -17,7 +20,9 @@ const PREFIX: [u8; 32] = [
     0xfe, 0x80, 0, 0, 0, 0, 0, 0, 0, 0, 0, 0, 0, 0, 0, 0x01,
 ];
 
-fn prefix_information() -> PrefixInformation {
+fn prefix_information() -> PrefixInformation
+    ensures { HasSeconds result.valid_lifetime × HasSeconds result.preferred_lifetime }
+{
     PrefixInformation {
         prefix_len: 64,
         flags: PrefixInfoFlags::ON_LINK | PrefixInfoFlags::ADDRCONF,
@@ -27,6 +32,15 @@ fn prefix_information() -> PrefixInformation {
     }
 }
 
+// The same, valid for a part of a second more, which is not written.
+fn longer_prefix_information() -> PrefixInformation
+    ensures { HasSeconds result.valid_lifetime × HasSeconds result.preferred_lifetime }
+{
+    let mut info = prefix_information();
+    info.valid_lifetime = Duration::from_micros(900_999_999);
+    info
+}
+
 // From fe80::1 to fe80::2, 4 bytes of UDP.
 const REDIRECTED: [u8; 56] = [
     0x04, 0x07, 0, 0, 0, 0, 0, 0, 0x60, 0x00, 0x00, 0x00, 0x00, 0x04, 0x11, 0x40, 0xfe, 0x80, 0, 0,
@@ -34,15 +48,18 @@ const REDIRECTED: [u8; 56] = [
     0xaa, 0xbb, 0xcc, 0xdd, 0x00, 0x00, 0x00, 0x00,
 ];
 
-fn redirected_header() -> RedirectedHeader<'static> {
+fn redirected_header() -> RedirectedHeader<'static>
+    ensures { CanEmit (value_of (repr.RedirectedHeader result)) }
+{
+    let header = Ipv6Repr {
+        src_addr: here(),
+        dst_addr: there(),
+        next_header: IpProtocol::Udp,
+        payload_len: 4,
+        hop_limit: 64,
+    };
     RedirectedHeader {
-        header: Ipv6Repr {
-            src_addr: here(),
-            dst_addr: there(),
-            next_header: IpProtocol::Udp,
-            payload_len: 4,
-            hop_limit: 64,
-        },
+        header,
         data: &[0xaa, 0xbb, 0xcc, 0xdd],
     }
 }
@@ -60,7 +77,9 @@ const MTU: [u8; 8] = [0x05, 0x01, 0x00, 0x00, 0x00, 0x00, 0x05, 0xdc];
 
 const UNKNOWN: [u8; 8] = [0x0e, 0x01, 1, 2, 3, 4, 5, 6];
 
-fn unknown() -> Repr<'static> {
+fn unknown() -> Repr<'static>
+    ensures { CanEmit (value_of result) }
+{
     Repr::Unknown {
         type_: 14,
         length: 1,
@@ -92,6 +111,11 @@ fn options_are_written_over_octets_of_any_kind(rt: HostRuntime) {
         let mut octets = [filler; 32];
         let repr = Repr::PrefixInformation(prefix_information());
         assert_eq!(rt; repr.buffer_len(), 32);
+        repr.emit_into(&mut octets);
+        assert_eq!(rt; octets.as_slice(), PREFIX.as_slice());
+
+        let mut octets = [filler; 32];
+        let repr = Repr::PrefixInformation(longer_prefix_information());
         repr.emit_into(&mut octets);
         assert_eq!(rt; octets.as_slice(), PREFIX.as_slice());
 
@@ -285,16 +309,6 @@ fn prefixes_that_addresses_are_made_of(rt: HostRuntime) {
         );
     }
     assert!(rt; !prefix_information().is_valid_prefix_info());
-}
-
-#[test]
-fn parts_of_a_second_are_left_out(rt: HostRuntime) {
-    let mut info = prefix_information();
-    info.valid_lifetime = Duration::from_micros(900_999_999);
-    let mut octets = [0xff; 32];
-    let repr = Repr::PrefixInformation(info);
-    repr.emit_into(&mut octets);
-    assert_eq!(rt; octets.as_slice(), PREFIX.as_slice());
 }
 
 #[test]
