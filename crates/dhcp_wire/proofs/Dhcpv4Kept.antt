@@ -1,5 +1,6 @@
 -- What a pass over the options keeps is what the last option says; and bytes have one value.
-use Rattle.std.proofs.Common.{◌≡◌, ℕ, Bool, List, [], ◌∷◌, ◌++◌, length, flat_map, slice_index, Option, None, Some, refl, sym, ap, subst, ◌∙◌, arith}
+use Rattle.std.proofs.Common.{◌≡◌, ℕ, Bool, List, [], ◌∷◌, ◌++◌, length, flat_map, slice_index, Option, None, Some}
+use Rattle.std.proofs.Common.{refl, sym, ap, subst, ◌∙◌, arith}
 use Rattle.std.specs.Option.{option_map, option_or}
 use Rattle.std.proofs.lemmas.List.Concat.{flat_map-cons}
 use Rattle.wirebase.specs.Bytes.{byte_of}
@@ -9,7 +10,8 @@ use Rattle.wirebase.specs.Ipv4.{octets_of}
 use Rattle.wirebase.specs.declared.ipv4.Ipv4Address.{Ipv4Address}
 use Rattle.wirebase.proofs.Ipv4Header.{same_address}
 use Rattle.dhcp_wire.specs.declared.dhcpv4.tables.MessageType.{MessageType}
-use Rattle.dhcp_wire.specs.Dhcpv4.{Value, HasHeader, IsPacket, AreOfEthernet, last_of, said, of_len, number_in, identifier_in, addresses_in, type_in}
+use Rattle.dhcp_wire.specs.Dhcpv4.{Value, HasHeader, IsPacket, AreOfEthernet, last_of, said, of_len, number_in}
+use Rattle.dhcp_wire.specs.Dhcpv4.{identifier_in, addresses_in, type_in}
 use Rattle.dhcp_wire.specs.Dhcpv4Found.{Kept, nothing, keep, keep_all, IsMadeOf}
 use Rattle.dhcp_wire.specs.Dhcpv4Options.{OptionValue, Options, list_of}
 use Rattle.dhcp_wire.specs.Dhcpv4Packet.{op_field, options_in}
@@ -28,21 +30,29 @@ or-none : {A : Type 0} (a : Option A) → option_or a None ≡ a
 or-none None = refl
 or-none (Some x) = refl
 
-kept_from : {A : Type 0} (field : Kept → Option A) (says : OptionValue → Option A) (op : ℕ) → ((k : Kept) (o : OptionValue) → field (keep op k o) ≡ option_or (says o) (field k))
+kept_from : {A : Type 0} (field : Kept → Option A) (says : OptionValue → Option A) (op : ℕ)
+    → ((k : Kept) (o : OptionValue) → field (keep op k o) ≡ option_or (says o) (field k))
     → (os : List OptionValue) (k : Kept) → field (keep_all op k os) ≡ option_or (last_of says os) (field k)
 unfolding keep_all
 kept_from field says op h [] k = refl
-kept_from field says op h (o ∷ os) k = kept_from field says op h os (keep op k o) ∙ ap (λ x. option_or (last_of says os) x) (h k o) ∙ or-assoc (last_of says os) (says o) (field k)
+kept_from field says op h (o ∷ os) k =
+    kept_from field says op h os (keep op k o) ∙ ap (λ x. option_or (last_of says os) x) (h k o)
+    ∙ or-assoc (last_of says os) (says o) (field k)
 
-kept : {A : Type 0} (field : Kept → Option A) (says : OptionValue → Option A) (op : ℕ) → ((k : Kept) (o : OptionValue) → field (keep op k o) ≡ option_or (says o) (field k)) → field nothing ≡ None
+kept : {A : Type 0} (field : Kept → Option A) (says : OptionValue → Option A) (op : ℕ)
+    → ((k : Kept) (o : OptionValue) → field (keep op k o) ≡ option_or (says o) (field k)) → field nothing ≡ None
     → (os : List OptionValue) → field (keep_all op nothing os) ≡ last_of says os
-kept field says op h none os = kept_from field says op h os nothing ∙ ap (λ x. option_or (last_of says os) x) none ∙ or-none (last_of says os)
+kept field says op h none os =
+    kept_from field says op h os nothing ∙ ap (λ x. option_or (last_of says os) x) none ∙ or-none (last_of says os)
 
-pub kept-type : (op : ℕ) (os : List OptionValue) → (keep_all op nothing os).message_type ≡ last_of (said 53 (type_in op)) os
+pub kept-type : (op : ℕ) (os : List OptionValue) → (keep_all op nothing os).message_type
+    ≡ last_of (said 53 (type_in op)) os
 kept-type op os = kept (λ k. k.message_type) (said 53 (type_in op)) op (λ k o. refl) refl os
 
 -- a packet is what was made of it
-pub packet-made : (bytes : List ℕ) (t : MessageType) (v : Value) → HasHeader bytes → AreOfEthernet (list_of (options_in bytes)) → (keep_all (byte_of op_field bytes) nothing (list_of (options_in bytes))).message_type ≡ Some t
+pub packet-made : (bytes : List ℕ) (t : MessageType) (v : Value) → HasHeader bytes
+    → AreOfEthernet (list_of (options_in bytes))
+    → (keep_all (byte_of op_field bytes) nothing (list_of (options_in bytes))).message_type ≡ Some t
     → IsMadeOf bytes t (keep_all (byte_of op_field bytes) nothing (list_of (options_in bytes))) v → IsPacket bytes v
 packet-made bytes t v header good typed made =
     let op : ℕ = byte_of op_field bytes in
@@ -64,37 +74,56 @@ packet-made bytes t v header good typed made =
       router = made.router ∙ kept (λ k. k.router) (said 3 (of_len 4)) op (λ k o. refl) refl os;
       subnet_mask = made.subnet_mask ∙ kept (λ k. k.subnet_mask) (said 1 (of_len 4)) op (λ k o. refl) refl os;
       requested_ip = made.requested_ip ∙ kept (λ k. k.requested_ip) (said 50 (of_len 4)) op (λ k o. refl) refl os;
-      server_identifier = made.server_identifier ∙ kept (λ k. k.server_identifier) (said 54 (of_len 4)) op (λ k o. refl) refl os;
-      client_identifier = made.client_identifier ∙ kept (λ k. k.client_identifier) (said 61 identifier_in) op (λ k o. refl) refl os;
-      parameter_request_list = made.parameter_request_list ∙ kept (λ k. k.parameter_request_list) (said 55 Some) op (λ k o. refl) refl os;
+      server_identifier =
+          made.server_identifier ∙ kept (λ k. k.server_identifier) (said 54 (of_len 4)) op (λ k o. refl) refl os;
+      client_identifier =
+          made.client_identifier ∙ kept (λ k. k.client_identifier) (said 61 identifier_in) op (λ k o. refl) refl os;
+      parameter_request_list =
+          made.parameter_request_list ∙ kept (λ k. k.parameter_request_list) (said 55 Some) op (λ k o. refl) refl os;
       dns_servers = made.dns_servers ∙ kept (λ k. k.dns_servers) (said 6 addresses_in) op (λ k o. refl) refl os;
       max_size = made.max_size ∙ kept (λ k. k.max_size) (said 57 (number_in 2)) op (λ k o. refl) refl os;
-      lease_duration = made.lease_duration ∙ kept (λ k. k.lease_duration) (said 51 (number_in 4)) op (λ k o. refl) refl os;
-      renew_duration = made.renew_duration ∙ kept (λ k. k.renew_duration) (said 58 (number_in 4)) op (λ k o. refl) refl os;
-      rebind_duration = made.rebind_duration ∙ kept (λ k. k.rebind_duration) (said 59 (number_in 4)) op (λ k o. refl) refl os;
+      lease_duration =
+          made.lease_duration ∙ kept (λ k. k.lease_duration) (said 51 (number_in 4)) op (λ k o. refl) refl os;
+      renew_duration =
+          made.renew_duration ∙ kept (λ k. k.renew_duration) (said 58 (number_in 4)) op (λ k o. refl) refl os;
+      rebind_duration =
+          made.rebind_duration ∙ kept (λ k. k.rebind_duration) (said 59 (number_in 4)) op (λ k o. refl) refl os;
       additional_options = made.additional_options;
     }
 
 -- the options of a packet are those of the list
 pub same_options : (bytes : List ℕ) (v : Value) (p : IsPacket bytes v) → p.options ≡ list_of (options_in bytes)
-same_options bytes v p = options-unique (options_in bytes) (list_of (options_in bytes)) p.options (list-options (options_in bytes)) p.listed
+same_options bytes v p =
+    options-unique (options_in bytes) (list_of (options_in bytes)) p.options (list-options (options_in bytes)) p.listed
 
 pub good_options : (bytes : List ℕ) (v : Value) → IsPacket bytes v → AreOfEthernet (list_of (options_in bytes))
 good_options bytes v p = subst (λ (os : List OptionValue). AreOfEthernet os) (same_options bytes v p) p.identifiers
 
-pub packet-typed : (bytes : List ℕ) (v : Value) → IsPacket bytes v → (keep_all (byte_of op_field bytes) nothing (list_of (options_in bytes))).message_type ≡ Some v.message_type
+pub packet-typed : (bytes : List ℕ) (v : Value) → IsPacket bytes v
+    → (keep_all (byte_of op_field bytes) nothing (list_of (options_in bytes))).message_type ≡ Some v.message_type
 packet-typed bytes v p =
-    kept-type (byte_of op_field bytes) (list_of (options_in bytes)) ∙ ap (λ (os : List OptionValue). last_of (said 53 (type_in (byte_of op_field bytes))) os) (sym (same_options bytes v p)) ∙ p.message_type
+    kept-type (byte_of op_field bytes) (list_of (options_in bytes))
+    ∙ ap (λ (os : List OptionValue). last_of (said 53 (type_in (byte_of op_field bytes))) os)
+    (sym (same_options bytes v p)) ∙ p.message_type
 
 -- ---- one value
 
 abbrev ethernet_at : List ℕ → Ethernet
-ethernet_at l = record { a = slice_index l 0; b = slice_index l 1; c = slice_index l 2; d = slice_index l 3; e = slice_index l 4; f = slice_index l 5 }
+ethernet_at l =
+    record {
+      a = slice_index l 0;
+      b = slice_index l 1;
+      c = slice_index l 2;
+      d = slice_index l 3;
+      e = slice_index l 4;
+      f = slice_index l 5;
+    }
 
 same_ethernet : (x y : Ethernet) → ethernet_octets x ≡ ethernet_octets y → x ≡ y
 same_ethernet x y e = ap ethernet_at e
 
-same_option : {A : Type 0} (f : A → List ℕ) → ((x y : A) → f x ≡ f y → x ≡ y) → (a b : Option A) → option_map f a ≡ option_map f b → a ≡ b
+same_option : {A : Type 0} (f : A → List ℕ) → ((x y : A) → f x ≡ f y → x ≡ y) → (a b : Option A)
+    → option_map f a ≡ option_map f b → a ≡ b
 same_option f h None None e = refl
 same_option f h None (Some y) e = cc
 same_option f h (Some x) None e = cc
@@ -105,7 +134,8 @@ same_addresses [] [] e = refl
 same_addresses [] (y ∷ ys) e = let two = e ∙ flat_map-cons octets_of y ys in cc
 same_addresses (x ∷ xs) [] e = let two = sym (flat_map-cons octets_of x xs) ∙ e in cc
 same_addresses (x ∷ xs) (y ∷ ys) e =
-    let two : octets_of x ++ flat_map octets_of xs ≡ octets_of y ++ flat_map octets_of ys = sym (flat_map-cons octets_of x xs) ∙ e ∙ flat_map-cons octets_of y ys in
+    let two : octets_of x ++ flat_map octets_of xs ≡ octets_of y ++ flat_map octets_of ys =
+    sym (flat_map-cons octets_of x xs) ∙ e ∙ flat_map-cons octets_of y ys in
     let rest : flat_map octets_of xs ≡ flat_map octets_of ys = cc in
     let more : xs ≡ ys = same_addresses xs ys rest in
     let first : octets_of x ≡ octets_of y = cc in
@@ -113,37 +143,91 @@ same_addresses (x ∷ xs) (y ∷ ys) e =
     cc
 
 -- a value by its parts, as a word that nothing looks into
-made : MessageType → ℕ → ℕ → Ethernet → Ipv4Address → Ipv4Address → Ipv4Address → Option Ipv4Address → Option Ipv4Address → Ipv4Address → Bool → Option Ipv4Address → Option Ethernet → Option Ipv4Address → Option (List ℕ) → Option (List Ipv4Address) → Option ℕ → Option ℕ → Option ℕ → Option ℕ → List OptionValue → Value
-made a b c d e f g h i j k l m n o p q r s t u = record { message_type = a; transaction_id = b; secs = c; client_hardware_address = d; client_ip = e; your_ip = f; server_ip = g; router = h; subnet_mask = i; relay_agent_ip = j; broadcast = k; requested_ip = l; client_identifier = m; server_identifier = n; parameter_request_list = o; dns_servers = p; max_size = q; lease_duration = r; renew_duration = s; rebind_duration = t; additional_options = u }
+made : MessageType → ℕ → ℕ → Ethernet → Ipv4Address → Ipv4Address → Ipv4Address → Option Ipv4Address
+    → Option Ipv4Address → Ipv4Address → Bool → Option Ipv4Address → Option Ethernet → Option Ipv4Address
+    → Option (List ℕ) → Option (List Ipv4Address) → Option ℕ → Option ℕ → Option ℕ → Option ℕ → List OptionValue → Value
+made a b c d e f g h i j k l m n o p q r s t u =
+    record {
+      message_type = a;
+      transaction_id = b;
+      secs = c;
+      client_hardware_address = d;
+      client_ip = e;
+      your_ip = f;
+      server_ip =
+          g;
+      router = h;
+      subnet_mask = i;
+      relay_agent_ip = j;
+      broadcast = k;
+      requested_ip = l;
+      client_identifier = m;
+      server_identifier =
+          n;
+      parameter_request_list = o;
+      dns_servers = p;
+      max_size = q;
+      lease_duration = r;
+      renew_duration = s;
+      rebind_duration = t;
+      additional_options = u;
+    }
 
-made-parts : (v : Value) → made v.message_type v.transaction_id v.secs v.client_hardware_address v.client_ip v.your_ip v.server_ip v.router v.subnet_mask v.relay_agent_ip v.broadcast v.requested_ip v.client_identifier v.server_identifier v.parameter_request_list v.dns_servers v.max_size v.lease_duration v.renew_duration v.rebind_duration v.additional_options ≡ v
+made-parts : (v : Value) → made v.message_type v.transaction_id v.secs v.client_hardware_address v.client_ip v.your_ip
+    v.server_ip v.router v.subnet_mask v.relay_agent_ip v.broadcast v.requested_ip v.client_identifier
+    v.server_identifier v.parameter_request_list v.dns_servers v.max_size v.lease_duration v.renew_duration
+    v.rebind_duration v.additional_options ≡ v
 unfolding made
 made-parts v = refl
 
 -- values with the same parts
-same_value : (v w : Value) → v.message_type ≡ w.message_type → v.transaction_id ≡ w.transaction_id → v.secs ≡ w.secs → v.client_hardware_address ≡ w.client_hardware_address → v.client_ip ≡ w.client_ip → v.your_ip ≡ w.your_ip → v.server_ip ≡ w.server_ip
-    → v.router ≡ w.router → v.subnet_mask ≡ w.subnet_mask → v.relay_agent_ip ≡ w.relay_agent_ip → v.broadcast ≡ w.broadcast → v.requested_ip ≡ w.requested_ip → v.client_identifier ≡ w.client_identifier → v.server_identifier ≡ w.server_identifier
-    → v.parameter_request_list ≡ w.parameter_request_list → v.dns_servers ≡ w.dns_servers → v.max_size ≡ w.max_size → v.lease_duration ≡ w.lease_duration → v.renew_duration ≡ w.renew_duration → v.rebind_duration ≡ w.rebind_duration → v.additional_options ≡ w.additional_options
+same_value : (v w : Value) → v.message_type ≡ w.message_type → v.transaction_id ≡ w.transaction_id → v.secs ≡ w.secs
+    → v.client_hardware_address ≡ w.client_hardware_address → v.client_ip ≡ w.client_ip → v.your_ip ≡ w.your_ip
+    → v.server_ip ≡ w.server_ip
+    → v.router ≡ w.router → v.subnet_mask ≡ w.subnet_mask → v.relay_agent_ip ≡ w.relay_agent_ip
+    → v.broadcast ≡ w.broadcast → v.requested_ip ≡ w.requested_ip → v.client_identifier ≡ w.client_identifier
+    → v.server_identifier ≡ w.server_identifier
+    → v.parameter_request_list ≡ w.parameter_request_list → v.dns_servers ≡ w.dns_servers → v.max_size ≡ w.max_size
+    → v.lease_duration ≡ w.lease_duration → v.renew_duration ≡ w.renew_duration → v.rebind_duration ≡ w.rebind_duration
+    → v.additional_options ≡ w.additional_options
     → v ≡ w
 same_value v w a b c d e f g h i j k l m n o p q r s t u =
-    let parts : made v.message_type v.transaction_id v.secs v.client_hardware_address v.client_ip v.your_ip v.server_ip v.router v.subnet_mask v.relay_agent_ip v.broadcast v.requested_ip v.client_identifier v.server_identifier v.parameter_request_list v.dns_servers v.max_size v.lease_duration v.renew_duration v.rebind_duration v.additional_options ≡ made w.message_type w.transaction_id w.secs w.client_hardware_address w.client_ip w.your_ip w.server_ip w.router w.subnet_mask w.relay_agent_ip w.broadcast w.requested_ip w.client_identifier w.server_identifier w.parameter_request_list w.dns_servers w.max_size w.lease_duration w.renew_duration w.rebind_duration w.additional_options = cc in
+    let parts : made v.message_type v.transaction_id v.secs v.client_hardware_address v.client_ip v.your_ip v.server_ip
+    v.router v.subnet_mask v.relay_agent_ip v.broadcast v.requested_ip v.client_identifier v.server_identifier
+    v.parameter_request_list v.dns_servers v.max_size v.lease_duration v.renew_duration v.rebind_duration
+    v.additional_options ≡ made w.message_type w.transaction_id w.secs w.client_hardware_address w.client_ip
+    w.your_ip w.server_ip w.router w.subnet_mask w.relay_agent_ip w.broadcast w.requested_ip w.client_identifier
+    w.server_identifier w.parameter_request_list w.dns_servers w.max_size w.lease_duration w.renew_duration
+    w.rebind_duration w.additional_options = cc in
     sym (made-parts v) ∙ parts ∙ made-parts w
 
 pub packet-unique : (bytes : List ℕ) (v w : Value) → IsPacket bytes v → IsPacket bytes w → v ≡ w
 packet-unique bytes v w p q =
     let os : p.options ≡ q.options = same_options bytes v p ∙ sym (same_options bytes w q) in
-    let some : Some v.message_type ≡ Some w.message_type = sym p.message_type ∙ ap (λ (l : List OptionValue). last_of (said 53 (type_in (byte_of op_field bytes))) l) os ∙ q.message_type in
+    let some : Some v.message_type ≡ Some w.message_type =
+    sym p.message_type ∙ ap (λ (l : List OptionValue). last_of (said 53 (type_in (byte_of op_field bytes))) l) os
+    ∙ q.message_type in
     let typed : v.message_type ≡ w.message_type = cc in
-    same_value v w typed (p.transaction_id ∙ sym q.transaction_id) (p.secs ∙ sym q.secs) (same_ethernet _ _ (p.client_hardware_address ∙ sym q.client_hardware_address))
-    (same_address _ _ (p.client_ip ∙ sym q.client_ip)) (same_address _ _ (p.your_ip ∙ sym q.your_ip)) (same_address _ _ (p.server_ip ∙ sym q.server_ip))
-    (same_option octets_of same_address _ _ (p.router ∙ ap (λ (l : List OptionValue). last_of (said 3 (of_len 4)) l) os ∙ sym q.router))
-    (same_option octets_of same_address _ _ (p.subnet_mask ∙ ap (λ (l : List OptionValue). last_of (said 1 (of_len 4)) l) os ∙ sym q.subnet_mask))
+    same_value v w typed (p.transaction_id ∙ sym q.transaction_id) (p.secs ∙ sym q.secs)
+    (same_ethernet _ _ (p.client_hardware_address ∙ sym q.client_hardware_address))
+    (same_address _ _ (p.client_ip ∙ sym q.client_ip)) (same_address _ _ (p.your_ip ∙ sym q.your_ip))
+    (same_address _ _ (p.server_ip ∙ sym q.server_ip))
+    (same_option octets_of same_address _ _
+    (p.router ∙ ap (λ (l : List OptionValue). last_of (said 3 (of_len 4)) l) os ∙ sym q.router))
+    (same_option octets_of same_address _ _
+    (p.subnet_mask ∙ ap (λ (l : List OptionValue). last_of (said 1 (of_len 4)) l) os ∙ sym q.subnet_mask))
     (same_address _ _ (p.relay_agent_ip ∙ sym q.relay_agent_ip)) (p.broadcast ∙ sym q.broadcast)
-    (same_option octets_of same_address _ _ (p.requested_ip ∙ ap (λ (l : List OptionValue). last_of (said 50 (of_len 4)) l) os ∙ sym q.requested_ip))
-    (same_option ethernet_octets same_ethernet _ _ (p.client_identifier ∙ ap (λ (l : List OptionValue). last_of (said 61 identifier_in) l) os ∙ sym q.client_identifier))
-    (same_option octets_of same_address _ _ (p.server_identifier ∙ ap (λ (l : List OptionValue). last_of (said 54 (of_len 4)) l) os ∙ sym q.server_identifier))
-    (p.parameter_request_list ∙ ap (λ (l : List OptionValue). last_of (said 55 Some) l) os ∙ sym q.parameter_request_list)
-    (same_option (flat_map octets_of) same_addresses _ _ (p.dns_servers ∙ ap (λ (l : List OptionValue). last_of (said 6 addresses_in) l) os ∙ sym q.dns_servers))
+    (same_option octets_of same_address _ _
+    (p.requested_ip ∙ ap (λ (l : List OptionValue). last_of (said 50 (of_len 4)) l) os ∙ sym q.requested_ip))
+    (same_option ethernet_octets same_ethernet _ _
+    (p.client_identifier ∙ ap (λ (l : List OptionValue). last_of (said 61 identifier_in) l) os
+    ∙ sym q.client_identifier))
+    (same_option octets_of same_address _ _
+    (p.server_identifier ∙ ap (λ (l : List OptionValue). last_of (said 54 (of_len 4)) l) os ∙ sym q.server_identifier))
+    (p.parameter_request_list ∙ ap (λ (l : List OptionValue). last_of (said 55 Some) l) os
+    ∙ sym q.parameter_request_list)
+    (same_option (flat_map octets_of) same_addresses _ _
+    (p.dns_servers ∙ ap (λ (l : List OptionValue). last_of (said 6 addresses_in) l) os ∙ sym q.dns_servers))
     (p.max_size ∙ ap (λ (l : List OptionValue). last_of (said 57 (number_in 2)) l) os ∙ sym q.max_size)
     (p.lease_duration ∙ ap (λ (l : List OptionValue). last_of (said 51 (number_in 4)) l) os ∙ sym q.lease_duration)
     (p.renew_duration ∙ ap (λ (l : List OptionValue). last_of (said 58 (number_in 4)) l) os ∙ sym q.renew_duration)
@@ -156,7 +240,8 @@ pub keep_all-none : (op : ℕ) (k : Kept) → keep_all op k [] ≡ k
 unfolding keep_all
 keep_all-none op k = refl
 
-pub keep_all-more : (op : ℕ) (k : Kept) (o : OptionValue) (os : List OptionValue) → keep_all op k (o ∷ os) ≡ keep_all op (keep op k o) os
+pub keep_all-more : (op : ℕ) (k : Kept) (o : OptionValue) (os : List OptionValue)
+    → keep_all op k (o ∷ os) ≡ keep_all op (keep op k o) os
 unfolding keep_all
 keep_all-more op k o os = refl
 

@@ -1,5 +1,6 @@
 -- The text before the first zero of a field.
-use Rattle.std.proofs.Common.{◌≡◌, ◌≢◌, ℕ, suc, ◌+◌, ◌<◌, List, [], ◌∷◌, ◌++◌, length, take, drop, get_or, refl, sym, ap, subst, ◌∙◌, arith, add-one, drop-cons}
+use Rattle.std.proofs.Common.{◌≡◌, ◌≢◌, ℕ, suc, ◌+◌, ◌<◌, List, [], ◌∷◌, ◌++◌, length, take, drop, get_or, refl, sym}
+use Rattle.std.proofs.Common.{ap, subst, ◌∙◌, arith, add-one, drop-cons}
 use Rattle.std.proofs.Math.Seq.{take-suc}
 use Rattle.std.proofs.lemmas.List.{take-append-drop, length-take-le}
 use Rattle.std.specs.Str.{IsUtf8}
@@ -10,8 +11,12 @@ no_zero-append [] b h k = k
 no_zero-append (x ∷ a) b h k = (h.0, no_zero-append a b h.1 k)
 
 -- one more byte
-pub no_zero-more : (bytes : List ℕ) (i : ℕ) → i < length bytes → HasNoZero (take i bytes) → get_or bytes i 0 ≢ 0 → HasNoZero (take (i + 1) bytes)
-no_zero-more bytes i l h k = subst (λ (n : ℕ). HasNoZero (take n bytes)) (sym (add-one i)) (subst (λ (b : List ℕ). HasNoZero b) (sym (take-suc bytes i 0 l)) (no_zero-append (take i bytes) (get_or bytes i 0 ∷ []) h (k, tt)))
+pub no_zero-more : (bytes : List ℕ) (i : ℕ) → i < length bytes → HasNoZero (take i bytes) → get_or bytes i 0 ≢ 0
+    → HasNoZero (take (i + 1) bytes)
+no_zero-more bytes i l h k =
+    subst (λ (n : ℕ). HasNoZero (take n bytes)) (sym (add-one i))
+    (subst (λ (b : List ℕ). HasNoZero b) (sym (take-suc bytes i 0 l))
+    (no_zero-append (take i bytes) (get_or bytes i 0 ∷ []) h (k, tt)))
 
 -- the first zero is in one place
 first_zero : (a b r s : List ℕ) → HasNoZero a → HasNoZero b → a ++ 0 ∷ r ≡ b ++ 0 ∷ s → a ≡ b
@@ -31,16 +36,23 @@ zero_inside (x ∷ a) r h = zero_inside a r h.1
 pub no_text : (bytes text : List ℕ) → HasNoZero bytes → IsTextIn bytes text → ⊥
 no_text bytes text h t = zero_inside text t.rest (subst (λ (b : List ℕ). HasNoZero b) t.whole h)
 
-whole_at : (bytes : List ℕ) (count : ℕ) → count < length bytes → get_or bytes count 0 ≡ 0 → bytes ≡ take count bytes ++ 0 ∷ drop (suc count) bytes
-whole_at bytes count l z = sym (take-append-drop count bytes) ∙ ap (λ (b : List ℕ). take count bytes ++ b) (drop-cons bytes count 0 l ∙ ap (λ (k : ℕ). k ∷ drop (suc count) bytes) z)
+whole_at : (bytes : List ℕ) (count : ℕ) → count < length bytes → get_or bytes count 0 ≡ 0
+    → bytes ≡ take count bytes ++ 0 ∷ drop (suc count) bytes
+whole_at bytes count l z =
+    sym (take-append-drop count bytes) ∙ ap (λ (b : List ℕ). take count bytes ++ b)
+    (drop-cons bytes count 0 l ∙ ap (λ (k : ℕ). k ∷ drop (suc count) bytes) z)
 
-pub text-is : (bytes text : List ℕ) (count : ℕ) → count < length bytes → get_or bytes count 0 ≡ 0 → HasNoZero (take count bytes) → IsTextIn bytes text → text ≡ take count bytes
-text-is bytes text count l z h t = first_zero text (take count bytes) t.rest (drop (suc count) bytes) t.no_zero h (sym t.whole ∙ whole_at bytes count l z)
+pub text-is : (bytes text : List ℕ) (count : ℕ) → count < length bytes → get_or bytes count 0 ≡ 0
+    → HasNoZero (take count bytes) → IsTextIn bytes text → text ≡ take count bytes
+text-is bytes text count l z h t =
+    first_zero text (take count bytes) t.rest (drop (suc count) bytes) t.no_zero h
+    (sym t.whole ∙ whole_at bytes count l z)
 
 some_front : (bytes : List ℕ) (count : ℕ) → count < length bytes → count ≢ 0 → take count bytes ≢ []
 some_front bytes count l some e = some (sym (length-take-le count bytes (omega arith)) ∙ ap length e)
 
-pub text-in : (bytes : List ℕ) (count : ℕ) → count < length bytes → get_or bytes count 0 ≡ 0 → HasNoZero (take count bytes) → count ≢ 0 → IsUtf8 (take count bytes) → IsTextIn bytes (take count bytes)
+pub text-in : (bytes : List ℕ) (count : ℕ) → count < length bytes → get_or bytes count 0 ≡ 0
+    → HasNoZero (take count bytes) → count ≢ 0 → IsUtf8 (take count bytes) → IsTextIn bytes (take count bytes)
 text-in bytes count l z h some utf8 = record {
   rest = drop (suc count) bytes;
   whole = whole_at bytes count l z;

@@ -1,5 +1,7 @@
 -- What a DHCP packet says: its value, its text, and the grammar that reads it (RFC 2131, RFC 2132).
-use Rattle.std.specs.Prelude.{◌≡◌, ◌≢◌, ℕ, zero, suc, ◌+◌, ◌-◌, ◌*◌, ◌/◌, ◌≤◌, ◌<◌, ◌^◌, ◌==◌, ◌&&◌, ◌↔◌, min, Bool, true, false, nat_le, List, [], ◌∷◌, ◌++◌, length, take, drop, map, flat_map, replicate, slice_index, if◌then◌else◌, Option, None, Some, Result, IsOk, OnOk, OnErr, is_ok}
+use Rattle.std.specs.Prelude.{◌≡◌, ◌≢◌, ℕ, zero, suc, ◌+◌, ◌-◌, ◌*◌, ◌/◌, ◌≤◌, ◌<◌, ◌^◌, ◌==◌, ◌&&◌, ◌↔◌, min, Bool}
+use Rattle.std.specs.Prelude.{true, false, nat_le, List, [], ◌∷◌, ◌++◌, length, take, drop, map, flat_map, replicate}
+use Rattle.std.specs.Prelude.{slice_index, if◌then◌else◌, Option, None, Some, Result, IsOk, OnOk, OnErr, is_ok}
 use Rattle.std.specs.Option.{option_map, option_or}
 use Rattle.std.specs.Int.RustNames.{bit_and}
 use Rattle.byteorder.specs.Endian.{big_number}
@@ -16,7 +18,9 @@ use Rattle.dhcp_wire.specs.declared.dhcpv4.repr.Repr.{Repr}
 use Rattle.dhcp_wire.specs.declared.dhcpv4.tables.MessageType.{MessageType}
 use Rattle.dhcp_wire.specs.declared.dhcpv4.tables.MessageType.TheVariants as message
 use Rattle.dhcp_wire.specs.Dhcpv4Options.{OptionValue, option, option_text, value_of_option, Options}
-use Rattle.dhcp_wire.specs.Dhcpv4Packet.{op_field, htype_field, hlen_field, xid_field, secs_field, flags_field, ciaddr_field, yiaddr_field, siaddr_field, giaddr_field, chaddr_field, magic_field, options_in}
+use Rattle.dhcp_wire.specs.Dhcpv4Packet.{op_field, htype_field, hlen_field, xid_field, secs_field, flags_field}
+use Rattle.dhcp_wire.specs.Dhcpv4Packet.{ciaddr_field, yiaddr_field, siaddr_field, giaddr_field, chaddr_field}
+use Rattle.dhcp_wire.specs.Dhcpv4Packet.{magic_field, options_in}
 use Rattle.dhcp_wire.specs.Dhcpv4Tables.{opcode_number, operation_of, message_number, message_of, message_rows}
 
 -- ---- the value by its content
@@ -195,8 +199,8 @@ pub record HasHeader (bytes : List ℕ) : Type 0 where
   pub hardware_len : byte_of hlen_field bytes ≡ 6
   pub cookie : number_of magic_field bytes ≡ 0x63825363
 
--- The bytes are a packet of this value: of Ethernet, with the cookie of DHCP, and with a type of message that has the operation
--- of the packet. Each field that an option gives is that of the last option of its kind and length.
+-- The bytes are a packet of this value: of Ethernet, with the cookie of DHCP, and with a type of message that has the
+-- operation of the packet. Each field that an option gives is that of the last option of its kind and length.
 pub record IsPacket (bytes : List ℕ) (v : Value) : Type 0 where
   pub options : List OptionValue
   pub header : HasHeader bytes

@@ -8,7 +8,8 @@ use Rattle.wirebase.specs.Ipv4.{octets_of}
 use Rattle.dhcp_wire.specs.declared.dhcpv4.found.Found.{Found}
 use Rattle.dhcp_wire.specs.declared.dhcpv4.tables.MessageType.{MessageType}
 use Rattle.dhcp_wire.specs.Dhcpv4.{Value, has_broadcast, said, of_len, number_in, identifier_in, addresses_in, type_in}
-use Rattle.dhcp_wire.specs.Dhcpv4Packet.{xid_field, secs_field, flags_field, ciaddr_field, yiaddr_field, siaddr_field, giaddr_field, chaddr_field}
+use Rattle.dhcp_wire.specs.Dhcpv4Packet.{xid_field, secs_field, flags_field, ciaddr_field, yiaddr_field, siaddr_field}
+use Rattle.dhcp_wire.specs.Dhcpv4Packet.{giaddr_field, chaddr_field}
 use Rattle.dhcp_wire.specs.Dhcpv4Options.{OptionValue}
 
 -- addresses by their octets
@@ -43,7 +44,20 @@ kept_of found = record {
 }
 
 abbrev pub nothing : Kept
-nothing = record { message_type = None; requested_ip = None; client_identifier = None; server_identifier = None; router = None; subnet_mask = None; parameter_request_list = None; dns_servers = None; max_size = None; lease_duration = None; renew_duration = None; rebind_duration = None }
+nothing = record {
+  message_type = None;
+  requested_ip = None;
+  client_identifier = None;
+  server_identifier = None;
+  router = None;
+  subnet_mask = None;
+  parameter_request_list = None;
+  dns_servers = None;
+  max_size = None;
+  lease_duration = None;
+  renew_duration = None;
+  rebind_duration = None;
+}
 
 -- one more option, of a packet with this operation
 abbrev pub keep : ℕ → Kept → OptionValue → Kept

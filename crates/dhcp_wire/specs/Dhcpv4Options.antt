@@ -5,7 +5,8 @@
 -- +---------------+---------------+- -
 -- |     kind      |    length     | data, as many bytes
 -- +---------------+---------------+- -
-use Rattle.std.specs.Prelude.{◌≡◌, ◌≢◌, ℕ, zero, suc, ◌<◌, ◌==◌, nat_lt, List, [], ◌∷◌, ◌++◌, length, take, drop, if◌then◌else◌, Option, None, Some}
+use Rattle.std.specs.Prelude.{◌≡◌, ◌≢◌, ℕ, zero, suc, ◌<◌, ◌==◌, nat_lt, List, [], ◌∷◌, ◌++◌, length, take, drop}
+use Rattle.std.specs.Prelude.{if◌then◌else◌, Option, None, Some}
 use Rattle.dhcp_wire.specs.declared.dhcpv4.options.DhcpOption.{DhcpOption}
 
 -- an option by its content: its kind, and the bytes of its data
@@ -28,15 +29,18 @@ pub record IsKind (kind : ℕ) : Type 0 where
   pub no_padding : kind ≢ 0
   pub no_end : kind ≢ 255
 
--- The options in these bytes, in order. Padding is one byte, and is skipped; the end mark ends the list, and so does the end of
--- the bytes, also where it comes within an option.
+-- The options in these bytes, in order. Padding is one byte, and is skipped; the end mark ends the list, and so does
+-- the end of the bytes, also where it comes within an option.
 pub data Options : List ℕ → List OptionValue → Type 0 where
   none : Options [] []
   ended : {bytes : List ℕ} (rest : List ℕ) → bytes ≡ 255 ∷ rest → Options bytes []
-  padded : {bytes : List ℕ} {options : List OptionValue} (rest : List ℕ) → Options rest options → bytes ≡ 0 ∷ rest → Options bytes options
+  padded : {bytes : List ℕ} {options : List OptionValue} (rest : List ℕ) → Options rest options → bytes ≡ 0 ∷ rest
+      → Options bytes options
   lone : {bytes : List ℕ} (kind : ℕ) → IsKind kind → bytes ≡ kind ∷ [] → Options bytes []
-  torn : {bytes : List ℕ} (kind n : ℕ) (rest : List ℕ) → IsKind kind → length rest < n → bytes ≡ kind ∷ n ∷ rest → Options bytes []
-  goes_on : {bytes : List ℕ} {options : List OptionValue} (o : OptionValue) (rest : List ℕ) → IsKind o.kind → Options rest options
+  torn : {bytes : List ℕ} (kind n : ℕ) (rest : List ℕ) → IsKind kind → length rest < n → bytes ≡ kind ∷ n ∷ rest
+      → Options bytes []
+  goes_on : {bytes : List ℕ} {options : List OptionValue} (o : OptionValue) (rest : List ℕ) → IsKind o.kind
+      → Options rest options
       → bytes ≡ option_text o ++ rest → Options bytes (o ∷ options)
 
 -- the bytes don't begin with padding
@@ -57,7 +61,8 @@ unfoldable pub options_within : ℕ → List ℕ → List OptionValue
 options_within most [] = []
 options_within zero (kind ∷ rest) = []
 options_within (suc most) (kind ∷ rest) =
-    if kind == 255 then [] else if kind == 0 then options_within most rest else after_kind kind rest (options_within most)
+    if kind == 255 then [] else if kind == 0 then options_within most rest
+    else after_kind kind rest (options_within most)
 
 abbrev pub list_of : List ℕ → List OptionValue
 list_of bytes = options_within (length bytes) bytes

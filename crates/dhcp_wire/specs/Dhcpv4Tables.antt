@@ -42,8 +42,8 @@ message_rows = rows_of message_number messages
 abbrev pub message_of : ℕ → MessageType
 message_of n = case_in message.Unknown message_rows n
 
--- which operation a type of message is: a client's is a request, a server's a reply (RFC 2131 section 3); that of a type
--- without a name is unknown
+-- which operation a type of message is: a client's is a request, a server's a reply (RFC 2131 section 3); that of a
+-- type without a name is unknown
 abbrev pub operation_of : MessageType → OpCode
 operation_of message.Discover = opcode.Request
 operation_of message.Offer = opcode.Reply

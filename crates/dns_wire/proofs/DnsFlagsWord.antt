@@ -11,7 +11,8 @@ known-small flags known = omega (arith, known, and_le_r flags known_bits)
 -- the four bits of the kind of query are none of the flags'
 kind_free : (flags : ℕ) → IsKnown flags → flags / 2048 % 16 ≡ 0
 kind_free flags known =
-    let shifted : flags / 2048 ≡ bit_and (flags / 2048) 16 = ap (λ n. n / 2048) (sym known) ∙ and_shr flags known_bits 11 in
+    let shifted : flags / 2048 ≡ bit_and (flags / 2048) 16 =
+    ap (λ n. n / 2048) (sym known) ∙ and_shr flags known_bits 11 in
     let low : bit_and (flags / 2048) 16 % 16 ≡ bit_and (flags / 2048 % 16) 0 = and_mod (flags / 2048) 16 4 in
     omega (arith, ap (λ n. n % 16) shifted, low, and_le_r (flags / 2048 % 16) 0)
 
@@ -25,7 +26,8 @@ kind_apart n small =
 
 bits_apart : (n : ℕ) → n < 16 → bit_and (2048 * n) known_bits ≡ 0
 bits_apart n small =
-    let blocks : bit_and (n * 2048 + 0) (16 * 2048 + 1968) ≡ bit_and n 16 * 2048 + bit_and 0 1968 = and_block 11 n 16 0 1968 (omega arith) (omega arith) in
+    let blocks : bit_and (n * 2048 + 0) (16 * 2048 + 1968) ≡ bit_and n 16 * 2048 + bit_and 0 1968 =
+    and_block 11 n 16 0 1968 (omega arith) (omega arith) in
     let left : n * 2048 + 0 ≡ 2048 * n = omega arith in
     omega (arith, ap (λ k. bit_and k known_bits) left, blocks, kind_apart n small)
 
@@ -37,7 +39,9 @@ pub flags_in-word : (flags n : ℕ) → IsKnown flags → n < 16 → flags_in (f
 flags_in-word flags n known small =
     let apart = bits_apart n small in
     let other : bit_and known_bits (2048 * n) ≡ 0 = and_comm known_bits (2048 * n) ∙ apart in
-    let shares : bit_and flags (2048 * n) ≡ 0 = ap (λ k. bit_and k (2048 * n)) (sym known) ∙ (and_assoc (2048 * n) flags known_bits ∙ (ap (λ k. bit_and flags k) other ∙ none)) in
+    let shares : bit_and flags (2048 * n) ≡ 0 =
+    ap (λ k. bit_and k (2048 * n)) (sym known)
+    ∙ (and_assoc (2048 * n) flags known_bits ∙ (ap (λ k. bit_and flags k) other ∙ none)) in
     ap flags_in (sym (or_disjoint flags (2048 * n) shares)) ∙ (and_or_apart known_bits flags (2048 * n) apart ∙ known)
   where
     none : bit_and flags 0 ≡ 0

@@ -35,7 +35,8 @@ pub record AfterLabel (text bytes : List ℕ) (ls : List (List ℕ)) (st : Stop)
   pub is : text ≡ length bytes ∷ (bytes ++ rest)
   pub part : IsPart rest ls st
 
-unfoldable pub after_label : (text bytes : List ℕ) (ls : List (List ℕ)) (st : Stop) → IsPart text (bytes ∷ ls) st → AfterLabel text bytes ls st
+unfoldable pub after_label : (text bytes : List ℕ) (ls : List (List ℕ)) (st : Stop) → IsPart text (bytes ∷ ls) st
+    → AfterLabel text bytes ls st
 after_label text bytes ls st h = record {
   rest = flat_map written ls ++ (h.mark ++ h.rest);
   one = h.each.0;
@@ -43,20 +44,24 @@ after_label text bytes ls st h = record {
   part = record { mark = h.mark; rest = h.rest; each = h.each.1; stops = h.stops; whole = refl };
 }
 
-unfoldable pub part_cons : (bytes rest : List ℕ) (ls : List (List ℕ)) (st : Stop) → IsLabel bytes → IsPart rest ls st → IsPart (length bytes ∷ (bytes ++ rest)) (bytes ∷ ls) st
+unfoldable pub part_cons : (bytes rest : List ℕ) (ls : List (List ℕ)) (st : Stop) → IsLabel bytes → IsPart rest ls st
+    → IsPart (length bytes ∷ (bytes ++ rest)) (bytes ∷ ls) st
 part_cons bytes rest ls st one h = record {
   mark = h.mark;
   rest = h.rest;
   each = (one, h.each);
   stops = h.stops;
-  whole = ap (λ r. length bytes ∷ (bytes ++ r)) h.whole ∙ sym (append_assoc (written bytes) (flat_map written ls) (h.mark ++ h.rest));
+  whole = ap (λ r. length bytes ∷ (bytes ++ r)) h.whole ∙ sym
+      (append_assoc (written bytes) (flat_map written ls) (h.mark ++ h.rest));
 }
 
-pub label_front : (text bytes rest : List ℕ) → IsLabel bytes → text ≡ length bytes ∷ (bytes ++ rest) → front_of text ≡ whole bytes rest
+pub label_front : (text bytes rest : List ℕ) → IsLabel bytes → text ≡ length bytes ∷ (bytes ++ rest)
+    → front_of text ≡ whole bytes rest
 label_front text bytes rest one e = ap front_of e ∙ front-whole bytes rest one.0 one.1
 
 -- a text has one part at most
-pub part_one : (labels others : List (List ℕ)) (text : List ℕ) (st other : Stop) → IsPart text labels st → IsPart text others other → (labels ≡ others) × (st ≡ other)
+pub part_one : (labels others : List (List ℕ)) (text : List ℕ) (st other : Stop) → IsPart text labels st
+    → IsPart text others other → (labels ≡ others) × (st ≡ other)
 part_one [] [] text st other h k = (refl, front_at_one st other (sym (part_mark text st h) ∙ part_mark text other k))
 part_one [] (o ∷ os) text st other h k =
     let b = after_label text o os other k in
@@ -72,16 +77,24 @@ part_one (l ∷ ls) (o ∷ os) text st other h k =
     (ap (λ x. x ∷ ls) e.0 ∙ ap (λ xs. o ∷ xs) more.0, more.1)
 
 -- whole labels at the front, after the first
-pub after_first_label : (text bytes : List ℕ) (ls : List (List ℕ)) → IsFront text (bytes ∷ ls) → (rest : List ℕ) × IsLabel bytes × (text ≡ length bytes ∷ (bytes ++ rest)) × IsFront rest ls
-after_first_label text bytes ls h =
-    (flat_map written ls ++ h.rest, h.each.0, h.whole ∙ append_assoc (written bytes) (flat_map written ls) h.rest, record { rest = h.rest; each = h.each.1; whole = refl })
+pub after_first_label : (text bytes : List ℕ) (ls : List (List ℕ)) → IsFront text (bytes ∷ ls)
+    → (rest : List ℕ) × IsLabel bytes × (text ≡ length bytes ∷ (bytes ++ rest)) × IsFront rest ls
+after_first_label text bytes ls h = (
+  flat_map written ls ++ h.rest,
+  h.each.0,
+  h.whole ∙ append_assoc (written bytes) (flat_map written ls) h.rest,
+  record { rest = h.rest; each = h.each.1; whole = refl },
+)
 
 -- a part of a front of a text is a part of the text
-pub part_longer : (text more : List ℕ) (labels : List (List ℕ)) (st : Stop) → IsPart text labels st → IsPart (text ++ more) labels st
+pub part_longer : (text more : List ℕ) (labels : List (List ℕ)) (st : Stop) → IsPart text labels st
+    → IsPart (text ++ more) labels st
 part_longer text more labels st h = record {
   mark = h.mark;
   rest = h.rest ++ more;
   each = h.each;
   stops = h.stops;
-  whole = ap (λ t. t ++ more) h.whole ∙ (append_assoc (flat_map written labels) (h.mark ++ h.rest) more ∙ ap (λ t. flat_map written labels ++ t) (append_assoc h.mark h.rest more));
+  whole = ap (λ t. t ++ more) h.whole
+      ∙ (append_assoc (flat_map written labels) (h.mark ++ h.rest) more
+      ∙ ap (λ t. flat_map written labels ++ t) (append_assoc h.mark h.rest more));
 }

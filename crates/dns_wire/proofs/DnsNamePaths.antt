@@ -1,19 +1,26 @@
 -- Falling paths against routes, and following without limits.
-use Rattle.std.proofs.Common.{◌≡◌, ℕ, ◌+◌, ◌-◌, ◌<◌, ◌≤◌, List, [], ◌∷◌, ◌++◌, length, take, drop, map, refl, sym, ap, ◌∙◌, subst, inl, inr, arith, append_assoc, slice_range}
+use Rattle.std.proofs.Common.{◌≡◌, ℕ, ◌+◌, ◌-◌, ◌<◌, ◌≤◌, List, [], ◌∷◌, ◌++◌, length, take, drop, map, refl, sym, ap}
+use Rattle.std.proofs.Common.{◌∙◌, subst, inl, inr, arith, append_assoc, slice_range}
 use Rattle.std.specs.List.{flat_map}
-use Rattle.std.proofs.lemmas.List.{append-nil, length-append, take-take, drop-take, length-take-le, take-append-drop, drop-append-le}
-use Rattle.dns_wire.specs.DnsName.{written, Stop, ends, goes_on, IsPart, IsFront, IsFalling, windows, HaveParts, last_window, joined, Follows, here, there}
+use Rattle.std.proofs.lemmas.List.{append-nil, length-append, take-take, drop-take, length-take-le, take-append-drop}
+use Rattle.std.proofs.lemmas.List.{drop-append-le}
+use Rattle.dns_wire.specs.DnsName.{written, Stop, ends, goes_on, IsPart, IsFront, IsFalling, windows, HaveParts}
+use Rattle.dns_wire.specs.DnsName.{last_window, joined, Follows, here, there}
 use Rattle.dns_wire.specs.DnsNameAhead.{whole, pointer, torn, front_of}
 use Rattle.dns_wire.proofs.DnsNameTurns.{whole_parts}
-use Rattle.dns_wire.proofs.DnsNameParts.{front_at, front_at_other, part_mark, after_label, label_front, part_one, after_first_label, part_longer}
+use Rattle.dns_wire.proofs.DnsNameParts.{front_at, front_at_other, part_mark, after_label, label_front, part_one}
+use Rattle.dns_wire.proofs.DnsNameParts.{after_first_label, part_longer}
 use Rattle.dns_wire.proofs.DnsNameRoutes.{Breaks, Ends, Route}
 
 -- the window from p up to above is what is left at p of the bytes open below above
 window_is : (message : List ℕ) (p above : ℕ) → p < above → drop p (take above message) ≡ slice_range message p above
-window_is message p above l = let e : above ≡ p + (above - p) = omega arith in ap (λ m. drop p (take m message)) e ∙ drop-take p (above - p) message
+window_is message p above l = let e : above ≡ p + (above - p) = omega arith in
+    ap (λ m. drop p (take m message)) e ∙ drop-take p (above - p) message
 
 -- a complete path is a route to an end
-pub complete_route : (targets : List ℕ) (parts : List (List (List ℕ))) (above : ℕ) (text message : List ℕ) → above ≤ length message → IsFalling above targets → HaveParts (text ∷ windows message above targets) (map goes_on targets ++ ends ∷ []) parts → Route Ends text (take above message) targets parts
+pub complete_route : (targets : List ℕ) (parts : List (List (List ℕ))) (above : ℕ) (text message : List ℕ)
+    → above ≤ length message → IsFalling above targets → HaveParts (text ∷ windows message above targets)
+    (map goes_on targets ++ ends ∷ []) parts → Route Ends text (take above message) targets parts
 complete_route [] [] above text message b f h = absurd h
 complete_route [] (labels ∷ []) above text message b f h = (labels, refl, h.0)
 complete_route [] (labels ∷ others ∷ more) above text message b f h = absurd h.1
@@ -24,11 +31,13 @@ complete_route (p ∷ ps) (labels ∷ more) above text message b f h =
       l,
       h.0,
       subst (λ t. Route Ends t (take p (take above message)) ps more) (sym (window_is message p above f.0))
-          (subst (λ r. Route Ends (slice_range message p above) r ps more) (sym (take-take p above message (omega (arith, f.0)))) rest),
+          (subst (λ r. Route Ends (slice_range message p above) r ps more)
+          (sym (take-take p above message (omega (arith, f.0)))) rest),
     )
 
 -- a route, as a path and how its last window closes
-pub record Opened (C : List ℕ → List ℕ → List (List ℕ) → Type 0) (above : ℕ) (text message targets : List ℕ) (parts : List (List (List ℕ))) : Type 0 where
+pub record Opened (C : List ℕ → List ℕ → List (List ℕ) → Type 0) (above : ℕ) (text message targets : List ℕ)
+    (parts : List (List (List ℕ))) : Type 0 where
   pub firsts : List (List (List ℕ))
   pub final : List (List ℕ)
   pub reach : List ℕ
@@ -37,7 +46,9 @@ pub record Opened (C : List ℕ → List ℕ → List (List ℕ) → Type 0) (ab
   pub leads : HaveParts (text ∷ windows message above targets) (map goes_on targets) firsts
   pub closes : C (last_window text message above targets) reach final
 
-pub opened : (C : List ℕ → List ℕ → List (List ℕ) → Type 0) (targets : List ℕ) (parts : List (List (List ℕ))) (above : ℕ) (text message : List ℕ) → above ≤ length message → Route C text (take above message) targets parts → Opened C above text message targets parts
+pub opened : (C : List ℕ → List ℕ → List (List ℕ) → Type 0) (targets : List ℕ) (parts : List (List (List ℕ)))
+    (above : ℕ) (text message : List ℕ) → above ≤ length message → Route C text (take above message) targets parts
+    → Opened C above text message targets parts
 opened C [] parts above text message b h = record {
   firsts = [];
   final = h.0;
@@ -64,9 +75,14 @@ opened C (p ∷ ps) (labels ∷ more) above text message b h =
     }
 
 -- what is behind the first label where a text breaks
-break_after : (text reach l : List ℕ) (ls : List (List ℕ)) → Breaks text reach (l ∷ ls) → (rest : List ℕ) × (front_of text ≡ whole l rest) × Breaks rest reach ls
-break_after text reach l ls b =
-    (flat_map written ls ++ b.rest, label_front text l (flat_map written ls ++ b.rest) b.each.0 (b.is ∙ append_assoc (written l) (flat_map written ls) b.rest), record { rest = b.rest; each = b.each.1; is = refl; bad = b.bad })
+break_after : (text reach l : List ℕ) (ls : List (List ℕ)) → Breaks text reach (l ∷ ls)
+    → (rest : List ℕ) × (front_of text ≡ whole l rest) × Breaks rest reach ls
+break_after text reach l ls b = (
+  flat_map written ls ++ b.rest,
+  label_front text l (flat_map written ls ++ b.rest) b.each.0
+      (b.is ∙ append_assoc (written l) (flat_map written ls) b.rest),
+  record { rest = b.rest; each = b.each.1; is = refl; bad = b.bad },
+)
 
 -- a break is no whole label
 break_label : (text reach bytes rest : List ℕ) → Breaks text reach [] → front_of text ≡ whole bytes rest → ⊥
@@ -83,7 +99,8 @@ pointer_at_one ends p e = cc
 pointer_at_one (goes_on q) p e = let k : q ≡ p = cc in ap goes_on k
 
 -- where a text breaks it has no part, but one that goes on out of the open bytes
-pub break_part : (front labels : List (List ℕ)) (text reach : List ℕ) (st : Stop) → Breaks text reach front → IsPart text labels st → (p : ℕ) × (st ≡ goes_on p) × (length reach ≤ p)
+pub break_part : (front labels : List (List ℕ)) (text reach : List ℕ) (st : Stop) → Breaks text reach front
+    → IsPart text labels st → (p : ℕ) × (st ≡ goes_on p) × (length reach ≤ p)
 break_part [] [] text reach st b h =
     let at : front_of b.rest ≡ front_at st = ap front_of (sym b.is) ∙ part_mark text st h in
     elim b.bad [
@@ -103,7 +120,8 @@ break_part (f ∷ fs) (l ∷ ls) text reach st b h =
     break_part fs ls k.rest reach st (subst (λ r. Breaks r reach fs) e.1 a.2) k.part
 
 -- the labels before a break are the longest list of whole labels
-pub break_longest : (front others : List (List ℕ)) (text reach : List ℕ) → Breaks text reach front → IsFront text others → length others ≤ length front
+pub break_longest : (front others : List (List ℕ)) (text reach : List ℕ) → Breaks text reach front → IsFront text others
+    → length others ≤ length front
 break_longest front [] text reach b h = omega arith
 break_longest [] (l ∷ ls) text reach b h =
     let a = after_first_label text l ls h in
@@ -116,7 +134,10 @@ break_longest (f ∷ fs) (l ∷ ls) text reach b h =
     omega arith
 
 -- no falling path is longer than a route to a break
-pub break_route_longest : (others targets : List ℕ) (other_parts parts : List (List (List ℕ))) (above : ℕ) (text message : List ℕ) → above ≤ length message → Route Breaks text (take above message) targets parts → IsFalling above others → HaveParts (text ∷ windows message above others) (map goes_on others) other_parts → length others ≤ length targets
+pub break_route_longest : (others targets : List ℕ) (other_parts parts : List (List (List ℕ))) (above : ℕ)
+    (text message : List ℕ) → above ≤ length message → Route Breaks text (take above message) targets parts
+    → IsFalling above others → HaveParts (text ∷ windows message above others) (map goes_on others) other_parts
+    → length others ≤ length targets
 break_route_longest [] targets other_parts parts above text message b r f h = omega arith
 break_route_longest (q ∷ qs) targets [] parts above text message b r f h = absurd h
 break_route_longest (q ∷ qs) [] (labels ∷ more) parts above text message b r f h =
@@ -130,11 +151,13 @@ break_route_longest (q ∷ qs) (p ∷ ps) (labels ∷ more) (first ∷ rest) abo
     subst (λ t. Route Breaks t (take q message) ps rest) (window_is message q above f.0)
     (subst (λ r. Route Breaks (drop q (take above message)) r ps rest) (take-take q above message (omega (arith, f.0)))
     (subst (λ n. Route Breaks (drop n (take above message)) (take n (take above message)) ps rest) e r.2)) in
-    let k = break_route_longest qs ps more rest q (slice_range message q above) message (omega (arith, f.0)) at f.1 h.1 in
+    let k = break_route_longest qs ps more rest q (slice_range message q above) message
+    (omega (arith, f.0)) at f.1 h.1 in
     omega arith
 
 -- a route to an end is no route to a break
-pub no_break : (targets others : List ℕ) (parts other_parts : List (List (List ℕ))) (text reach : List ℕ) → Route Ends text reach targets parts → Route Breaks text reach others other_parts → ⊥
+pub no_break : (targets others : List ℕ) (parts other_parts : List (List (List ℕ))) (text reach : List ℕ)
+    → Route Ends text reach targets parts → Route Breaks text reach others other_parts → ⊥
 no_break [] [] parts other_parts text reach r b = let k = break_part b.0 r.0 text reach ends b.2 r.2 in cc
 no_break [] (q ∷ qs) parts [] text reach r b = absurd b
 no_break [] (q ∷ qs) parts (o ∷ os) text reach r b = let k = part_one r.0 o text ends (goes_on q) r.2 b.1 in cc
@@ -147,33 +170,47 @@ no_break (p ∷ ps) (q ∷ qs) (labels ∷ more) [] text reach r b = absurd b
 no_break (p ∷ ps) (q ∷ qs) (labels ∷ more) (o ∷ os) text reach r b =
     let one = part_one labels o text (goes_on p) (goes_on q) r.1 b.1 in
     let e : q ≡ p = cc in
-    no_break ps qs more os (drop p reach) (take p reach) r.2 (subst (λ n. Route Breaks (drop n reach) (take n reach) qs os) e b.2)
+    no_break ps qs more os (drop p reach) (take p reach) r.2
+    (subst (λ n. Route Breaks (drop n reach) (take n reach) qs os) e b.2)
 
 -- following finds what a route to an end has
-pub route_follows : (targets : List ℕ) (parts : List (List (List ℕ))) (text after reach closed message : List ℕ) → message ≡ reach ++ closed → Route Ends text reach targets parts → Follows message (text ++ after) (joined parts)
+pub route_follows : (targets : List ℕ) (parts : List (List (List ℕ))) (text after reach closed message : List ℕ)
+    → message ≡ reach ++ closed → Route Ends text reach targets parts → Follows message (text ++ after) (joined parts)
 route_follows [] parts text after reach closed message e r =
-    rw r.1 (here (subst (λ ls. IsPart (text ++ after) ls ends) (sym (append-nil r.0)) (part_longer text after r.0 ends r.2)))
+    rw r.1 (here
+    (subst (λ ls. IsPart (text ++ after) ls ends) (sym (append-nil r.0)) (part_longer text after r.0 ends r.2)))
 route_follows (p ∷ ps) [] text after reach closed message e r = absurd r
 route_follows (p ∷ ps) (labels ∷ more) text after reach closed message e r =
     let l : p < length message = omega (arith, ap length e, length-append reach closed, r.0) in
-    let d : drop p reach ++ closed ≡ drop p message = sym (ap (λ m. drop p m) e ∙ drop-append-le p reach closed (omega (arith, r.0))) in
-    let m : message ≡ take p reach ++ (drop p reach ++ closed) = e ∙ (ap (λ t. t ++ closed) (sym (take-append-drop p reach)) ∙ append_assoc (take p reach) (drop p reach) closed) in
+    let d : drop p reach ++ closed ≡ drop p message =
+    sym (ap (λ m. drop p m) e ∙ drop-append-le p reach closed (omega (arith, r.0))) in
+    let m : message ≡ take p reach ++ (drop p reach ++ closed) =
+    e ∙ (ap (λ t. t ++ closed) (sym (take-append-drop p reach)) ∙ append_assoc (take p reach) (drop p reach) closed)
+    in
     let rest = route_follows ps more (drop p reach) closed (take p reach) (drop p reach ++ closed) message m r.2 in
-    there labels (joined more) p (part_longer text after labels (goes_on p) r.1) l (subst (λ t. Follows message t (joined more)) d rest) refl
+    there labels (joined more) p (part_longer text after labels (goes_on p) r.1) l
+    (subst (λ t. Follows message t (joined more)) d rest) refl
 
 -- following finds one list of labels
-pub follows_one : (message text : List ℕ) (labels others : List (List ℕ)) → Follows message text labels → Follows message text others → others ≡ labels
+pub follows_one : (message text : List ℕ) (labels others : List (List ℕ)) → Follows message text labels
+    → Follows message text others → others ≡ labels
 follows_one message text labels others (here h) (here k) = sym (part_one labels others text ends ends h k).0
-follows_one message text labels others (here h) (there first more place k l f e) = let one = part_one labels first text ends (goes_on place) h k in cc
-follows_one message text labels others (there first more place k l f e) (here h) = let one = part_one others first text ends (goes_on place) h k in cc
+follows_one message text labels others (here h) (there first more place k l f e) = let one =
+    part_one labels first text ends (goes_on place) h k in cc
+follows_one message text labels others (there first more place k l f e) (here h) = let one =
+    part_one others first text ends (goes_on place) h k in cc
 follows_one message text labels others (there first more place k l f e) (there first' more' place' k' l' f' e') =
     let one = part_one first first' text (goes_on place) (goes_on place') k k' in
     let same : place' ≡ place = cc in
-    let rest = follows_one message (drop place message) more more' f (subst (λ n. Follows message (drop n message) more') same f') in
+    let rest = follows_one message (drop place message) more more' f
+    (subst (λ n. Follows message (drop n message) more') same f') in
     cc
 
 -- no falling path is longer than a route to an end
-pub end_route_longest : (others targets : List ℕ) (other_parts parts : List (List (List ℕ))) (above : ℕ) (text message : List ℕ) → above ≤ length message → Route Ends text (take above message) targets parts → IsFalling above others → HaveParts (text ∷ windows message above others) (map goes_on others) other_parts → length others ≤ length targets
+pub end_route_longest : (others targets : List ℕ) (other_parts parts : List (List (List ℕ))) (above : ℕ)
+    (text message : List ℕ) → above ≤ length message → Route Ends text (take above message) targets parts
+    → IsFalling above others → HaveParts (text ∷ windows message above others) (map goes_on others) other_parts
+    → length others ≤ length targets
 end_route_longest [] targets other_parts parts above text message b r f h = omega arith
 end_route_longest (q ∷ qs) targets [] parts above text message b r f h = absurd h
 end_route_longest (q ∷ qs) [] (labels ∷ more) parts above text message b r f h =

@@ -1,8 +1,10 @@
 -- What stands at the front of a text, and one turn of the answers to come.
-use Rattle.std.proofs.Common.{◌≡◌, ℕ, ◌+◌, ◌*◌, ◌%◌, ◌<◌, ◌≤◌, Bool, true, false, cond, ltb, eqb, List, [], ◌∷◌, ◌++◌, length, take, drop, refl, sym, ap, ◌∙◌, ◌⊎◌, inl, inr, zero, suc, arith}
+use Rattle.std.proofs.Common.{◌≡◌, ℕ, ◌+◌, ◌*◌, ◌%◌, ◌<◌, ◌≤◌, Bool, true, false, cond, ltb, eqb, List, [], ◌∷◌, ◌++◌}
+use Rattle.std.proofs.Common.{length, take, drop, refl, sym, ap, ◌∙◌, ◌⊎◌, inl, inr, zero, suc, arith}
 use Rattle.std.proofs.lemmas.Bool.{ltb-true, ltb-false, lt-ltb, le-ltb, eqb-true, eqb-false, ne_eqb, cases_lt}
 use Rattle.std.proofs.lemmas.List.{take-append-drop, length-take-le, length-drop, length-append, take_at, drop_at}
-use Rattle.dns_wire.specs.DnsNameAhead.{Front, whole, pointer, stop, torn, front_of, pointer_at, by_front, answers, ahead_of}
+use Rattle.dns_wire.specs.DnsNameAhead.{Front, whole, pointer, stop, torn, front_of, pointer_at, by_front, answers}
+use Rattle.dns_wire.specs.DnsNameAhead.{ahead_of}
 use Rattle.dns_wire.specs.DnsNameWalk.{Coming, label, at_end, at_fault}
 
 -- which way a test went
@@ -40,7 +42,8 @@ no_pointer_stop x (y ∷ ys) e = cc
 pub whole_parts : (a b c d : List ℕ) → whole a b ≡ whole c d → (a ≡ c) × (b ≡ d)
 whole_parts a b c d e = (cc, cc)
 
-whole_at : (x : ℕ) (xs : List ℕ) (b r : List ℕ) → (eqb x 0 ≡ false) → x < 64 → x ≤ length xs → whole (take x xs) (drop x xs) ≡ whole b r → Whole (x ∷ xs) b r
+whole_at : (x : ℕ) (xs : List ℕ) (b r : List ℕ) → (eqb x 0 ≡ false) → x < 64 → x ≤ length xs
+    → whole (take x xs) (drop x xs) ≡ whole b r → Whole (x ∷ xs) b r
 whole_at x xs b r n h l e =
     let p = whole_parts _ _ _ _ e in
     let k : length b ≡ x = ap length (sym p.0) ∙ length-take-le x xs l in
@@ -112,11 +115,13 @@ stop-front (x ∷ xs) e =
     ]
 
 -- a written label is at the front
-pub front-whole : (bytes rest : List ℕ) → 1 ≤ length bytes → length bytes ≤ 63 → front_of (length bytes ∷ (bytes ++ rest)) ≡ whole bytes rest
+pub front-whole : (bytes rest : List ℕ) → 1 ≤ length bytes → length bytes ≤ 63
+    → front_of (length bytes ∷ (bytes ++ rest)) ≡ whole bytes rest
 front-whole bytes rest a b =
     let e0 : eqb (length bytes) 0 ≡ false = ne_eqb _ _ (λ e. omega arith) in
     let e1 : ltb (length bytes) 64 ≡ true = lt-ltb _ _ (omega arith) in
-    let e2 : ltb (length (bytes ++ rest)) (length bytes) ≡ false = le-ltb _ _ (omega (arith, length-append bytes rest)) in
+    let e2 : ltb (length (bytes ++ rest)) (length bytes) ≡ false =
+    le-ltb _ _ (omega (arith, length-append bytes rest)) in
     rw (e0, e1, e2, take_at bytes rest (length bytes) refl, drop_at bytes rest (length bytes) refl) refl
 
 pub front-pointer : (x y : ℕ) (rest : List ℕ) → 192 ≤ x → front_of (x ∷ y ∷ rest) ≡ pointer (256 * (x % 64) + y)
@@ -133,24 +138,31 @@ Whole-length text b r h = omega (arith, ap length h.is, length-append b r)
 pub Points-length : (text : List ℕ) (p : ℕ) → Points text p → 2 ≤ length text
 Points-length text p h = omega (arith, ap length h.is)
 
-pub parts_length : (p : ℕ) (reach : List ℕ) → p < length reach → length (drop p reach) + length (take p reach) ≡ length reach
+pub parts_length : (p : ℕ) (reach : List ℕ) → p < length reach
+    → length (drop p reach) + length (take p reach) ≡ length reach
 parts_length p reach h = omega (arith, length-drop p reach, length-take-le p reach (omega arith))
 
 -- two ways to go on that agree where fewer bytes are left
-same_turn : (f : Front) (n : ℕ) (text reach : List ℕ) (go on : ℕ → List ℕ → List ℕ → List Coming) → front_of text ≡ f → ((m : ℕ) (t r : List ℕ) → length t + length r + 2 ≤ length text + length reach → go m t r ≡ on m t r) → by_front f n reach go ≡ by_front f n reach on
+same_turn : (f : Front) (n : ℕ) (text reach : List ℕ) (go on : ℕ → List ℕ → List ℕ → List Coming) → front_of text ≡ f
+    → ((m : ℕ) (t r : List ℕ) → length t + length r + 2 ≤ length text + length reach → go m t r ≡ on m t r)
+    → by_front f n reach go ≡ by_front f n reach on
 same_turn (whole b r) n text reach go on e h =
     let w = Whole-front text b r e in
-    ap (λ cs. record { answer = label b; steps = n + 1 } ∷ cs) (h (n + 1) r reach (omega (arith, Whole-length text b r w, w.some)))
+    ap (λ cs. record { answer = label b; steps = n + 1 } ∷ cs)
+    (h (n + 1) r reach (omega (arith, Whole-length text b r w, w.some)))
 same_turn (pointer p) n text reach go on e h =
     elim (cases_lt p (length reach)) [
-      | inl l ↦ rw (lt-ltb p (length reach) l) (h (n + 1) (drop p reach) (take p reach) (omega (arith, parts_length p reach l, Points-length text p (Points-front text p e))))
+      | inl l ↦ rw (lt-ltb p (length reach) l)
+          (h (n + 1) (drop p reach) (take p reach)
+          (omega (arith, parts_length p reach l, Points-length text p (Points-front text p e))))
       | inr l ↦ rw (le-ltb p (length reach) l) refl
     ]
 same_turn stop n text reach go on e h = refl
 same_turn torn n text reach go on e h = refl
 
 -- what is enough is enough
-pub answers_enough : (f g n : ℕ) (text reach : List ℕ) → length text + length reach ≤ f → length text + length reach ≤ g → answers f n text reach ≡ answers g n text reach
+pub answers_enough : (f g n : ℕ) (text reach : List ℕ) → length text + length reach ≤ f → length text + length reach ≤ g
+    → answers f n text reach ≡ answers g n text reach
 unfolding answers
 answers_enough zero zero n text reach h k = refl
 answers_enough zero (suc g) n [] reach h k = refl
@@ -158,31 +170,46 @@ answers_enough zero (suc g) n (x ∷ xs) reach h k = absurd (omega arith)
 answers_enough (suc f) zero n [] reach h k = refl
 answers_enough (suc f) zero n (x ∷ xs) reach h k = absurd (omega arith)
 answers_enough (suc f) (suc g) n text reach h k =
-    same_turn (front_of text) n text reach (answers f) (answers g) refl (λ m t r l. answers_enough f g m t r (omega arith) (omega arith))
+    same_turn (front_of text) n text reach (answers f) (answers g) refl
+    (λ m t r l. answers_enough f g m t r (omega arith) (omega arith))
 
 -- the answers to come, in one turn
-pub ahead_turn : (n : ℕ) (text reach : List ℕ) → ahead_of false n text reach ≡ by_front (front_of text) n reach (ahead_of false)
+pub ahead_turn : (n : ℕ) (text reach : List ℕ) → ahead_of false n text reach
+    ≡ by_front (front_of text) n reach (ahead_of false)
 unfolding answers
 ahead_turn n text reach =
-    answers_enough (length text + length reach) (suc (length text + length reach)) n text reach (omega arith) (omega arith)
-    ∙ same_turn (front_of text) n text reach (answers (length text + length reach)) (ahead_of false) refl (λ m t r l. answers_enough (length text + length reach) (length t + length r) m t r (omega arith) (omega arith))
+    answers_enough (length text + length reach) (suc (length text + length reach)) n text reach (omega arith)
+    (omega arith)
+    ∙ same_turn (front_of text) n text reach (answers (length text + length reach)) (ahead_of false) refl
+    (λ m t r l. answers_enough (length text + length reach) (length t + length r) m t r (omega arith) (omega arith))
 
 -- what is to come, by what stands at the front
-pub ahead_label : (n : ℕ) (text reach b r : List ℕ) (old : List Coming) → whole b r ≡ front_of text → ahead_of false n text reach ≡ old → old ≡ record { answer = label b; steps = n + 1 } ∷ ahead_of false (n + 1) r reach
-ahead_label n text reach b r old e h = sym h ∙ (ahead_turn n text reach ∙ ap (λ f. by_front f n reach (ahead_of false)) (sym e))
+pub ahead_label : (n : ℕ) (text reach b r : List ℕ) (old : List Coming) → whole b r ≡ front_of text
+    → ahead_of false n text reach ≡ old → old ≡ record { answer = label b; steps = n + 1 }
+    ∷ ahead_of false (n + 1) r reach
+ahead_label n text reach b r old e h =
+    sym h ∙ (ahead_turn n text reach ∙ ap (λ f. by_front f n reach (ahead_of false)) (sym e))
 
-pub ahead_pointer : (n : ℕ) (text reach : List ℕ) (p : ℕ) (old : List Coming) → pointer p ≡ front_of text → p < length reach → ahead_of false n text reach ≡ old → ahead_of false (n + 1) (drop p reach) (take p reach) ≡ old
+pub ahead_pointer : (n : ℕ) (text reach : List ℕ) (p : ℕ) (old : List Coming) → pointer p ≡ front_of text
+    → p < length reach → ahead_of false n text reach ≡ old → ahead_of false (n + 1) (drop p reach) (take p reach) ≡ old
 ahead_pointer n text reach p old e l h =
-    let t : ahead_of false n text reach ≡ by_front (pointer p) n reach (ahead_of false) = ahead_turn n text reach ∙ ap (λ f. by_front f n reach (ahead_of false)) (sym e) in
+    let t : ahead_of false n text reach ≡ by_front (pointer p) n reach (ahead_of false) =
+    ahead_turn n text reach ∙ ap (λ f. by_front f n reach (ahead_of false)) (sym e) in
     rw (lt-ltb p (length reach) l) at (sym t ∙ h)
 
-pub ahead_far : (n : ℕ) (text reach : List ℕ) (p : ℕ) (old : List Coming) → pointer p ≡ front_of text → length reach ≤ p → ahead_of false n text reach ≡ old → old ≡ at_fault n
+pub ahead_far : (n : ℕ) (text reach : List ℕ) (p : ℕ) (old : List Coming) → pointer p ≡ front_of text → length reach ≤ p
+    → ahead_of false n text reach ≡ old → old ≡ at_fault n
 ahead_far n text reach p old e l h =
-    let t : ahead_of false n text reach ≡ by_front (pointer p) n reach (ahead_of false) = ahead_turn n text reach ∙ ap (λ f. by_front f n reach (ahead_of false)) (sym e) in
+    let t : ahead_of false n text reach ≡ by_front (pointer p) n reach (ahead_of false) =
+    ahead_turn n text reach ∙ ap (λ f. by_front f n reach (ahead_of false)) (sym e) in
     rw (le-ltb p (length reach) l) at (sym h ∙ t)
 
-pub ahead_stop : (n : ℕ) (text reach : List ℕ) (old : List Coming) → stop ≡ front_of text → ahead_of false n text reach ≡ old → old ≡ at_end n
-ahead_stop n text reach old e h = sym h ∙ (ahead_turn n text reach ∙ ap (λ f. by_front f n reach (ahead_of false)) (sym e))
+pub ahead_stop : (n : ℕ) (text reach : List ℕ) (old : List Coming) → stop ≡ front_of text
+    → ahead_of false n text reach ≡ old → old ≡ at_end n
+ahead_stop n text reach old e h =
+    sym h ∙ (ahead_turn n text reach ∙ ap (λ f. by_front f n reach (ahead_of false)) (sym e))
 
-pub ahead_torn : (n : ℕ) (text reach : List ℕ) (old : List Coming) → torn ≡ front_of text → ahead_of false n text reach ≡ old → old ≡ at_fault n
-ahead_torn n text reach old e h = sym h ∙ (ahead_turn n text reach ∙ ap (λ f. by_front f n reach (ahead_of false)) (sym e))
+pub ahead_torn : (n : ℕ) (text reach : List ℕ) (old : List Coming) → torn ≡ front_of text
+    → ahead_of false n text reach ≡ old → old ≡ at_fault n
+ahead_torn n text reach old e h =
+    sym h ∙ (ahead_turn n text reach ∙ ap (λ f. by_front f n reach (ahead_of false)) (sym e))

@@ -1,12 +1,14 @@
 -- How many bytes the part at the front of a text takes, label by label.
-use Rattle.std.proofs.Common.{◌≡◌, ℕ, ◌+◌, ◌-◌, ◌≤◌, List, [], ◌∷◌, ◌++◌, length, take, drop, refl, sym, ap, ◌∙◌, subst, arith, append_assoc}
+use Rattle.std.proofs.Common.{◌≡◌, ℕ, ◌+◌, ◌-◌, ◌≤◌, List, [], ◌∷◌, ◌++◌, length, take, drop, refl, sym, ap, ◌∙◌, subst}
+use Rattle.std.proofs.Common.{arith, append_assoc}
 use Rattle.std.specs.List.{flat_map}
 use Rattle.std.proofs.lemmas.List.{length-append, take_at, drop_at, take_rest, drop-drop, length-drop}
 use Rattle.dns_wire.specs.DnsName.{written, Stop, ends, goes_on, IsMark, IsPart}
 use Rattle.dns_wire.specs.DnsNameAhead.{whole, pointer, stop, torn, front_of}
 use Rattle.dns_wire.specs.DnsPart.{IsSplit, BeginsWithPart}
 use Rattle.dns_wire.proofs.DnsNameTurns.{Whole-front, Points-front, stop-front, whole_parts}
-use Rattle.dns_wire.proofs.DnsNameParts.{front_at, front_at_other, part_mark, after_label, part_cons, part_one, label_front}
+use Rattle.dns_wire.proofs.DnsNameParts.{front_at, front_at_other, part_mark, after_label, part_cons, part_one}
+use Rattle.dns_wire.proofs.DnsNameParts.{label_front}
 
 -- a mark has one byte or two
 mark_len : (st : Stop) (mark : List ℕ) → IsMark mark st → front_at st ≡ stop → length mark ≡ 1
@@ -23,7 +25,8 @@ no_torn (goes_on p) e = cc
 
 -- ---- behind a label
 
-pub label_more : (text bytes rest : List ℕ) → whole bytes rest ≡ front_of text → (k : ℕ) → BeginsWithPart rest k → BeginsWithPart text ((1 + length bytes) + k)
+pub label_more : (text bytes rest : List ℕ) → whole bytes rest ≡ front_of text → (k : ℕ) → BeginsWithPart rest k
+    → BeginsWithPart text ((1 + length bytes) + k)
 unfolding part_cons
 label_more text bytes rest e k h =
     let w = Whole-front text bytes rest (sym e) in
@@ -39,30 +42,41 @@ pub record Fewer (rest : List ℕ) (len done : ℕ) : Type 0 where
   pub is : len ≡ done + more
   pub begins : BeginsWithPart rest more
 
-label_fewer_by : (text bytes rest : List ℕ) (len : ℕ) (labels : List (List ℕ)) (st : Stop) (part : IsPart text labels st) → len + length part.rest ≡ length text → whole bytes rest ≡ front_of text → Fewer rest len (1 + length bytes)
+label_fewer_by : (text bytes rest : List ℕ) (len : ℕ) (labels : List (List ℕ)) (st : Stop)
+    (part : IsPart text labels st) → len + length part.rest ≡ length text → whole bytes rest ≡ front_of text
+    → Fewer rest len (1 + length bytes)
 unfolding after_label
-label_fewer_by text bytes rest len [] st part count e = absurd (front_at_other st bytes rest (sym (part_mark text st part) ∙ sym e))
+label_fewer_by text bytes rest len [] st part count e =
+    absurd (front_at_other st bytes rest (sym (part_mark text st part) ∙ sym e))
 label_fewer_by text bytes rest len (l ∷ ls) st part count e =
     let a = after_label text l ls st part in
     let same = whole_parts _ _ _ _ (sym (label_front text l a.rest a.one a.is) ∙ sym e) in
     let long : length text ≡ 1 + (length l + length a.rest) = ap length a.is ∙ omega (arith, length-append l a.rest) in
-    let behind : length a.rest ≡ length (flat_map written ls) + (length part.mark + length part.rest) = omega (arith, length-append (flat_map written ls) (part.mark ++ part.rest), length-append part.mark part.rest) in
+    let behind : length a.rest ≡ length (flat_map written ls) + (length part.mark + length part.rest) =
+    omega (arith, length-append (flat_map written ls) (part.mark ++ part.rest), length-append part.mark part.rest)
+    in
     rw (sym same.0, sym same.1) (record {
       more = len - (1 + length l);
       is = omega (arith, long, behind, count);
       begins = record { labels = ls; stop = st; part = a.part; count = omega (arith, long, behind, count) };
     })
 
-pub label_fewer : (text bytes rest : List ℕ) → whole bytes rest ≡ front_of text → (len : ℕ) → BeginsWithPart text len → Fewer rest len (1 + length bytes)
+pub label_fewer : (text bytes rest : List ℕ) → whole bytes rest ≡ front_of text → (len : ℕ) → BeginsWithPart text len
+    → Fewer rest len (1 + length bytes)
 label_fewer text bytes rest e len h = label_fewer_by text bytes rest len h.labels h.stop h.part h.count e
 
 -- what is left of a text behind a label that stands somewhere in it
-pub behind_label : (text bytes rest : List ℕ) (len : ℕ) → len ≤ length text → whole bytes rest ≡ front_of (drop len text)
+pub behind_label : (text bytes rest : List ℕ) (len : ℕ) → len ≤ length text
+    → whole bytes rest ≡ front_of (drop len text)
     → (rest ≡ drop (len + (1 + length bytes)) text) × (len + (1 + length bytes) ≤ length text)
 behind_label text bytes rest len inside e =
     let w = Whole-front (drop len text) bytes rest (sym e) in
-    let d : drop (1 + length bytes) (drop len text) ≡ drop (len + (1 + length bytes)) text = drop-drop (1 + length bytes) len text in
-    (sym (sym d ∙ ap (λ t. drop (1 + length bytes) t) w.is ∙ drop_at (length bytes ∷ bytes) rest (1 + length bytes) (omega arith)), omega (arith, ap length w.is, length-append bytes rest, length-drop len text))
+    let d : drop (1 + length bytes) (drop len text) ≡ drop (len + (1 + length bytes)) text =
+    drop-drop (1 + length bytes) len text in (
+      sym (sym d ∙ ap (λ t. drop (1 + length bytes) t) w.is ∙ drop_at (length bytes ∷ bytes) rest (1 + length bytes)
+          (omega arith)),
+      omega (arith, ap length w.is, length-append bytes rest, length-drop len text),
+    )
 
 -- ---- at a mark, and at nothing whole
 
@@ -72,7 +86,13 @@ pointer_len text p e =
     record {
       labels = [];
       stop = goes_on p;
-      part = record { mark = at.first ∷ at.second ∷ []; rest = at.rest; each = tt; stops = (at.first, at.second, refl, at.high, at.low); whole = at.is };
+      part = record {
+        mark = at.first ∷ at.second ∷ [];
+        rest = at.rest;
+        each = tt;
+        stops = (at.first, at.second, refl, at.high, at.low);
+        whole = at.is;
+      };
       count = omega (arith, ap length at.is);
     }
 
@@ -93,7 +113,8 @@ pointer_one text p e len h = by h.labels h.part h.count
     by [] part count =
         let two = pointer_mark_len h.stop part.mark p part.stops (sym (part_mark text h.stop part) ∙ sym e) in
         omega (arith, count, two, ap length part.whole, length-append part.mark part.rest)
-    by (l ∷ ls) part count = let a = after_label text l ls h.stop part in let at = label_front text l a.rest a.one a.is in cc
+    by (l ∷ ls) part count = let a = after_label text l ls h.stop part in let at =
+        label_front text l a.rest a.one a.is in cc
 
 pub end_one : (text : List ℕ) → stop ≡ front_of text → (len : ℕ) → BeginsWithPart text len → len ≡ 1
 end_one text e len h = by h.labels h.part h.count
@@ -102,7 +123,8 @@ end_one text e len h = by h.labels h.part h.count
     by [] part count =
         let one = mark_len h.stop part.mark part.stops (sym (part_mark text h.stop part) ∙ sym e) in
         omega (arith, count, one, ap length part.whole, length-append part.mark part.rest)
-    by (l ∷ ls) part count = let a = after_label text l ls h.stop part in let at = label_front text l a.rest a.one a.is in cc
+    by (l ∷ ls) part count = let a = after_label text l ls h.stop part in let at =
+        label_front text l a.rest a.one a.is in cc
 
 pub torn_none : (text : List ℕ) → torn ≡ front_of text → (len : ℕ) → BeginsWithPart text len → ⊥
 torn_none text e len h = by h.labels h.part
@@ -119,11 +141,18 @@ split_begins text name rest h =
     record {
       labels = p.labels;
       stop = p.stop;
-      part = record { mark = p.mark; rest = rest; each = p.each; stops = p.stops; whole = h.whole ∙ (ap (λ t. t ++ rest) p.whole ∙ append_assoc (flat_map written p.labels) p.mark rest) };
+      part = record {
+        mark = p.mark;
+        rest = rest;
+        each = p.each;
+        stops = p.stops;
+        whole = h.whole ∙ (ap (λ t. t ++ rest) p.whole ∙ append_assoc (flat_map written p.labels) p.mark rest);
+      };
       count = sym (ap length h.whole ∙ length-append name rest);
     }
 
-pub begins_split : (text : List ℕ) (len : ℕ) → BeginsWithPart text len → (len ≤ length text) × IsSplit text (take len text) (drop len text)
+pub begins_split : (text : List ℕ) (len : ℕ) → BeginsWithPart text len
+    → (len ≤ length text) × IsSplit text (take len text) (drop len text)
 begins_split text len h =
     let p = h.part in
     let name : List ℕ = flat_map written h.labels ++ p.mark in
@@ -133,15 +162,26 @@ begins_split text len h =
     let back : drop len text ≡ p.rest = ap (λ t. drop len t) is ∙ drop_at name p.rest len long in (
       omega (arith, h.count),
       record {
-        name_ = record { labels = h.labels; stop = h.stop; mark = p.mark; each = p.each; stops = p.stops; whole = front };
+        name_ = record {
+          labels = h.labels;
+          stop = h.stop;
+          mark = p.mark;
+          each = p.each;
+          stops = p.stops;
+          whole = front;
+        };
         whole = rw (front, back) is;
       },
     )
 
 -- the two parts of a text, where the first is known to be so long
-pub split_at : (text name rest : List ℕ) (len : ℕ) → IsSplit text name rest → len ≡ length name → (take len text ≡ name) × (take (length text - len) (drop len text) ≡ rest)
-split_at text name rest len h e =
-    (ap (λ t. take len t) h.whole ∙ take_at name rest len (sym e), take_rest text len ∙ (ap (λ t. drop len t) h.whole ∙ drop_at name rest len (sym e)))
+pub split_at : (text name rest : List ℕ) (len : ℕ) → IsSplit text name rest → len ≡ length name
+    → (take len text ≡ name) × (take (length text - len) (drop len text) ≡ rest)
+split_at text name rest len h e = (
+  ap (λ t. take len t) h.whole ∙ take_at name rest len (sym e),
+  take_rest text len
+      ∙ (ap (λ t. drop len t) h.whole ∙ drop_at name rest len (sym e)),
+)
 
 -- a text begins with one part at the most
 same_mark_len : (st : Stop) (mark other : List ℕ) → IsMark mark st → IsMark other st → length mark ≡ length other
@@ -151,8 +191,11 @@ same_mark_len (goes_on p) mark other h k = ap length h.2 ∙ sym (ap length k.2)
 pub begins_one : (text : List ℕ) (m n : ℕ) → BeginsWithPart text m → BeginsWithPart text n → m ≡ n
 begins_one text m n h k =
     let one = part_one h.labels k.labels text h.stop k.stop h.part k.part in
-    let marks = same_mark_len k.stop h.part.mark k.part.mark (subst (λ st. IsMark h.part.mark st) one.1 h.part.stops) k.part.stops in
-    let firsts : length (flat_map written h.labels) ≡ length (flat_map written k.labels) = ap (λ ls. length (flat_map written ls)) one.0 in
+    let marks =
+    same_mark_len k.stop h.part.mark k.part.mark (subst (λ st. IsMark h.part.mark st) one.1 h.part.stops)
+    k.part.stops in
+    let firsts : length (flat_map written h.labels) ≡ length (flat_map written k.labels) =
+    ap (λ ls. length (flat_map written ls)) one.0 in
     omega (
       arith,
       marks,

@@ -1,5 +1,6 @@
 -- The text of a question, and what is read in it.
-use Rattle.std.proofs.Common.{◌≡◌, ℕ, ◌<◌, ◌≤◌, ◌^◌, Bool, true, false, List, [], ◌∷◌, ◌++◌, length, take, drop, refl, sym, ap, ◌∙◌, subst, arith, append_assoc}
+use Rattle.std.proofs.Common.{◌≡◌, ℕ, ◌<◌, ◌≤◌, ◌^◌, Bool, true, false, List, [], ◌∷◌, ◌++◌, length, take, drop, refl}
+use Rattle.std.proofs.Common.{sym, ap, ◌∙◌, subst, arith, append_assoc}
 use Rattle.std.proofs.lemmas.List.{append-nil, length-append, take_at, drop_at}
 use Rattle.byteorder.specs.Endian.{big_bytes}
 use Rattle.wirebase.specs.Bytes.{IsBytes, part, number_of, over}
@@ -13,7 +14,8 @@ use Rattle.wirebase.proofs.Pieces.{over-exact, over-fits}
 use Rattle.dns_wire.specs.declared.dns.tables.Type.{«Type» as RecordType}
 use Rattle.dns_wire.specs.declared.dns.tables.Type.TheVariants as kind
 use Rattle.dns_wire.specs.DnsTables.{type_number, types, type_rows, type_of}
-use Rattle.dns_wire.specs.DnsQuestion.{QuestionValue, type_field, IsQuestion, text, text_len, IsCanonical, format, Emits}
+use Rattle.dns_wire.specs.DnsQuestion.{QuestionValue, type_field, IsQuestion, text, text_len, IsCanonical, format}
+use Rattle.dns_wire.specs.DnsQuestion.{Emits}
 use Rattle.dns_wire.proofs.DnsPartLen.{split_begins, begins_one}
 
 -- ---- types of record
@@ -40,18 +42,21 @@ unfolding fields be16
 question_text q = simp append-nil
 
 pub length-question_text : (q : QuestionValue) → length (text q) ≡ text_len q
-length-question_text q = ap length (question_text q) ∙ length-append q.name (big_bytes 2 (type_number q.kind) ++ (0 ∷ 1 ∷ []))
+length-question_text q =
+    ap length (question_text q) ∙ length-append q.name (big_bytes 2 (type_number q.kind) ++ (0 ∷ 1 ∷ []))
 
 type_back : (n : ℕ) (behind : List ℕ) → n < 2 ^ 16 → n ≡ number_of type_field (big_bytes 2 n ++ behind)
 unfolding part
 type_back n behind small = omega arith
 
 -- a question that stands in front of a rest
-pub question_reads : (q : QuestionValue) (bytes rest : List ℕ) → IsCanonical q → bytes ≡ text q ++ rest → IsQuestion bytes q rest
+pub question_reads : (q : QuestionValue) (bytes rest : List ℕ) → IsCanonical q → bytes ≡ text q ++ rest
+    → IsQuestion bytes q rest
 unfolding part
 question_reads q bytes rest c e =
     let is : bytes ≡ q.name ++ (big_bytes 2 (type_number q.kind) ++ (0 ∷ 1 ∷ rest)) =
-    e ∙ (ap (λ t. t ++ rest) (question_text q) ∙ append_assoc q.name (big_bytes 2 (type_number q.kind) ++ (0 ∷ 1 ∷ [])) rest) in
+    e ∙ (ap (λ t. t ++ rest) (question_text q) ∙ append_assoc q.name
+    (big_bytes 2 (type_number q.kind) ++ (0 ∷ 1 ∷ [])) rest) in
     record {
       after = big_bytes 2 (type_number q.kind) ++ (0 ∷ 1 ∷ rest);
       name_ = c.name_;
@@ -67,21 +72,36 @@ question_reads q bytes rest c e =
 abbrev question_of : List ℕ → RecordType → QuestionValue
 question_of n t = record { name = n; kind = t }
 
-pub question_one : (bytes : List ℕ) (v w : QuestionValue) (rest other : List ℕ) → IsQuestion bytes v rest → IsQuestion bytes w other → (v ≡ w) × (rest ≡ other)
+pub question_one : (bytes : List ℕ) (v w : QuestionValue) (rest other : List ℕ) → IsQuestion bytes v rest
+    → IsQuestion bytes w other → (v ≡ w) × (rest ≡ other)
 question_one bytes v w rest other h k =
     let long : length v.name ≡ length w.name =
-    begins_one bytes (length v.name) (length w.name) (split_begins bytes v.name h.after (record { name_ = h.name_; whole = h.whole })) (split_begins bytes w.name k.after (record { name_ = k.name_; whole = k.whole })) in
-    let names : v.name ≡ w.name = sym (take_at v.name h.after (length v.name) refl) ∙ (ap (λ t. take (length v.name) t) (sym h.whole ∙ k.whole) ∙ take_at w.name k.after (length v.name) (sym long)) in
-    let behind : h.after ≡ k.after = sym (drop_at v.name h.after (length v.name) refl) ∙ (ap (λ t. drop (length v.name) t) (sym h.whole ∙ k.whole) ∙ drop_at w.name k.after (length v.name) (sym long)) in
-    let kinds : v.kind ≡ w.kind = h.kind_ ∙ (ap (λ t. type_of (number_of type_field t)) behind ∙ sym k.kind_) in
-    (ap (λ n. question_of n v.kind) names ∙ ap (λ t. question_of w.name t) kinds, h.rest_ ∙ (ap (λ t. drop 4 t) behind ∙ sym k.rest_))
+    begins_one bytes (length v.name) (length w.name)
+    (split_begins bytes v.name h.after (record { name_ = h.name_; whole = h.whole }))
+    (split_begins bytes w.name k.after (record { name_ = k.name_; whole = k.whole })) in
+    let names : v.name ≡ w.name =
+    sym (take_at v.name h.after (length v.name) refl)
+    ∙ (ap (λ t. take (length v.name) t) (sym h.whole ∙ k.whole) ∙ take_at w.name k.after (length v.name) (sym long))
+    in
+    let behind : h.after ≡ k.after =
+    sym (drop_at v.name h.after (length v.name) refl)
+    ∙ (ap (λ t. drop (length v.name) t) (sym h.whole ∙ k.whole) ∙ drop_at w.name k.after (length v.name) (sym long))
+    in
+    let kinds : v.kind ≡ w.kind = h.kind_ ∙ (ap (λ t. type_of (number_of type_field t)) behind ∙ sym k.kind_) in (
+      ap (λ n. question_of n v.kind) names ∙ ap (λ t. question_of w.name t) kinds,
+      h.rest_
+          ∙ (ap (λ t. drop 4 t) behind ∙ sym k.rest_),
+    )
 
 -- ---- what was read
 
-pub question_accepted : (bytes : List ℕ) (v : QuestionValue) (rest : List ℕ) → IsBytes bytes → length bytes ≤ 65535 → IsQuestion bytes v rest → IsCanonical v
+pub question_accepted : (bytes : List ℕ) (v : QuestionValue) (rest : List ℕ) → IsBytes bytes → length bytes ≤ 65535
+    → IsQuestion bytes v rest → IsCanonical v
 question_accepted bytes v rest are small h =
     let n = number_of type_field h.after in
-    let behind : IsBytes h.after = subst IsBytes (ap (λ t. drop (length v.name) t) h.whole ∙ drop_at v.name h.after (length v.name) refl) (IsBytes-drop (length v.name) bytes are) in
+    let behind : IsBytes h.after =
+    subst IsBytes (ap (λ t. drop (length v.name) t) h.whole ∙ drop_at v.name h.after (length v.name) refl)
+    (IsBytes-drop (length v.name) bytes are) in
     record {
       name_ = h.name_;
       proper = subst (λ t. IsProper kind.Unknown type_rows t) (sym h.kind_) (type_of-proper n);
@@ -101,7 +121,8 @@ question_format = record {
   kept = λ bytes v are c h whole. refl;
 }
 
-pub question_rewrites : (bytes : List ℕ) (v : QuestionValue) (rest : List ℕ) → IsBytes bytes → length bytes ≤ 65515 → IsQuestion bytes v rest → Rewrites format v
+pub question_rewrites : (bytes : List ℕ) (v : QuestionValue) (rest : List ℕ) → IsBytes bytes → length bytes ≤ 65515
+    → IsQuestion bytes v rest → Rewrites format v
 question_rewrites bytes v rest are small h =
     let c = question_accepted bytes v rest are (omega arith) h in
     record {
@@ -117,10 +138,14 @@ question_same_text a b = same_text format question_format _ a b
 
 -- ---- what writing leaves
 
-pub question_emits : (q : QuestionValue) (old new : List ℕ) → text_len q ≤ length old → new ≡ over old (text q) → Emits q old new
+pub question_emits : (q : QuestionValue) (old new : List ℕ) → text_len q ≤ length old → new ≡ over old (text q)
+    → Emits q old new
 question_emits q old new room e = record {
   text_ = e;
   exact = λ long. e ∙ over-exact old (text q) (long ∙ sym (length-question_text q));
-  reads_back = λ c. question_reads q new (drop (text_len q) old) c (e ∙ over-fits old (text q) (omega (arith, room, length-question_text q)) ∙ ap (λ n. text q ++ drop n old) (length-question_text q));
+  reads_back =
+      λ c. question_reads q new (drop (text_len q) old) c
+      (e ∙ over-fits old (text q) (omega (arith, room, length-question_text q))
+      ∙ ap (λ n. text q ++ drop n old) (length-question_text q));
   round_trips = round_trips format question_format q;
 }

@@ -7,7 +7,8 @@ use Rattle.dns_wire.specs.declared.dns.tables.Type.TheVariants as kind
 use Rattle.dns_wire.specs.DnsRecord.{DataValue, address4, address6, canonical_name, other, IsData}
 
 pub address6-one : (t : RecordType) (bytes : List ℕ) (a : Ipv6Address) → t ≡ kind.Aaaa → octets_of a ≡ bytes
-    → ((x y : Ipv6Address) → (x ≡ y) ↔ (octets_of x ≡ octets_of y)) → (value : DataValue) → IsData t bytes value → address6 a ≡ value
+    → ((x y : Ipv6Address) → (x ≡ y) ↔ (octets_of x ≡ octets_of y)) → (value : DataValue) → IsData t bytes value
+    → address6 a ≡ value
 address6-one t bytes a e is same (address4 b) h = let never : kind.A ≡ kind.Aaaa = sym h.0 ∙ e in cc
 address6-one t bytes a e is same (address6 b) h = ap address6 ((same a b).1 (is ∙ sym h.2))
 address6-one t bytes a e is same (canonical_name name) h = let never : kind.Cname ≡ kind.Aaaa = sym h.0 ∙ e in cc

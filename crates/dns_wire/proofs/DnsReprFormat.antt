@@ -1,5 +1,6 @@
 -- The text of a query, and what is read in it.
-use Rattle.std.proofs.Common.{◌≡◌, ℕ, ◌<◌, ◌≤◌, ◌^◌, Bool, true, false, List, [], ◌∷◌, ◌++◌, length, refl, sym, ap, ◌∙◌, subst, arith}
+use Rattle.std.proofs.Common.{◌≡◌, ℕ, ◌<◌, ◌≤◌, ◌^◌, Bool, true, false, List, [], ◌∷◌, ◌++◌, length, refl, sym, ap, ◌∙◌}
+use Rattle.std.proofs.Common.{subst, arith}
 use Rattle.std.proofs.lemmas.List.{append-nil, length-append, length-drop}
 use Rattle.byteorder.specs.Endian.{big_bytes}
 use Rattle.wirebase.specs.Bytes.{IsBytes, part, number_of, over}
@@ -32,14 +33,16 @@ opcode_of-number _ p = refl
 
 opcode_of-proper : (n : ℕ) → IsProper opcode.Unknown opcode_rows (opcode_of n)
 unfolding is_unknown_opcode
-opcode_of-proper n = case_in-proper opcode_number opcode.Unknown (λ k. refl) is_unknown_opcode (λ k. refl) opcode_rows n refl
+opcode_of-proper n =
+    case_in-proper opcode_number opcode.Unknown (λ k. refl) is_unknown_opcode (λ k. refl) opcode_rows n refl
 
 number-opcode_of : (n : ℕ) → opcode_number (opcode_of n) ≡ n
 number-opcode_of n = number-case_in opcode_number opcode.Unknown (λ k. refl) opcodes n
 
 -- ---- the text
 
-query_text : (q : QueryValue) → text q ≡ big_bytes 2 q.transaction_id ++ (big_bytes 2 (flags_word q.flags q.kind) ++ (0 ∷ 1 ∷ 0 ∷ 0 ∷ 0 ∷ 0 ∷ 0 ∷ 0 ∷ question.text q.asks))
+query_text : (q : QueryValue) → text q ≡ big_bytes 2 q.transaction_id
+    ++ (big_bytes 2 (flags_word q.flags q.kind) ++ (0 ∷ 1 ∷ 0 ∷ 0 ∷ 0 ∷ 0 ∷ 0 ∷ 0 ∷ question.text q.asks))
 unfolding fields be16
 query_text q = refl
 
@@ -50,7 +53,8 @@ id_back : (n : ℕ) (behind : List ℕ) → n < 2 ^ 16 → n ≡ number_of id_fi
 unfolding part
 id_back n behind small = omega arith
 
-word_back : (m n : ℕ) (behind : List ℕ) → n < 2 ^ 16 → number_of flags_field (big_bytes 2 m ++ (big_bytes 2 n ++ behind)) ≡ n
+word_back : (m n : ℕ) (behind : List ℕ) → n < 2 ^ 16 → number_of flags_field
+    (big_bytes 2 m ++ (big_bytes 2 n ++ behind)) ≡ n
 unfolding part
 word_back m n behind small = omega arith
 
@@ -61,12 +65,14 @@ query_reads q c =
     let word = flags_word q.flags q.kind in
     let counts : List ℕ = 0 ∷ 1 ∷ 0 ∷ 0 ∷ 0 ∷ 0 ∷ 0 ∷ 0 ∷ question.text q.asks in
     let fits : word < 2 ^ 16 = omega (arith, known-small q.flags c.known, c.four_bits) in
-    let is : number_of flags_field (big_bytes 2 q.transaction_id ++ (big_bytes 2 word ++ counts)) ≡ word = word_back q.transaction_id word counts fits in
+    let is : number_of flags_field (big_bytes 2 q.transaction_id ++ (big_bytes 2 word ++ counts)) ≡ word =
+    word_back q.transaction_id word counts fits in
     rw (query_text q) (record {
       whole = omega arith;
       id = id_back q.transaction_id (big_bytes 2 word ++ counts) c.id;
       flags_ = sym (ap flags_in is ∙ flags_in-word q.flags n c.known c.four_bits);
-      kind_ = opcode_of-number q.kind c.proper ∙ ap opcode_of (sym (ap opcode_in is ∙ opcode_in-word q.flags n c.known c.four_bits));
+      kind_ = opcode_of-number q.kind c.proper ∙ ap opcode_of
+          (sym (ap opcode_in is ∙ opcode_in-word q.flags n c.known c.four_bits));
       one_question = refl;
       no_answer = refl;
       no_authority = refl;
@@ -85,19 +91,32 @@ query_one bytes v w h k =
     let kinds : v.kind ≡ w.kind = h.kind_ ∙ sym k.kind_ in
     let same : v.flags ≡ w.flags = h.flags_ ∙ sym k.flags_ in
     let asks = (question_one (payload_in bytes) v.asks w.asks [] [] h.asks_ k.asks_).0 in
-    ap (λ n. query_of n v.kind v.flags v.asks) ids ∙ (ap (λ t. query_of w.transaction_id t v.flags v.asks) kinds ∙ (ap (λ n. query_of w.transaction_id w.kind n v.asks) same ∙ ap (λ q. query_of w.transaction_id w.kind w.flags q) asks))
+    ap (λ n. query_of n v.kind v.flags v.asks) ids
+    ∙ (ap (λ t. query_of w.transaction_id t v.flags v.asks) kinds
+    ∙ (ap (λ n. query_of w.transaction_id w.kind n v.asks) same
+    ∙ ap (λ q. query_of w.transaction_id w.kind w.flags q) asks))
 
-query_accepted : (bytes : List ℕ) (v : QueryValue) → IsBytes bytes → length bytes ≤ 65515 → IsQuery bytes v → IsCanonical v
+query_accepted : (bytes : List ℕ) (v : QueryValue) → IsBytes bytes → length bytes ≤ 65515 → IsQuery bytes v
+    → IsCanonical v
 query_accepted bytes v are small h =
     let word = number_of flags_field bytes in
-    let asks = question_accepted (payload_in bytes) v.asks [] (IsBytes-drop 12 bytes are) (omega (arith, length-drop 12 bytes)) h.asks_ in
+    let asks = question_accepted (payload_in bytes) v.asks [] (IsBytes-drop 12 bytes are)
+    (omega (arith, length-drop 12 bytes)) h.asks_ in
     record {
       id = omega (arith, h.id, number_of-small 0 2 bytes refl are);
       proper = subst (λ k. IsProper opcode.Unknown opcode_rows k) (sym h.kind_) (opcode_of-proper (opcode_in word));
       four_bits = omega (arith, ap opcode_number h.kind_, number-opcode_of (opcode_in word));
       known = subst IsKnown (sym h.flags_) (known-flags_in word);
       asks_ = asks;
-      small = omega (arith, small, h.whole, h.asks_.reaches, ap length h.asks_.whole, length-append v.asks.name h.asks_.after, length-drop 12 bytes);
+      small = omega (
+        arith,
+        small,
+        h.whole,
+        h.asks_.reaches,
+        ap length h.asks_.whole,
+        length-append v.asks.name h.asks_.after,
+        length-drop 12 bytes,
+      );
     }
 
 pub query_format : IsFormat format

@@ -5,7 +5,9 @@ use Rattle.wirebase.specs.ByteWriter.{be16, fields}
 use Rattle.wirebase.specs.Format.{Format, RoundTrips}
 use Rattle.wirebase.specs.Numbered.{IsProper}
 use Rattle.dns_wire.specs.DnsTables.{opcode_number, opcode_rows, opcode_of, flag_bits, IsKnown}
-use Rattle.dns_wire.specs.DnsPacket.{id_field, flags_field, question_count_field, answer_count_field, authority_count_field, additional_count_field, header, payload_in, flags_in, opcode_in}
+use Rattle.dns_wire.specs.DnsPacket.{id_field, flags_field, question_count_field, answer_count_field}
+use Rattle.dns_wire.specs.DnsPacket.{authority_count_field, additional_count_field, header, payload_in, flags_in}
+use Rattle.dns_wire.specs.DnsPacket.{opcode_in}
 use Rattle.dns_wire.specs.DnsQuestion as question
 use Rattle.dns_wire.specs.DnsQuestion.{QuestionValue, IsQuestion, question_fields}
 use Rattle.dns_wire.specs.declared.dns.tables.Opcode.{Opcode}

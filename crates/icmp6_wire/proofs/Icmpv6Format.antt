@@ -1,5 +1,6 @@
 -- The format of messages: what was read is canonical, and a normal form has the text of its value.
-use Rattle.std.proofs.Common.{◌≡◌, ℕ, ◌<◌, ◌≤◌, ◌^◌, Bool, true, false, List, length, drop, refl, sym, ap, subst, ◌∙◌, arith}
+use Rattle.std.proofs.Common.{◌≡◌, ℕ, ◌<◌, ◌≤◌, ◌^◌, Bool, true, false, List, length, drop, refl, sym, ap, subst, ◌∙◌}
+use Rattle.std.proofs.Common.{arith}
 use Rattle.std.proofs.lemmas.List.{length-drop}
 use Rattle.wirebase.specs.declared.capabilities.ChecksumCapabilities.{ChecksumCapabilities}
 use Rattle.wirebase.specs.declared.ip.IpProtocol.{IpProtocol}
@@ -24,8 +25,12 @@ use Rattle.icmp6_wire.specs.declared.icmpv6.tables.ParamProblem.TheVariants as p
 use Rattle.icmp6_wire.specs.declared.icmpv6.tables.TimeExceeded.{TimeExceeded}
 use Rattle.icmp6_wire.specs.declared.icmpv6.tables.TimeExceeded.TheVariants as times
 use Rattle.icmp6_wire.specs.Icmpv6Packet.{word_field}
-use Rattle.icmp6_wire.specs.Icmpv6Tables.{unreachable_number, unreachables, unreachable_rows, unreachable_of, param_problem_number, param_problems, param_problem_rows, param_problem_of, time_exceeded_number, time_exceededs, time_exceeded_rows, time_exceeded_of}
-use Rattle.icmp6_wire.specs.Icmpv6.{MessageValue, unreachable, too_big, time_exceeded, param_problem, echo_request, echo_reply, quoted_data, error_fields, text, seal, IsContent, CanQuote, IsCanonical, norm, IsCut, format}
+use Rattle.icmp6_wire.specs.Icmpv6Tables.{unreachable_number, unreachables, unreachable_rows, unreachable_of}
+use Rattle.icmp6_wire.specs.Icmpv6Tables.{param_problem_number, param_problems, param_problem_rows, param_problem_of}
+use Rattle.icmp6_wire.specs.Icmpv6Tables.{time_exceeded_number, time_exceededs, time_exceeded_rows, time_exceeded_of}
+use Rattle.icmp6_wire.specs.Icmpv6.{MessageValue, unreachable, too_big, time_exceeded, param_problem, echo_request}
+use Rattle.icmp6_wire.specs.Icmpv6.{echo_reply, quoted_data, error_fields, text, seal, IsContent, CanQuote, IsCanonical}
+use Rattle.icmp6_wire.specs.Icmpv6.{norm, IsCut, format}
 use Rattle.icmp6_wire.proofs.Icmpv6Grammar.{content-one, message-unique}
 use Rattle.icmp6_wire.proofs.Icmpv6Texts.{quoted-quoted, quoted-whole, message_text, content_read}
 
@@ -52,46 +57,84 @@ unfolding is_unknown_protocol
 header-read_canonical bytes quoted are q =
     let n : ℕ = byte_of next_header_field bytes in
     let named : IsProper protocol.Unknown protocol_rows quoted.next_header =
-    subst (λ (p : IpProtocol). IsProper protocol.Unknown protocol_rows p) (sym q.protocol) (case_in-proper protocol_number protocol.Unknown (λ k. refl) is_unknown_protocol (λ k. refl) protocol_rows n refl) in
-    let number : protocol_number quoted.next_header ≡ n = ap protocol_number q.protocol ∙ number-case_in protocol_number protocol.Unknown (λ k. refl) protocols n in
+    subst (λ (p : IpProtocol). IsProper protocol.Unknown protocol_rows p) (sym q.protocol)
+    (case_in-proper protocol_number protocol.Unknown (λ k. refl) is_unknown_protocol
+    (λ k. refl) protocol_rows n refl) in
+    let number : protocol_number quoted.next_header ≡ n =
+    ap protocol_number q.protocol ∙ number-case_in protocol_number protocol.Unknown (λ k. refl) protocols n in
     let fits : n < 256 = are 6 in
-    let hops : byte_of hop_limit_field bytes < 256 = are 7 in
-    (named, omega (arith, number, fits), omega (arith, q.hops, hops), omega (arith, q.payload, number_of-small 4 6 bytes refl are))
+    let hops : byte_of hop_limit_field bytes < 256 = are 7 in (
+      named,
+      omega (arith, number, fits),
+      omega (arith, q.hops, hops),
+      omega (arith, q.payload, number_of-small 4 6 bytes refl are),
+    )
 
-reason-read : (reason : DstUnreachable) (n : ℕ) → n < 256 → reason ≡ unreachable_of n → IsProper reasons.Unknown unreachable_rows reason × (unreachable_number reason < 256)
+reason-read : (reason : DstUnreachable) (n : ℕ) → n < 256 → reason ≡ unreachable_of n
+    → IsProper reasons.Unknown unreachable_rows reason × (unreachable_number reason < 256)
 unfolding is_unknown_reason
 reason-read reason n small e =
-    let number = ap unreachable_number e ∙ number-case_in unreachable_number reasons.Unknown (λ k. refl) unreachables n in
-    (subst (λ (r : DstUnreachable). IsProper reasons.Unknown unreachable_rows r) (sym e) (case_in-proper unreachable_number reasons.Unknown (λ k. refl) is_unknown_reason (λ k. refl) unreachable_rows n refl), omega (arith, number, small))
+    let number =
+    ap unreachable_number e ∙ number-case_in unreachable_number reasons.Unknown (λ k. refl) unreachables n in (
+      subst (λ (r : DstUnreachable). IsProper reasons.Unknown unreachable_rows r) (sym e)
+          (case_in-proper unreachable_number reasons.Unknown (λ k. refl) is_unknown_reason
+          (λ k. refl) unreachable_rows n refl),
+      omega (arith, number, small),
+    )
 
-problem-read : (reason : ParamProblem) (n : ℕ) → n < 256 → reason ≡ param_problem_of n → IsProper problems.Unknown param_problem_rows reason × (param_problem_number reason < 256)
+problem-read : (reason : ParamProblem) (n : ℕ) → n < 256 → reason ≡ param_problem_of n
+    → IsProper problems.Unknown param_problem_rows reason × (param_problem_number reason < 256)
 unfolding is_unknown_problem
 problem-read reason n small e =
-    let number = ap param_problem_number e ∙ number-case_in param_problem_number problems.Unknown (λ k. refl) param_problems n in
-    (subst (λ (r : ParamProblem). IsProper problems.Unknown param_problem_rows r) (sym e) (case_in-proper param_problem_number problems.Unknown (λ k. refl) is_unknown_problem (λ k. refl) param_problem_rows n refl), omega (arith, number, small))
+    let number =
+    ap param_problem_number e ∙ number-case_in param_problem_number problems.Unknown (λ k. refl) param_problems n in (
+      subst (λ (r : ParamProblem). IsProper problems.Unknown param_problem_rows r) (sym e)
+          (case_in-proper param_problem_number problems.Unknown (λ k. refl) is_unknown_problem
+          (λ k. refl) param_problem_rows n refl),
+      omega (arith, number, small),
+    )
 
-time-read : (reason : TimeExceeded) (n : ℕ) → n < 256 → reason ≡ time_exceeded_of n → IsProper times.Unknown time_exceeded_rows reason × (time_exceeded_number reason < 256)
+time-read : (reason : TimeExceeded) (n : ℕ) → n < 256 → reason ≡ time_exceeded_of n
+    → IsProper times.Unknown time_exceeded_rows reason × (time_exceeded_number reason < 256)
 unfolding is_unknown_time
 time-read reason n small e =
-    let number = ap time_exceeded_number e ∙ number-case_in time_exceeded_number times.Unknown (λ k. refl) time_exceededs n in
-    (subst (λ (r : TimeExceeded). IsProper times.Unknown time_exceeded_rows r) (sym e) (case_in-proper time_exceeded_number times.Unknown (λ k. refl) is_unknown_time (λ k. refl) time_exceeded_rows n refl), omega (arith, number, small))
+    let number =
+    ap time_exceeded_number e ∙ number-case_in time_exceeded_number times.Unknown (λ k. refl) time_exceededs n in (
+      subst (λ (r : TimeExceeded). IsProper times.Unknown time_exceeded_rows r) (sym e)
+          (case_in-proper time_exceeded_number times.Unknown (λ k. refl) is_unknown_time
+          (λ k. refl) time_exceeded_rows n refl),
+      omega (arith, number, small),
+    )
 
-content-canonical : (bytes : List ℕ) (v : MessageValue) → IsBytes bytes → 8 ≤ length bytes → length bytes ≤ 65515 → IsContent bytes v → IsCanonical v
+content-canonical : (bytes : List ℕ) (v : MessageValue) → IsBytes bytes → 8 ≤ length bytes → length bytes ≤ 65515
+    → IsContent bytes v → IsCanonical v
 content-canonical bytes (unreachable reason quoted d) are some small m =
     let read = reason-read reason (byte_of code_field bytes) (are 1) m.1 in
     (read.0, read.1, header-read_canonical (data_in bytes) quoted (IsBytes-drop 8 bytes are) m.0.header_)
-content-canonical bytes (too_big mtu quoted d) are some small m =
-    (omega (arith, m.2, number_of-small4 4 8 bytes refl are), header-read_canonical (data_in bytes) quoted (IsBytes-drop 8 bytes are) m.0.header_)
+content-canonical bytes (too_big mtu quoted d) are some small m = (
+  omega (arith, m.2, number_of-small4 4 8 bytes refl are),
+  header-read_canonical (data_in bytes) quoted (IsBytes-drop 8 bytes are) m.0.header_,
+)
 content-canonical bytes (time_exceeded reason quoted d) are some small m =
     let read = time-read reason (byte_of code_field bytes) (are 1) m.1 in
     (read.0, read.1, header-read_canonical (data_in bytes) quoted (IsBytes-drop 8 bytes are) m.0.header_)
 content-canonical bytes (param_problem reason pointer quoted d) are some small m =
-    let read = problem-read reason (byte_of code_field bytes) (are 1) m.1 in
-    (read.0, read.1, omega (arith, m.2, number_of-small4 4 8 bytes refl are), header-read_canonical (data_in bytes) quoted (IsBytes-drop 8 bytes are) m.0.header_)
-content-canonical bytes (echo_request ident seq_no d) are some small m =
-    (omega (arith, m.identifier, number_of-small 4 6 bytes refl are), omega (arith, m.sequence, number_of-small 6 8 bytes refl are), omega (arith, ap (λ (l : List ℕ). length l) m.data_, length-drop 8 bytes))
-content-canonical bytes (echo_reply ident seq_no d) are some small m =
-    (omega (arith, m.identifier, number_of-small 4 6 bytes refl are), omega (arith, m.sequence, number_of-small 6 8 bytes refl are), omega (arith, ap (λ (l : List ℕ). length l) m.data_, length-drop 8 bytes))
+    let read = problem-read reason (byte_of code_field bytes) (are 1) m.1 in (
+      read.0,
+      read.1,
+      omega (arith, m.2, number_of-small4 4 8 bytes refl are),
+      header-read_canonical (data_in bytes) quoted (IsBytes-drop 8 bytes are) m.0.header_,
+    )
+content-canonical bytes (echo_request ident seq_no d) are some small m = (
+  omega (arith, m.identifier, number_of-small 4 6 bytes refl are),
+  omega (arith, m.sequence, number_of-small 6 8 bytes refl are),
+  omega (arith, ap (λ (l : List ℕ). length l) m.data_, length-drop 8 bytes),
+)
+content-canonical bytes (echo_reply ident seq_no d) are some small m = (
+  omega (arith, m.identifier, number_of-small 4 6 bytes refl are),
+  omega (arith, m.sequence, number_of-small 6 8 bytes refl are),
+  omega (arith, ap (λ (l : List ℕ). length l) m.data_, length-drop 8 bytes),
+)
 
 -- ---- the normal form
 
@@ -107,11 +150,13 @@ norm-norm : (v : MessageValue) → norm (norm v) ≡ norm v
 norm-norm (unreachable reason quoted d) = ap (λ (l : List ℕ). unreachable reason quoted l) (quoted-quoted d)
 norm-norm (too_big mtu quoted d) = ap (λ (l : List ℕ). too_big mtu quoted l) (quoted-quoted d)
 norm-norm (time_exceeded reason quoted d) = ap (λ (l : List ℕ). time_exceeded reason quoted l) (quoted-quoted d)
-norm-norm (param_problem reason pointer quoted d) = ap (λ (l : List ℕ). param_problem reason pointer quoted l) (quoted-quoted d)
+norm-norm (param_problem reason pointer quoted d) =
+    ap (λ (l : List ℕ). param_problem reason pointer quoted l) (quoted-quoted d)
 norm-norm (echo_request ident seq_no d) = refl
 norm-norm (echo_reply ident seq_no d) = refl
 
-quoted-fields : (t code word : ℕ) (quoted : Ipv6Repr) (d : List ℕ) → fields (error_fields t code word quoted (quoted_data d)) ≡ fields (error_fields t code word quoted d)
+quoted-fields : (t code word : ℕ) (quoted : Ipv6Repr) (d : List ℕ)
+    → fields (error_fields t code word quoted (quoted_data d)) ≡ fields (error_fields t code word quoted d)
 quoted-fields t code word quoted d = rw (quoted-quoted d) refl
 
 norm-text : (v : MessageValue) → text (norm v) ≡ text v
@@ -126,10 +171,13 @@ few : (d : List ℕ) → (1192 < length d → ⊥) → length d ≤ 1192
 few d uncut = grind (arith, uncut)
 
 norm-uncut : (v : MessageValue) → (IsCut v → ⊥) → norm v ≡ v
-norm-uncut (unreachable reason quoted d) uncut = ap (λ (l : List ℕ). unreachable reason quoted l) (quoted-whole d (few d uncut))
+norm-uncut (unreachable reason quoted d) uncut =
+    ap (λ (l : List ℕ). unreachable reason quoted l) (quoted-whole d (few d uncut))
 norm-uncut (too_big mtu quoted d) uncut = ap (λ (l : List ℕ). too_big mtu quoted l) (quoted-whole d (few d uncut))
-norm-uncut (time_exceeded reason quoted d) uncut = ap (λ (l : List ℕ). time_exceeded reason quoted l) (quoted-whole d (few d uncut))
-norm-uncut (param_problem reason pointer quoted d) uncut = ap (λ (l : List ℕ). param_problem reason pointer quoted l) (quoted-whole d (few d uncut))
+norm-uncut (time_exceeded reason quoted d) uncut =
+    ap (λ (l : List ℕ). time_exceeded reason quoted l) (quoted-whole d (few d uncut))
+norm-uncut (param_problem reason pointer quoted d) uncut =
+    ap (λ (l : List ℕ). param_problem reason pointer quoted l) (quoted-whole d (few d uncut))
 norm-uncut (echo_request ident seq_no d) uncut = refl
 norm-uncut (echo_reply ident seq_no d) uncut = refl
 
@@ -150,4 +198,6 @@ module _ (capabilities : ChecksumCapabilities) (source destination : Ipv6Address
 
   -- also where the checksum is verified and not filled: the contents are read back by themselves
   pub icmpv6_same_text : (a b : MessageValue) → SameText (format capabilities source destination) a b
-  icmpv6_same_text a b = same_text-by (format capabilities source destination) icmpv6_format IsContent content-one (content_read capabilities source destination) a b
+  icmpv6_same_text a b =
+      same_text-by (format capabilities source destination) icmpv6_format IsContent content-one
+      (content_read capabilities source destination) a b

@@ -8,7 +8,8 @@ use Rattle.wirebase.specs.declared.capabilities.Checksum.{Checksum}
 use Rattle.wirebase.specs.declared.capabilities.Checksum.TheVariants.{Both, Rx, Tx, None}
 use Rattle.wirebase.proofs.ChecksumSeals.{length-sealed}
 
-pub length-sealed_message : (bytes : List ℕ) (extra : ℕ) → 4 ≤ length bytes → length (sealed checksum_field bytes extra) ≡ length bytes
+pub length-sealed_message : (bytes : List ℕ) (extra : ℕ) → 4 ≤ length bytes
+    → length (sealed checksum_field bytes extra) ≡ length bytes
 length-sealed_message bytes extra some = length-sealed checksum_field bytes extra refl some
 
 pub ruleset lengths = (length-sealed_message)
@@ -19,7 +20,8 @@ pub record Begins (bytes : List ℕ) (t code : ℕ) (rest : List ℕ) : Type 0 w
   pub second : ℕ
   pub whole : bytes ≡ t ∷ code ∷ first ∷ second ∷ rest
 
-pub sealed-begins : (checksum : Checksum) (bytes : List ℕ) (extra t code : ℕ) (rest : List ℕ) → bytes ≡ t ∷ code ∷ 0 ∷ 0 ∷ rest → Begins (sealed_where checksum checksum_field bytes extra) t code rest
+pub sealed-begins : (checksum : Checksum) (bytes : List ℕ) (extra t code : ℕ) (rest : List ℕ)
+    → bytes ≡ t ∷ code ∷ 0 ∷ 0 ∷ rest → Begins (sealed_where checksum checksum_field bytes extra) t code rest
 unfolding sealed splice
 sealed-begins Both bytes extra t code rest e = rw e (record { first = _; second = _; whole = refl })
 sealed-begins Rx bytes extra t code rest e = record { first = 0; second = 0; whole = e }

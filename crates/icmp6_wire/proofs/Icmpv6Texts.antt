@@ -1,5 +1,6 @@
 -- The texts of ICMPv6 messages: their lengths, and what is read in them.
-use Rattle.std.proofs.Common.{◌≡◌, ◌≢◌, ℕ, ◌+◌, ◌%◌, ◌<◌, ◌≤◌, ◌^◌, min, true, List, [], ◌∷◌, ◌++◌, length, take, drop, refl, sym, ap, subst, ◌∙◌, arith, length-append}
+use Rattle.std.proofs.Common.{◌≡◌, ◌≢◌, ℕ, ◌+◌, ◌%◌, ◌<◌, ◌≤◌, ◌^◌, min, true, List, [], ◌∷◌, ◌++◌, length, take, drop}
+use Rattle.std.proofs.Common.{refl, sym, ap, subst, ◌∙◌, arith, length-append}
 use Rattle.std.proofs.lemmas.List.{append-nil, length-take, take_all, take_min}
 use Rattle.byteorder.specs.Endian.{big_bytes}
 use Rattle.byteorder.specs.Numbers.{big_number-reads_back}
@@ -16,8 +17,12 @@ use Rattle.wirebase.proofs.IcmpTexts.{echo_text, echo_read}
 use Rattle.wirebase.proofs.Ipv6Header.{length-header_text, header-read, drop-header_text}
 use Rattle.wirebase.proofs.Numbered.{case_in-unnamed}
 use Rattle.icmp6_wire.specs.Icmpv6Packet.{BeginsWhole, word_field, message_sum}
-use Rattle.icmp6_wire.specs.Icmpv6Tables.{unreachable_number, unreachable_rows, unreachable_of, param_problem_number, param_problem_rows, param_problem_of, time_exceeded_number, time_exceeded_rows, time_exceeded_of}
-use Rattle.icmp6_wire.specs.Icmpv6.{MessageValue, unreachable, too_big, time_exceeded, param_problem, echo_request, echo_reply, quoted_data, error_fields, text, error_len, text_len, seal, packet_text, IsError, IsContent, IsMessage, CanQuote, IsCanonical, Fills, norm}
+use Rattle.icmp6_wire.specs.Icmpv6Tables.{unreachable_number, unreachable_rows, unreachable_of, param_problem_number}
+use Rattle.icmp6_wire.specs.Icmpv6Tables.{param_problem_rows, param_problem_of, time_exceeded_number}
+use Rattle.icmp6_wire.specs.Icmpv6Tables.{time_exceeded_rows, time_exceeded_of}
+use Rattle.icmp6_wire.specs.Icmpv6.{MessageValue, unreachable, too_big, time_exceeded, param_problem, echo_request}
+use Rattle.icmp6_wire.specs.Icmpv6.{echo_reply, quoted_data, error_fields, text, error_len, text_len, seal, packet_text}
+use Rattle.icmp6_wire.specs.Icmpv6.{IsError, IsContent, IsMessage, CanQuote, IsCanonical, Fills, norm}
 use Rattle.icmp6_wire.specs.declared.icmpv6.tables.DstUnreachable.{DstUnreachable}
 use Rattle.icmp6_wire.specs.declared.icmpv6.tables.DstUnreachable.TheVariants as reasons
 use Rattle.icmp6_wire.specs.declared.icmpv6.tables.ParamProblem.{ParamProblem}
@@ -37,7 +42,8 @@ length-quoted d = omega (arith, length-take {A = ℕ} 1192 d)
 -- as much as is quoted, counted
 pub take-quoted : (d : List ℕ) (n : ℕ) → n ≡ min (length d) 1192 → take n d ≡ quoted_data d
 unfolding quoted_data
-take-quoted d n e = let turned : n ≡ min 1192 (length d) = omega (arith, e) in ap (λ (k : ℕ). take k d) turned ∙ take_min 1192 d
+take-quoted d n e = let turned : n ≡ min 1192 (length d) = omega (arith, e) in
+    ap (λ (k : ℕ). take k d) turned ∙ take_min 1192 d
 
 pub quoted-quoted : (d : List ℕ) → quoted_data (quoted_data d) ≡ quoted_data d
 unfolding quoted_data
@@ -51,13 +57,22 @@ pub ruleset cuts = (length-quoted, take-quoted)
 
 -- ---- the text, and its length
 
-error_text : (t code word : ℕ) (quoted : Ipv6Repr) (d : List ℕ) → fields (error_fields t code word quoted d) ≡ t ∷ code ∷ 0 ∷ 0 ∷ (big_bytes 4 word ++ (header_text quoted ++ quoted_data d))
+error_text : (t code word : ℕ) (quoted : Ipv6Repr) (d : List ℕ)
+    → fields (error_fields t code word quoted d) ≡ t ∷ code ∷ 0 ∷ 0
+    ∷ (big_bytes 4 word ++ (header_text quoted ++ quoted_data d))
 unfolding fields be8 be16 be32
 error_text t code word quoted d = simp append-nil
 
-length-error : (t code word : ℕ) (quoted : Ipv6Repr) (d : List ℕ) → length (fields (error_fields t code word quoted d)) ≡ error_len d
+length-error : (t code word : ℕ) (quoted : Ipv6Repr) (d : List ℕ)
+    → length (fields (error_fields t code word quoted d)) ≡ error_len d
 length-error t code word quoted d =
-    omega (arith, ap length (error_text t code word quoted d), length-append (header_text quoted) (quoted_data d), length-header_text quoted, length-quoted d)
+    omega (
+      arith,
+      ap length (error_text t code word quoted d),
+      length-append (header_text quoted) (quoted_data d),
+      length-header_text quoted,
+      length-quoted d,
+    )
 
 pub length-text : (v : MessageValue) → length (text v) ≡ text_len v
 length-text (unreachable reason quoted d) = length-error 1 (unreachable_number reason) 0 quoted d
@@ -75,23 +90,28 @@ text_some (param_problem reason pointer quoted d) = omega arith
 text_some (echo_request ident seq_no d) = omega arith
 text_some (echo_reply ident seq_no d) = omega arith
 
-pub length-packet_text : (capabilities : ChecksumCapabilities) (source destination : Ipv6Address) (v : MessageValue) → length (packet_text capabilities source destination v) ≡ text_len v
+pub length-packet_text : (capabilities : ChecksumCapabilities) (source destination : Ipv6Address) (v : MessageValue)
+    → length (packet_text capabilities source destination v) ≡ text_len v
 length-packet_text capabilities source destination v =
-    length-sealed_where checksum_field (text v) (message_sum source destination (length (text v))) refl (omega (arith, length-text v, text_some v)) capabilities.icmpv6 ∙ length-text v
+    length-sealed_where checksum_field (text v) (message_sum source destination (length (text v))) refl
+    (omega (arith, length-text v, text_some v)) capabilities.icmpv6 ∙ length-text v
 
 pub ruleset texts = (length-text, length-packet_text)
 
 -- ---- reading what was written
 
-unreachable_of-number : (reason : DstUnreachable) → IsProper reasons.Unknown unreachable_rows reason → reason ≡ unreachable_of (unreachable_number reason)
+unreachable_of-number : (reason : DstUnreachable) → IsProper reasons.Unknown unreachable_rows reason
+    → reason ≡ unreachable_of (unreachable_number reason)
 unreachable_of-number (reasons.Unknown n) p = sym (case_in-unnamed reasons.Unknown unreachable_rows n (p n refl))
 unreachable_of-number _ p = refl
 
-time_exceeded_of-number : (reason : TimeExceeded) → IsProper times.Unknown time_exceeded_rows reason → reason ≡ time_exceeded_of (time_exceeded_number reason)
+time_exceeded_of-number : (reason : TimeExceeded) → IsProper times.Unknown time_exceeded_rows reason
+    → reason ≡ time_exceeded_of (time_exceeded_number reason)
 time_exceeded_of-number (times.Unknown n) p = sym (case_in-unnamed times.Unknown time_exceeded_rows n (p n refl))
 time_exceeded_of-number _ p = refl
 
-param_problem_of-number : (reason : ParamProblem) → IsProper problems.Unknown param_problem_rows reason → reason ≡ param_problem_of (param_problem_number reason)
+param_problem_of-number : (reason : ParamProblem) → IsProper problems.Unknown param_problem_rows reason
+    → reason ≡ param_problem_of (param_problem_number reason)
 param_problem_of-number (problems.Unknown n) p = sym (case_in-unnamed problems.Unknown param_problem_rows n (p n refl))
 param_problem_of-number _ p = refl
 
@@ -101,7 +121,8 @@ record ReadsError (bytes : List ℕ) (t code word : ℕ) (quoted : Ipv6Repr) (d 
   pub code_ : byte_of code_field bytes ≡ code
   pub word_ : word ≡ number_of word_field bytes
 
-error_read : (bytes : List ℕ) (t code word : ℕ) (quoted : Ipv6Repr) (d : List ℕ) → CanQuote quoted → word < 2 ^ 32 → Begins bytes t code (big_bytes 4 word ++ (header_text quoted ++ d)) → ReadsError bytes t code word quoted d
+error_read : (bytes : List ℕ) (t code word : ℕ) (quoted : Ipv6Repr) (d : List ℕ) → CanQuote quoted → word < 2 ^ 32
+    → Begins bytes t code (big_bytes 4 word ++ (header_text quoted ++ d)) → ReadsError bytes t code word quoted d
 unfolding part
 error_read bytes t code word quoted d c small b = rw b.whole (record {
   error = record {
@@ -115,16 +136,23 @@ error_read bytes t code word quoted d c small b = rw b.whole (record {
 })
 
 module _ (capabilities : ChecksumCapabilities) (source destination : Ipv6Address) where
-  sealed_error : (t code word : ℕ) (quoted : Ipv6Repr) (d : List ℕ) → CanQuote quoted → word < 2 ^ 32 → ReadsError (seal capabilities source destination (fields (error_fields t code word quoted d))) t code word quoted (quoted_data d)
+  sealed_error : (t code word : ℕ) (quoted : Ipv6Repr) (d : List ℕ) → CanQuote quoted → word < 2 ^ 32
+      → ReadsError (seal capabilities source destination (fields (error_fields t code word quoted d)))
+      t code word quoted (quoted_data d)
   sealed_error t code word quoted d c small =
-      error_read _ t code word quoted (quoted_data d) c small (sealed-begins capabilities.icmpv6 _ _ t code _ (error_text t code word quoted d))
+      error_read _ t code word quoted (quoted_data d) c small
+      (sealed-begins capabilities.icmpv6 _ _ t code _ (error_text t code word quoted d))
 
-  sealed_echo : (t ident seq_no : ℕ) (d : List ℕ) → ident < 2 ^ 16 → seq_no < 2 ^ 16 → IsEcho t (seal capabilities source destination (fields (echo_fields t ident seq_no d))) ident seq_no d
+  sealed_echo : (t ident seq_no : ℕ) (d : List ℕ) → ident < 2 ^ 16 → seq_no < 2 ^ 16
+      → IsEcho t (seal capabilities source destination (fields (echo_fields t ident seq_no d))) ident seq_no d
   sealed_echo t ident seq_no d h k =
-      let b = sealed-begins capabilities.icmpv6 _ (message_sum source destination (length (fields (echo_fields t ident seq_no d)))) t 0 _ (echo_text t ident seq_no d) in
+      let b = sealed-begins capabilities.icmpv6 _
+      (message_sum source destination (length (fields (echo_fields t ident seq_no d)))) t 0 _
+      (echo_text t ident seq_no d) in
       echo_read _ t ident seq_no d h k (record { first = b.first; second = b.second; whole = b.whole })
 
-  pub content_read : (v : MessageValue) → IsCanonical v → IsContent (packet_text capabilities source destination v) (norm v)
+  pub content_read : (v : MessageValue) → IsCanonical v → IsContent (packet_text capabilities source destination v)
+      (norm v)
   content_read (unreachable reason quoted d) c =
       let read = sealed_error 1 (unreachable_number reason) 0 quoted d c.2 (omega arith) in
       (read.error, unreachable_of-number reason c.0 ∙ ap unreachable_of (sym read.code_))
@@ -141,14 +169,21 @@ module _ (capabilities : ChecksumCapabilities) (source destination : Ipv6Address
   content_read (echo_reply ident seq_no d) c = sealed_echo 0x81 ident seq_no d c.0 c.1
 
 -- the packet of a canonical value is read as its normal form
-pub message_text : (capabilities : ChecksumCapabilities) (source destination : Ipv6Address) (v : MessageValue) → Fills capabilities → IsCanonical v → IsMessage capabilities source destination (packet_text capabilities source destination v) (norm v)
+pub message_text : (capabilities : ChecksumCapabilities) (source destination : Ipv6Address) (v : MessageValue)
+    → Fills capabilities → IsCanonical v → IsMessage capabilities source destination
+    (packet_text capabilities source destination v) (norm v)
 message_text capabilities source destination v fills c =
-    let long : length (packet_text capabilities source destination v) ≡ length (text v) = length-packet_text capabilities source destination v ∙ sym (length-text v) in
+    let long : length (packet_text capabilities source destination v) ≡ length (text v) =
+    length-packet_text capabilities source destination v ∙ sym (length-text v) in
     let some : 8 ≤ length (text v) = omega (arith, text_some v, length-text v) in
     let content = content_read capabilities source destination v c in
     record {
-      whole = whole-content (packet_text capabilities source destination v) (norm v) (omega (arith, some, long)) content;
-      good = λ verified. subst (λ (n : ℕ). IsGood (packet_text capabilities source destination v) (message_sum source destination n)) (sym long)
-          (IsGood-sealed_where checksum_field (text v) (message_sum source destination (length (text v))) refl (omega (arith, some)) capabilities.icmpv6 refl fills verified);
+      whole = whole-content (packet_text capabilities source destination v) (norm v)
+          (omega (arith, some, long)) content;
+      good = λ verified. subst
+          (λ (n : ℕ). IsGood (packet_text capabilities source destination v) (message_sum source destination n))
+          (sym long)
+          (IsGood-sealed_where checksum_field (text v) (message_sum source destination (length (text v))) refl
+          (omega (arith, some)) capabilities.icmpv6 refl fills verified);
       content = content;
     }

@@ -1,5 +1,6 @@
 -- Records of reports: their texts, what is read in them, and their format.
-use Rattle.std.proofs.Common.{◌≡◌, ℕ, ◌<◌, ◌≤◌, ◌^◌, Bool, true, false, List, [], ◌∷◌, ◌++◌, length, take, drop, refl, sym, ap, subst, ◌∙◌, arith, Result, Ok, Err, IfOk}
+use Rattle.std.proofs.Common.{◌≡◌, ℕ, ◌<◌, ◌≤◌, ◌^◌, Bool, true, false, List, [], ◌∷◌, ◌++◌, length, take, drop, refl}
+use Rattle.std.proofs.Common.{sym, ap, subst, ◌∙◌, arith, Result, Ok, Err, IfOk}
 use Rattle.std.proofs.lemmas.List.{append-nil, take_all, drop_all, nil_from_length}
 use Rattle.byteorder.specs.Endian.{big_bytes}
 use Rattle.byteorder.specs.Numbers.{big_number-reads_back}
@@ -15,26 +16,33 @@ use Rattle.wirebase.proofs.Format.{IsFormat, rewrites, same_text}
 use Rattle.wirebase.proofs.Ipv6Header.{same_address}
 use Rattle.wirebase.proofs.Numbered.{case_in-unnamed, case_in-proper, number-case_in}
 use Rattle.icmp6_wire.specs.MldTables.{record_type_number, record_types, record_type_rows, record_type_of}
-use Rattle.icmp6_wire.specs.MldRecord.{RecordValue, address_record, record_type_field, text, group_of, IsFields, IsRecord, IsCanonical, norm, IsCut, IsGroupRecord, format}
+use Rattle.icmp6_wire.specs.MldRecord.{RecordValue, address_record, record_type_field, text, group_of, IsFields}
+use Rattle.icmp6_wire.specs.MldRecord.{IsRecord, IsCanonical, norm, IsCut, IsGroupRecord, format}
 use Rattle.icmp6_wire.specs.declared.mld.tables.RecordType.{RecordType}
 use Rattle.icmp6_wire.specs.declared.mld.tables.RecordType.TheVariants as record_type
 
 -- ---- the text
 
-record_text : (kind : RecordType) (words sources : ℕ) (group : Ipv6Address) (rest : List ℕ) → text (address_record kind words sources group rest) ≡ record_type_number kind ∷ words ∷ (big_bytes 2 sources ++ octets_of group)
+record_text : (kind : RecordType) (words sources : ℕ) (group : Ipv6Address) (rest : List ℕ)
+    → text (address_record kind words sources group rest) ≡ record_type_number kind ∷ words
+    ∷ (big_bytes 2 sources ++ octets_of group)
 unfolding fields be8 be16
 record_text kind words sources group rest = simp append-nil
 
 pub length-text : (v : RecordValue) → length (text v) ≡ 20
-length-text (address_record kind words sources group rest) = omega (arith, ap length (record_text kind words sources group rest), group.whole)
+length-text (address_record kind words sources group rest) =
+    omega (arith, ap length (record_text kind words sources group rest), group.whole)
 
 -- ---- reading what was written
 
-record_type_of-number : (kind : RecordType) → IsProper record_type.Unknown record_type_rows kind → kind ≡ record_type_of (record_type_number kind)
-record_type_of-number (record_type.Unknown n) p = sym (case_in-unnamed record_type.Unknown record_type_rows n (p n refl))
+record_type_of-number : (kind : RecordType) → IsProper record_type.Unknown record_type_rows kind
+    → kind ≡ record_type_of (record_type_number kind)
+record_type_of-number (record_type.Unknown n) p =
+    sym (case_in-unnamed record_type.Unknown record_type_rows n (p n refl))
 record_type_of-number _ p = refl
 
-fields_read : (kind : RecordType) (words sources : ℕ) (group : Ipv6Address) → IsProper record_type.Unknown record_type_rows kind → sources < 2 ^ 16
+fields_read : (kind : RecordType) (words sources : ℕ) (group : Ipv6Address)
+    → IsProper record_type.Unknown record_type_rows kind → sources < 2 ^ 16
     → IsFields (record_type_number kind ∷ words ∷ (big_bytes 2 sources ++ octets_of group)) kind words sources group []
 unfolding part
 fields_read kind words sources group proper small = record {
@@ -47,8 +55,11 @@ fields_read kind words sources group proper small = record {
 }
 
 record_read : (v : RecordValue) → IsCanonical v → IsGroupRecord (text v) (norm v)
-record_read (address_record kind words sources group rest) c =
-    (subst (λ (bytes : List ℕ). IsFields bytes kind words sources group []) (sym (record_text kind words sources group rest)) (fields_read kind words sources group c.0 c.3), c.4)
+record_read (address_record kind words sources group rest) c = (
+  subst (λ (bytes : List ℕ). IsFields bytes kind words sources group [])
+      (sym (record_text kind words sources group rest)) (fields_read kind words sources group c.0 c.3),
+  c.4,
+)
 
 -- bytes begin with one record at the most
 pub record-one : (bytes : List ℕ) (v w : RecordValue) → IsRecord bytes v → IsRecord bytes w → v ≡ w
@@ -72,8 +83,12 @@ record-canonical bytes (address_record kind words sources group rest) are m =
     let n : ℕ = byte_of record_type_field bytes in
     let first : n < 256 = are 0 in
     let second = are 1 in
-    let number = ap record_type_number m.0.kind_ ∙ number-case_in record_type_number record_type.Unknown (λ k. refl) record_types n in (
-      subst (λ (r : RecordType). IsProper record_type.Unknown record_type_rows r) (sym m.0.kind_) (case_in-proper record_type_number record_type.Unknown (λ k. refl) is_unknown (λ k. refl) record_type_rows n refl),
+    let number =
+    ap record_type_number m.0.kind_ ∙ number-case_in record_type_number record_type.Unknown
+    (λ k. refl) record_types n in (
+      subst (λ (r : RecordType). IsProper record_type.Unknown record_type_rows r) (sym m.0.kind_)
+          (case_in-proper record_type_number record_type.Unknown (λ k. refl) is_unknown
+          (λ k. refl) record_type_rows n refl),
       omega (arith, number, first),
       omega (arith, m.0.words_, second),
       omega (arith, m.0.sources_, number_of-small 2 4 bytes refl are),
@@ -95,7 +110,8 @@ nothing : (rest : List ℕ) → (0 < length rest → ⊥) → length rest ≡ 0
 nothing rest uncut = grind (arith, uncut)
 
 norm-uncut : (v : RecordValue) → (IsCut v → ⊥) → norm v ≡ v
-norm-uncut (address_record kind words sources group rest) uncut = ap (λ (l : List ℕ). address_record kind words sources group l) (sym (nil_from_length rest (nothing rest uncut)))
+norm-uncut (address_record kind words sources group rest) uncut =
+    ap (λ (l : List ℕ). address_record kind words sources group l) (sym (nil_from_length rest (nothing rest uncut)))
 
 pub record_format : IsFormat format
 record_format = record {
@@ -115,7 +131,8 @@ record_same_text a b = same_text format record_format tt a b
 pub ruleset same_texts = (record_same_text)
 
 -- what a parser owes of a record, where its address is multicast: it is canonical whatever stands after its fields
-pub record_rewrites : (bytes : List ℕ) (v : RecordValue) → IsBytes bytes → IsRecord bytes v → IsMulticast (group_of v) → Rewrites format v
+pub record_rewrites : (bytes : List ℕ) (v : RecordValue) → IsBytes bytes → IsRecord bytes v → IsMulticast (group_of v)
+    → Rewrites format v
 record_rewrites bytes v are is group =
     let canonical = record-canonical bytes v are (is, group) in
     record {
@@ -126,7 +143,10 @@ record_rewrites bytes v are is group =
       same_value = norm-uncut v;
     }
 
-pub all_record_rewrites : {T E : Type 0} (value : T → RecordValue) (bytes : List ℕ) (result : Result T E) → IsBytes bytes → IfOk result (λ x. IsRecord bytes (value x))
+pub all_record_rewrites : {T E : Type 0} (value : T → RecordValue) (bytes : List ℕ) (result : Result T E)
+    → IsBytes bytes → IfOk result (λ x. IsRecord bytes (value x))
     → IfOk result (λ x. IsMulticast (group_of (value x)) → Rewrites format (value x))
 all_record_rewrites value bytes result are sound =
-    IfOk-weaker result (λ x. IsRecord bytes (value x)) (λ x. IsMulticast (group_of (value x)) → Rewrites format (value x)) (λ x is. record_rewrites bytes (value x) are is) sound
+    IfOk-weaker result (λ x. IsRecord bytes (value x))
+    (λ x. IsMulticast (group_of (value x)) → Rewrites format (value x))
+    (λ x is. record_rewrites bytes (value x) are is) sound

@@ -1,5 +1,6 @@
 -- The texts of messages of multicast listener discovery, and their lengths; bytes are one message at the most.
-use Rattle.std.proofs.Common.{◌≡◌, ◌↔◌, ℕ, suc, ◌+◌, ◌*◌, Bool, true, false, IsTrue, List, [], ◌∷◌, ◌++◌, length, refl, sym, ap, ◌∙◌, arith, length-append}
+use Rattle.std.proofs.Common.{◌≡◌, ◌↔◌, ℕ, suc, ◌+◌, ◌*◌, Bool, true, false, IsTrue, List, [], ◌∷◌, ◌++◌, length, refl}
+use Rattle.std.proofs.Common.{sym, ap, ◌∙◌, arith, length-append}
 use Rattle.std.proofs.lemmas.List.{append-nil}
 use Rattle.byteorder.specs.Endian.{big_bytes}
 use Rattle.wirebase.specs.Bytes.{over}
@@ -8,7 +9,8 @@ use Rattle.wirebase.specs.Ipv6Address.{octets_of}
 use Rattle.wirebase.specs.declared.ipv6.address.Ipv6Address.{Ipv6Address}
 use Rattle.wirebase.proofs.Ipv6Header.{same_address}
 use Rattle.wirebase.proofs.Pieces.{over-exact}
-use Rattle.icmp6_wire.specs.Mld.{MldValue, values_of, query, report, records, sqrv, query_fields, report_fields, record_texts as texts_of, text, text_len, CanEmit, IsMessage}
+use Rattle.icmp6_wire.specs.Mld.{MldValue, values_of, query, report, records, sqrv, query_fields, report_fields}
+use Rattle.icmp6_wire.specs.Mld.{record_texts as texts_of, text, text_len, CanEmit, IsMessage}
 use Rattle.icmp6_wire.specs.MldRecord.{RecordValue, text as record_text}
 use Rattle.icmp6_wire.specs.declared.mld.record.AddressRecordRepr.{AddressRecordRepr}
 use Rattle.icmp6_wire.proofs.MldRecords.{length-text as length-record}
@@ -17,11 +19,13 @@ pub ruleset record_texts = (length-record)
 
 query_text : (code : ℕ) (group : Ipv6Address) (flag : Bool) (qrv qqic sources : ℕ) (d : List ℕ)
     → fields (query_fields code group flag qrv qqic sources d)
-    ≡ 0x82 ∷ 0 ∷ 0 ∷ 0 ∷ (big_bytes 2 code ++ (0 ∷ 0 ∷ (octets_of group ++ (sqrv flag qrv ∷ qqic ∷ (big_bytes 2 sources ++ d)))))
+    ≡ 0x82 ∷ 0 ∷ 0 ∷ 0
+    ∷ (big_bytes 2 code ++ (0 ∷ 0 ∷ (octets_of group ++ (sqrv flag qrv ∷ qqic ∷ (big_bytes 2 sources ++ d)))))
 unfolding fields be8 be16
 query_text code group flag qrv qqic sources d = simp append-nil
 
-report_text : (count : ℕ) (rest : List (List ℕ)) → fields (report_fields count rest) ≡ 0x8f ∷ 0 ∷ 0 ∷ 0 ∷ 0 ∷ 0 ∷ (big_bytes 2 count ++ fields rest)
+report_text : (count : ℕ) (rest : List (List ℕ)) → fields (report_fields count rest) ≡ 0x8f ∷ 0 ∷ 0 ∷ 0 ∷ 0 ∷ 0
+    ∷ (big_bytes 2 count ++ fields rest)
 unfolding fields be8 be16
 report_text count rest = refl
 
@@ -39,12 +43,18 @@ pub ruleset counts = (length-values)
 length-records : (rs : List RecordValue) → length (fields (texts_of rs)) ≡ 20 * length rs
 unfolding fields
 length-records [] = refl
-length-records (r ∷ rs) = omega (arith, length-append (record_text r) (fields (texts_of rs)), length-record r, length-records rs)
+length-records (r ∷ rs) =
+    omega (arith, length-append (record_text r) (fields (texts_of rs)), length-record r, length-records rs)
 
 pub length-text : (v : MldValue) → length (text v) ≡ text_len v
 length-text (query code group flag qrv qqic sources d) =
     let rest : List ℕ = sqrv flag qrv ∷ qqic ∷ (big_bytes 2 sources ++ d) in
-    omega (arith, ap length (query_text code group flag qrv qqic sources d), length-append (octets_of group) rest, group.whole)
+    omega (
+      arith,
+      ap length (query_text code group flag qrv qqic sources d),
+      length-append (octets_of group) rest,
+      group.whole,
+    )
 length-text (report count d) = omega (arith, ap length (report_text count (d ∷ [])), length-data d)
 length-text (records rs) = omega (arith, ap length (report_text (length rs) (texts_of rs)), length-records rs)
 
@@ -75,8 +85,10 @@ message-one bytes (query code group flag qrv qqic sources d) (query other anothe
     let six = a.sources_ ∙ sym b.sources_ in
     let seven = a.data_ ∙ sym b.data_ in
     cc
-message-one bytes (query code group flag qrv qqic sources d) (report count e) a b = absurd (let no = sym a.kind ∙ b.kind in omega (arith, no))
-message-one bytes (report count d) (query code group flag qrv qqic sources e) a b = absurd (let no = sym a.kind ∙ b.kind in omega (arith, no))
+message-one bytes (query code group flag qrv qqic sources d) (report count e) a b =
+    absurd (let no = sym a.kind ∙ b.kind in omega (arith, no))
+message-one bytes (report count d) (query code group flag qrv qqic sources e) a b =
+    absurd (let no = sym a.kind ∙ b.kind in omega (arith, no))
 message-one bytes (report count d) (report other e) a b =
     let one = a.count_ ∙ sym b.count_ in
     let two = a.data_ ∙ sym b.data_ in

@@ -25,7 +25,9 @@ use Rattle.wirebase.specs.declared.ip.IpProtocol.TheVariants as protocol
 use Rattle.wirebase.specs.declared.ipv6.address.Ipv6Address.{Ipv6Address}
 use Rattle.wirebase.specs.declared.ipv6.Ipv6Repr.{Ipv6Repr}
 use Rattle.icmp6_wire.specs.Icmpv6Packet.{BeginsWhole, word_field, message_sum}
-use Rattle.icmp6_wire.specs.Icmpv6Tables.{unreachable_number, unreachable_rows, unreachable_of, param_problem_number, param_problem_rows, param_problem_of, time_exceeded_number, time_exceeded_rows, time_exceeded_of}
+use Rattle.icmp6_wire.specs.Icmpv6Tables.{unreachable_number, unreachable_rows, unreachable_of, param_problem_number}
+use Rattle.icmp6_wire.specs.Icmpv6Tables.{param_problem_rows, param_problem_of, time_exceeded_number}
+use Rattle.icmp6_wire.specs.Icmpv6Tables.{time_exceeded_rows, time_exceeded_of}
 use Rattle.icmp6_wire.specs.declared.icmpv6.repr.Repr.{Repr}
 use Rattle.icmp6_wire.specs.declared.icmpv6.repr.Repr.TheVariants as repr
 use Rattle.icmp6_wire.specs.declared.icmpv6.tables.DstUnreachable.{DstUnreachable}
@@ -35,8 +37,8 @@ use Rattle.icmp6_wire.specs.declared.icmpv6.tables.ParamProblem.TheVariants as p
 use Rattle.icmp6_wire.specs.declared.icmpv6.tables.TimeExceeded.{TimeExceeded}
 use Rattle.icmp6_wire.specs.declared.icmpv6.tables.TimeExceeded.TheVariants as times
 
--- A message by its content: an error with its reason, the largest packet, the time or the problem and its place, the header
--- that it speaks of and the data behind it; or an echo with its identifier, its sequence number and its data.
+-- A message by its content: an error with its reason, the largest packet, the time or the problem and its place, the
+-- header that it speaks of and the data behind it; or an echo with its identifier, its sequence number and its data.
 pub data MessageValue : Type 0 where
   unreachable : DstUnreachable → Ipv6Repr → List ℕ → MessageValue
   too_big : ℕ → Ipv6Repr → List ℕ → MessageValue
@@ -55,8 +57,8 @@ value_of (repr.EchoReply ident seq_no d) = echo_reply ident seq_no d.now
 
 -- ---- the text
 
--- what an error quotes of the data behind a header, so that with an IPv6 header of its own it is at most the 1,280 bytes that
--- every link can carry (RFC 4443 section 2.4)
+-- what an error quotes of the data behind a header, so that with an IPv6 header of its own it is at most the 1,280
+-- bytes that every link can carry (RFC 4443 section 2.4)
 unfoldable pub quoted_data : List ℕ → List ℕ
 quoted_data d = take 1192 d
 
@@ -105,8 +107,8 @@ packet_text capabilities source destination v = seal capabilities source destina
 abbrev pub emitted : ChecksumCapabilities → Ipv6Address → Ipv6Address → MessageValue → List ℕ → List ℕ
 emitted capabilities source destination v old = seal capabilities source destination (over old (text v))
 
--- What is asked of a message and of the octets that it is written into: of an echo that its header has room, of an error
--- that all of it has, and that the quoted header can tell its payload's length.
+-- What is asked of a message and of the octets that it is written into: of an echo that its header has room, of an
+-- error that all of it has, and that the quoted header can tell its payload's length.
 abbrev pub CanEmitError : Ipv6Repr → List ℕ → List ℕ → Type 0
 CanEmitError quoted d bytes = (error_len d ≤ length bytes) × (quoted.payload_len ≤ 65535)
 
@@ -120,8 +122,8 @@ CanEmit (echo_reply ident seq_no d) bytes = Reaches header bytes
 
 -- ---- the grammar
 
--- An error of this type: it quotes a whole header, whose version and length are not looked at; the data is all that stands
--- behind it.
+-- An error of this type: it quotes a whole header, whose version and length are not looked at; the data is all that
+-- stands behind it.
 pub record IsError (t : ℕ) (bytes : List ℕ) (quoted : Ipv6Repr) (d : List ℕ) : Type 0 where
   pub kind : byte_of type_field bytes ≡ t
   pub quote_ : 48 ≤ length bytes
@@ -129,16 +131,21 @@ pub record IsError (t : ℕ) (bytes : List ℕ) (quoted : Ipv6Repr) (d : List �
   pub data_ : d ≡ drop 40 (data_in bytes)
 
 abbrev pub IsContent : List ℕ → MessageValue → Type 0
-IsContent bytes (unreachable reason quoted d) = IsError 1 bytes quoted d × (reason ≡ unreachable_of (byte_of code_field bytes))
-IsContent bytes (too_big mtu quoted d) = IsError 2 bytes quoted d × (byte_of code_field bytes ≡ 0) × (mtu ≡ number_of word_field bytes)
-IsContent bytes (time_exceeded reason quoted d) = IsError 3 bytes quoted d × (reason ≡ time_exceeded_of (byte_of code_field bytes))
+IsContent bytes (unreachable reason quoted d) =
+    IsError 1 bytes quoted d × (reason ≡ unreachable_of (byte_of code_field bytes))
+IsContent bytes (too_big mtu quoted d) =
+    IsError 2 bytes quoted d × (byte_of code_field bytes ≡ 0) × (mtu ≡ number_of word_field bytes)
+IsContent bytes (time_exceeded reason quoted d) =
+    IsError 3 bytes quoted d × (reason ≡ time_exceeded_of (byte_of code_field bytes))
 IsContent bytes (param_problem reason pointer quoted d) =
-    IsError 4 bytes quoted d × (reason ≡ param_problem_of (byte_of code_field bytes)) × (pointer ≡ number_of word_field bytes)
+    IsError 4 bytes quoted d × (reason ≡ param_problem_of (byte_of code_field bytes))
+    × (pointer ≡ number_of word_field bytes)
 IsContent bytes (echo_request ident seq_no d) = IsEcho 0x80 bytes ident seq_no d
 IsContent bytes (echo_reply ident seq_no d) = IsEcho 0x81 bytes ident seq_no d
 
 -- The grammar: the header of the type is there, its checksum is good where it is verified, and the message is this one.
-pub record IsMessage (capabilities : ChecksumCapabilities) (source destination : Ipv6Address) (bytes : List ℕ) (v : MessageValue) : Type 0 where
+pub record IsMessage (capabilities : ChecksumCapabilities) (source destination : Ipv6Address) (bytes : List ℕ)
+    (v : MessageValue) : Type 0 where
   pub whole : BeginsWhole bytes
   pub good : is_verified capabilities.icmpv6 ≡ true → IsGood bytes (message_sum source destination (length bytes))
   pub content : IsContent bytes v
@@ -148,15 +155,19 @@ pub record IsMessage (capabilities : ChecksumCapabilities) (source destination :
 -- a header that its own text gives back
 abbrev pub CanQuote : Ipv6Repr → Type 0
 CanQuote quoted =
-    IsProper protocol.Unknown protocol_rows quoted.next_header × (protocol_number quoted.next_header < 256) × (quoted.hop_limit < 256)
+    IsProper protocol.Unknown protocol_rows quoted.next_header × (protocol_number quoted.next_header < 256)
+    × (quoted.hop_limit < 256)
     × (quoted.payload_len < 2 ^ 16)
 
 abbrev pub IsCanonical : MessageValue → Type 0
-IsCanonical (unreachable reason quoted d) = IsProper reasons.Unknown unreachable_rows reason × (unreachable_number reason < 256) × CanQuote quoted
+IsCanonical (unreachable reason quoted d) =
+    IsProper reasons.Unknown unreachable_rows reason × (unreachable_number reason < 256) × CanQuote quoted
 IsCanonical (too_big mtu quoted d) = (mtu < 2 ^ 32) × CanQuote quoted
-IsCanonical (time_exceeded reason quoted d) = IsProper times.Unknown time_exceeded_rows reason × (time_exceeded_number reason < 256) × CanQuote quoted
+IsCanonical (time_exceeded reason quoted d) =
+    IsProper times.Unknown time_exceeded_rows reason × (time_exceeded_number reason < 256) × CanQuote quoted
 IsCanonical (param_problem reason pointer quoted d) =
-    IsProper problems.Unknown param_problem_rows reason × (param_problem_number reason < 256) × (pointer < 2 ^ 32) × CanQuote quoted
+    IsProper problems.Unknown param_problem_rows reason × (param_problem_number reason < 256) × (pointer < 2 ^ 32)
+    × CanQuote quoted
 IsCanonical (echo_request ident seq_no d) = (ident < 2 ^ 16) × (seq_no < 2 ^ 16) × (8 + length d ≤ 65535)
 IsCanonical (echo_reply ident seq_no d) = (ident < 2 ^ 16) × (seq_no < 2 ^ 16) × (8 + length d ≤ 65535)
 
@@ -193,10 +204,12 @@ format capabilities source destination =
       IsCut = IsCut;
     }
 
--- What writing a message leaves where `old` stood. Where there is just the message's length, its packet is all that is left,
--- and a canonical value is read back from it as its normal form.
-pub record Emits (capabilities : ChecksumCapabilities) (source destination : Ipv6Address) (v : MessageValue) (old new : List ℕ) : Type 0 where
+-- What writing a message leaves where `old` stood. Where there is just the message's length, its packet is all that is
+-- left, and a canonical value is read back from it as its normal form.
+pub record Emits (capabilities : ChecksumCapabilities) (source destination : Ipv6Address) (v : MessageValue)
+    (old new : List ℕ) : Type 0 where
   pub text_ : new ≡ emitted capabilities source destination v old
   pub exact : length old ≡ text_len v → new ≡ packet_text capabilities source destination v
-  pub reads_back : length old ≡ text_len v → Fills capabilities → IsCanonical v → IsMessage capabilities source destination new (norm v)
+  pub reads_back : length old ≡ text_len v → Fills capabilities → IsCanonical v
+      → IsMessage capabilities source destination new (norm v)
   pub round_trips : RoundTrips (format capabilities source destination) v

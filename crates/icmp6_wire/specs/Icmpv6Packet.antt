@@ -39,13 +39,13 @@ KeepsLen bytes old new = length (bytes (inner new)) ≡ length (bytes (inner old
 
 -- ---- the fields
 
--- the word behind the checksum: the size of the largest packet (RFC 4443 section 3.2), the place of a problem (section 3.4),
--- or reserved
+-- the word behind the checksum: the size of the largest packet (RFC 4443 section 3.2), the place of a problem (section
+-- 3.4), or reserved
 abbrev pub word_field : Field
 word_field = field 4 8
 
--- of a query for multicast listeners (RFC 3810 section 5.1), what is reserved: two bytes, and the upper half of the byte
--- with the flag and the robustness variable; of a report (section 5.2) two bytes
+-- of a query for multicast listeners (RFC 3810 section 5.1), what is reserved: two bytes, and the upper half of the
+-- byte with the flag and the robustness variable; of a report (section 5.2) two bytes
 abbrev pub query_reserved_field : Field
 query_reserved_field = field 6 8
 
@@ -60,8 +60,8 @@ report_reserved_field = field 4 6
 abbrev pub message_in : List ℕ → Message
 message_in bytes = message_of (byte_of type_field bytes)
 
--- The bytes of the header of each type: the last field that every message of the type has (RFC 4443, RFC 4861 section 4,
--- RFC 3810 section 5). Of a type that is not read here they are the type, the code and the checksum.
+-- The bytes of the header of each type: the last field that every message of the type has (RFC 4443, RFC 4861 section
+-- 4, RFC 3810 section 5). Of a type that is not read here they are the type, the code and the checksum.
 abbrev pub header_len_of : Message → ℕ
 header_len_of message.DstUnreachable = 8
 header_len_of message.PktTooBig = 8
@@ -105,7 +105,8 @@ cleared message.RouterSolicit bytes = with_field word_field (0 ∷ 0 ∷ 0 ∷ 0
 cleared message.NeighborSolicit bytes = with_field word_field (0 ∷ 0 ∷ 0 ∷ 0 ∷ []) bytes
 cleared message.NeighborAdvert bytes = with_field word_field (0 ∷ 0 ∷ 0 ∷ 0 ∷ []) bytes
 cleared message.Redirect bytes = with_field word_field (0 ∷ 0 ∷ 0 ∷ 0 ∷ []) bytes
-cleared message.MldQuery bytes = with_field sqrv_field (byte_of sqrv_field bytes % 16 ∷ []) (with_field query_reserved_field (0 ∷ 0 ∷ []) bytes)
+cleared message.MldQuery bytes =
+    with_field sqrv_field (byte_of sqrv_field bytes % 16 ∷ []) (with_field query_reserved_field (0 ∷ 0 ∷ []) bytes)
 cleared message.MldReport bytes = with_field report_reserved_field (0 ∷ 0 ∷ []) bytes
 cleared _ bytes = bytes
 

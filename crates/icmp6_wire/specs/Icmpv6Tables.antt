@@ -134,7 +134,8 @@ time_exceeded_text time_exceeded.HopLimitExceeded = codes "hop limit exceeded in
 time_exceeded_text time_exceeded.FragReassemExceeded = codes "fragment reassembly time exceeded"
 time_exceeded_text (time_exceeded.Unknown n) = decimal n
 
--- the messages of neighbor discovery (RFC 4861 section 4), and those of multicast listener discovery (RFC 3810 section 5)
+-- the messages of neighbor discovery (RFC 4861 section 4), and those of multicast listener discovery (RFC 3810 section
+-- 5)
 abbrev pub is_ndisc : Message → Bool
 is_ndisc message.RouterSolicit = true
 is_ndisc message.RouterAdvert = true

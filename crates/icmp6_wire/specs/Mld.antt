@@ -5,16 +5,17 @@ use Rattle.wirebase.specs.ByteWriter.{be8, be16, fields}
 use Rattle.wirebase.specs.Icmp.{type_field}
 use Rattle.wirebase.specs.Ipv6Address.{octets_of, IsMulticast}
 use Rattle.wirebase.specs.declared.ipv6.address.Ipv6Address.{Ipv6Address}
-use Rattle.icmp6_wire.specs.MldPacket.{max_resp_code_field, mcast_addr_field, qqic_field, num_srcs_field, nr_mcast_addr_rcrds_field, s_flag_in, qrv_in}
+use Rattle.icmp6_wire.specs.MldPacket.{max_resp_code_field, mcast_addr_field, qqic_field, num_srcs_field}
+use Rattle.icmp6_wire.specs.MldPacket.{nr_mcast_addr_rcrds_field, s_flag_in, qrv_in}
 use Rattle.icmp6_wire.specs.MldRecord.{RecordValue, group_of}
 use Rattle.icmp6_wire.specs.MldRecord as a_record
 use Rattle.icmp6_wire.specs.declared.mld.record.AddressRecordRepr.{AddressRecordRepr}
 use Rattle.icmp6_wire.specs.declared.mld.repr.Repr.{Repr}
 use Rattle.icmp6_wire.specs.declared.mld.repr.Repr.TheVariants as repr
 
--- A message by its content: a query with its response code, the group, its flag, the robustness variable, the interval's code,
--- the number of sources and the bytes of them; a report with the number of its records and the bytes of them; or a report by
--- its records.
+-- A message by its content: a query with its response code, the group, its flag, the robustness variable, the
+-- interval's code, the number of sources and the bytes of them; a report with the number of its records and the bytes
+-- of them; or a report by its records.
 pub data MldValue : Type 0 where
   query : ℕ → Ipv6Address → Bool → ℕ → ℕ → ℕ → List ℕ → MldValue
   report : ℕ → List ℕ → MldValue
@@ -84,7 +85,8 @@ CanEmit (records rs) bytes = (length bytes ≡ 8 + 20 * length rs) × (length rs
 
 -- ---- the grammar
 
-pub record IsQuery (bytes : List ℕ) (code : ℕ) (group : Ipv6Address) (flag : Bool) (qrv qqic sources : ℕ) (d : List ℕ) : Type 0 where
+pub record IsQuery (bytes : List ℕ) (code : ℕ) (group : Ipv6Address) (flag : Bool) (qrv qqic sources : ℕ)
+    (d : List ℕ) : Type 0 where
   pub kind : byte_of type_field bytes ≡ 0x82
   pub whole : Reaches num_srcs_field bytes
   pub code_ : code ≡ number_of max_resp_code_field bytes

@@ -1,4 +1,5 @@
--- Queries and reports of multicast listener discovery, version 2 (RFC 3810 sections 5.1 and 5.2), inside ICMPv6 messages.
+-- Queries and reports of multicast listener discovery, version 2 (RFC 3810 sections 5.1 and 5.2), inside ICMPv6
+-- messages.
 --
 --  0                   1                   2                   3
 --  0 1 2 3 4 5 6 7 8 9 0 1 2 3 4 5 6 7 8 9 0 1 2 3 4 5 6 7 8 9 0 1

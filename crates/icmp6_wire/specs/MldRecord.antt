@@ -34,7 +34,8 @@ abbrev pub view_octets : AddressRecord (Bor (List ℕ)) → List ℕ
 view_octets view = (inner view).now
 
 -- a field of the view is w, and all its other octets stay
-abbrev pub Sets : {T : Type 0} → (T → List ℕ) → (T → List ℕ → T) → AddressRecord T → AddressRecord T → Field → List ℕ → Type 0
+abbrev pub Sets : {T : Type 0} → (T → List ℕ) → (T → List ℕ → T) → AddressRecord T → AddressRecord T → Field → List ℕ
+    → Type 0
 Sets bytes set old new f w = Writes bytes set (inner old) (inner new) f w
 
 -- as many octets as there were
@@ -58,7 +59,8 @@ mcast_addr_field = field 4 20
 abbrev pub payload_in : List ℕ → List ℕ
 payload_in bytes = drop 20 bytes
 
--- a record by its content: its type, the words of auxiliary data, the number of sources, the group, and what stands after
+-- a record by its content: its type, the words of auxiliary data, the number of sources, the group, and what stands
+-- after
 pub data RecordValue : Type 0 where
   address_record : RecordType → ℕ → ℕ → Ipv6Address → List ℕ → RecordValue
 
@@ -78,7 +80,8 @@ abbrev pub group_of : RecordValue → Ipv6Address
 group_of (address_record kind words sources group rest) = group
 
 -- The grammar: the fields are there, and this is what they say.
-pub record IsFields (bytes : List ℕ) (kind : RecordType) (words sources : ℕ) (group : Ipv6Address) (rest : List ℕ) : Type 0 where
+pub record IsFields (bytes : List ℕ) (kind : RecordType) (words sources : ℕ) (group : Ipv6Address)
+    (rest : List ℕ) : Type 0 where
   pub whole : Reaches mcast_addr_field bytes
   pub kind_ : kind ≡ record_type_of (byte_of record_type_field bytes)
   pub words_ : words ≡ byte_of aux_data_len_field bytes
@@ -92,7 +95,8 @@ IsRecord bytes (address_record kind words sources group rest) = IsFields bytes k
 -- a record that its own text gives back as its normal form
 abbrev pub IsCanonical : RecordValue → Type 0
 IsCanonical (address_record kind words sources group rest) =
-    IsProper record_type.Unknown record_type_rows kind × (record_type_number kind < 256) × (words < 256) × (sources < 2 ^ 16) × IsMulticast group
+    IsProper record_type.Unknown record_type_rows kind × (record_type_number kind < 256) × (words < 256)
+    × (sources < 2 ^ 16) × IsMulticast group
 
 -- the normal form: what stands after the fields is not written
 abbrev pub norm : RecordValue → RecordValue
@@ -108,7 +112,15 @@ IsGroupRecord bytes v = IsRecord bytes v × IsMulticast (group_of v)
 
 abbrev pub format : Format RecordValue
 format =
-    record { Reads = IsGroupRecord; Fills = Unit {0}; text = text; IsCanonical = IsCanonical; IsException = λ v. ⊥; norm = norm; IsCut = IsCut }
+    record {
+      Reads = IsGroupRecord;
+      Fills = Unit {0};
+      text = text;
+      IsCanonical = IsCanonical;
+      IsException = λ v. ⊥;
+      norm = norm;
+      IsCut = IsCut;
+    }
 
 -- What writing a record leaves where `old` stood.
 pub record Emits (v : RecordValue) (old new : List ℕ) : Type 0 where

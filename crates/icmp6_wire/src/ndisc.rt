@@ -6,7 +6,9 @@ ghost use Rattle.byteorder.specs.Endian.{big_bytes};
 ghost use Rattle.wirebase.specs.Bytes.{Reaches, bytes_of, byte_of, number_of};
 ghost use Rattle.wirebase.specs.Ipv6Address.{octets_of};
 ghost use Rattle.icmp6_wire.specs.Icmpv6Packet.{inner, Sets, KeepsLen};
-ghost use Rattle.icmp6_wire.specs.NdiscPacket.{hop_limit_field, router_flags_field, router_lifetime_field, reachable_time_field, retrans_time_field, neighbor_flags_field, target_addr_field, dest_addr_field, seconds, millis};
+ghost use Rattle.icmp6_wire.specs.NdiscPacket.{hop_limit_field, router_flags_field, router_lifetime_field};
+ghost use Rattle.icmp6_wire.specs.NdiscPacket.{reachable_time_field, retrans_time_field, neighbor_flags_field};
+ghost use Rattle.icmp6_wire.specs.NdiscPacket.{target_addr_field, dest_addr_field, seconds, millis};
 ghost use Rattle.icmp6_wire.specs.NdiscTables.{router_bits, neighbor_bits, known_router, known_neighbor};
 
 use crate::icmpv6::Packet;
@@ -67,7 +69,8 @@ impl<T: Octets> Packet<T> {
     #[tactic(auto, unfolding(bitflags::specs::Sets::known_from))]
     pub fn router_flags(&self) -> RouterFlags
         requires { Reaches router_flags_field (T.bytes (inner self.now)) }
-        ensures { router_bits result ≡ known_router (byte_of router_flags_field (T.bytes (inner self.now))) }
+        ensures { router_bits result
+            ≡ known_router (byte_of router_flags_field (T.bytes (inner self.now))) }
     {
         RouterFlags::from_bits_truncate(self.buffer.u8_at(field::ROUTER_FLAGS))
     }
@@ -108,7 +111,8 @@ impl<T: Octets> Packet<T> {
     #[tactic(auto, unfolding(bitflags::specs::Sets::known_from))]
     pub fn neighbor_flags(&self) -> NeighborFlags
         requires { Reaches neighbor_flags_field (T.bytes (inner self.now)) }
-        ensures { neighbor_bits result ≡ known_neighbor (byte_of neighbor_flags_field (T.bytes (inner self.now))) }
+        ensures { neighbor_bits result
+            ≡ known_neighbor (byte_of neighbor_flags_field (T.bytes (inner self.now))) }
     {
         NeighborFlags::from_bits_truncate(self.buffer.u8_at(field::NEIGHBOR_FLAGS))
     }
@@ -135,7 +139,8 @@ impl<T: OctetsMut> Packet<T> {
     /// Writes the flags of a router advertisement, all their bits. Asks 6 bytes.
     pub fn set_router_flags(&mut self, flags: RouterFlags)
         requires { Reaches router_flags_field (T.bytes (inner self.old)) }
-        ensures writes { Sets T.bytes T.put self.old self.new router_flags_field (router_bits flags ∷ []) }
+        ensures writes { Sets T.bytes T.put self.old self.new router_flags_field
+            (router_bits flags ∷ []) }
         ensures len { KeepsLen T.bytes self.old self.new }
     {
         self.buffer.set_u8(field::ROUTER_FLAGS, flags.bits());
@@ -146,7 +151,8 @@ impl<T: OctetsMut> Packet<T> {
     pub fn set_router_lifetime(&mut self, value: Duration)
         requires room { Reaches router_lifetime_field (T.bytes (inner self.old)) }
         requires fits { seconds value ≤ 65535 }
-        ensures writes { Sets T.bytes T.put self.old self.new router_lifetime_field (big_bytes 2 (seconds value)) }
+        ensures writes { Sets T.bytes T.put self.old self.new router_lifetime_field
+            (big_bytes 2 (seconds value)) }
         ensures len { KeepsLen T.bytes self.old self.new }
     {
         self.buffer
@@ -158,7 +164,8 @@ impl<T: OctetsMut> Packet<T> {
     pub fn set_reachable_time(&mut self, value: Duration)
         requires room { Reaches reachable_time_field (T.bytes (inner self.old)) }
         requires fits { millis value ≤ 4294967295 }
-        ensures writes { Sets T.bytes T.put self.old self.new reachable_time_field (big_bytes 4 (millis value)) }
+        ensures writes { Sets T.bytes T.put self.old self.new reachable_time_field
+            (big_bytes 4 (millis value)) }
         ensures len { KeepsLen T.bytes self.old self.new }
     {
         self.buffer
@@ -170,7 +177,8 @@ impl<T: OctetsMut> Packet<T> {
     pub fn set_retrans_time(&mut self, value: Duration)
         requires room { Reaches retrans_time_field (T.bytes (inner self.old)) }
         requires fits { millis value ≤ 4294967295 }
-        ensures writes { Sets T.bytes T.put self.old self.new retrans_time_field (big_bytes 4 (millis value)) }
+        ensures writes { Sets T.bytes T.put self.old self.new retrans_time_field
+            (big_bytes 4 (millis value)) }
         ensures len { KeepsLen T.bytes self.old self.new }
     {
         self.buffer
@@ -189,7 +197,8 @@ impl<T: OctetsMut> Packet<T> {
     /// Writes the flags of a neighbor advertisement, all their bits. Asks 5 bytes.
     pub fn set_neighbor_flags(&mut self, flags: NeighborFlags)
         requires { Reaches neighbor_flags_field (T.bytes (inner self.old)) }
-        ensures writes { Sets T.bytes T.put self.old self.new neighbor_flags_field (neighbor_bits flags ∷ []) }
+        ensures writes { Sets T.bytes T.put self.old self.new neighbor_flags_field
+            (neighbor_bits flags ∷ []) }
         ensures len { KeepsLen T.bytes self.old self.new }
     {
         self.buffer.set_u8(field::NEIGHBOR_FLAGS, flags.bits());

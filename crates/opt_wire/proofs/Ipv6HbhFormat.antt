@@ -1,5 +1,6 @@
 -- The format of hop-by-hop headers: what was read is canonical, and it is its own normal form.
-use Rattle.std.proofs.Common.{◌≡◌, ◌≢◌, ℕ, zero, suc, ◌+◌, ◌≤◌, List, [], ◌∷◌, ◌++◌, length, take, Ok, Err, refl, sym, ap, subst, ◌∙◌, arith, add-one}
+use Rattle.std.proofs.Common.{◌≡◌, ◌≢◌, ℕ, zero, suc, ◌+◌, ◌≤◌, List, [], ◌∷◌, ◌++◌, length, take, Ok, Err, refl, sym}
+use Rattle.std.proofs.Common.{ap, subst, ◌∙◌, arith, add-one}
 use Rattle.std.specs.List.{AllByRecursion}
 use Rattle.std.proofs.lemmas.List.{length-take}
 use Rattle.wirebase.specs.Bytes.{IsBytes, over}
@@ -23,7 +24,9 @@ tile-text : (options : List OptionValue) → AllByRecursion option.IsCanonical o
     → Tile (text options) (all (norm options))
 unfolding fields
 tile-text [] h = ends
-tile-text (v ∷ options) h = goes_on (option.text v) (text options) (option.norm v) (option_text v h.0) (tile-text options h.1) (text-cons v options)
+tile-text (v ∷ options) h =
+    goes_on (option.text v) (text options) (option.norm v) (option_text v h.0) (tile-text options h.1)
+    (text-cons v options)
 
 front_some : (v : OptionValue) (rest : List ℕ) → option.text v ++ rest ≢ []
 unfolding fields be8
@@ -39,7 +42,9 @@ texts_some (v ∷ options) l e = front_some v (text options) (sym (text-cons v o
 -- the text of canonical options is their header
 header-text : (most : ℕ) (options : List OptionValue) → IsCanonical most options
     → IsHeader most (text options) (norm options)
-header-text most options c = header-end most (text options) (norm options) (all (norm options)) (texts_some options c.some) (tile-text options c.each) refl (omega (arith, c.few, length-norm options))
+header-text most options c =
+    header-end most (text options) (norm options) (all (norm options)) (texts_some options c.some)
+    (tile-text options c.each) refl (omega (arith, c.few, length-norm options))
 
 canonical_options : (options : List OptionValue) → AllByRecursion option.IsCanonical options
     → AllByRecursion option.IsCanonical (norm options)
@@ -56,15 +61,18 @@ canonical-norm most options c = record {
 -- ---- what was read: each of the options that are kept stands in the tiling, and there is one at least
 
 each_read : (P : OptionValue → Type 0) → ((w : List ℕ) (v : OptionValue) → IsBytes w → option.IsOption w v → P v)
-    → (n : ℕ) (bytes : List ℕ) (answers : List Answer) (read : List OptionValue) → IsBytes bytes → Tile bytes answers → take n answers ≡ all read → AllByRecursion P read
+    → (n : ℕ) (bytes : List ℕ) (answers : List Answer) (read : List OptionValue) → IsBytes bytes → Tile bytes answers
+    → take n answers ≡ all read → AllByRecursion P read
 each_read P is n bytes answers [] are tile e = tt
 each_read P is zero bytes answers (v ∷ read) are tile e = cc
 each_read P is (suc n) bytes answers (v ∷ read) are ends e = cc
 each_read P is (suc n) bytes answers (v ∷ read) are (goes_on {answers = rests} front rest u h t w) e =
     let same : u ≡ v = cc in
     let more : take n rests ≡ all read = cc in
-    let here : IsBytes (front ++ rest) = subst IsBytes w are in
-    (subst P same (is front u (IsBytes-front front rest here) h), each_read P is n rest rests read (IsBytes-rest front rest here) t more)
+    let here : IsBytes (front ++ rest) = subst IsBytes w are in (
+      subst P same (is front u (IsBytes-front front rest here) h),
+      each_read P is n rest rests read (IsBytes-rest front rest here) t more,
+    )
 each_read P is (suc n) bytes answers (v ∷ read) are (breaks refusal some none) e = cc
 
 each_kept : (P : OptionValue → Type 0) (n : ℕ) (options : List OptionValue) → AllByRecursion P options
@@ -74,9 +82,11 @@ each_kept P (suc n) [] h = tt
 each_kept P (suc n) (v ∷ options) h = (h.0, each_kept P n options h.1)
 
 header-each : (P : OptionValue → Type 0) → ((w : List ℕ) (v : OptionValue) → IsBytes w → option.IsOption w v → P v)
-    → (most : ℕ) (bytes : List ℕ) (options : List OptionValue) → IsBytes bytes → IsHeader most bytes options → AllByRecursion P options
+    → (most : ℕ) (bytes : List ℕ) (options : List OptionValue) → IsBytes bytes → IsHeader most bytes options
+    → AllByRecursion P options
 header-each P is most bytes options are h =
-    subst (AllByRecursion P) (sym h.kept) (each_kept P most h.read (each_read P is (most + 1) bytes h.answers h.read are h.tile h.good))
+    subst (AllByRecursion P) (sym h.kept)
+    (each_kept P most h.read (each_read P is (most + 1) bytes h.answers h.read are h.tile h.good))
 
 some_option : (most : ℕ) (bytes : List ℕ) (answers : List Answer) (read : List OptionValue) → bytes ≢ []
     → Tile bytes answers → take (most + 1) answers ≡ all read → 1 ≤ length read
@@ -107,7 +117,8 @@ header-canonical most bytes options room are h = record {
 
 norm_each : (options : List OptionValue) → AllByRecursion (λ v. option.norm v ≡ v) options → norm options ≡ options
 norm_each [] h = refl
-norm_each (v ∷ options) h = ap (λ (x : OptionValue). x ∷ norm options) h.0 ∙ ap (λ (l : List OptionValue). v ∷ l) (norm_each options h.1)
+norm_each (v ∷ options) h =
+    ap (λ (x : OptionValue). x ∷ norm options) h.0 ∙ ap (λ (l : List OptionValue). v ∷ l) (norm_each options h.1)
 
 -- ---- all of it
 
@@ -120,7 +131,8 @@ header_format most room = record {
   norm_text = λ options c regular. norm-text options;
   accepted = λ bytes options are small h. header-canonical most bytes options room are h;
   regular = λ bytes options h e. e;
-  kept = λ bytes options are c h whole. norm_each options (header-each (λ v. option.norm v ≡ v) (λ w v small is. option-kept w v is) most bytes options are h);
+  kept = λ bytes options are c h whole. norm_each options
+      (header-each (λ v. option.norm v ≡ v) (λ w v small is. option-kept w v is) most bytes options are h);
 }
 
 pub header_same_text : (most : ℕ) → 1 ≤ most → (a b : List OptionValue) → SameText (format most) a b
@@ -131,10 +143,13 @@ pub header_emits : (most : ℕ) (options : List OptionValue) (old new : List ℕ
     → text_len options ≤ length old → new ≡ over old (text options) → Emits most options old new
 header_emits most options old new some enough room e =
     let size = length-texts options enough in
-    let exact : length old ≡ text_len options → new ≡ text options = λ long. e ∙ over-exact old (text options) (long ∙ sym size) in
+    let exact : length old ≡ text_len options → new ≡ text options =
+    λ long. e ∙ over-exact old (text options) (long ∙ sym size) in
     record {
       text_ = e;
       exact = exact;
-      reads_back = λ canonical long. subst (λ (bytes : List ℕ). IsHeader most bytes (norm options)) (sym (exact long)) (header-text most options canonical);
+      reads_back =
+          λ canonical long. subst (λ (bytes : List ℕ). IsHeader most bytes (norm options)) (sym (exact long))
+          (header-text most options canonical);
       round_trips = round_trips (format most) (header_format most some) options;
     }

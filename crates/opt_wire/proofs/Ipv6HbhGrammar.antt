@@ -1,5 +1,6 @@
 -- Hop-by-hop headers against the tiling of their bytes.
-use Rattle.std.proofs.Common.{◌≡◌, ◌≢◌, ℕ, zero, suc, ◌+◌, ◌≤◌, List, [], ◌∷◌, ◌++◌, length, take, map, Ok, Err, refl, sym, ap, ◌∙◌, arith, add-one, length-append}
+use Rattle.std.proofs.Common.{◌≡◌, ◌≢◌, ℕ, zero, suc, ◌+◌, ◌≤◌, List, [], ◌∷◌, ◌++◌, length, take, map, Ok, Err, refl}
+use Rattle.std.proofs.Common.{sym, ap, ◌∙◌, arith, add-one, length-append}
 use Rattle.std.proofs.lemmas.List.{append_assoc, take_all, take_at}
 use Rattle.wirebase.specs.declared.error.Error.{Error}
 use Rattle.opt_wire.specs.Ipv6Option.{OptionValue}
@@ -32,7 +33,8 @@ header-end most bytes options answers some tile e l = record {
 }
 
 -- one more than are kept was read
-pub header-full : (most : ℕ) (bytes : List ℕ) (options : List OptionValue) (v : OptionValue) (answers rest : List Answer)
+pub header-full : (most : ℕ) (bytes : List ℕ) (options : List OptionValue) (v : OptionValue)
+    (answers rest : List Answer)
     → bytes ≢ [] → Tile bytes answers → answers ≡ all options ++ (Ok v ∷ rest) → length options ≡ most
     → IsHeader most bytes options
 header-full most bytes options v answers rest some tile e l =
@@ -59,7 +61,8 @@ refusal_read zero (o ∷ options) read e rest l h = absurd (omega (arith, l))
 refusal_read (suc n) (o ∷ options) [] e rest l h = cc
 refusal_read (suc n) (o ∷ options) (r ∷ read) e rest l h = refusal_read n options read e rest (omega (arith, l)) cc
 
-pub header-refused : (most : ℕ) (bytes : List ℕ) (options other : List OptionValue) (e : Error) (answers rest : List Answer)
+pub header-refused : (most : ℕ) (bytes : List ℕ) (options other : List OptionValue) (e : Error)
+    (answers rest : List Answer)
     → Tile bytes answers → answers ≡ all options ++ (Err e ∷ rest) → length options ≤ most → IsHeader most bytes other
     → ⊥
 header-refused most bytes options other e answers rest tile is l h =

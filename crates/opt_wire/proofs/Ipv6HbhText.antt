@@ -28,11 +28,15 @@ length-norm (v ∷ options) = ap (λ (n : ℕ). suc n) (length-norm options)
 
 pub norm-norm : (options : List OptionValue) → norm (norm options) ≡ norm options
 norm-norm [] = refl
-norm-norm (v ∷ options) = ap (λ (x : OptionValue). x ∷ norm (norm options)) (texts.norm-norm v) ∙ ap (λ (xs : List OptionValue). option.norm v ∷ xs) (norm-norm options)
+norm-norm (v ∷ options) =
+    ap (λ (x : OptionValue). x ∷ norm (norm options)) (texts.norm-norm v)
+    ∙ ap (λ (xs : List OptionValue). option.norm v ∷ xs) (norm-norm options)
 
 pub norm-text : (options : List OptionValue) → text (norm options) ≡ text options
 unfolding fields
 norm-text [] = refl
-norm-text (v ∷ options) = ap (λ (l : List ℕ). l ++ text (norm options)) (texts.norm-text v) ∙ ap (λ (l : List ℕ). option.text v ++ l) (norm-text options)
+norm-text (v ∷ options) =
+    ap (λ (l : List ℕ). l ++ text (norm options)) (texts.norm-text v)
+    ∙ ap (λ (l : List ℕ). option.text v ++ l) (norm-text options)
 
 pub ruleset sizes = (length-texts, sum_by-cons)

@@ -1,5 +1,6 @@
 -- The format of options: what was read is canonical, and it is its own normal form.
-use Rattle.std.proofs.Common.{◌≡◌, ℕ, ◌+◌, ◌*◌, ◌≤◌, ◌<◌, Bool, true, false, List, [], ◌∷◌, ◌++◌, length, drop, refl, sym, ap, subst, ◌∙◌, arith}
+use Rattle.std.proofs.Common.{◌≡◌, ℕ, ◌+◌, ◌*◌, ◌≤◌, ◌<◌, Bool, true, false, List, [], ◌∷◌, ◌++◌, length, drop, refl}
+use Rattle.std.proofs.Common.{sym, ap, subst, ◌∙◌, arith}
 use Rattle.std.proofs.lemmas.List.{append-nil, take_all}
 use Rattle.wirebase.specs.Bytes.{IsBytes, over}
 use Rattle.wirebase.specs.Format.{SameText}
@@ -12,10 +13,13 @@ use Rattle.opt_wire.specs.declared.ipv6option.tables.Type as Kind
 use Rattle.opt_wire.specs.declared.ipv6option.tables.Type.TheVariants as kind
 use Rattle.opt_wire.specs.declared.ipv6option.tables.RouterAlert.{RouterAlert}
 use Rattle.opt_wire.specs.declared.ipv6option.tables.RouterAlert.TheVariants as alert
-use Rattle.opt_wire.specs.Ipv6OptionTables.{type_number, types, type_rows, type_of, alert_number, alerts, alert_rows, alert_of}
-use Rattle.opt_wire.specs.Ipv6Option.{OptionValue, pad1, pad_n, router_alert, unknown, text, text_len, HasData, IsOption, BeginsWith, IsCanonical, norm, format, Emits}
+use Rattle.opt_wire.specs.Ipv6OptionTables.{type_number, types, type_rows, type_of, alert_number, alerts, alert_rows}
+use Rattle.opt_wire.specs.Ipv6OptionTables.{alert_of}
+use Rattle.opt_wire.specs.Ipv6Option.{OptionValue, pad1, pad_n, router_alert, unknown, text, text_len, HasData}
+use Rattle.opt_wire.specs.Ipv6Option.{IsOption, BeginsWith, IsCanonical, norm, format, Emits}
 use Rattle.opt_wire.proofs.Ipv6OptionGrammar.{begins_with-unique}
-use Rattle.opt_wire.proofs.Ipv6OptionText.{length-text, option_text, begins_with-text, norm-canonical, norm-norm, norm-text}
+use Rattle.opt_wire.proofs.Ipv6OptionText.{length-text, option_text, begins_with-text, norm-canonical, norm-norm}
+use Rattle.opt_wire.proofs.Ipv6OptionText.{norm-text}
 
 -- ---- what was read
 
@@ -43,14 +47,19 @@ option-canonical w (router_alert a) are h =
     let here : IsBytes (5 ∷ 2 ∷ h.0 ∷ h.1 ∷ []) = subst IsBytes h.2 are in
     let high : h.0 < 256 = here 2 in
     let low : h.1 < 256 = here 3 in
-    let number = ap alert_number h.3 ∙ number-alert (256 * h.0 + h.1) in
-    (subst (λ (x : RouterAlert). IsProper alert.Unknown alert_rows x) (sym h.3) (case_in-proper alert_number alert.Unknown (λ k. refl) is_unknown_alert (λ k. refl) alert_rows (256 * h.0 + h.1) refl), omega (arith, number, high, low))
+    let number = ap alert_number h.3 ∙ number-alert (256 * h.0 + h.1) in (
+      subst (λ (x : RouterAlert). IsProper alert.Unknown alert_rows x) (sym h.3)
+          (case_in-proper alert_number alert.Unknown (λ k. refl) is_unknown_alert (λ k. refl) alert_rows
+          (256 * h.0 + h.1) refl),
+      omega (arith, number, high, low),
+    )
 option-canonical w (unknown k n d) are h =
     let t = h.0 in
     let here : IsBytes (t ∷ n ∷ d) = subst IsBytes h.1 are in
     let number = ap type_number h.3 ∙ number-type t in
     let first : t < 256 = here 0 in (
-      subst (λ (x : Kind.Type). IsProper kind.Unknown type_rows x) (sym h.3) (case_in-proper type_number kind.Unknown (λ k. refl) is_unknown_type (λ k. refl) type_rows t refl),
+      subst (λ (x : Kind.Type). IsProper kind.Unknown type_rows x) (sym h.3)
+          (case_in-proper type_number kind.Unknown (λ k. refl) is_unknown_type (λ k. refl) type_rows t refl),
       λ e. h.4 (sym number ∙ ap type_number e),
       λ e. h.5 (sym number ∙ ap type_number e),
       λ e. h.6 (sym number ∙ ap type_number e),
@@ -70,11 +79,13 @@ option-kept w (unknown k n d) h = ap (unknown k n) (take_all n d (omega (arith, 
 pub option_format : IsFormat format
 option_format = record {
   one_value = begins_with-unique;
-  reads_back = λ v filled c. record { front = text v; rest = []; whole = sym (append-nil (text v)); option = option_text v c };
+  reads_back =
+      λ v filled c. record { front = text v; rest = []; whole = sym (append-nil (text v)); option = option_text v c };
   norm_canonical = norm-canonical;
   norm_norm = norm-norm;
   norm_text = λ v c regular. norm-text v;
-  accepted = λ bytes v are small h. option-canonical h.front v (IsBytes-front h.front h.rest (subst IsBytes h.whole are)) h.option;
+  accepted = λ bytes v are small h. option-canonical h.front v
+      (IsBytes-front h.front h.rest (subst IsBytes h.whole are)) h.option;
   regular = λ bytes v h e. e;
   kept = λ bytes v are c h whole. option-kept h.front v h.option;
 }
@@ -91,6 +102,8 @@ option_emits v old new enough room e =
     record {
       text_ = e;
       exact = λ long. e ∙ over-exact old (text v) (long ∙ sym (length-text v enough));
-      reads_back = λ canonical. subst (λ (bytes : List ℕ). BeginsWith bytes (norm v)) (sym left) (begins_with-text v _ canonical);
+      reads_back =
+          λ canonical. subst (λ (bytes : List ℕ). BeginsWith bytes (norm v)) (sym left)
+          (begins_with-text v _ canonical);
       round_trips = round_trips format option_format v;
     }

@@ -1,5 +1,7 @@
 -- Options against their bytes: the grammar as it is computed, byte by byte.
-use Rattle.std.proofs.Common.{◌≡◌, ◌≢◌, ℕ, ◌+◌, ◌-◌, ◌*◌, ◌≤◌, Bool, true, false, cond, ltb, eqb, List, [], ◌∷◌, ◌++◌, length, take, drop, slice_index, Option, Some, None, refl, sym, ap, subst, ◌∙◌, ◌⊎◌, inl, inr, arith, length-append}
+use Rattle.std.proofs.Common.{◌≡◌, ◌≢◌, ℕ, ◌+◌, ◌-◌, ◌*◌, ◌≤◌, Bool, true, false, cond, ltb, eqb, List, [], ◌∷◌, ◌++◌}
+use Rattle.std.proofs.Common.{length, take, drop, slice_index, Option, Some, None, refl, sym, ap, subst, ◌∙◌, ◌⊎◌, inl}
+use Rattle.std.proofs.Common.{inr, arith, length-append}
 use Rattle.std.proofs.lemmas.Bool.{ltb-false, le-ltb, eqb-true, eqb-false, ne_eqb}
 use Rattle.std.proofs.lemmas.Bool.Decides.{nat_tests}
 use Rattle.std.proofs.lemmas.List.{take-append-drop, take_at, length-take-le}
@@ -9,7 +11,8 @@ use Rattle.opt_wire.specs.declared.ipv6option.tables.Type as Kind
 use Rattle.opt_wire.specs.declared.ipv6option.tables.Type.TheVariants as kind
 use Rattle.opt_wire.specs.declared.ipv6option.tables.RouterAlert.{RouterAlert}
 use Rattle.opt_wire.specs.Ipv6OptionTables.{type_number, type_of, alert_of}
-use Rattle.opt_wire.specs.Ipv6Option.{option_type_field, opt_data_len_field, option_data_field, BeginsWhole, OptionValue, pad1, pad_n, router_alert, unknown, IsOption, BeginsWith}
+use Rattle.opt_wire.specs.Ipv6Option.{option_type_field, opt_data_len_field, option_data_field, BeginsWhole}
+use Rattle.opt_wire.specs.Ipv6Option.{OptionValue, pad1, pad_n, router_alert, unknown, IsOption, BeginsWith}
 use Rattle.opt_wire.specs.Ipv6OptionModel.{front_of, counted_at, known_at, alert_at}
 
 -- which way a test went
@@ -31,7 +34,8 @@ front_of-counted t n rest ne h =
 
 -- where the check of the length accepts
 front_of-whole : (bytes : List ℕ) → BeginsWhole bytes → byte_of option_type_field bytes ≢ 0
-    → front_of bytes ≡ known_at (byte_of option_type_field bytes) (byte_of opt_data_len_field bytes) (bytes_of (option_data_field bytes) bytes)
+    → front_of bytes ≡ known_at (byte_of option_type_field bytes) (byte_of opt_data_len_field bytes)
+    (bytes_of (option_data_field bytes) bytes)
 unfolding part
 front_of-whole [] w ne = absurd (omega (arith, w.0))
 front_of-whole (t ∷ []) w ne = absurd (omega (arith, w.1 ne))
@@ -76,9 +80,12 @@ pub front_of-other : (bytes : List ℕ) (k : Kind.Type) (n : ℕ) (d : List ℕ)
     → front_of bytes ≡ Some (unknown k n d)
 front_of-other bytes k n d w e p q r same same_data =
     let t = byte_of option_type_field bytes in
-    let known = known_at-other t (byte_of opt_data_len_field bytes) (bytes_of (option_data_field bytes) bytes) (λ z. q (e ∙ ap type_of z)) (λ z. r (e ∙ ap type_of z)) in
+    let known =
+    known_at-other t (byte_of opt_data_len_field bytes) (bytes_of (option_data_field bytes) bytes)
+    (λ z. q (e ∙ ap type_of z)) (λ z. r (e ∙ ap type_of z)) in
     front_of-whole bytes w (λ z. p (e ∙ ap type_of z)) ∙ known
-    ∙ ap (λ (x : Kind.Type). Some (unknown x (byte_of opt_data_len_field bytes) (bytes_of (option_data_field bytes) bytes))) (sym e)
+    ∙ ap (λ (x : Kind.Type). Some
+    (unknown x (byte_of opt_data_len_field bytes) (bytes_of (option_data_field bytes) bytes))) (sym e)
     ∙ ap (λ (x : ℕ). Some (unknown k x (bytes_of (option_data_field bytes) bytes))) (sym same)
     ∙ ap (λ (x : List ℕ). Some (unknown k n x)) (sym same_data)
 
@@ -97,23 +104,31 @@ alert-option n d v e l = elim (chosen (eqb n 2) (Some (router_alert (alert_of (b
       let shape : d ≡ slice_index d 0 ∷ slice_index d 1 ∷ [] = two_bytes d (l ∙ two) in
       let number : big_number 2 d ≡ 256 * slice_index d 0 + slice_index d 1 = omega arith in
       let is : router_alert (alert_of (big_number 2 d)) ≡ v = same_value _ _ a.1 in
-      subst (λ (x : OptionValue). IsOption (5 ∷ n ∷ d) x) is (slice_index d 0, slice_index d 1, ap (λ (k : ℕ). 5 ∷ k ∷ d) two ∙ ap (λ (l : List ℕ). 5 ∷ 2 ∷ l) shape, ap alert_of number)
+      subst (λ (x : OptionValue). IsOption (5 ∷ n ∷ d) x) is (
+        slice_index d 0,
+        slice_index d 1,
+        ap (λ (k : ℕ). 5 ∷ k ∷ d) two ∙ ap (λ (l : List ℕ). 5 ∷ 2 ∷ l) shape,
+        ap alert_of number,
+      )
   | inr b ↦ let no = b.1 in cc
 ]
 
 known-option : (t n : ℕ) (d : List ℕ) (v : OptionValue) → known_at t n d ≡ Some v → length d ≡ n → t ≢ 0
     → IsOption (t ∷ n ∷ d) v
-known-option t n d v e l ne = elim (chosen (eqb t 1) (Some (pad_n n)) (cond (eqb t 5) (alert_at n d) (Some (unknown (type_of t) n d))) (Some v) e) [
-  | inl a ↦
-      let is : pad_n n ≡ v = same_value _ _ a.1 in
-      subst (λ (x : OptionValue). IsOption (t ∷ n ∷ d) x) is (d, ap (λ (k : ℕ). k ∷ n ∷ d) (eqb-true t 1 a.0), l)
-  | inr b ↦ elim (chosen (eqb t 5) (alert_at n d) (Some (unknown (type_of t) n d)) (Some v) b.1) [
-    | inl a ↦ subst (λ (k : ℕ). IsOption (k ∷ n ∷ d) v) (sym (eqb-true t 5 a.0)) (alert-option n d v a.1 l)
-    | inr a ↦
-        let is : unknown (type_of t) n d ≡ v = same_value _ _ a.1 in
-        subst (λ (x : OptionValue). IsOption (t ∷ n ∷ d) x) is (t, refl, l, refl, ne, eqb-false t 1 b.0, eqb-false t 5 a.0)
-  ]
-]
+known-option t n d v e l ne =
+    elim
+      (chosen (eqb t 1) (Some (pad_n n)) (cond (eqb t 5) (alert_at n d) (Some (unknown (type_of t) n d))) (Some v) e) [
+      | inl a ↦
+          let is : pad_n n ≡ v = same_value _ _ a.1 in
+          subst (λ (x : OptionValue). IsOption (t ∷ n ∷ d) x) is (d, ap (λ (k : ℕ). k ∷ n ∷ d) (eqb-true t 1 a.0), l)
+      | inr b ↦ elim (chosen (eqb t 5) (alert_at n d) (Some (unknown (type_of t) n d)) (Some v) b.1) [
+        | inl a ↦ subst (λ (k : ℕ). IsOption (k ∷ n ∷ d) v) (sym (eqb-true t 5 a.0)) (alert-option n d v a.1 l)
+        | inr a ↦
+            let is : unknown (type_of t) n d ≡ v = same_value _ _ a.1 in
+            subst (λ (x : OptionValue). IsOption (t ∷ n ∷ d) x) is
+            (t, refl, l, refl, ne, eqb-false t 1 b.0, eqb-false t 5 a.0)
+      ]
+    ]
 
 counted-option : (t : ℕ) (rest : List ℕ) (v : OptionValue) → counted_at t rest ≡ Some v → t ≢ 0
     → BeginsWith (t ∷ rest) v

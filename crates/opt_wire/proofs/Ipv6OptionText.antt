@@ -1,5 +1,6 @@
 -- The text of an option: as it is read back, and what an emitter leaves.
-use Rattle.std.proofs.Common.{◌≡◌, ℕ, ◌+◌, ◌*◌, ◌/◌, ◌%◌, List, [], ◌∷◌, ◌++◌, length, take, replicate, refl, sym, ap, subst, ◌∙◌, arith}
+use Rattle.std.proofs.Common.{◌≡◌, ℕ, ◌+◌, ◌*◌, ◌/◌, ◌%◌, List, [], ◌∷◌, ◌++◌, length, take, replicate, refl, sym, ap}
+use Rattle.std.proofs.Common.{subst, ◌∙◌, arith}
 use Rattle.std.proofs.lemmas.List.{append-nil, length-replicate, length-take, length-take-le, take_all}
 use Rattle.byteorder.specs.Endian.{big_bytes}
 use Rattle.wirebase.specs.ByteWriter.{be8, be16, fields}
@@ -10,7 +11,8 @@ use Rattle.opt_wire.specs.declared.ipv6option.tables.Type.TheVariants as kind
 use Rattle.opt_wire.specs.declared.ipv6option.tables.RouterAlert.{RouterAlert}
 use Rattle.opt_wire.specs.declared.ipv6option.tables.RouterAlert.TheVariants as alert
 use Rattle.opt_wire.specs.Ipv6OptionTables.{type_number, type_rows, type_of, alert_number, alert_rows, alert_of}
-use Rattle.opt_wire.specs.Ipv6Option.{OptionValue, pad1, pad_n, router_alert, unknown, text, text_len, HasData, IsOption, BeginsWith, IsCanonical, norm}
+use Rattle.opt_wire.specs.Ipv6Option.{OptionValue, pad1, pad_n, router_alert, unknown, text, text_len, HasData}
+use Rattle.opt_wire.specs.Ipv6Option.{IsOption, BeginsWith, IsCanonical, norm}
 
 -- ---- byte by byte
 
@@ -63,8 +65,15 @@ option_bytes (router_alert a) c =
     let number : m ≡ 256 * (m / 256 % 256) + m % 256 = omega (arith, c.1) in
     (m / 256 % 256, m % 256, refl, sym (alert_of-number a c.0) ∙ ap alert_of number)
 option_bytes (unknown k n d) c =
-    let back : type_of (type_number k) ≡ k = type_of-number k c.0 in
-    (type_number k, refl, length-take-le n d c.6, sym back, (λ z. c.1 (sym back ∙ ap type_of z)), (λ z. c.2 (sym back ∙ ap type_of z)), (λ z. c.3 (sym back ∙ ap type_of z)))
+    let back : type_of (type_number k) ≡ k = type_of-number k c.0 in (
+      type_number k,
+      refl,
+      length-take-le n d c.6,
+      sym back,
+      (λ z. c.1 (sym back ∙ ap type_of z)),
+      (λ z. c.2 (sym back ∙ ap type_of z)),
+      (λ z. c.3 (sym back ∙ ap type_of z)),
+    )
 
 pub option_text : (v : OptionValue) → IsCanonical v → IsOption (text v) (norm v)
 option_text v c = subst (λ (w : List ℕ). IsOption w (norm v)) (sym (text-bytes v)) (option_bytes v c)

@@ -1,5 +1,7 @@
 -- The tiling of bytes by options: it exists, it is one, and its options take up all the bytes.
-use Rattle.std.proofs.Common.{◌≡◌, ◌⊎◌, inl, inr, Bool, true, false, ℕ, zero, suc, ◌<◌, ◌≤◌, List, [], ◌∷◌, ◌++◌, length, drop, map, sum_by, Option, Some, None, Ok, Err, refl, sym, ap, subst, ◌∙◌, arith, length-append}
+use Rattle.std.proofs.Common.{◌≡◌, ◌⊎◌, inl, inr, Bool, true, false, ℕ, zero, suc, ◌<◌, ◌≤◌, List, [], ◌∷◌, ◌++◌}
+use Rattle.std.proofs.Common.{length, drop, map, sum_by, Option, Some, None, Ok, Err, refl, sym, ap, subst, ◌∙◌, arith}
+use Rattle.std.proofs.Common.{length-append}
 use Rattle.std.proofs.lemmas.List.{drop_at}
 use Rattle.std.proofs.lemmas.List.Sums.{sum_by-cons}
 use Rattle.wirebase.specs.declared.error.Error.{Error}
@@ -34,14 +36,18 @@ tile_front most bytes go some l (Some v) e =
     let h = begins_with bytes v e in
     let rest : drop (text_len v) bytes ≡ h.rest = ap (λ (b : List ℕ). drop (text_len v) b) h.whole
     ∙ rest_after h.front h.rest v h.option in
-    let fewer : length h.rest ≤ most = omega (arith, ap length h.whole, length-append h.front h.rest, length-option h.front v h.option, counted_some v) in
-    goes_on h.front h.rest v h.option (subst (λ (b : List ℕ). Tile h.rest (answers_within most b)) (sym rest) (go h.rest fewer)) h.whole
+    let fewer : length h.rest ≤ most =
+    omega (arith, ap length h.whole, length-append h.front h.rest, length-option h.front v h.option, counted_some v)
+    in
+    goes_on h.front h.rest v h.option
+    (subst (λ (b : List ℕ). Tile h.rest (answers_within most b)) (sym rest) (go h.rest fewer)) h.whole
 
 tile_within : (most : ℕ) (bytes : List ℕ) → length bytes ≤ most → Tile bytes (answers_within most bytes)
 unfolding answers_within
 tile_within most [] l = ends
 tile_within zero (t ∷ rest) l = absurd (omega (arith, l))
-tile_within (suc most) (t ∷ rest) l = tile_front most (t ∷ rest) (λ b f. tile_within most b f) (λ e. cc) l (front_of (t ∷ rest)) refl
+tile_within (suc most) (t ∷ rest) l =
+    tile_front most (t ∷ rest) (λ b f. tile_within most b f) (λ e. cc) l (front_of (t ∷ rest)) refl
 
 pub tile_of : (bytes : List ℕ) → Tile bytes (answers_of bytes)
 tile_of bytes = tile_within (length bytes) bytes (omega arith)
@@ -67,9 +73,11 @@ tile-unique bytes answers others (goes_on {answers = a} f r v h t e) (goes_on {a
     ∙ ap (λ (x : OptionValue). drop (text_len x) (g ++ s)) same ∙ rest_after g s w k in
     let more : a ≡ b = tile-unique r a b t (subst (λ (l : List ℕ). Tile l b) (sym rests) u) in
     ap (λ (x : OptionValue). Ok x ∷ a) same ∙ ap (λ (l : List Answer). Ok w ∷ l) more
-tile-unique bytes answers others (goes_on f r v h t e) (breaks x some none) = absurd (none v (begins_by bytes f r v h e))
+tile-unique bytes answers others (goes_on f r v h t e) (breaks x some none) =
+    absurd (none v (begins_by bytes f r v h e))
 tile-unique bytes answers others (breaks x some none) ends = absurd (some refl)
-tile-unique bytes answers others (breaks x some none) (goes_on f r v h t e) = absurd (none v (begins_by bytes f r v h e))
+tile-unique bytes answers others (breaks x some none) (goes_on f r v h t e) =
+    absurd (none v (begins_by bytes f r v h e))
 tile-unique bytes answers others (breaks x some none) (breaks y more nothing) = refl
 
 -- where all answers are options, they take up all the bytes
@@ -81,7 +89,15 @@ sum-tile bytes answers (goes_on f r v h t w) [] e = cc
 sum-tile bytes answers (goes_on {answers = a} f r v h t w) (u ∷ options) e =
     let same : v ≡ u = cc in
     let more : sum_by text_len options ≡ length r = sum-tile r a t options cc in
-    omega (arith, sum_by-cons text_len u options, more, ap text_len same, length-option f v h, ap length w, length-append f r)
+    omega (
+      arith,
+      sum_by-cons text_len u options,
+      more,
+      ap text_len same,
+      length-option f v h,
+      ap length w,
+      length-append f r,
+    )
 sum-tile bytes answers (breaks x some none) [] e = cc
 sum-tile bytes answers (breaks x some none) (v ∷ options) e = cc
 
@@ -109,7 +125,8 @@ next-option hit bytes rest v e h r =
 
 pub next-refusal : (hit : Bool) (bytes : List ℕ) (refusal : Error) → hit ≡ false → 0 < length bytes
     → ((v : OptionValue) → BeginsWith bytes v → ⊥) → answers_to_come hit bytes ≡ Err refusal ∷ []
-next-refusal hit bytes refusal e some none = rw e (answers_of-broken bytes (λ z. absurd (omega (arith, some, ap length z))) none)
+next-refusal hit bytes refusal e some none =
+    rw e (answers_of-broken bytes (λ z. absurd (omega (arith, some, ap length z))) none)
 
 pub next-end : (hit : Bool) (bytes : List ℕ) → (hit ≡ true) ⊎ (length bytes ≡ 0) → answers_to_come hit bytes ≡ []
 next-end true bytes h = refl

@@ -1,5 +1,7 @@
--- The format of options: what was read is canonical and its own normal form, and a normal form has the text of its value.
-use Rattle.std.proofs.Common.{◌≡◌, ℕ, ◌+◌, ◌-◌, ◌*◌, ◌<◌, ◌≤◌, ◌^◌, ◌⊎◌, inl, inr, Bool, true, false, min, List, [], ◌++◌, length, take, drop, replicate, refl, sym, ap, subst, ◌∙◌, arith, length-append}
+-- The format of options: what was read is canonical and its own normal form, and a normal form has the text of its
+-- value.
+use Rattle.std.proofs.Common.{◌≡◌, ℕ, ◌+◌, ◌-◌, ◌*◌, ◌<◌, ◌≤◌, ◌^◌, ◌⊎◌, inl, inr, Bool, true, false, min, List, []}
+use Rattle.std.proofs.Common.{◌++◌, length, take, drop, replicate, refl, sym, ap, subst, ◌∙◌, arith, length-append}
 use Rattle.std.proofs.Common.{◌∷◌, ltb}
 use Rattle.std.proofs.lemmas.Bool.{cases_lt, lt-ltb, le-ltb}
 use Rattle.std.proofs.lemmas.List.{append-nil, length-take, length-replicate, get_or-take, get_or_past}
@@ -21,7 +23,10 @@ use Rattle.wirebase.proofs.Numbered.{number-case_in, case_in-proper}
 use Rattle.wirebase.proofs.Pieces.{length-part, over-exact}
 use Rattle.opt_wire.specs.NdiscOption.{prefix_flags_field, units_in, redirected_field, BeginsWithBlock}
 use Rattle.opt_wire.specs.NdiscOptionTables.{flag_bits, known, known_bits}
-use Rattle.opt_wire.specs.NdiscOptionRepr.{OptionValue, source, target, prefix_, redirected, mtu, unknown, seconds, whole, filled, HasSeconds, IsLinkAddr, IsRedirected, IsReading, BeginsWith, IsCanonicalRedirected, IsCanonical, text, text_len, CanEmit, norm, format, Emits}
+use Rattle.opt_wire.specs.NdiscOptionRepr.{OptionValue, source, target, prefix_, redirected, mtu, unknown, seconds}
+use Rattle.opt_wire.specs.NdiscOptionRepr.{whole, filled, HasSeconds, IsLinkAddr, IsRedirected, IsReading, BeginsWith}
+use Rattle.opt_wire.specs.NdiscOptionRepr.{IsCanonicalRedirected, IsCanonical, text, text_len, CanEmit, norm, format}
+use Rattle.opt_wire.specs.NdiscOptionRepr.{Emits}
 use Rattle.opt_wire.specs.declared.ndiscoption.repr.PrefixInformation.{PrefixInformation}
 use Rattle.opt_wire.proofs.NdiscOptionGrammar.{one_option}
 use Rattle.opt_wire.proofs.NdiscOptionReading.{link_same, option_read, option_over}
@@ -48,7 +53,8 @@ IsBytes-part i j bytes are k = elim (cases_lt k (j - i)) [
       let byte = IsBytes-drop i bytes are k in
       rw (get_or-take (j - i) (drop i bytes) k 0 before) byte
   | inr behind ↦
-      let none = get_or_past (take (j - i) (drop i bytes)) k 0 (omega (arith, length-take {A = ℕ} (j - i) (drop i bytes))) in
+      let none = get_or_past (take (j - i) (drop i bytes)) k 0
+      (omega (arith, length-take {A = ℕ} (j - i) (drop i bytes))) in
       rw none (omega arith)
 ]
 
@@ -62,7 +68,8 @@ four_small bytes are =
 
 -- ---- addresses that are filled
 
-fills : (address : List ℕ) → ((length address ≤ 6) × (filled address ≡ address ++ replicate (6 - length address) 0)) ⊎ ((7 ≤ length address) × (filled address ≡ address ++ replicate (8 - length address) 0))
+fills : (address : List ℕ) → ((length address ≤ 6) × (filled address ≡ address ++ replicate (6 - length address) 0))
+    ⊎ ((7 ≤ length address) × (filled address ≡ address ++ replicate (8 - length address) 0))
 fills address = elim (cases_lt 6 (length address)) [
   | inl more ↦ let e : ltb 6 (length address) ≡ true = lt-ltb 6 (length address) more in inr (more, rw e refl)
   | inr six ↦ let e : ltb 6 (length address) ≡ false = le-ltb 6 (length address) six in inl (six, rw e refl)
@@ -70,14 +77,43 @@ fills address = elim (cases_lt 6 (length address)) [
 
 length-filled : (address : List ℕ) → (length (filled address) ≡ 6) ⊎ (8 ≤ length (filled address))
 length-filled address = elim (fills address) [
-  | inl six ↦ inl (omega (arith, ap (λ (l : List ℕ). length l) six.1, length-append address (replicate (6 - length address) 0), length-replicate {A = ℕ} (6 - length address) 0, six.0))
-  | inr more ↦ inr (omega (arith, ap (λ (l : List ℕ). length l) more.1, length-append address (replicate (8 - length address) 0), length-replicate {A = ℕ} (8 - length address) 0, more.0))
+  | inl six ↦
+      inl (omega (
+        arith,
+        ap (λ (l : List ℕ). length l) six.1,
+        length-append address (replicate (6 - length address) 0),
+        length-replicate {A = ℕ} (6 - length address) 0,
+        six.0,
+      ))
+  | inr more ↦
+      inr (omega (
+        arith,
+        ap (λ (l : List ℕ). length l) more.1,
+        length-append address (replicate (8 - length address) 0),
+        length-replicate {A = ℕ} (8 - length address) 0,
+        more.0,
+      ))
 ]
 
 filled-small : (address : List ℕ) → length address ≤ 8 → length (filled address) ≤ 8
 filled-small address small = elim (fills address) [
-  | inl six ↦ omega (arith, ap (λ (l : List ℕ). length l) six.1, length-append address (replicate (6 - length address) 0), length-replicate {A = ℕ} (6 - length address) 0, six.0)
-  | inr more ↦ omega (arith, small, ap (λ (l : List ℕ). length l) more.1, length-append address (replicate (8 - length address) 0), length-replicate {A = ℕ} (8 - length address) 0, more.0)
+  | inl six ↦
+      omega (
+        arith,
+        ap (λ (l : List ℕ). length l) six.1,
+        length-append address (replicate (6 - length address) 0),
+        length-replicate {A = ℕ} (6 - length address) 0,
+        six.0,
+      )
+  | inr more ↦
+      omega (
+        arith,
+        small,
+        ap (λ (l : List ℕ). length l) more.1,
+        length-append address (replicate (8 - length address) 0),
+        length-replicate {A = ℕ} (8 - length address) 0,
+        more.0,
+      )
 ]
 
 full : (address : List ℕ) (n : ℕ) → n ≡ 0 → address ++ replicate n 0 ≡ address
@@ -95,10 +131,13 @@ filled-whole address (inr eight) = elim (fills address) [
 
 -- ---- what was read
 
-length-link : (t : ℕ) (bytes address : List ℕ) → BeginsWithBlock bytes → IsLinkAddr t bytes address → (length address ≡ 6) ⊎ (length address ≡ 8)
+length-link : (t : ℕ) (bytes address : List ℕ) → BeginsWithBlock bytes → IsLinkAddr t bytes address
+    → (length address ≡ 6) ⊎ (length address ≡ 8)
 length-link t bytes address block r =
     let n : ℕ = units_in bytes in
-    let long : length address ≡ 2 + min 8 (8 * n - 2) - 2 = ap (λ (l : List ℕ). length l) r.address_ ∙ length-part bytes 2 (2 + min 8 (8 * n - 2)) (omega arith) (omega (arith, block.some, block.whole.counted)) in
+    let long : length address ≡ 2 + min 8 (8 * n - 2) - 2 =
+    ap (λ (l : List ℕ). length l) r.address_ ∙ length-part bytes 2 (2 + min 8 (8 * n - 2)) (omega arith)
+    (omega (arith, block.some, block.whole.counted)) in
     elim (cases_lt 1 n) [
       | inl more ↦ inr (omega (arith, long, more))
       | inr one ↦ inl (omega (arith, long, one, block.some))
@@ -116,28 +155,37 @@ is_unknown_protocol : IpProtocol → Bool
 is_unknown_protocol (protocol.Unknown n) = true
 is_unknown_protocol _ = false
 
-redirected-canonical : (bytes : List ℕ) (h : Ipv6Repr) (d : List ℕ) → IsBytes bytes → BeginsWithBlock bytes → IsRedirected bytes h d → IsCanonicalRedirected h d
+redirected-canonical : (bytes : List ℕ) (h : Ipv6Repr) (d : List ℕ) → IsBytes bytes → BeginsWithBlock bytes
+    → IsRedirected bytes h d → IsCanonicalRedirected h d
 unfolding is_unknown_protocol
 redirected-canonical bytes h d are block r =
     let packet : List ℕ = bytes_of (redirected_field bytes) bytes in
     let in_packet = IsBytes-part 8 (8 * units_in bytes) bytes are in
     let n : ℕ = byte_of next_header_field packet in
-    let number : protocol_number h.next_header ≡ n = ap protocol_number r.packet.header.protocol ∙ number-case_in protocol_number protocol.Unknown (λ k. refl) protocols n in
+    let number : protocol_number h.next_header ≡ n =
+    ap protocol_number r.packet.header.protocol ∙ number-case_in protocol_number protocol.Unknown
+    (λ k. refl) protocols n in
     let next = in_packet 6 in
     let hop = in_packet 7 in
     let count = are 1 in
     let fits = r.packet.whole.total in
-    let long : length packet ≡ 8 * units_in bytes - 8 = length-part bytes 8 (8 * units_in bytes) (omega (arith, block.some)) block.whole.counted in
-    let data_ : length d ≡ 40 + payload_len_in packet - 40 = ap (λ (l : List ℕ). length l) r.payload ∙ length-part packet 40 (40 + payload_len_in packet) (omega arith) fits in
+    let long : length packet ≡ 8 * units_in bytes - 8 =
+    length-part bytes 8 (8 * units_in bytes) (omega (arith, block.some)) block.whole.counted in
+    let data_ : length d ≡ 40 + payload_len_in packet - 40 =
+    ap (λ (l : List ℕ). length l) r.payload ∙ length-part packet 40 (40 + payload_len_in packet)
+    (omega arith) fits in
     record {
-      proper = subst (λ (p : IpProtocol). IsProper protocol.Unknown protocol_rows p) (sym r.packet.header.protocol) (case_in-proper protocol_number protocol.Unknown (λ k. refl) is_unknown_protocol (λ k. refl) protocol_rows n refl);
+      proper = subst (λ (p : IpProtocol). IsProper protocol.Unknown protocol_rows p) (sym r.packet.header.protocol)
+          (case_in-proper protocol_number protocol.Unknown (λ k. refl) is_unknown_protocol
+          (λ k. refl) protocol_rows n refl);
       protocol_ = omega (arith, number, next);
       hops = omega (arith, r.packet.header.hops, hop);
       payload = omega (arith, r.packet.header.payload, data_);
       small = omega (arith, data_, fits, long, count);
     }
 
-reading-canonical : (bytes : List ℕ) (v : OptionValue) → IsBytes bytes → BeginsWithBlock bytes → IsReading bytes v → IsCanonical v
+reading-canonical : (bytes : List ℕ) (v : OptionValue) → IsBytes bytes → BeginsWithBlock bytes → IsReading bytes v
+    → IsCanonical v
 reading-canonical bytes (source address) are block r = link-small address (length-link 1 bytes address block r)
 reading-canonical bytes (target address) are block r = link-small address (length-link 2 bytes address block r)
 reading-canonical bytes (prefix_ p) are block r =
@@ -146,15 +194,24 @@ reading-canonical bytes (prefix_ p) are block r =
       len = omega (arith, r.len, len);
       flags = ap known r.flags ∙ known-known (byte_of prefix_flags_field bytes) ∙ sym r.flags;
       valid = few_seconds p.valid_lifetime _ r.valid (four_small (part bytes 4 8) (IsBytes-part 4 8 bytes are));
-      preferred = few_seconds p.preferred_lifetime _ r.preferred (four_small (part bytes 8 12) (IsBytes-part 8 12 bytes are));
+      preferred =
+          few_seconds p.preferred_lifetime _ r.preferred (four_small (part bytes 8 12) (IsBytes-part 8 12 bytes are));
     }
 reading-canonical bytes (redirected h d) are block r = redirected-canonical bytes h d are block r
-reading-canonical bytes (mtu n) are block r = subst (λ (k : ℕ). k < 2 ^ 32) (sym r.number) (four_small (part bytes 4 8) (IsBytes-part 4 8 bytes are))
+reading-canonical bytes (mtu n) are block r =
+    subst (λ (k : ℕ). k < 2 ^ 32) (sym r.number) (four_small (part bytes 4 8) (IsBytes-part 4 8 bytes are))
 reading-canonical bytes (unknown t n d) are block r =
     let kind = are 0 in
     let count = are 1 in
-    let long : length d ≡ 8 * units_in bytes - 2 = ap (λ (l : List ℕ). length l) r.data_ ∙ length-part bytes 2 (8 * units_in bytes) (omega (arith, block.some)) block.whole.counted in
-    (r.unnamed, omega (arith, r.kind, kind), omega (arith, r.count, block.some), omega (arith, r.count, count), omega (arith, r.count, long, block.some))
+    let long : length d ≡ 8 * units_in bytes - 2 =
+    ap (λ (l : List ℕ). length l) r.data_ ∙ length-part bytes 2 (8 * units_in bytes)
+    (omega (arith, block.some)) block.whole.counted in (
+      r.unnamed,
+      omega (arith, r.kind, kind),
+      omega (arith, r.count, block.some),
+      omega (arith, r.count, count),
+      omega (arith, r.count, long, block.some),
+    )
 
 -- ---- the normal form
 
@@ -166,7 +223,8 @@ norm-read bytes (source address) block r = ap source (link-full address (length-
 norm-read bytes (target address) block r = ap target (link-full address (length-link 2 bytes address block r))
 norm-read bytes (prefix_ p) block r =
     let valid : whole p.valid_lifetime ≡ p.valid_lifetime = ap whole r.valid ∙ whole-times _ ∙ sym r.valid in
-    let preferred : whole p.preferred_lifetime ≡ p.preferred_lifetime = ap whole r.preferred ∙ whole-times _ ∙ sym r.preferred in
+    let preferred : whole p.preferred_lifetime ≡ p.preferred_lifetime =
+    ap whole r.preferred ∙ whole-times _ ∙ sym r.preferred in
     ap (λ (n : ℕ). timed p n (whole p.preferred_lifetime)) valid ∙ ap (λ (n : ℕ). timed p p.valid_lifetime n) preferred
 norm-read bytes (redirected h d) block r = refl
 norm-read bytes (mtu n) block r = refl
@@ -197,7 +255,8 @@ norm-norm (unknown t n d) = refl
 
 abbrev timed_text : PrefixInformation → ℕ → ℕ → List ℕ
 timed_text p valid preferred =
-    fields (be8 3 ∷ be8 4 ∷ be8 p.prefix_len ∷ be8 (flag_bits p.flags) ∷ be32 valid ∷ be32 preferred ∷ be32 0 ∷ octets_of p.prefix ∷ [])
+    fields (be8 3 ∷ be8 4 ∷ be8 p.prefix_len ∷ be8 (flag_bits p.flags) ∷ be32 valid ∷ be32 preferred ∷ be32 0
+    ∷ octets_of p.prefix ∷ [])
 
 norm-text : (v : OptionValue) → IsCanonical v → text (norm v) ≡ text v
 norm-text (source address) c = link_text 1 (filled address) ∙ link_same 1 address c ∙ sym (link_text 1 address)
@@ -228,10 +287,13 @@ ndisc_option_same_text a b = same_text format ndisc_option_format tt a b
 
 -- ---- what writing leaves
 
-pub option_emits : (v : OptionValue) (old new : List ℕ) → CanEmit v → text_len v ≤ length old → new ≡ over old (text v) → Emits v old new
+pub option_emits : (v : OptionValue) (old new : List ℕ) → CanEmit v → text_len v ≤ length old → new ≡ over old (text v)
+    → Emits v old new
 option_emits v old new can room left = record {
   text_ = left;
   exact = λ long. left ∙ over-exact old (text v) (long ∙ sym (length-text v can));
-  reads_back = λ c. subst (λ (bytes : List ℕ). BeginsWith bytes (norm v)) (sym left) (option_over old v (omega (arith, length-text v can, room)) c);
+  reads_back =
+      λ c. subst (λ (bytes : List ℕ). BeginsWith bytes (norm v)) (sym left)
+      (option_over old v (omega (arith, length-text v can, room)) c);
   round_trips = round_trips format ndisc_option_format v;
 }

@@ -10,7 +10,8 @@ use Rattle.wirebase.proofs.Numbered.{number-case_in}
 use Rattle.wirebase.proofs.Ipv6Header.{same_address, one_header}
 use Rattle.opt_wire.specs.NdiscOption.{type_field, redirected_field}
 use Rattle.opt_wire.specs.NdiscOptionTables.{type_number, types, type_of}
-use Rattle.opt_wire.specs.NdiscOptionRepr.{OptionValue, source, target, prefix_, redirected, mtu, unknown, IsPrefix, IsRedirected, IsReading, BeginsWith, value_of}
+use Rattle.opt_wire.specs.NdiscOptionRepr.{OptionValue, source, target, prefix_, redirected, mtu, unknown, IsPrefix}
+use Rattle.opt_wire.specs.NdiscOptionRepr.{IsRedirected, IsReading, BeginsWith, value_of}
 use Rattle.opt_wire.specs.declared.ndiscoption.repr.PrefixInformation.{PrefixInformation}
 use Rattle.opt_wire.specs.declared.ndiscoption.repr.Repr.{Repr}
 use Rattle.opt_wire.specs.declared.ndiscoption.tables.PrefixInfoFlags.{PrefixInfoFlags}
@@ -26,7 +27,8 @@ unfolding flags_of
 same_flags f g e = ap flags_of e
 
 prefix_at : ℕ → PrefixInfoFlags → ℕ → ℕ → Ipv6Address → PrefixInformation
-prefix_at len flags valid preferred address = record { prefix_len = len; flags = flags; valid_lifetime = valid; preferred_lifetime = preferred; prefix = address }
+prefix_at len flags valid preferred address =
+    record { prefix_len = len; flags = flags; valid_lifetime = valid; preferred_lifetime = preferred; prefix = address }
 
 one_prefix : (bytes : List ℕ) (p q : PrefixInformation) → IsPrefix bytes p → IsPrefix bytes q → p ≡ q
 unfolding prefix_at
@@ -36,10 +38,12 @@ one_prefix bytes p q a b =
     let valid = a.valid ∙ sym b.valid in
     let preferred = a.preferred ∙ sym b.preferred in
     let address = same_address p.prefix q.prefix (a.octets ∙ sym b.octets) in
-    let made : prefix_at p.prefix_len p.flags p.valid_lifetime p.preferred_lifetime p.prefix ≡ prefix_at q.prefix_len q.flags q.valid_lifetime q.preferred_lifetime q.prefix = cc in
+    let made : prefix_at p.prefix_len p.flags p.valid_lifetime p.preferred_lifetime p.prefix
+    ≡ prefix_at q.prefix_len q.flags q.valid_lifetime q.preferred_lifetime q.prefix = cc in
     made
 
-one_redirected : (bytes : List ℕ) (h k : Ipv6Repr) (d e : List ℕ) → IsRedirected bytes h d → IsRedirected bytes k e → redirected h d ≡ redirected k e
+one_redirected : (bytes : List ℕ) (h k : Ipv6Repr) (d e : List ℕ) → IsRedirected bytes h d → IsRedirected bytes k e
+    → redirected h d ≡ redirected k e
 one_redirected bytes h k d e a b =
     let headers = one_header (bytes_of (redirected_field bytes) bytes) h k a.packet.header b.packet.header in
     let payloads = a.payload ∙ sym b.payload in
@@ -64,14 +68,16 @@ type-reading bytes (redirected h d) r = r.kind
 type-reading bytes (mtu n) r = r.kind
 type-reading bytes (unknown t n d) r = r.kind
 
-same_reading : (bytes : List ℕ) (v w : OptionValue) → IsReading bytes v → IsReading bytes w → number_of_type v ≡ number_of_type w → v ≡ w
+same_reading : (bytes : List ℕ) (v w : OptionValue) → IsReading bytes v → IsReading bytes w
+    → number_of_type v ≡ number_of_type w → v ≡ w
 unfolding number_of_type
 same_reading bytes (source address) (source other) a b same = ap source (a.address_ ∙ sym b.address_)
 same_reading bytes (target address) (target other) a b same = ap target (a.address_ ∙ sym b.address_)
 same_reading bytes (prefix_ p) (prefix_ q) a b same = ap prefix_ (one_prefix bytes p q a b)
 same_reading bytes (redirected h d) (redirected k e) a b same = one_redirected bytes h k d e a b
 same_reading bytes (mtu n) (mtu m) a b same = ap mtu (a.number ∙ sym b.number)
-same_reading bytes (unknown t n d) (unknown s m e) a b same = let one = a.count ∙ sym b.count in let two = a.data_ ∙ sym b.data_ in cc
+same_reading bytes (unknown t n d) (unknown s m e) a b same = let one = a.count ∙ sym b.count in let two =
+    a.data_ ∙ sym b.data_ in cc
 same_reading bytes (source address) (unknown s m e) a b same = absurd (b.unnamed.0 (sym same))
 same_reading bytes (target address) (unknown s m e) a b same = absurd (b.unnamed.1 (sym same))
 same_reading bytes (prefix_ p) (unknown s m e) a b same = absurd (b.unnamed.2 (sym same))
@@ -84,7 +90,9 @@ same_reading bytes (unknown t n d) (redirected k e) a b same = absurd (a.unnamed
 same_reading bytes (unknown t n d) (mtu m) a b same = absurd (a.unnamed.4 same)
 same_reading bytes _ _ a b same = absurd (omega arith)
 
-packet-reading : (bytes : List ℕ) → byte_of type_field bytes ≡ 4 → ((h : Ipv6Repr) → IsPacket (bytes_of (redirected_field bytes) bytes) h → ⊥) → (v : OptionValue) → IsReading bytes v → ⊥
+packet-reading : (bytes : List ℕ) → byte_of type_field bytes ≡ 4
+    → ((h : Ipv6Repr) → IsPacket (bytes_of (redirected_field bytes) bytes) h → ⊥) → (v : OptionValue)
+    → IsReading bytes v → ⊥
 packet-reading bytes four none (source address) b = omega (arith, four, b.kind)
 packet-reading bytes four none (target address) b = omega (arith, four, b.kind)
 packet-reading bytes four none (prefix_ p) b = omega (arith, four, b.kind)
@@ -97,14 +105,17 @@ one_option bytes v w a b =
     same_reading bytes v w a.reading b.reading (sym (type-reading bytes v a.reading) ∙ type-reading bytes w b.reading)
 
 -- a block of type 4 without a packet is read as nothing
-pub redirected-packet : (bytes : List ℕ) → type_of (byte_of type_field bytes) ≡ kind.RedirectedHeader → ((h : Ipv6Repr) → IsPacket (bytes_of (redirected_field bytes) bytes) h → ⊥) → (v : OptionValue) → BeginsWith bytes v → ⊥
+pub redirected-packet : (bytes : List ℕ) → type_of (byte_of type_field bytes) ≡ kind.RedirectedHeader
+    → ((h : Ipv6Repr) → IsPacket (bytes_of (redirected_field bytes) bytes) h → ⊥) → (v : OptionValue)
+    → BeginsWith bytes v → ⊥
 unfolding number_of_type
 redirected-packet bytes is none v b =
     let number = number-case_in type_number kind.Unknown (λ k. refl) types (byte_of type_field bytes) in
     packet-reading bytes (sym number ∙ ap type_number is) none v b.reading
 
 -- what answers soundly, and refuses only what is nothing, is complete
-pub complete : {E : Type 0} (result : Result Repr E) (bytes : List ℕ) → IfOk result (λ r. BeginsWith bytes (value_of r)) → (IsErr result → (v : OptionValue) → BeginsWith bytes v → ⊥)
+pub complete : {E : Type 0} (result : Result Repr E) (bytes : List ℕ) → IfOk result (λ r. BeginsWith bytes (value_of r))
+    → (IsErr result → (v : OptionValue) → BeginsWith bytes v → ⊥)
     → (v : OptionValue) → BeginsWith bytes v → IsOkAnd result (λ r. value_of r ≡ v)
 complete (Ok r) bytes sound refuses v b = one_option bytes (value_of r) v sound b
 complete (Err e) bytes sound refuses v b = absurd (refuses refl v b)

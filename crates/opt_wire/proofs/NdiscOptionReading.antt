@@ -1,5 +1,6 @@
 -- Texts of options are read back as their normal forms, whatever stands behind them.
-use Rattle.std.proofs.Common.{◌≡◌, ℕ, ◌+◌, ◌-◌, ◌*◌, ◌<◌, ◌≤◌, ◌^◌, List, [], ◌∷◌, ◌++◌, length, take, drop, refl, sym, ap, subst, ◌∙◌, arith, length-append}
+use Rattle.std.proofs.Common.{◌≡◌, ℕ, ◌+◌, ◌-◌, ◌*◌, ◌<◌, ◌≤◌, ◌^◌, List, [], ◌∷◌, ◌++◌, length, take, drop, refl, sym}
+use Rattle.std.proofs.Common.{ap, subst, ◌∙◌, arith, length-append}
 use Rattle.std.proofs.lemmas.List.{append-nil, append_assoc, length-replicate, take_at, drop_at}
 use Rattle.byteorder.specs.Endian.{big_bytes}
 use Rattle.byteorder.specs.Numbers.{big_number-reads_back}
@@ -16,7 +17,9 @@ use Rattle.wirebase.proofs.Ipv6Header.{length-header_text}
 use Rattle.wirebase.proofs.Pieces.{over-fits}
 use Rattle.opt_wire.specs.NdiscOption.{redirected_field, BeginsWithBlock}
 use Rattle.opt_wire.specs.NdiscOptionTables.{flag_bits}
-use Rattle.opt_wire.specs.NdiscOptionRepr.{OptionValue, source, target, prefix_, redirected, mtu, unknown, seconds, whole, units, padding, filled, IsLinkAddr, BeginsWith, IsCanonicalPrefix, IsCanonicalRedirected, IsCanonical, IsUnnamed, text, norm}
+use Rattle.opt_wire.specs.NdiscOptionRepr.{OptionValue, source, target, prefix_, redirected, mtu, unknown, seconds}
+use Rattle.opt_wire.specs.NdiscOptionRepr.{whole, units, padding, filled, IsLinkAddr, BeginsWith, IsCanonicalPrefix}
+use Rattle.opt_wire.specs.NdiscOptionRepr.{IsCanonicalRedirected, IsCanonical, IsUnnamed, text, norm}
 use Rattle.opt_wire.specs.declared.ndiscoption.repr.PrefixInformation.{PrefixInformation}
 use Rattle.opt_wire.proofs.NdiscOptionTexts.{link_text, prefix_text, redirected_text, mtu_text, unknown_text}
 
@@ -28,27 +31,41 @@ link_at t address rest = t ∷ units (2 + length address) ∷ ((address ++ paddi
 abbrev ReadsLink : ℕ → List ℕ → List ℕ → Type 0
 ReadsLink t bytes address = BeginsWithBlock bytes × IsLinkAddr t bytes address
 
-six_read : (t a b c d e f : ℕ) (rest : List ℕ) → t < 3 → ReadsLink t (t ∷ 1 ∷ a ∷ b ∷ c ∷ d ∷ e ∷ f ∷ rest) (a ∷ b ∷ c ∷ d ∷ e ∷ f ∷ [])
+six_read : (t a b c d e f : ℕ) (rest : List ℕ) → t < 3 → ReadsLink t (t ∷ 1 ∷ a ∷ b ∷ c ∷ d ∷ e ∷ f ∷ rest)
+    (a ∷ b ∷ c ∷ d ∷ e ∷ f ∷ [])
 unfolding part
 six_read t a b c d e f rest small = (
   record {
-    whole = record { fixed = omega arith; counted = omega arith; prefix_ = λ is. absurd (omega (arith, is)); redirected = λ is. absurd (omega (arith, is)) };
+    whole = record {
+      fixed = omega arith;
+      counted = omega arith;
+      prefix_ = λ is. absurd (omega (arith, is));
+      redirected = λ is. absurd (omega (arith, is));
+    };
     some = omega arith;
   },
   record { kind = refl; address_ = refl },
 )
 
-eight_read : (t a b c d e f g h : ℕ) (rest : List ℕ) → t < 3 → ReadsLink t (t ∷ 2 ∷ a ∷ b ∷ c ∷ d ∷ e ∷ f ∷ g ∷ h ∷ 0 ∷ 0 ∷ 0 ∷ 0 ∷ 0 ∷ 0 ∷ rest) (a ∷ b ∷ c ∷ d ∷ e ∷ f ∷ g ∷ h ∷ [])
+eight_read : (t a b c d e f g h : ℕ) (rest : List ℕ) → t < 3
+    → ReadsLink t (t ∷ 2 ∷ a ∷ b ∷ c ∷ d ∷ e ∷ f ∷ g ∷ h ∷ 0 ∷ 0 ∷ 0 ∷ 0 ∷ 0 ∷ 0 ∷ rest)
+    (a ∷ b ∷ c ∷ d ∷ e ∷ f ∷ g ∷ h ∷ [])
 unfolding part
 eight_read t a b c d e f g h rest small = (
   record {
-    whole = record { fixed = omega arith; counted = omega arith; prefix_ = λ is. absurd (omega (arith, is)); redirected = λ is. absurd (omega (arith, is)) };
+    whole = record {
+      fixed = omega arith;
+      counted = omega arith;
+      prefix_ = λ is. absurd (omega (arith, is));
+      redirected = λ is. absurd (omega (arith, is));
+    };
     some = omega arith;
   },
   record { kind = refl; address_ = refl },
 )
 
-link_read : (t : ℕ) (address rest : List ℕ) → t < 3 → length address ≤ 8 → ReadsLink t (link_at t address rest) (filled address)
+link_read : (t : ℕ) (address rest : List ℕ) → t < 3 → length address ≤ 8
+    → ReadsLink t (link_at t address rest) (filled address)
 link_read t [] rest small fits = six_read t 0 0 0 0 0 0 rest small
 link_read t (a ∷ []) rest small fits = six_read t a 0 0 0 0 0 rest small
 link_read t (a ∷ b ∷ []) rest small fits = six_read t a b 0 0 0 0 rest small
@@ -61,7 +78,9 @@ link_read t (a ∷ b ∷ c ∷ d ∷ e ∷ f ∷ g ∷ h ∷ []) rest small fits
 link_read t (a ∷ b ∷ c ∷ d ∷ e ∷ f ∷ g ∷ h ∷ i ∷ more) rest small fits = absurd (omega arith)
 
 -- the filled address has the same text
-pub link_same : (t : ℕ) (address : List ℕ) → length address ≤ 8 → t ∷ units (2 + length (filled address)) ∷ (filled address ++ padding (2 + length (filled address))) ≡ t ∷ units (2 + length address) ∷ (address ++ padding (2 + length address))
+pub link_same : (t : ℕ) (address : List ℕ) → length address ≤ 8
+    → t ∷ units (2 + length (filled address)) ∷ (filled address ++ padding (2 + length (filled address))) ≡ t
+    ∷ units (2 + length address) ∷ (address ++ padding (2 + length address))
 link_same t [] fits = refl
 link_same t (a ∷ []) fits = refl
 link_same t (a ∷ b ∷ []) fits = refl
@@ -79,14 +98,23 @@ abbrev prefix_of : PrefixInformation → PrefixInformation
 prefix_of p = record p { valid_lifetime = whole p.valid_lifetime; preferred_lifetime = whole p.preferred_lifetime }
 
 prefix_read : (p : PrefixInformation) (rest : List ℕ) → IsCanonicalPrefix p
-    → BeginsWith (3 ∷ 4 ∷ p.prefix_len ∷ flag_bits p.flags ∷ (big_bytes 4 (seconds p.valid_lifetime) ++ (big_bytes 4 (seconds p.preferred_lifetime) ++ (0 ∷ 0 ∷ 0 ∷ 0 ∷ (octets_of p.prefix ++ rest))))) (prefix_ (prefix_of p))
+    → BeginsWith
+    (3 ∷ 4 ∷ p.prefix_len ∷ flag_bits p.flags
+    ∷ (big_bytes 4 (seconds p.valid_lifetime)
+    ++ (big_bytes 4 (seconds p.preferred_lifetime) ++ (0 ∷ 0 ∷ 0 ∷ 0 ∷ (octets_of p.prefix ++ rest)))))
+    (prefix_ (prefix_of p))
 unfolding part
 prefix_read p rest c =
     let long = length-append (octets_of p.prefix) rest in
     let wide = p.prefix.whole in
     record {
       block = record {
-        whole = record { fixed = omega (arith, long, wide); counted = omega (arith, long, wide); prefix_ = λ is. omega arith; redirected = λ is. absurd (omega (arith, is)) };
+        whole = record {
+          fixed = omega (arith, long, wide);
+          counted = omega (arith, long, wide);
+          prefix_ = λ is. omega arith;
+          redirected = λ is. absurd (omega (arith, is));
+        };
         some = omega arith;
       };
       reading = record {
@@ -94,21 +122,29 @@ prefix_read p rest c =
         count = refl;
         len = refl;
         flags = sym c.flags;
-        valid = ap (λ (n : ℕ). 1000000 * n) (sym (big_number-reads_back 4 (seconds p.valid_lifetime) [] (omega (arith, c.valid))));
-        preferred = ap (λ (n : ℕ). 1000000 * n) (sym (big_number-reads_back 4 (seconds p.preferred_lifetime) [] (omega (arith, c.preferred))));
+        valid = ap (λ (n : ℕ). 1000000 * n)
+            (sym (big_number-reads_back 4 (seconds p.valid_lifetime) [] (omega (arith, c.valid))));
+        preferred =
+            ap (λ (n : ℕ). 1000000 * n)
+            (sym (big_number-reads_back 4 (seconds p.preferred_lifetime) [] (omega (arith, c.preferred))));
         octets = sym (take_at (octets_of p.prefix) rest 16 p.prefix.whole);
       };
     }
 
 -- ---- redirected packets
 
-packet_text : (h : Ipv6Repr) (behind : List ℕ) → header_text h ++ behind ≡ 0x60 ∷ 0 ∷ 0 ∷ 0 ∷ (big_bytes 2 h.payload_len ++ (protocol_number h.next_header ∷ h.hop_limit ∷ (octets_of h.src_addr ++ (octets_of h.dst_addr ++ behind))))
+packet_text : (h : Ipv6Repr) (behind : List ℕ) → header_text h ++ behind ≡ 0x60 ∷ 0 ∷ 0 ∷ 0
+    ∷ (big_bytes 2 h.payload_len
+    ++ (protocol_number h.next_header ∷ h.hop_limit ∷ (octets_of h.src_addr ++ (octets_of h.dst_addr ++ behind))))
 unfolding header_text header_fields fields be8 be16 be32
 packet_text h behind = simp (append-nil, append_assoc)
 
 -- a header and its payload are a packet
-packet_at : (h : Ipv6Repr) (behind : List ℕ) → IsProper protocol.Unknown protocol_rows h.next_header → h.payload_len < 2 ^ 16 → h.payload_len ≤ length behind
-    → IsPacket (0x60 ∷ 0 ∷ 0 ∷ 0 ∷ (big_bytes 2 h.payload_len ++ (protocol_number h.next_header ∷ h.hop_limit ∷ (octets_of h.src_addr ++ (octets_of h.dst_addr ++ behind))))) h
+packet_at : (h : Ipv6Repr) (behind : List ℕ) → IsProper protocol.Unknown protocol_rows h.next_header
+    → h.payload_len < 2 ^ 16 → h.payload_len ≤ length behind
+    → IsPacket (0x60 ∷ 0 ∷ 0 ∷ 0
+    ∷ (big_bytes 2 h.payload_len
+    ++ (protocol_number h.next_header ∷ h.hop_limit ∷ (octets_of h.src_addr ++ (octets_of h.dst_addr ++ behind))))) h
 unfolding part
 packet_at h behind proper fits there =
     let far : List ℕ = octets_of h.dst_addr ++ behind in
@@ -118,38 +154,58 @@ packet_at h behind proper fits there =
     let source_whole = h.src_addr.whole in
     let destination_whole = h.dst_addr.whole in
     record {
-      whole = record { fixed = omega (arith, one, two, source_whole, destination_whole); total = omega (arith, one, two, source_whole, destination_whole, there, count) };
+      whole = record {
+        fixed = omega (arith, one, two, source_whole, destination_whole);
+        total = omega (arith, one, two, source_whole, destination_whole, there, count);
+      };
       version = refl;
       header = record {
         payload = sym count;
         protocol = sym (protocol_of-number h.next_header proper);
         hops = refl;
         source = sym (take_at (octets_of h.src_addr) far 16 h.src_addr.whole);
-        destination = sym (ap (λ (l : List ℕ). take 16 l) (drop_at (octets_of h.src_addr) far 16 h.src_addr.whole) ∙ take_at (octets_of h.dst_addr) behind 16 h.dst_addr.whole);
+        destination =
+            sym (ap (λ (l : List ℕ). take 16 l) (drop_at (octets_of h.src_addr) far 16 h.src_addr.whole)
+            ∙ take_at (octets_of h.dst_addr) behind 16 h.dst_addr.whole);
       };
     }
 
-pub packet_read : (h : Ipv6Repr) (behind : List ℕ) → IsProper protocol.Unknown protocol_rows h.next_header → h.payload_len < 2 ^ 16 → h.payload_len ≤ length behind → IsPacket (header_text h ++ behind) h
-packet_read h behind proper fits there = subst (λ (l : List ℕ). IsPacket l h) (sym (packet_text h behind)) (packet_at h behind proper fits there)
+pub packet_read : (h : Ipv6Repr) (behind : List ℕ) → IsProper protocol.Unknown protocol_rows h.next_header
+    → h.payload_len < 2 ^ 16 → h.payload_len ≤ length behind → IsPacket (header_text h ++ behind) h
+packet_read h behind proper fits there =
+    subst (λ (l : List ℕ). IsPacket l h) (sym (packet_text h behind)) (packet_at h behind proper fits there)
 
 redirected_read : (h : Ipv6Repr) (d rest : List ℕ) → IsCanonicalRedirected h d
-    → BeginsWith (4 ∷ units (48 + length d) ∷ 0 ∷ 0 ∷ 0 ∷ 0 ∷ 0 ∷ 0 ∷ ((header_text h ++ (d ++ padding (48 + length d))) ++ rest)) (redirected h d)
+    → BeginsWith
+    (4 ∷ units (48 + length d) ∷ 0 ∷ 0 ∷ 0 ∷ 0 ∷ 0 ∷ 0 ∷ ((header_text h ++ (d ++ padding (48 + length d))) ++ rest))
+    (redirected h d)
 unfolding part
 redirected_read h d rest c =
     let pads : List ℕ = padding (48 + length d) in
     let packet : List ℕ = header_text h ++ (d ++ pads) in
     let zeros = length-replicate {A = ℕ} (8 * units (48 + length d) - (48 + length d)) 0 in
     let behind = length-append d pads in
-    let long : length packet ≡ 8 * units (48 + length d) - 8 = omega (arith, length-append (header_text h) (d ++ pads), length-header_text h, behind, zeros) in
+    let long : length packet ≡ 8 * units (48 + length d) - 8 =
+    omega (arith, length-append (header_text h) (d ++ pads), length-header_text h, behind, zeros) in
     let all = length-append packet rest in
-    let place : bytes_of (redirected_field (4 ∷ units (48 + length d) ∷ [])) (4 ∷ units (48 + length d) ∷ 0 ∷ 0 ∷ 0 ∷ 0 ∷ 0 ∷ 0 ∷ (packet ++ rest)) ≡ packet = take_at packet rest (8 * units (48 + length d) - 8) long in
-    let is : IsPacket packet h = packet_read h (d ++ pads) c.proper (omega (arith, c.payload, c.small)) (omega (arith, behind, c.payload)) in
+    let place : bytes_of (redirected_field (4 ∷ units (48 + length d) ∷ []))
+    (4 ∷ units (48 + length d) ∷ 0 ∷ 0 ∷ 0 ∷ 0 ∷ 0 ∷ 0 ∷ (packet ++ rest)) ≡ packet =
+    take_at packet rest (8 * units (48 + length d) - 8) long in
+    let is : IsPacket packet h =
+    packet_read h (d ++ pads) c.proper (omega (arith, c.payload, c.small)) (omega (arith, behind, c.payload)) in
     let count : 40 + payload_len_in packet - 40 ≡ length d = omega (arith, is.header.payload, c.payload) in
     let body : drop 40 packet ≡ d ++ pads = drop_at (header_text h) (d ++ pads) 40 (length-header_text h) in
-    let data_ : bytes_of (payload_field packet) packet ≡ d = ap (λ (n : ℕ). take n (drop 40 packet)) count ∙ ap (λ (l : List ℕ). take (length d) l) body ∙ take_at d pads (length d) refl in
+    let data_ : bytes_of (payload_field packet) packet ≡ d =
+    ap (λ (n : ℕ). take n (drop 40 packet)) count ∙ ap (λ (l : List ℕ). take (length d) l) body
+    ∙ take_at d pads (length d) refl in
     record {
       block = record {
-        whole = record { fixed = omega (arith, all, long); counted = omega (arith, all, long); prefix_ = λ is. absurd (omega (arith, is)); redirected = λ is. omega arith };
+        whole = record {
+          fixed = omega (arith, all, long);
+          counted = omega (arith, all, long);
+          prefix_ = λ is. absurd (omega (arith, is));
+          redirected = λ is. omega arith;
+        };
         some = omega arith;
       };
       reading = record {
@@ -165,22 +221,38 @@ mtu_read : (n : ℕ) (rest : List ℕ) → n < 2 ^ 32 → BeginsWith (5 ∷ 1 �
 unfolding part
 mtu_read n rest fits = record {
   block = record {
-    whole = record { fixed = omega arith; counted = omega arith; prefix_ = λ is. absurd (omega (arith, is)); redirected = λ is. absurd (omega (arith, is)) };
+    whole = record {
+      fixed = omega arith;
+      counted = omega arith;
+      prefix_ = λ is. absurd (omega (arith, is));
+      redirected = λ is. absurd (omega (arith, is));
+    };
     some = omega arith;
   };
   reading = record { kind = refl; count = refl; number = sym (big_number-reads_back 4 n [] (omega (arith, fits))) };
 }
 
-unknown_read : (t n : ℕ) (d rest : List ℕ) → IsUnnamed t → 1 ≤ n → 2 + length d ≡ 8 * n → BeginsWith (t ∷ n ∷ (d ++ rest)) (unknown t n d)
+unknown_read : (t n : ℕ) (d rest : List ℕ) → IsUnnamed t → 1 ≤ n → 2 + length d ≡ 8 * n
+    → BeginsWith (t ∷ n ∷ (d ++ rest)) (unknown t n d)
 unfolding part
 unknown_read t n d rest unnamed some long =
     let all = length-append d rest in
     record {
       block = record {
-        whole = record { fixed = omega (arith, all); counted = omega (arith, all); prefix_ = λ is. absurd (unnamed.2 is); redirected = λ is. absurd (unnamed.3 is) };
+        whole = record {
+          fixed = omega (arith, all);
+          counted = omega (arith, all);
+          prefix_ = λ is. absurd (unnamed.2 is);
+          redirected = λ is. absurd (unnamed.3 is);
+        };
         some = some;
       };
-      reading = record { kind = refl; unnamed = unnamed; count = refl; data_ = sym (take_at d rest (8 * n - 2) (omega arith)) };
+      reading = record {
+        kind = refl;
+        unnamed = unnamed;
+        count = refl;
+        data_ = sym (take_at d rest (8 * n - 2) (omega arith));
+      };
     }
 
 -- ---- all of them
@@ -188,20 +260,26 @@ unknown_read t n d rest unnamed some long =
 pub option_read : (v : OptionValue) (rest : List ℕ) → IsCanonical v → BeginsWith (text v ++ rest) (norm v)
 option_read (source address) rest c =
     let read = link_read 1 address rest (omega arith) c in
-    subst (λ (l : List ℕ). BeginsWith (l ++ rest) (source (filled address))) (sym (link_text 1 address)) (record { block = read.0; reading = read.1 })
+    subst (λ (l : List ℕ). BeginsWith (l ++ rest) (source (filled address))) (sym (link_text 1 address))
+    (record { block = read.0; reading = read.1 })
 option_read (target address) rest c =
     let read = link_read 2 address rest (omega arith) c in
-    subst (λ (l : List ℕ). BeginsWith (l ++ rest) (target (filled address))) (sym (link_text 2 address)) (record { block = read.0; reading = read.1 })
+    subst (λ (l : List ℕ). BeginsWith (l ++ rest) (target (filled address))) (sym (link_text 2 address))
+    (record { block = read.0; reading = read.1 })
 option_read (prefix_ p) rest c =
     subst (λ (l : List ℕ). BeginsWith (l ++ rest) (prefix_ (prefix_of p))) (sym (prefix_text p)) (prefix_read p rest c)
 option_read (redirected h d) rest c =
-    subst (λ (l : List ℕ). BeginsWith (l ++ rest) (redirected h d)) (sym (redirected_text h d)) (redirected_read h d rest c)
+    subst (λ (l : List ℕ). BeginsWith (l ++ rest) (redirected h d)) (sym (redirected_text h d))
+    (redirected_read h d rest c)
 option_read (mtu n) rest c =
     subst (λ (l : List ℕ). BeginsWith (l ++ rest) (mtu n)) (sym (mtu_text n)) (mtu_read n rest c)
 option_read (unknown t n d) rest c =
-    subst (λ (l : List ℕ). BeginsWith (l ++ rest) (unknown t n d)) (sym (unknown_text t n d)) (unknown_read t n d rest c.0 c.2 c.4)
+    subst (λ (l : List ℕ). BeginsWith (l ++ rest) (unknown t n d)) (sym (unknown_text t n d))
+    (unknown_read t n d rest c.0 c.2 c.4)
 
 -- the same where the text was written over the front of something
-pub option_over : (old : List ℕ) (v : OptionValue) → length (text v) ≤ length old → IsCanonical v → BeginsWith (over old (text v)) (norm v)
+pub option_over : (old : List ℕ) (v : OptionValue) → length (text v) ≤ length old → IsCanonical v
+    → BeginsWith (over old (text v)) (norm v)
 option_over old v room c =
-    subst (λ (bytes : List ℕ). BeginsWith bytes (norm v)) (sym (over-fits old (text v) room)) (option_read v (drop (length (text v)) old) c)
+    subst (λ (bytes : List ℕ). BeginsWith bytes (norm v)) (sym (over-fits old (text v) room))
+    (option_read v (drop (length (text v)) old) c)

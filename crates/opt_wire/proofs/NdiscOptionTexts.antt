@@ -8,20 +8,26 @@ use Rattle.wirebase.specs.Ipv6Address.{octets_of}
 use Rattle.wirebase.specs.declared.ipv6.Ipv6Repr.{Ipv6Repr}
 use Rattle.wirebase.proofs.Ipv6Header.{length-header_text}
 use Rattle.opt_wire.specs.NdiscOptionTables.{flag_bits}
-use Rattle.opt_wire.specs.NdiscOptionRepr.{OptionValue, source, target, prefix_, redirected, mtu, unknown, seconds, units, padding, link_fields, prefix_fields, redirected_fields, mtu_fields, unknown_fields, text, text_len, CanEmit}
+use Rattle.opt_wire.specs.NdiscOptionRepr.{OptionValue, source, target, prefix_, redirected, mtu, unknown, seconds}
+use Rattle.opt_wire.specs.NdiscOptionRepr.{units, padding, link_fields, prefix_fields, redirected_fields, mtu_fields}
+use Rattle.opt_wire.specs.NdiscOptionRepr.{unknown_fields, text, text_len, CanEmit}
 use Rattle.opt_wire.specs.declared.ndiscoption.repr.PrefixInformation.{PrefixInformation}
 
 -- ---- field by field
 
-pub link_text : (t : ℕ) (address : List ℕ) → fields (link_fields t address) ≡ t ∷ units (2 + length address) ∷ (address ++ padding (2 + length address))
+pub link_text : (t : ℕ) (address : List ℕ) → fields (link_fields t address) ≡ t ∷ units (2 + length address)
+    ∷ (address ++ padding (2 + length address))
 unfolding fields be8
 link_text t address = simp append-nil
 
-pub prefix_text : (p : PrefixInformation) → fields (prefix_fields p) ≡ 3 ∷ 4 ∷ p.prefix_len ∷ flag_bits p.flags ∷ (big_bytes 4 (seconds p.valid_lifetime) ++ (big_bytes 4 (seconds p.preferred_lifetime) ++ (0 ∷ 0 ∷ 0 ∷ 0 ∷ octets_of p.prefix)))
+pub prefix_text : (p : PrefixInformation) → fields (prefix_fields p) ≡ 3 ∷ 4 ∷ p.prefix_len ∷ flag_bits p.flags
+    ∷ (big_bytes 4 (seconds p.valid_lifetime)
+    ++ (big_bytes 4 (seconds p.preferred_lifetime) ++ (0 ∷ 0 ∷ 0 ∷ 0 ∷ octets_of p.prefix)))
 unfolding fields be8 be32
 prefix_text p = simp append-nil
 
-pub redirected_text : (h : Ipv6Repr) (d : List ℕ) → fields (redirected_fields h d) ≡ 4 ∷ units (48 + length d) ∷ 0 ∷ 0 ∷ 0 ∷ 0 ∷ 0 ∷ 0 ∷ (header_text h ++ (d ++ padding (48 + length d)))
+pub redirected_text : (h : Ipv6Repr) (d : List ℕ) → fields (redirected_fields h d) ≡ 4 ∷ units (48 + length d) ∷ 0 ∷ 0
+    ∷ 0 ∷ 0 ∷ 0 ∷ 0 ∷ (header_text h ++ (d ++ padding (48 + length d)))
 unfolding fields be8 be16 be32
 redirected_text h d = simp append-nil
 
@@ -37,7 +43,12 @@ unknown_text t n d = simp append-nil
 
 length-link : (t : ℕ) (address : List ℕ) → length (fields (link_fields t address)) ≡ 8 * units (2 + length address)
 length-link t address =
-    omega (arith, ap length (link_text t address), length-append address (padding (2 + length address)), length-replicate {A = ℕ} (8 * units (2 + length address) - (2 + length address)) 0)
+    omega (
+      arith,
+      ap length (link_text t address),
+      length-append address (padding (2 + length address)),
+      length-replicate {A = ℕ} (8 * units (2 + length address) - (2 + length address)) 0,
+    )
 
 length-mtu : (n : ℕ) → length (fields (mtu_fields n)) ≡ 8
 unfolding fields be8 be16 be32
@@ -48,7 +59,14 @@ length-text (source address) c = length-link 1 address
 length-text (target address) c = length-link 2 address
 length-text (prefix_ p) c = omega (arith, ap length (prefix_text p), p.prefix.whole)
 length-text (redirected h d) c =
-    omega (arith, ap length (redirected_text h d), length-append (header_text h) (d ++ padding (48 + length d)), length-header_text h, length-append d (padding (48 + length d)), length-replicate {A = ℕ} (8 * units (48 + length d) - (48 + length d)) 0)
+    omega (
+      arith,
+      ap length (redirected_text h d),
+      length-append (header_text h) (d ++ padding (48 + length d)),
+      length-header_text h,
+      length-append d (padding (48 + length d)),
+      length-replicate {A = ℕ} (8 * units (48 + length d) - (48 + length d)) 0,
+    )
 length-text (mtu n) c = length-mtu n
 length-text (unknown t n d) c = omega (arith, ap length (unknown_text t n d), c.1)
 

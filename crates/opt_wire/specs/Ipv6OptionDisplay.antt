@@ -6,7 +6,8 @@ use Rattle.opt_wire.specs.declared.ipv6option.tables.Type.TheVariants as kind
 use Rattle.opt_wire.specs.declared.ipv6option.tables.RouterAlert.{RouterAlert}
 use Rattle.opt_wire.specs.declared.ipv6option.tables.RouterAlert.TheVariants as alert
 use Rattle.opt_wire.specs.declared.ipv6option.tables.FailureType.{FailureType}
-use Rattle.opt_wire.specs.declared.ipv6option.tables.FailureType.TheVariants.{Skip, Discard, DiscardSendAll, DiscardSendUnicast}
+use Rattle.opt_wire.specs.declared.ipv6option.tables.FailureType.TheVariants.{Skip, Discard, DiscardSendAll}
+use Rattle.opt_wire.specs.declared.ipv6option.tables.FailureType.TheVariants.{DiscardSendUnicast}
 use Rattle.opt_wire.specs.Ipv6Option.{OptionValue, pad1, pad_n, router_alert, unknown}
 
 -- a type, by its name

@@ -1,5 +1,6 @@
 -- The answers of an iterator over options as they are computed, which its model needs. They are those of the tiling.
-use Rattle.std.specs.Prelude.{ℕ, zero, suc, Bool, true, false, ◌==◌, nat_lt, if◌then◌else◌, List, [], ◌∷◌, length, take, drop, Option, None, Some, Ok, Err}
+use Rattle.std.specs.Prelude.{ℕ, zero, suc, Bool, true, false, ◌==◌, nat_lt, if◌then◌else◌, List, [], ◌∷◌, length, take}
+use Rattle.std.specs.Prelude.{drop, Option, None, Some, Ok, Err}
 use Rattle.byteorder.specs.Endian.{big_number}
 use Rattle.opt_wire.specs.Ipv6OptionTables.{type_of, alert_of}
 use Rattle.opt_wire.specs.Ipv6Option.{OptionValue, pad1, pad_n, router_alert, unknown, text_len}

@@ -7,7 +7,8 @@ use Rattle.opt_wire.specs.declared.ipv6option.tables.Type.TheVariants as kind
 use Rattle.opt_wire.specs.declared.ipv6option.tables.RouterAlert.{RouterAlert}
 use Rattle.opt_wire.specs.declared.ipv6option.tables.RouterAlert.TheVariants as alert
 use Rattle.opt_wire.specs.declared.ipv6option.tables.FailureType.{FailureType}
-use Rattle.opt_wire.specs.declared.ipv6option.tables.FailureType.TheVariants.{Skip, Discard, DiscardSendAll, DiscardSendUnicast}
+use Rattle.opt_wire.specs.declared.ipv6option.tables.FailureType.TheVariants.{Skip, Discard, DiscardSendAll}
+use Rattle.opt_wire.specs.declared.ipv6option.tables.FailureType.TheVariants.{DiscardSendUnicast}
 
 -- option types (RFC 8200 section 4.2, RFC 2711, RFC 6553)
 abbrev pub type_number : Kind.Type → ℕ

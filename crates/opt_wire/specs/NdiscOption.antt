@@ -1,5 +1,5 @@
--- The view of one option of neighbour discovery (RFC 4861 section 4.6): a block of whole units of 8 bytes, which counts its
--- units.
+-- The view of one option of neighbour discovery (RFC 4861 section 4.6): a block of whole units of 8 bytes, which counts
+-- its units.
 --
 -- Of any type:
 --  0                   1                   2                   3
@@ -52,7 +52,8 @@ abbrev pub view_octets : NdiscOption (Bor (List ℕ)) → List ℕ
 view_octets view = (inner view).now
 
 -- a field of the view is w, and all its other octets stay
-abbrev pub Sets : {T : Type 0} → (T → List ℕ) → (T → List ℕ → T) → NdiscOption T → NdiscOption T → Field → List ℕ → Type 0
+abbrev pub Sets : {T : Type 0} → (T → List ℕ) → (T → List ℕ → T) → NdiscOption T → NdiscOption T → Field → List ℕ
+    → Type 0
 Sets bytes set old new f w = Writes bytes set (inner old) (inner new) f w
 
 -- as many octets as there were
@@ -112,8 +113,8 @@ redirected_field bytes = field 8 (8 * units_in bytes)
 
 -- ---- blocks
 
--- the bytes reach the end of the block that they begin with, which is one unit long, and of a prefix or a redirected packet
--- as long as its fixed fields; only the count of no units at all is still open
+-- the bytes reach the end of the block that they begin with, which is one unit long, and of a prefix or a redirected
+-- packet as long as its fixed fields; only the count of no units at all is still open
 pub record BeginsWhole (bytes : List ℕ) : Type 0 where
   pub fixed : 8 ≤ length bytes
   pub counted : Reaches (block_field bytes) bytes

@@ -1,5 +1,7 @@
--- Options of neighbour discovery (RFC 4861 section 4.6) by their content: their text, what is read in a block, and the format.
-use Rattle.std.specs.Prelude.{◌≡◌, ◌≢◌, ℕ, ◌+◌, ◌-◌, ◌*◌, ◌/◌, ◌≤◌, ◌<◌, ◌^◌, nat_lt, if◌then◌else◌, List, [], ◌∷◌, ◌++◌, codes, decimal, length, replicate}
+-- Options of neighbour discovery (RFC 4861 section 4.6) by their content: their text, what is read in a block, and the
+-- format.
+use Rattle.std.specs.Prelude.{◌≡◌, ◌≢◌, ℕ, ◌+◌, ◌-◌, ◌*◌, ◌/◌, ◌≤◌, ◌<◌, ◌^◌, nat_lt, if◌then◌else◌, List, [], ◌∷◌}
+use Rattle.std.specs.Prelude.{◌++◌, codes, decimal, length, replicate}
 use Rattle.wirebase.specs.Bytes.{bytes_of, byte_of, number_of, over}
 use Rattle.wirebase.specs.ByteWriter.{be8, be16, be32, fields}
 use Rattle.wirebase.specs.Ethernet.{hex_colons}
@@ -10,14 +12,16 @@ use Rattle.wirebase.specs.Ipv6Address.{octets_of, address_text, IsLinkLocal}
 use Rattle.wirebase.specs.Numbered.{IsProper}
 use Rattle.wirebase.specs.declared.ip.IpProtocol.TheVariants as protocol
 use Rattle.wirebase.specs.declared.ipv6.Ipv6Repr.{Ipv6Repr}
-use Rattle.opt_wire.specs.NdiscOption.{type_field, prefix_len_field, prefix_flags_field, valid_lifetime_field, preferred_lifetime_field, prefix_field, mtu_field, units_in, data_field, link_addr_field, redirected_field, BeginsWithBlock}
+use Rattle.opt_wire.specs.NdiscOption.{type_field, prefix_len_field, prefix_flags_field, valid_lifetime_field}
+use Rattle.opt_wire.specs.NdiscOption.{preferred_lifetime_field, prefix_field, mtu_field, units_in, data_field}
+use Rattle.opt_wire.specs.NdiscOption.{link_addr_field, redirected_field, BeginsWithBlock}
 use Rattle.opt_wire.specs.NdiscOptionTables.{flag_bits, known, IsKnown, HasAddrconf}
 use Rattle.opt_wire.specs.declared.ndiscoption.repr.PrefixInformation.{PrefixInformation}
 use Rattle.opt_wire.specs.declared.ndiscoption.repr.Repr.{Repr}
 use Rattle.opt_wire.specs.declared.ndiscoption.repr.Repr.TheVariants as repr
 
--- an option by its content: a link-layer address of the source or of the target, a prefix, a redirected packet by its header and
--- its payload, an MTU, or a type, units and data
+-- an option by its content: a link-layer address of the source or of the target, a prefix, a redirected packet by its
+-- header and its payload, an MTU, or a type, units and data
 pub data OptionValue : Type 0 where
   source : List ℕ → OptionValue
   target : List ℕ → OptionValue
@@ -129,7 +133,8 @@ pub record IsPrefix (bytes : List ℕ) (p : PrefixInformation) : Type 0 where
 pub record IsRedirected (bytes : List ℕ) (h : Ipv6Repr) (d : List ℕ) : Type 0 where
   pub kind : byte_of type_field bytes ≡ 4
   pub packet : IsPacket (bytes_of (redirected_field bytes) bytes) h
-  pub payload : d ≡ bytes_of (payload_field (bytes_of (redirected_field bytes) bytes)) (bytes_of (redirected_field bytes) bytes)
+  pub payload : d ≡ bytes_of (payload_field (bytes_of (redirected_field bytes) bytes))
+      (bytes_of (redirected_field bytes) bytes)
 
 -- an MTU: one unit
 pub record IsMtu (bytes : List ℕ) (n : ℕ) : Type 0 where
@@ -147,7 +152,8 @@ pub record IsUnknown (bytes : List ℕ) (t n : ℕ) (d : List ℕ) : Type 0 wher
   pub count : n ≡ units_in bytes
   pub data_ : d ≡ bytes_of (data_field bytes) bytes
 
--- a block is read as this option; a prefix or an MTU of other units, and a redirected packet that isn't whole, aren't read
+-- a block is read as this option; a prefix or an MTU of other units, and a redirected packet that isn't whole, aren't
+-- read
 abbrev pub IsReading : List ℕ → OptionValue → Type 0
 IsReading bytes (source address) = IsLinkAddr 1 bytes address
 IsReading bytes (target address) = IsLinkAddr 2 bytes address
@@ -197,15 +203,24 @@ whole micros = 1000000 * seconds micros
 abbrev pub norm : OptionValue → OptionValue
 norm (source address) = source (filled address)
 norm (target address) = target (filled address)
-norm (prefix_ p) = prefix_ (record p { valid_lifetime = whole p.valid_lifetime; preferred_lifetime = whole p.preferred_lifetime })
+norm (prefix_ p) =
+    prefix_ (record p { valid_lifetime = whole p.valid_lifetime; preferred_lifetime = whole p.preferred_lifetime })
 norm v = v
 
 -- the format; no value is an exception, and what is read is its own normal form
 abbrev pub format : Format OptionValue
-format = record { Reads = BeginsWith; Fills = Unit {0}; text = text; IsCanonical = IsCanonical; IsException = λ v. ⊥; norm = norm; IsCut = λ v. ⊥ }
+format = record {
+  Reads = BeginsWith;
+  Fills = Unit {0};
+  text = text;
+  IsCanonical = IsCanonical;
+  IsException = λ v. ⊥;
+  norm = norm;
+  IsCut = λ v. ⊥;
+}
 
--- What writing an option leaves where `old` stood: its text over the front; where there is just its length, its text alone,
--- and that of a canonical value is read back as its normal form, whatever stands behind.
+-- What writing an option leaves where `old` stood: its text over the front; where there is just its length, its text
+-- alone, and that of a canonical value is read back as its normal form, whatever stands behind.
 pub record Emits (v : OptionValue) (old new : List ℕ) : Type 0 where
   pub text_ : new ≡ over old (text v)
   pub exact : length old ≡ text_len v → new ≡ text v
@@ -217,7 +232,8 @@ pub record Emits (v : OptionValue) (old new : List ℕ) : Type 0 where
 abbrev pub display : OptionValue → List ℕ
 display (source address) = codes "NDISC Option: SourceLinkLayer addr=" ++ hex_colons address
 display (target address) = codes "NDISC Option: TargetLinkLayer addr=" ++ hex_colons address
-display (prefix_ p) = codes "NDISC Option: PrefixInformation prefix=" ++ address_text p.prefix ++ codes "/" ++ decimal p.prefix_len
+display (prefix_ p) =
+    codes "NDISC Option: PrefixInformation prefix=" ++ address_text p.prefix ++ codes "/" ++ decimal p.prefix_len
 display (redirected h d) = codes "NDISC Option: RedirectedHeader header=" ++ header_display h
 display (mtu n) = codes "NDISC Option: MTU mtu=" ++ decimal n
 display (unknown t n d) = codes "NDISC Option: Unknown(" ++ decimal t ++ codes ") length=" ++ decimal n

@@ -1,11 +1,14 @@
 //! The header that the extension headers of IPv6 with options have in common (RFC 8200 sections 4.3 and 4.6).
 #![tactic(auto, using(wirebase::proofs::Pieces::pieces))]
 
-ghost use Rattle.std.specs.Prelude.{◌≡◌, ◌≤◌, ◌<◌, ◌-◌, ◌+◌, ◌*◌, ◌↔◌, ℕ, List, [], ◌∷◌, length, IsTrue, IsOk, IfOk, IsOkAnd};
+ghost use Rattle.std.specs.Prelude.{◌≡◌, ◌≤◌, ◌<◌, ◌-◌, ◌+◌, ◌*◌, ◌↔◌, ℕ, List, [], ◌∷◌, length, IsTrue, IsOk, IfOk};
+ghost use Rattle.std.specs.Prelude.{IsOkAnd};
 ghost use Rattle.std.specs.Borrow.{sem, Lends, Array, u8 as byte};
 ghost use Rattle.wirebase.specs.Bytes.{splice, over, Reaches, byte_of, bytes_of};
 ghost use Rattle.wirebase.specs.Ip.{protocol_number, protocol_of};
-ghost use Rattle.opt_wire.specs.Ipv6ExtHeader.{inner, with_inner, view_octets, Sets, KeepsLen, next_header_field, length_field, header_end, payload_field, IsWhole, HeaderValue, value_of, IsHeader, text, Emits, CarriesOptions};
+ghost use Rattle.opt_wire.specs.Ipv6ExtHeader.{inner, with_inner, view_octets, Sets, KeepsLen, next_header_field};
+ghost use Rattle.opt_wire.specs.Ipv6ExtHeader.{length_field, header_end, payload_field, IsWhole, HeaderValue, value_of};
+ghost use Rattle.opt_wire.specs.Ipv6ExtHeader.{IsHeader, text, Emits, CarriesOptions};
 ghost use Rattle.opt_wire.specs.contracts.ipv6ext_header.Header.{the_row};
 
 use wirebase::{ByteWriter, Error, IPV6_HBH_MAX_OPTIONS, IpProtocol, Octets, OctetsMut, Result};
@@ -103,7 +106,8 @@ impl<'a> Header<&'a [u8]> {
     pub fn payload(&self) -> &'a [u8]
         requires counted { Reaches length_field (view_octets self.now) }
         requires whole { Reaches (payload_field (view_octets self.now)) (view_octets self.now) }
-        ensures { result.now ≡ bytes_of (payload_field (view_octets self.now)) (view_octets self.now) }
+        ensures { result.now ≡ bytes_of (payload_field (view_octets self.now))
+            (view_octets self.now) }
     {
         let octets: &'a [u8] = self.buffer;
         &octets[field::PAYLOAD..end_of(self.header_len())]
@@ -114,7 +118,8 @@ impl<T: OctetsMut> Header<T> {
     /// Writes what follows the header. Asks 1 byte.
     pub fn set_next_header(&mut self, value: IpProtocol)
         requires { Reaches next_header_field (T.bytes (inner self.old)) }
-        ensures writes { Sets T.bytes T.put self.old self.new next_header_field (protocol_number value ∷ []) }
+        ensures writes { Sets T.bytes T.put self.old self.new next_header_field
+            (protocol_number value ∷ []) }
         ensures len { KeepsLen T.bytes self.old self.new }
     {
         self.buffer.set_u8(field::NEXT_HEADER, value.into());
@@ -132,7 +137,8 @@ impl<T: OctetsMut> Header<T> {
     /// Lends the payload for writing; the other octets stay. Asks the bytes that the length counts.
     pub fn payload_mut(&mut self) -> &mut [u8]
         requires counted { Reaches length_field (T.bytes (inner self.old)) }
-        requires whole { Reaches (payload_field (T.bytes (inner self.old))) (T.bytes (inner self.old)) }
+        requires whole { Reaches (payload_field (T.bytes (inner self.old)))
+            (T.bytes (inner self.old)) }
         ensures* lends { sem 𝓛 (Lends (the_row T.row) (Array byte 0) self.entry result
             (λ w. with_inner self.old (T.put (inner self.old)
             (splice (T.bytes (inner self.old)) 2 (header_end (T.bytes (inner self.old))) w)))) }
@@ -209,7 +215,8 @@ impl<'a> Repr<'a> {
     pub fn emit<T: OctetsMut>(&self, header: &mut Header<T>)
         requires { 2 ≤ length (T.bytes (inner header.old)) }
         ensures place { inner header.new ≡ T.put (inner header.old) (T.bytes (inner header.new)) }
-        ensures emits { Emits (value_of self.now) (T.bytes (inner header.old)) (T.bytes (inner header.new)) }
+        ensures emits { Emits (value_of self.now) (T.bytes (inner header.old))
+            (T.bytes (inner header.new)) }
     {
         self.emit_into(header.buffer.octets_mut());
     }

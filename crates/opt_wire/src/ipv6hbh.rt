@@ -1,13 +1,15 @@
 //! Hop-by-hop options headers (RFC 8200 section 4.3), from their options on.
 #![tactic(auto, using(wirebase::proofs::Pieces::pieces))]
 
-ghost use Rattle.std.specs.Prelude.{◌≡◌, ◌≢◌, ◌+◌, ◌≤◌, ◌<◌, ◌↔◌, ◌++◌, [], ◌∷◌, List, length, map, IsOk, IfOk, IsOkAnd};
+ghost use Rattle.std.specs.Prelude.{◌≡◌, ◌≢◌, ◌+◌, ◌≤◌, ◌<◌, ◌↔◌, ◌++◌, [], ◌∷◌, List, length, map, IsOk, IfOk};
+ghost use Rattle.std.specs.Prelude.{IsOkAnd};
 ghost use Rattle.std.specs.Borrow.{sem, Lends, Array, u8 as byte};
 ghost use Rattle.wirebase.specs.ByteWriter.{free, Puts, the_slice};
 ghost use Rattle.wirebase.specs.Format.{Rewrites, SameText};
 ghost use Rattle.opt_wire.specs.Ipv6Option.{OptionValue, value_of, pad_n, router_alert, HasData};
 ghost use Rattle.opt_wire.specs.Ipv6Option.{text as option_text, text_len as option_len};
-ghost use Rattle.opt_wire.specs.Ipv6Hbh.{inner, with_inner, view_octets, options_of, header_fields, text, text_len, HaveData, IsHeader, format, Emits};
+ghost use Rattle.opt_wire.specs.Ipv6Hbh.{inner, with_inner, view_octets, options_of, header_fields, text, text_len};
+ghost use Rattle.opt_wire.specs.Ipv6Hbh.{HaveData, IsHeader, format, Emits};
 ghost use Rattle.opt_wire.specs.declared.ipv6option.tables.RouterAlert.TheVariants.{MulticastListenerDiscovery};
 ghost use Rattle.opt_wire.specs.contracts.ipv6hbh.Header.{the_row};
 

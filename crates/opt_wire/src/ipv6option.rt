@@ -6,7 +6,9 @@ ghost use Rattle.std.specs.Borrow.{sem, Lends, Array, u8 as byte};
 ghost use Rattle.wirebase.specs.Bytes.{Reaches, bytes_of, byte_of, with_field};
 ghost use Rattle.wirebase.specs.ByteWriter.{free, Puts, the_slice};
 ghost use Rattle.wirebase.specs.Format.{Rewrites, SameText};
-ghost use Rattle.opt_wire.specs.Ipv6Option.{inner, with_inner, view_octets, Sets, KeepsLen, option_type_field, opt_data_len_field, option_data_field, BeginsWhole, OptionValue, value_of, option_fields, text, text_len, HasData, BeginsWith, format, Emits};
+ghost use Rattle.opt_wire.specs.Ipv6Option.{inner, with_inner, view_octets, Sets, KeepsLen, option_type_field};
+ghost use Rattle.opt_wire.specs.Ipv6Option.{opt_data_len_field, option_data_field, BeginsWhole, OptionValue, value_of};
+ghost use Rattle.opt_wire.specs.Ipv6Option.{option_fields, text, text_len, HasData, BeginsWith, format, Emits};
 ghost use Rattle.opt_wire.specs.contracts.ipv6option.Ipv6Option.{the_row};
 ghost use Rattle.opt_wire.specs.Ipv6OptionTables.{type_number, type_of};
 
@@ -150,7 +152,8 @@ impl<T: OctetsMut> Ipv6Option<T> {
             (T.bytes (inner self.old)) }
         ensures* lends { sem 𝓛 (Lends (the_row T.row) (Array byte 0) self.entry result
             (λ w. with_inner self.old (T.put (inner self.old)
-            (with_field (option_data_field (T.bytes (inner self.old))) w (T.bytes (inner self.old)))))) }
+            (with_field (option_data_field (T.bytes (inner self.old))) w
+            (T.bytes (inner self.old)))))) }
         ensures value { result.now
             ≡ bytes_of (option_data_field (T.bytes (inner self.old))) (T.bytes (inner self.old)) }
         ensures len { length result.now ≡ byte_of opt_data_len_field (T.bytes (inner self.old)) }

@@ -6,7 +6,11 @@ ghost use Rattle.std.specs.Borrow.{sem, Lends, Array, u8 as byte};
 ghost use Rattle.byteorder.specs.Endian.{big_bytes};
 ghost use Rattle.wirebase.specs.Bytes.{Reaches, field as bytes_field, bytes_of, byte_of, number_of, with_field};
 ghost use Rattle.wirebase.specs.Ipv6Address.{octets_of};
-ghost use Rattle.opt_wire.specs.NdiscOption.{inner, with_inner, Sets, KeepsLen, type_field, length_field, units_in, data_field, link_addr_field, mtu_field, prefix_len_field, prefix_flags_field, valid_lifetime_field, preferred_lifetime_field, prefix_reserved_field, prefix_field, redirected_reserved_field, BeginsWhole, BeginsWithBlock, view_octets};
+ghost use Rattle.opt_wire.specs.NdiscOption.{inner, with_inner, Sets, KeepsLen, type_field, length_field, units_in};
+ghost use Rattle.opt_wire.specs.NdiscOption.{data_field, link_addr_field, mtu_field, prefix_len_field};
+ghost use Rattle.opt_wire.specs.NdiscOption.{prefix_flags_field, valid_lifetime_field, preferred_lifetime_field};
+ghost use Rattle.opt_wire.specs.NdiscOption.{prefix_reserved_field, prefix_field, redirected_reserved_field};
+ghost use Rattle.opt_wire.specs.NdiscOption.{BeginsWhole, BeginsWithBlock, view_octets};
 ghost use Rattle.opt_wire.specs.NdiscOptionTables.{type_number, type_of, flag_bits, known};
 ghost use Rattle.opt_wire.specs.contracts.ndiscoption.NdiscOption.{the_row};
 

@@ -1,5 +1,6 @@
 -- IPv6 addresses and headers: their texts as they are written, and what is read in them.
-use Rattle.std.proofs.Common.{◌≡◌, ℕ, ◌+◌, ◌<◌, ◌≤◌, ◌^◌, List, [], ◌∷◌, ◌++◌, length, take, drop, refl, sym, ap, subst, ◌∙◌, arith, length-append}
+use Rattle.std.proofs.Common.{◌≡◌, ℕ, ◌+◌, ◌<◌, ◌≤◌, ◌^◌, List, [], ◌∷◌, ◌++◌, length, take, drop, refl, sym, ap, subst}
+use Rattle.std.proofs.Common.{◌∙◌, arith, length-append}
 use Rattle.std.proofs.Math.Nat.{ℕ_set}
 use Rattle.std.proofs.lemmas.List.{append-nil, append_assoc, drop_at, take_at}
 use Rattle.byteorder.specs.Endian.{big_bytes}
@@ -29,27 +30,45 @@ address_of octets whole = record { octets = octets; whole = whole }
 pub same_address : (x y : Ipv6Address) → octets_of x ≡ octets_of y → x ≡ y
 unfolding address_of
 same_address x y e =
-    subst (λ (l : List ℕ). (whole : length l ≡ 16) → x ≡ address_of l whole) e (λ whole. ap (address_of x.octets) (ℕ_set _ _ x.whole whole)) y.whole
+    subst (λ (l : List ℕ). (whole : length l ≡ 16) → x ≡ address_of l whole) e
+    (λ whole. ap (address_of x.octets) (ℕ_set _ _ x.whole whole)) y.whole
 
 -- ---- the text as it is written
 
-header_text-fields : (r : Ipv6Repr) → header_text r ≡ 0x60 ∷ 0 ∷ 0 ∷ 0 ∷ (big_bytes 2 r.payload_len ++ (protocol_number r.next_header ∷ r.hop_limit ∷ (octets_of r.src_addr ++ octets_of r.dst_addr)))
+header_text-fields : (r : Ipv6Repr) → header_text r ≡ 0x60 ∷ 0 ∷ 0 ∷ 0
+    ∷ (big_bytes 2 r.payload_len
+    ++ (protocol_number r.next_header ∷ r.hop_limit ∷ (octets_of r.src_addr ++ octets_of r.dst_addr)))
 unfolding header_text header_fields fields be8 be16 be32
 header_text-fields r = simp append-nil
 
 pub length-header_text : (r : Ipv6Repr) → length (header_text r) ≡ 40
 length-header_text r =
-    omega (arith, ap length (header_text-fields r), length-append (octets_of r.src_addr) (octets_of r.dst_addr), r.src_addr.whole, r.dst_addr.whole)
+    omega (
+      arith,
+      ap length (header_text-fields r),
+      length-append (octets_of r.src_addr) (octets_of r.dst_addr),
+      r.src_addr.whole,
+      r.dst_addr.whole,
+    )
 
 -- ---- what is read in it
 
 header_of : Ipv6Address → Ipv6Address → IpProtocol → ℕ → ℕ → Ipv6Repr
-header_of source destination protocol payload hops = record { src_addr = source; dst_addr = destination; next_header = protocol; payload_len = payload; hop_limit = hops }
+header_of source destination protocol payload hops =
+    record {
+      src_addr = source;
+      dst_addr = destination;
+      next_header = protocol;
+      payload_len = payload;
+      hop_limit = hops;
+    }
 
-same_header : (r s : Ipv6Repr) → r.src_addr ≡ s.src_addr → r.dst_addr ≡ s.dst_addr → r.next_header ≡ s.next_header → r.payload_len ≡ s.payload_len → r.hop_limit ≡ s.hop_limit → r ≡ s
+same_header : (r s : Ipv6Repr) → r.src_addr ≡ s.src_addr → r.dst_addr ≡ s.dst_addr → r.next_header ≡ s.next_header
+    → r.payload_len ≡ s.payload_len → r.hop_limit ≡ s.hop_limit → r ≡ s
 unfolding header_of
 same_header r s source destination protocol payload hops =
-    let made : header_of r.src_addr r.dst_addr r.next_header r.payload_len r.hop_limit ≡ header_of s.src_addr s.dst_addr s.next_header s.payload_len s.hop_limit = cc in
+    let made : header_of r.src_addr r.dst_addr r.next_header r.payload_len r.hop_limit
+    ≡ header_of s.src_addr s.dst_addr s.next_header s.payload_len s.hop_limit = cc in
     made
 
 -- bytes begin with one header at the most
@@ -62,7 +81,8 @@ one_header bytes r s a b =
 -- ---- what the emitter needs
 
 -- a writer that had longer octets, all of them free, leaves the header over their front
-pub over-header : (old : List ℕ) (r : Ipv6Repr) → over old (header_text r) ≡ (put_all (blank old) (header_fields r)).written ++ (put_all (blank old) (header_fields r)).free
+pub over-header : (old : List ℕ) (r : Ipv6Repr) → over old (header_text r)
+    ≡ (put_all (blank old) (header_fields r)).written ++ (put_all (blank old) (header_fields r)).free
 unfolding header_text
 over-header old r =
     over-blank old (header_text r)
@@ -72,8 +92,11 @@ pub ruleset header_writes = (over-header)
 
 -- ---- reading what was written
 
-header-fields_read : (r : Ipv6Repr) (payload : List ℕ) → r.payload_len < 2 ^ 16 → IsProper protocol.Unknown protocol_rows r.next_header
-    → IsHeader (0x60 ∷ 0 ∷ 0 ∷ 0 ∷ (big_bytes 2 r.payload_len ++ (protocol_number r.next_header ∷ r.hop_limit ∷ (octets_of r.src_addr ++ (octets_of r.dst_addr ++ payload))))) r
+header-fields_read : (r : Ipv6Repr) (payload : List ℕ) → r.payload_len < 2 ^ 16
+    → IsProper protocol.Unknown protocol_rows r.next_header
+    → IsHeader (0x60 ∷ 0 ∷ 0 ∷ 0
+    ∷ (big_bytes 2 r.payload_len
+    ++ (protocol_number r.next_header ∷ r.hop_limit ∷ (octets_of r.src_addr ++ (octets_of r.dst_addr ++ payload))))) r
 unfolding part
 header-fields_read r payload fits proper =
     let behind : List ℕ = octets_of r.dst_addr ++ payload in
@@ -82,16 +105,23 @@ header-fields_read r payload fits proper =
       protocol = sym (protocol_of-number r.next_header proper);
       hops = refl;
       source = sym (take_at (octets_of r.src_addr) behind 16 r.src_addr.whole);
-      destination = sym (ap (λ (l : List ℕ). take 16 l) (drop_at (octets_of r.src_addr) behind 16 r.src_addr.whole) ∙ take_at (octets_of r.dst_addr) payload 16 r.dst_addr.whole);
+      destination =
+          sym (ap (λ (l : List ℕ). take 16 l) (drop_at (octets_of r.src_addr) behind 16 r.src_addr.whole)
+          ∙ take_at (octets_of r.dst_addr) payload 16 r.dst_addr.whole);
     }
 
-pub header-read : (r : Ipv6Repr) (payload : List ℕ) → r.payload_len < 2 ^ 16 → IsProper protocol.Unknown protocol_rows r.next_header → IsHeader (header_text r ++ payload) r
+pub header-read : (r : Ipv6Repr) (payload : List ℕ) → r.payload_len < 2 ^ 16
+    → IsProper protocol.Unknown protocol_rows r.next_header → IsHeader (header_text r ++ payload) r
 header-read r payload fits proper =
     let front : List ℕ = big_bytes 2 r.payload_len in
-    let apart : (octets_of r.src_addr ++ octets_of r.dst_addr) ++ payload ≡ octets_of r.src_addr ++ (octets_of r.dst_addr ++ payload) =
+    let apart : (octets_of r.src_addr ++ octets_of r.dst_addr) ++ payload ≡ octets_of r.src_addr
+    ++ (octets_of r.dst_addr ++ payload) =
     append_assoc (octets_of r.src_addr) (octets_of r.dst_addr) payload in
-    let text : header_text r ++ payload ≡ 0x60 ∷ 0 ∷ 0 ∷ 0 ∷ (front ++ (protocol_number r.next_header ∷ r.hop_limit ∷ (octets_of r.src_addr ++ (octets_of r.dst_addr ++ payload)))) =
-    ap (λ (l : List ℕ). l ++ payload) (header_text-fields r) ∙ ap (λ (l : List ℕ). 0x60 ∷ 0 ∷ 0 ∷ 0 ∷ (front ++ (protocol_number r.next_header ∷ r.hop_limit ∷ l))) apart in
+    let text : header_text r ++ payload ≡ 0x60 ∷ 0 ∷ 0 ∷ 0 ∷
+    (front ++ (protocol_number r.next_header ∷ r.hop_limit
+    ∷ (octets_of r.src_addr ++ (octets_of r.dst_addr ++ payload)))) =
+    ap (λ (l : List ℕ). l ++ payload) (header_text-fields r)
+    ∙ ap (λ (l : List ℕ). 0x60 ∷ 0 ∷ 0 ∷ 0 ∷ (front ++ (protocol_number r.next_header ∷ r.hop_limit ∷ l))) apart in
     subst (λ (l : List ℕ). IsHeader l r) (sym text) (header-fields_read r payload fits proper)
 
 -- after the header comes the payload
@@ -107,13 +137,23 @@ pub ruleset header_texts = (length-header_text, over-header_whole)
 
 -- ---- the pseudo header
 
-pub length-pseudo : (source destination : Ipv6Address) (protocol : IpProtocol) (n : ℕ) → length (fields (pseudo_fields source destination protocol n)) ≡ 40
+pub length-pseudo : (source destination : Ipv6Address) (protocol : IpProtocol) (n : ℕ)
+    → length (fields (pseudo_fields source destination protocol n)) ≡ 40
 unfolding pseudo_fields fields be8 be32
 length-pseudo source destination protocol n =
     let rest : List ℕ = big_bytes 4 n ++ (0 ∷ 0 ∷ 0 ∷ (protocol_number protocol ∷ [])) in
-    omega (arith, length-append (octets_of source) (octets_of destination ++ rest), length-append (octets_of destination) rest, source.whole, destination.whole)
+    omega (
+      arith,
+      length-append (octets_of source) (octets_of destination ++ rest),
+      length-append (octets_of destination) rest,
+      source.whole,
+      destination.whole,
+    )
 
 -- it is written over octets of just its length
-pub over-pseudo : (old : List ℕ) (source destination : Ipv6Address) (protocol : IpProtocol) (n : ℕ) → length old ≡ 40 → over old (fields (pseudo_fields source destination protocol n)) ≡ fields (pseudo_fields source destination protocol n)
+pub over-pseudo : (old : List ℕ) (source destination : Ipv6Address) (protocol : IpProtocol) (n : ℕ) → length old ≡ 40
+    → over old (fields (pseudo_fields source destination protocol n))
+    ≡ fields (pseudo_fields source destination protocol n)
 over-pseudo old source destination protocol n whole =
-    over-exact old (fields (pseudo_fields source destination protocol n)) (whole ∙ sym (length-pseudo source destination protocol n))
+    over-exact old (fields (pseudo_fields source destination protocol n))
+    (whole ∙ sym (length-pseudo source destination protocol n))

@@ -1,7 +1,9 @@
--- What a parser owes where it answers a type of its own: if it is sound and reads where there is a value, it reads that value.
+-- What a parser owes where it answers a type of its own: if it is sound and reads where there is a value, it reads that
+-- value.
 use Rattle.std.proofs.Common.{◌≡◌, Result, Ok, Err, IsOk, IfOk, IsOkAnd}
 
-pub reads-complete : {V T E : Type 0} (Reads : V → Type 0) → ((v w : V) → Reads v → Reads w → v ≡ w) → (value : T → V) (result : Result T E)
+pub reads-complete : {V T E : Type 0} (Reads : V → Type 0) → ((v w : V) → Reads v → Reads w → v ≡ w)
+    → (value : T → V) (result : Result T E)
     → IfOk result (λ x. Reads (value x)) → IsOk result → (v : V) → Reads v → IsOkAnd result (λ x. value x ≡ v)
 reads-complete Reads one value (Ok x) sound ok v is = one (value x) v sound is
 reads-complete Reads one value (Err e) sound ok v is = cc

@@ -13,7 +13,8 @@ fold-after n extra =
 
 pub sealed-fold : (f : Field) (bytes : List ℕ) (extra : ℕ) → sealed f bytes (fold extra) ≡ sealed f bytes extra
 unfolding sealed
-sealed-fold f bytes extra = ap (λ (n : ℕ). with_field f (big_bytes 2 (65535 - n)) bytes) (fold-after (word_sum (zeroed f bytes)) extra)
+sealed-fold f bytes extra =
+    ap (λ (n : ℕ). with_field f (big_bytes 2 (65535 - n)) bytes) (fold-after (word_sum (zeroed f bytes)) extra)
 
 pub IsGood-fold : (bytes : List ℕ) (extra : ℕ) → IsGood bytes (fold extra) → IsGood bytes extra
 IsGood-fold bytes extra good = sym (fold-after (word_sum bytes) extra) ∙ good

@@ -16,7 +16,7 @@ IsMulticast address = slice_index (octets_of address) 0 ≡ 0xff
 abbrev pub IsLinkLocal : Ipv6Address → Type 0
 IsLinkLocal address = take 8 (octets_of address) ≡ 0xfe ∷ 0x80 ∷ 0 ∷ 0 ∷ 0 ∷ 0 ∷ 0 ∷ 0 ∷ []
 
--- eight groups in hexadecimal without leading zeros and with colons between them, and in place of the first longest run of two
--- zero groups or more `::` (RFC 5952 section 4)
+-- eight groups in hexadecimal without leading zeros and with colons between them, and in place of the first longest run
+-- of two zero groups or more `::` (RFC 5952 section 4)
 abbrev pub address_text : Ipv6Address → List ℕ
 address_text address = hex_groups_text (segments_of (octets_of address))

@@ -112,9 +112,11 @@ impl Model for RawHardwareAddress {
 
     ghost view = { λ s. take s.len s.bytes };
 
-    ghost invariant = { λ s. (s.len ≤ 8) × (length s.bytes ≡ 8) × (drop s.len s.bytes ≡ zeros (8 - s.len)) };
+    ghost invariant =
+        { λ s. (s.len ≤ 8) × (length s.bytes ≡ 8) × (drop s.len s.bytes ≡ zeros (8 - s.len)) };
 
-    ghost inverse = { λ bytes. record { len = length bytes; bytes = bytes ++ zeros (8 - length bytes) } };
+    ghost inverse =
+        { λ bytes. record { len = length bytes; bytes = bytes ++ zeros (8 - length bytes) } };
 
     ghost inverse_ok = { λ s h i. record {
       len = length-take-le s.len s.bytes (omega (arith, h.0, h.1)) i;
@@ -127,7 +129,8 @@ impl RawHardwareAddress {
     pub fn from_bytes(bytes: &[u8]) -> RawHardwareAddress
         requires { length bytes.now ≤ 8 }
         ensures value { result ≡ bytes.now }
-        ensures equality { (x y : List ℕ) → IsTrue (⟦<RawHardwareAddress as PartialEq>⟧.eq x y) ↔ (x ≡ y) }
+        ensures equality { (x y : List ℕ) → IsTrue (⟦<RawHardwareAddress as PartialEq>⟧.eq x y) ↔
+            (x ≡ y) }
     {
         let mut all = [0; MAX_HARDWARE_ADDRESS_LEN];
         let len = bytes.len();

@@ -33,7 +33,8 @@ impl From<Hardware> for u16 {
 
     fn from(hardware: Hardware) -> u16
         ensures value { result ≡ hardware_number hardware }
-        ensures back { IsProper Hardware.Unknown hardware_rows hardware → hardware_of result ≡ hardware }
+        ensures back { IsProper Hardware.Unknown hardware_rows hardware
+            → hardware_of result ≡ hardware }
     {
         match hardware {
             Hardware::Ethernet => 1,

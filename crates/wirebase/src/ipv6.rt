@@ -6,7 +6,10 @@ ghost use Rattle.std.specs.Borrow.{sem, Lends, Array, u8 as byte};
 ghost use Rattle.wirebase.specs.Bytes.{Reaches, bytes_of, byte_of, with_field, over};
 ghost use Rattle.wirebase.specs.ByteWriter.{free, Puts, the_slice};
 ghost use Rattle.wirebase.specs.Ip.{protocol_of};
-ghost use Rattle.wirebase.specs.Ipv6.{inner, with_inner, view_octets, version_field, payload_len_field, next_header_field, hop_limit_field, src_addr_field, dst_addr_field, version_in, payload_len_in, payload_field, BeginsWhole, IsPacket, header_fields, header_text, header_display};
+ghost use Rattle.wirebase.specs.Ipv6.{inner, with_inner, view_octets, version_field, payload_len_field};
+ghost use Rattle.wirebase.specs.Ipv6.{next_header_field, hop_limit_field, src_addr_field, dst_addr_field, version_in};
+ghost use Rattle.wirebase.specs.Ipv6.{payload_len_in, payload_field, BeginsWhole, IsPacket, header_fields, header_text};
+ghost use Rattle.wirebase.specs.Ipv6.{header_display};
 ghost use Rattle.wirebase.specs.Ipv6Address.{octets_of};
 ghost use Rattle.wirebase.specs.contracts.ipv6.Ipv6Packet.{the_row};
 ghost use Rattle.wirebase.specs.declared.ipv6.Ipv6Repr.{Ipv6Repr};
@@ -166,7 +169,8 @@ impl<'a> Ipv6Packet<&'a [u8]> {
     #[tactic(auto, unfolding(crate::specs::Bytes::part))]
     pub fn payload(&self) -> &'a [u8]
         requires { BeginsWhole (view_octets self.now) }
-        ensures { result.now ≡ bytes_of (payload_field (view_octets self.now)) (view_octets self.now) }
+        ensures { result.now ≡ bytes_of (payload_field (view_octets self.now))
+            (view_octets self.now) }
     {
         let octets = self.buffer;
         &octets[IPV6_HEADER_LEN..IPV6_HEADER_LEN + self.payload_len() as usize]
@@ -179,7 +183,8 @@ impl<T: OctetsMut> Ipv6Packet<T> {
         requires { BeginsWhole (T.bytes (inner self.old)) }
         ensures* lends { sem 𝓛 (Lends (the_row T.row) (Array byte 0) self.entry result
             (λ w. with_inner self.old (T.put (inner self.old)
-            (with_field (payload_field (T.bytes (inner self.old))) w (T.bytes (inner self.old)))))) }
+            (with_field (payload_field (T.bytes (inner self.old))) w (T.bytes (inner self.old))))))
+            }
         ensures value { result.now
             ≡ bytes_of (payload_field (T.bytes (inner self.old))) (T.bytes (inner self.old)) }
         ensures len { length result.now ≡ payload_len_in (T.bytes (inner self.old)) }
@@ -233,7 +238,8 @@ impl Ipv6Repr {
     /// is not 6.
     pub fn parse(packet: &Ipv6Packet<&[u8]>) -> Result<Ipv6Repr>
         ensures sound { IfOk result (IsPacket (view_octets packet.now)) }
-        ensures complete { (repr : Ipv6Repr) → IsPacket (view_octets packet.now) repr → result ≡ Ok repr }
+        ensures complete { (repr : Ipv6Repr) → IsPacket (view_octets packet.now) repr
+            → result ≡ Ok repr }
     {
         packet.check_len()?;
         if packet.version() != 6 {

@@ -1,5 +1,6 @@
 -- What is kept of a line has the line's shape, whatever follows.
-use Rattle.std.proofs.Common.{◌≡◌, ◌≢◌, ℕ, suc, ◌+◌, ◌<◌, ◌≤◌, Bool, true, false, List, [], ◌∷◌, ◌++◌, All, length, refl, ap, sym, ◌∙◌, arith, append_assoc, length-append}
+use Rattle.std.proofs.Common.{◌≡◌, ◌≢◌, ℕ, suc, ◌+◌, ◌<◌, ◌≤◌, Bool, true, false, List, [], ◌∷◌, ◌++◌, All, length}
+use Rattle.std.proofs.Common.{refl, ap, sym, ◌∙◌, arith, append_assoc, length-append}
 use borrow.Author.Tests.{ltb-true, ltb-false}
 use Rattle.std.proofs.lemmas.List.{append-nil}
 use Rattle.std.proofs.lemmas.List.Elements.{All-head, All-tail}
@@ -8,7 +9,8 @@ use Rattle.std.specs.Io.BufRead.{strip_last}
 use Rattle.wiredump.specs.Lines.{are_short, words_in}
 use Rattle.wiredump.specs.Listing.{Shape, bad, shape_of, shape_of_words, line_shape}
 use Rattle.wiredump.specs.Reading.{IsFront}
-use Rattle.wiredump.proofs.Parts.{Free, strip_last-append, strip_last-free, length-strip_last, All-strip_last, words_in-append, words_in-free, words_in-word}
+use Rattle.wiredump.proofs.Parts.{Free, strip_last-append, strip_last-free, length-strip_last, All-strip_last}
+use Rattle.wiredump.proofs.Parts.{words_in-append, words_in-free, words_in-word}
 
 -- ---- shapes that are bad
 
@@ -34,22 +36,28 @@ and-false : (b : Bool) → b && false ≡ false
 and-false true = refl
 and-false false = refl
 
-are_short-long : (words : List (List ℕ)) (word : List ℕ) (more : List (List ℕ)) → nat_le (length word) 131070 ≡ false → are_short (words ++ (word ∷ more)) ≡ false
+are_short-long : (words : List (List ℕ)) (word : List ℕ) (more : List (List ℕ)) → nat_le (length word) 131070 ≡ false
+    → are_short (words ++ (word ∷ more)) ≡ false
 are_short-long [] word more long = rw long refl
-are_short-long (first ∷ words) word more long = rw (are_short-long words word more long) (and-false (nat_le (length first) 131070))
+are_short-long (first ∷ words) word more long =
+    rw (are_short-long words word more long) (and-false (nat_le (length first) 131070))
 
-shape_of-long : (words : List (List ℕ)) (word : List ℕ) (more : List (List ℕ)) → nat_le (length word) 131070 ≡ false → shape_of (words ++ (word ∷ more)) ≡ bad
+shape_of-long : (words : List (List ℕ)) (word : List ℕ) (more : List (List ℕ)) → nat_le (length word) 131070 ≡ false
+    → shape_of (words ++ (word ∷ more)) ≡ bad
 shape_of-long words word more long = rw (are_short-long words word more long) refl
 
 -- ---- what follows a front
 
 module _ (front : List ℕ) (n : ℕ) (is : IsFront front n) where
   -- its words, and then those of what follows, less the CR at the end
-  words_in-front : (y : ℕ) (ys : List ℕ) → words_in (strip_last 13 (front ++ (y ∷ ys))) ≡ is.words ++ words_in (strip_last 13 (y ∷ ys))
+  words_in-front : (y : ℕ) (ys : List ℕ) → words_in (strip_last 13 (front ++ (y ∷ ys))) ≡ is.words
+      ++ words_in (strip_last 13 (y ∷ ys))
   words_in-front y ys = ap words_in (strip_last-append 13 front y ys) ∙ is.followed (strip_last 13 (y ∷ ys))
 
   words_in-end : words_in (strip_last 13 (front ++ [])) ≡ is.words ++ []
-  words_in-end = ap (λ l. words_in (strip_last 13 l)) (append-nil front) ∙ ap words_in (is.no_end ∙ sym (append-nil front)) ∙ is.followed []
+  words_in-end =
+      ap (λ l. words_in (strip_last 13 l)) (append-nil front) ∙ ap words_in (is.no_end ∙ sym (append-nil front))
+      ∙ is.followed []
 
   -- a space is skipped
   space_skipped : (rest : List ℕ) → line_shape (front ++ (32 ∷ rest)) ≡ line_shape (front ++ rest)
@@ -58,11 +66,13 @@ module _ (front : List ℕ) (n : ℕ) (is : IsFront front n) where
       let skipped = ap (λ l. is.words ++ words_in l) (strip_last-append 13 (32 ∷ []) y ys) in
       ap shape_of (words_in-front 32 (y ∷ ys) ∙ skipped ∙ sym (words_in-front y ys))
 
-  pub spaces_skipped : (spaces rest : List ℕ) → All (λ octet. octet ≡ 32) spaces → line_shape (front ++ (spaces ++ rest)) ≡ line_shape (front ++ rest)
+  pub spaces_skipped : (spaces rest : List ℕ) → All (λ octet. octet ≡ 32) spaces
+      → line_shape (front ++ (spaces ++ rest)) ≡ line_shape (front ++ rest)
   spaces_skipped [] rest are = refl
   spaces_skipped (x ∷ spaces) rest are =
       let this : x ≡ 32 = All-head (λ octet. octet ≡ 32) x spaces are in
-      rw this (space_skipped (spaces ++ rest) ∙ spaces_skipped spaces rest (All-tail (λ octet. octet ≡ 32) x spaces are))
+      rw this (space_skipped (spaces ++ rest) ∙ spaces_skipped spaces rest
+      (All-tail (λ octet. octet ≡ 32) x spaces are))
 
   -- with five words it is bad
   pub front_bad : n ≡ 5 → (rest : List ℕ) → line_shape (front ++ rest) ≡ bad
@@ -76,26 +86,38 @@ module _ (front : List ℕ) (n : ℕ) (is : IsFront front n) where
     count = omega (arith, is.count, length-append is.words (word ∷ []));
     followed = λ rest. ap words_in (append_assoc (front ++ word) (32 ∷ []) rest ∙ append_assoc front word (32 ∷ rest))
         ∙ is.followed (word ++ (32 ∷ rest))
-        ∙ ap (λ l. is.words ++ l) (words_in-append word rest ∙ ap (λ l. l ++ words_in rest) (words_in-word word free some))
+        ∙ ap (λ l. is.words ++ l)
+        (words_in-append word rest ∙ ap (λ l. l ++ words_in rest) (words_in-word word free some))
         ∙ sym (append_assoc is.words (word ∷ []) (words_in rest));
     no_end = strip_last-append 13 (front ++ word) 32 [];
   }
 
   -- behind it, a word that is too long even without a CR
   long_word : (word rest : List ℕ) → Free word → 131071 < length word
-      → (first : List ℕ) × (more : List (List ℕ)) × (words_in (strip_last 13 (front ++ (word ++ rest))) ≡ is.words ++ (first ∷ more)) × (131070 < length first)
+      → (first : List ℕ) × (more : List (List ℕ))
+      × (words_in (strip_last 13 (front ++ (word ++ rest))) ≡ is.words ++ (first ∷ more)) × (131070 < length first)
   long_word [] rest free long = absurd (omega (arith, long))
   long_word (x ∷ xs) [] free long =
       let word = x ∷ xs in
       let whole = append-nil word in
       let first = strip_last 13 word in
       let shorter : 131070 < length first = omega (arith, long, length-strip_last 13 word) in
-      let first_free = All-strip_last (λ octet. octet ≢ 32) 13 word free in
-      (first, [], ap (λ l. words_in (strip_last 13 (front ++ l))) whole ∙ words_in-front x xs ∙ ap (λ l. is.words ++ l) (words_in-word first first_free (omega (arith, shorter))), shorter)
+      let first_free = All-strip_last (λ octet. octet ≢ 32) 13 word free in (
+        first,
+        [],
+        ap (λ l. words_in (strip_last 13 (front ++ l))) whole ∙ words_in-front x xs
+            ∙ ap (λ l. is.words ++ l) (words_in-word first first_free (omega (arith, shorter))),
+        shorter,
+      )
   long_word (x ∷ xs) (y ∷ ys) free long =
       let word = x ∷ xs in
-      let words = words_in-free word (strip_last 13 (y ∷ ys)) free (omega arith) in
-      (word ++ words.0, words.1, words_in-front x (xs ++ (y ∷ ys)) ∙ ap (λ l. is.words ++ words_in l) (strip_last-append 13 word y ys) ∙ ap (λ l. is.words ++ l) words.2, omega (arith, long, length-append word words.0))
+      let words = words_in-free word (strip_last 13 (y ∷ ys)) free (omega arith) in (
+        word ++ words.0,
+        words.1,
+        words_in-front x (xs ++ (y ∷ ys))
+            ∙ ap (λ l. is.words ++ words_in l) (strip_last-append 13 word y ys) ∙ ap (λ l. is.words ++ l) words.2,
+        omega (arith, long, length-append word words.0),
+      )
 
   pub long_bad : (word rest : List ℕ) → Free word → 131071 < length word → line_shape (front ++ (word ++ rest)) ≡ bad
   long_bad word rest free long =

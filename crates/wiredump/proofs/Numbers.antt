@@ -1,5 +1,7 @@
 -- What digits spell: addresses and offsets.
-use Rattle.std.proofs.Common.{◌≡◌, ◌≢◌, ℕ, zero, suc, ◌+◌, ◌*◌, ◌-◌, ◌%◌, ◌/◌, ◌<◌, ◌≤◌, Bool, true, false, List, [], ◌∷◌, length, get_or, drop, Option, Some, None, Result, Ok, Err, eq-eqb, eqb-true, ne_eqb, refl, ap, sym, ◌∙◌, arith, add-one, drop-cons}
+use Rattle.std.proofs.Common.{◌≡◌, ◌≢◌, ℕ, zero, suc, ◌+◌, ◌*◌, ◌-◌, ◌%◌, ◌/◌, ◌<◌, ◌≤◌, Bool, true, false, List, []}
+use Rattle.std.proofs.Common.{◌∷◌, length, get_or, drop, Option, Some, None, Result, Ok, Err, eq-eqb, eqb-true, ne_eqb}
+use Rattle.std.proofs.Common.{refl, ap, sym, ◌∙◌, arith, add-one, drop-cons}
 use Rattle.std.proofs.lemmas.Bool.{le-leb}
 use Rattle.std.specs.Prelude.{◌==◌, ◌&&◌, nat_le, if◌then◌else◌, MatchResult}
 use Rattle.std.specs.Result.{result_ok}
@@ -14,14 +16,16 @@ use Rattle.wiredump.proofs.Spelling.{decode_pairs-spelled_by}
 grows : (n d : ℕ) → 65535 < n → 65535 < 10 * n + d
 grows n d h = omega (arith, h)
 
-none_either : (b : Bool) (number : Option ℕ) → packet_offset number ≡ None → packet_offset (if b then number else None) ≡ None
+none_either : (b : Bool) (number : Option ℕ) → packet_offset number ≡ None
+    → packet_offset (if b then number else None) ≡ None
 none_either true number none = none
 none_either false number none = refl
 
 pub offset-great : (n : ℕ) (digits : List ℕ) → 65535 < n → packet_offset (number_behind n digits) ≡ None
 offset-great n [] great = rw (le-leb-false n 65535 great) refl
 offset-great n (digit ∷ digits) great =
-    none_either (nat_le 48 digit && nat_le digit 57) _ (offset-great (10 * n + (digit - 48)) digits (grows n (digit - 48) great))
+    none_either (nat_le 48 digit && nat_le digit 57) _
+    (offset-great (10 * n + (digit - 48)) digits (grows n (digit - 48) great))
 
 -- one digit more
 module _ (n i : ℕ) (text : List ℕ) (within : i < length text) where
@@ -29,7 +33,8 @@ module _ (n i : ℕ) (text : List ℕ) (within : i < length text) where
   rest_is = rw add-one (drop-cons text i 0 within)
 
   pub offset-digit : 48 ≤ get_or text i 0 → get_or text i 0 ≤ 57
-      → packet_offset (number_behind n (drop i text)) ≡ packet_offset (number_behind (10 * n + (get_or text i 0 - 48)) (drop (i + 1) text))
+      → packet_offset (number_behind n (drop i text)) ≡ packet_offset
+      (number_behind (10 * n + (get_or text i 0 - 48)) (drop (i + 1) text))
   offset-digit least most = rw (rest_is, le-leb 48 (get_or text i 0) least, le-leb (get_or text i 0) 57 most) refl
 
   pub offset-below : get_or text i 0 < 48 → packet_offset (number_behind n (drop i text)) ≡ None
@@ -38,30 +43,38 @@ module _ (n i : ℕ) (text : List ℕ) (within : i < length text) where
   pub offset-above : 57 < get_or text i 0 → packet_offset (number_behind n (drop i text)) ≡ None
   offset-above above = rw (rest_is, le-leb-false (get_or text i 0) 57 above) (at (nat_le 48 (get_or text i 0)))
     where
-      at : (b : Bool) → packet_offset (if b && false then number_behind (10 * n + (get_or text i 0 - 48)) (drop (i + 1) text) else None) ≡ None
+      at : (b : Bool)
+          → packet_offset
+          (if b && false then number_behind (10 * n + (get_or text i 0 - 48)) (drop (i + 1) text) else None) ≡ None
       at true = refl
       at false = refl
 
-pub offset_of-some : (text : List ℕ) → (length text == 0) ≡ false → offset_of text ≡ packet_offset (number_behind 0 text)
+pub offset_of-some : (text : List ℕ) → (length text == 0) ≡ false
+    → offset_of text ≡ packet_offset (number_behind 0 text)
 offset_of-some [] some = absurd (cc some)
 offset_of-some (digit ∷ text) some = refl
 
 -- ---- addresses
 
-module _ (n : ℕ) (spelled : Option (List ℕ)) (decoded : Result (List ℕ) FromHexError) (is : result_ok decoded ≡ spelled) where
-  even_tests : (q : ℕ) → n ≡ 2 * q → (if n == 32 then spelled else None) ≡ result_ok (if q == 16 then decoded else Err InvalidStringLength)
+module _ (n : ℕ) (spelled : Option (List ℕ)) (decoded : Result (List ℕ) FromHexError)
+    (is : result_ok decoded ≡ spelled) where
+  even_tests : (q : ℕ) → n ≡ 2 * q → (if n == 32 then spelled else None)
+      ≡ result_ok (if q == 16 then decoded else Err InvalidStringLength)
   even_tests q even = at (q == 16) refl
     where
-      at : (b : Bool) → (q == 16) ≡ b → (if n == 32 then spelled else None) ≡ result_ok (if b then decoded else Err InvalidStringLength)
+      at : (b : Bool) → (q == 16) ≡ b → (if n == 32 then spelled else None)
+          ≡ result_ok (if b then decoded else Err InvalidStringLength)
       at true e =
           let whole : (n == 32) ≡ true = eq-eqb n 32 (omega (arith, even, eqb-true q 16 e)) in
           rw whole (sym is)
       at false e =
-          let other : (n == 32) ≡ false = ne_eqb n 32 (λ h. absurd (cc (sym e ∙ eq-eqb q 16 (omega (arith, even, h))))) in
+          let other : (n == 32) ≡ false =
+          ne_eqb n 32 (λ h. absurd (cc (sym e ∙ eq-eqb q 16 (omega (arith, even, h))))) in
           rw other refl
 
   address_tests : (q r : ℕ) → n ≡ 2 * q + r → r < 2
-      → (if n == 32 then spelled else None) ≡ result_ok (if r == 1 then Err OddLength else if q == 16 then decoded else Err InvalidStringLength)
+      → (if n == 32 then spelled else None)
+      ≡ result_ok (if r == 1 then Err OddLength else if q == 16 then decoded else Err InvalidStringLength)
   address_tests q zero e h = even_tests q (omega (arith, e))
   address_tests q (suc zero) e h =
       let odd : (n == 32) ≡ false = ne_eqb n 32 (λ even. omega (arith, e, even)) in
@@ -70,15 +83,20 @@ module _ (n : ℕ) (spelled : Option (List ℕ)) (decoded : Result (List ℕ) Fr
 
 pub address_of-decoded : (text : List ℕ) → address_of text ≡ result_ok (decode_sized text 16)
 address_of-decoded text =
-    address_tests (length text) (spelled_by text) (decode_pairs 0 text) (decode_pairs-spelled_by 0 text) (length text / 2) (length text % 2) (omega arith) (omega arith)
+    address_tests (length text) (spelled_by text) (decode_pairs 0 text) (decode_pairs-spelled_by 0 text)
+    (length text / 2) (length text % 2) (omega arith) (omega arith)
 
 -- what decoding into room left, and what it answered
-pub decoded_ok : (r : Result (List ℕ) FromHexError) (answer : Result (Unit {0}) FromHexError) (out : List ℕ) (x : Unit {0})
-    → MatchResult r (λ octets. (answer ≡ Ok tt) × (out ≡ octets)) (λ e. answer ≡ Err e) → answer ≡ Ok x → Some out ≡ result_ok r
+pub decoded_ok : (r : Result (List ℕ) FromHexError) (answer : Result (Unit {0}) FromHexError) (out : List ℕ)
+    (x : Unit {0})
+    → MatchResult r (λ octets. (answer ≡ Ok tt) × (out ≡ octets)) (λ e. answer ≡ Err e) → answer ≡ Ok x
+    → Some out ≡ result_ok r
 decoded_ok (Ok octets) answer out x is ok = ap Some is.1
 decoded_ok (Err e) answer out x is ok = absurd (cc (sym is ∙ ok))
 
-pub decoded_err : (r : Result (List ℕ) FromHexError) (answer : Result (Unit {0}) FromHexError) (out : List ℕ) (e : FromHexError)
-    → MatchResult r (λ octets. (answer ≡ Ok tt) × (out ≡ octets)) (λ e. answer ≡ Err e) → answer ≡ Err e → None ≡ result_ok r
+pub decoded_err : (r : Result (List ℕ) FromHexError) (answer : Result (Unit {0}) FromHexError) (out : List ℕ)
+    (e : FromHexError)
+    → MatchResult r (λ octets. (answer ≡ Ok tt) × (out ≡ octets)) (λ e. answer ≡ Err e) → answer ≡ Err e
+    → None ≡ result_ok r
 decoded_err (Ok octets) answer out e is err = absurd (cc (sym is.0 ∙ err))
 decoded_err (Err other) answer out e is err = refl

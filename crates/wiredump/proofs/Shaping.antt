@@ -1,5 +1,6 @@
 -- The shape of a line, of which the first five words are known.
-use Rattle.std.proofs.Common.{◌≡◌, ◌≢◌, ℕ, ◌+◌, ◌-◌, ◌<◌, ◌≤◌, Bool, true, false, List, [], ◌∷◌, length, get_or, take, drop, refl, ap, sym, ◌∙◌, arith, drop-cons, add-one}
+use Rattle.std.proofs.Common.{◌≡◌, ◌≢◌, ℕ, ◌+◌, ◌-◌, ◌<◌, ◌≤◌, Bool, true, false, List, [], ◌∷◌, length, get_or, take}
+use Rattle.std.proofs.Common.{drop, refl, ap, sym, ◌∙◌, arith, drop-cons, add-one}
 use Rattle.std.proofs.lemmas.Bool.{le-leb}
 use Rattle.std.specs.Prelude.{map}
 use Rattle.wiredump.specs.Lines.{are_short}
@@ -13,7 +14,8 @@ few (a ∷ []) = refl
 few (a ∷ b ∷ []) = refl
 few (a ∷ b ∷ c ∷ []) = refl
 few (a ∷ b ∷ c ∷ d ∷ []) = refl
-few (a ∷ b ∷ c ∷ d ∷ e ∷ words) = both_bad (are_short (a ∷ b ∷ c ∷ d ∷ e ∷ [])) ∙ sym (both_bad (are_short (a ∷ b ∷ c ∷ d ∷ e ∷ words)))
+few (a ∷ b ∷ c ∷ d ∷ e ∷ words) =
+    both_bad (are_short (a ∷ b ∷ c ∷ d ∷ e ∷ [])) ∙ sym (both_bad (are_short (a ∷ b ∷ c ∷ d ∷ e ∷ words)))
 
 module _ {X : Type 0} (now : X → List ℕ) (xs : List X) (words : List (List ℕ)) (are : map now xs ≡ take 5 words) where
   same : shape_of words ≡ shape_of (map now xs)
@@ -43,11 +45,14 @@ module _ {X : Type 0} (now : X → List ℕ) (xs : List X) (words : List (List �
 
   -- a command, the words for it and a packet
   pub shape_of-command : (x : X) → are_short (map now xs) ≡ true → 2 ≤ length xs → length xs ≤ 4
-      → shape_of words ≡ shape_with (command_of (now (get_or xs 0 x)) (map now (take (length xs - 1 - 1) (drop 1 xs)))) (word_of (now (get_or xs (length xs - 1) x)))
+      → shape_of words ≡ shape_with (command_of (now (get_or xs 0 x)) (map now (take (length xs - 1 - 1) (drop 1 xs))))
+      (word_of (now (get_or xs (length xs - 1) x)))
   shape_of-command x short two four = same ∙ at xs short two four
     where
       at : (xs : List X) → are_short (map now xs) ≡ true → 2 ≤ length xs → length xs ≤ 4
-          → shape_of (map now xs) ≡ shape_with (command_of (now (get_or xs 0 x)) (map now (take (length xs - 1 - 1) (drop 1 xs)))) (word_of (now (get_or xs (length xs - 1) x)))
+          → shape_of (map now xs)
+          ≡ shape_with (command_of (now (get_or xs 0 x)) (map now (take (length xs - 1 - 1) (drop 1 xs))))
+          (word_of (now (get_or xs (length xs - 1) x)))
       at [] short two four = absurd (omega (arith, two))
       at (a ∷ []) short two four = absurd (omega (arith, two))
       at (a ∷ b ∷ []) short two four = rw short refl
@@ -60,7 +65,8 @@ module _ {X : Type 0} (now : X → List ℕ) (xs : List X) (i : ℕ) (d : X) (wi
   rest_is : map now (drop i xs) ≡ now (get_or xs i d) ∷ map now (drop (i + 1) xs)
   rest_is = rw (add-one, drop-cons xs i d) refl
 
-  pub are_short-next : length (now (get_or xs i d)) ≤ 131070 → are_short (map now (drop i xs)) ≡ are_short (map now (drop (i + 1) xs))
+  pub are_short-next : length (now (get_or xs i d)) ≤ 131070
+      → are_short (map now (drop i xs)) ≡ are_short (map now (drop (i + 1) xs))
   are_short-next short = rw (rest_is, le-leb (length (now (get_or xs i d))) 131070 short) refl
 
   pub are_short-not : 131070 < length (now (get_or xs i d)) → are_short (map now (drop i xs)) ≡ false

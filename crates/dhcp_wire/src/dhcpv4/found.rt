@@ -1,11 +1,13 @@
 //! What the options of a packet say, in one pass.
 
-ghost use Rattle.std.specs.Prelude.{◌≡◌, ◌≤◌, ◌↔◌, [], ◌∷◌, Some, None, length, flat_map, slice_index, IsTrue, IfOk, OnErr};
+ghost use Rattle.std.specs.Prelude.{◌≡◌, ◌≤◌, ◌↔◌, [], ◌∷◌, Some, None, length, flat_map, slice_index, IsTrue, IfOk};
+ghost use Rattle.std.specs.Prelude.{OnErr};
 ghost use Rattle.std.specs.Option.{option_map};
 ghost use Rattle.wirebase.specs.Bytes.{Reaches, byte_of};
 ghost use Rattle.wirebase.specs.Ethernet.{octets_of as ethernet_octets};
 ghost use Rattle.wirebase.specs.Ipv4.{octets_of};
-ghost use Rattle.dhcp_wire.specs.Dhcpv4.{of_len, number_in, identifier_in, whole_addresses, type_in, IsOfEthernet, AreOfEthernet};
+ghost use Rattle.dhcp_wire.specs.Dhcpv4.{of_len, number_in, identifier_in, whole_addresses, type_in, IsOfEthernet};
+ghost use Rattle.dhcp_wire.specs.Dhcpv4.{AreOfEthernet};
 ghost use Rattle.dhcp_wire.specs.Dhcpv4Found.{kept_of, nothing, keep, keep_all};
 ghost use Rattle.dhcp_wire.specs.Dhcpv4Options.{value_of_option, list_of};
 ghost use Rattle.dhcp_wire.specs.Dhcpv4Packet.{inner, op_field, magic_field, options_in};
@@ -45,9 +47,12 @@ impl<'a> Found<'a> {
     pub(super) fn read(packet: &Packet<&'a [u8]>) -> Result<Found<'a>>
         requires { Reaches magic_field (inner packet.now).now }
         ensures found { IfOk result (λ found. kept_of found
-            ≡ keep_all (byte_of op_field (inner packet.now).now) nothing (list_of (options_in (inner packet.now).now))) }
-        ensures accepted { IfOk result (λ found. AreOfEthernet (list_of (options_in (inner packet.now).now))) }
-        ensures refused { OnErr result (AreOfEthernet (list_of (options_in (inner packet.now).now)) → ⊥) }
+            ≡ keep_all (byte_of op_field (inner packet.now).now) nothing
+            (list_of (options_in (inner packet.now).now))) }
+        ensures accepted { IfOk result
+            (λ found. AreOfEthernet (list_of (options_in (inner packet.now).now))) }
+        ensures refused { OnErr result
+            (AreOfEthernet (list_of (options_in (inner packet.now).now)) → ⊥) }
     {
         let op = packet.opcode().into();
         let mut found = Found::nothing();
@@ -109,7 +114,8 @@ impl<'a> Found<'a> {
     }
 }
 
-// The length of a client identifier that is an address of Ethernet, and the number of that hardware, which stands first.
+// The length of a client identifier that is an address of Ethernet, and the number of that hardware, which stands
+// first.
 const IDENTIFIER_LEN: usize = 7;
 
 const ETHERNET: u8 = 1;

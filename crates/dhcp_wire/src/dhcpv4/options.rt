@@ -1,7 +1,8 @@
 //! Options, read in turn and written in turn (RFC 2132 section 2).
 
 ghost use Rattle.std.specs.Prelude.{◌≡◌, ◌≤◌, ◌<◌, ◌+◌, ◌++◌, ◌∷◌, [], ◌↔◌, List, ℕ, length, drop, IsOk, OnOk, OnErr};
-ghost use Rattle.dhcp_wire.specs.Dhcpv4Options.{OptionValue, value_of_option, option_text, Options, list_of, GivesFirst, HasNoPadding};
+ghost use Rattle.dhcp_wire.specs.Dhcpv4Options.{OptionValue, value_of_option, option_text, Options, list_of};
+ghost use Rattle.dhcp_wire.specs.Dhcpv4Options.{GivesFirst, HasNoPadding};
 
 use super::kinds::{OPT_END, OPT_PAD};
 use std::marker::Model;

@@ -1,14 +1,18 @@
 //! A view of the octets of a packet.
 #![tactic(auto, using(wirebase::proofs::Pieces::pieces))]
 
-ghost use Rattle.std.specs.Prelude.{◌≡◌, ◌≤◌, ◌<◌, ◌↔◌, [], ◌∷◌, List, ℕ, length, take, slice_index, IsTrue, IsOk, IfOk, OnErr, IsOkAnd, replicate};
+ghost use Rattle.std.specs.Prelude.{◌≡◌, ◌≤◌, ◌<◌, ◌↔◌, [], ◌∷◌, List, ℕ, length, take, slice_index, IsTrue, IsOk};
+ghost use Rattle.std.specs.Prelude.{IfOk, OnErr, IsOkAnd, replicate};
 ghost use Rattle.std.specs.Int.RustNames.{bit_and};
 ghost use Rattle.byteorder.specs.Endian.{big_bytes};
 ghost use Rattle.wirebase.specs.Bytes.{Reaches, byte_of, bytes_of, number_of};
 ghost use Rattle.wirebase.specs.Ethernet.{octets_of as ethernet_octets};
 ghost use Rattle.wirebase.specs.Hardware.{hardware_number, hardware_of};
 ghost use Rattle.wirebase.specs.Ipv4.{octets_of};
-ghost use Rattle.dhcp_wire.specs.Dhcpv4Packet.{inner, Sets, KeepsLen, op_field, htype_field, hlen_field, hops_field, xid_field, secs_field, flags_field, ciaddr_field, yiaddr_field, siaddr_field, giaddr_field, chaddr_field, sname_field, file_field, names_field, magic_field, options_in, HasNoZero, IsTextIn};
+ghost use Rattle.dhcp_wire.specs.Dhcpv4Packet.{inner, Sets, KeepsLen, op_field, htype_field, hlen_field, hops_field};
+ghost use Rattle.dhcp_wire.specs.Dhcpv4Packet.{xid_field, secs_field, flags_field, ciaddr_field, yiaddr_field};
+ghost use Rattle.dhcp_wire.specs.Dhcpv4Packet.{siaddr_field, giaddr_field, chaddr_field, sname_field, file_field};
+ghost use Rattle.dhcp_wire.specs.Dhcpv4Packet.{names_field, magic_field, options_in, HasNoZero, IsTextIn};
 ghost use Rattle.dhcp_wire.specs.Dhcpv4Tables.{opcode_number, opcode_of, flag_bits};
 
 use super::options::OptionsIter;
@@ -236,7 +240,8 @@ impl<T: Octets> Packet<T> {
     #[tactic(auto, unfolding(bitflags::specs::Sets::known_from))]
     pub fn flags(&self) -> Flags
         requires { Reaches flags_field (T.bytes (inner self.now)) }
-        ensures { flag_bits result ≡ bit_and (number_of flags_field (T.bytes (inner self.now))) 0x8000 }
+        ensures { flag_bits result ≡ bit_and (number_of flags_field (T.bytes (inner self.now)))
+            0x8000 }
     {
         Flags::from_bits_truncate(self.buffer.u16_at(field::FLAGS))
     }
@@ -249,7 +254,8 @@ impl<'a> Packet<&'a [u8]> {
     pub fn options(&self) -> OptionsIter<'a>
         requires { Reaches magic_field (inner self.now).now }
         ensures options { Options (options_in (inner self.now).now) result }
-        ensures unique { (others : List OptionValue) → Options (options_in (inner self.now).now) others
+        ensures unique { (others : List OptionValue) → Options
+            (options_in (inner self.now).now) others
             → others ≡ result }
     {
         let octets: &'a [u8] = self.buffer;
@@ -261,8 +267,10 @@ impl<'a> Packet<&'a [u8]> {
     #[tactic(auto, unfolding(wirebase::specs::Bytes::part))]
     pub fn get_sname(&self) -> Result<&'a str>
         requires { Reaches sname_field (inner self.now).now }
-        ensures sound { IfOk result (λ text. IsTextIn (bytes_of sname_field (inner self.now).now) text.now) }
-        ensures complete { (text : List ℕ) → IsTextIn (bytes_of sname_field (inner self.now).now) text
+        ensures sound { IfOk result
+            (λ text. IsTextIn (bytes_of sname_field (inner self.now).now) text.now) }
+        ensures complete { (text : List ℕ) → IsTextIn (bytes_of sname_field (inner self.now).now)
+            text
             → IsOkAnd result (λ read. read.now ≡ text) }
     {
         let octets: &'a [u8] = self.buffer;
@@ -274,8 +282,10 @@ impl<'a> Packet<&'a [u8]> {
     #[tactic(auto, unfolding(wirebase::specs::Bytes::part))]
     pub fn get_boot_file(&self) -> Result<&'a str>
         requires { Reaches file_field (inner self.now).now }
-        ensures sound { IfOk result (λ text. IsTextIn (bytes_of file_field (inner self.now).now) text.now) }
-        ensures complete { (text : List ℕ) → IsTextIn (bytes_of file_field (inner self.now).now) text
+        ensures sound { IfOk result
+            (λ text. IsTextIn (bytes_of file_field (inner self.now).now) text.now) }
+        ensures complete { (text : List ℕ) → IsTextIn (bytes_of file_field (inner self.now).now)
+            text
             → IsOkAnd result (λ read. read.now ≡ text) }
     {
         let octets: &'a [u8] = self.buffer;
@@ -306,7 +316,8 @@ impl<T: OctetsMut> Packet<T> {
     pub fn set_hardware_type(&mut self, value: Hardware)
         requires room { Reaches htype_field (T.bytes (inner self.old)) }
         requires small { hardware_number value ≤ 255 }
-        ensures writes { Sets T.bytes T.put self.old self.new htype_field (hardware_number value ∷ []) }
+        ensures writes { Sets T.bytes T.put self.old self.new htype_field
+            (hardware_number value ∷ []) }
         ensures len { KeepsLen T.bytes self.old self.new }
     {
         self.buffer.set_u8(field::HTYPE, u16::from(value) as u8);
@@ -405,7 +416,8 @@ impl<T: OctetsMut> Packet<T> {
     /// Writes the flags, with every bit of the value. Asks 12 bytes.
     pub fn set_flags(&mut self, value: Flags)
         requires { Reaches flags_field (T.bytes (inner self.old)) }
-        ensures writes { Sets T.bytes T.put self.old self.new flags_field (big_bytes 2 (flag_bits value)) }
+        ensures writes { Sets T.bytes T.put self.old self.new flags_field
+            (big_bytes 2 (flag_bits value)) }
         ensures len { KeepsLen T.bytes self.old self.new }
     {
         self.buffer.set_u16(field::FLAGS, value.bits());

@@ -69,10 +69,10 @@ const ETHERNET_LEN: u8 = 6;
 const MAGIC_NUMBER: u32 = 0x6382_5363;
 
 impl<'a> Repr<'a> {
-    /// What a packet says. Refused where the octets are fewer than 240; where the hardware is not Ethernet, or the cookie
-    /// not that of DHCP; where a client identifier of 7 bytes is of another hardware; and where no option gives a type
-    /// of message that has the operation of the packet. Every field that an option gives is that of the last option of
-    /// its kind and length; other options are not read.
+    /// What a packet says. Refused where the octets are fewer than 240; where the hardware is not Ethernet, or the
+    /// cookie not that of DHCP; where a client identifier of 7 bytes is of another hardware; and where no option gives
+    /// a type of message that has the operation of the packet. Every field that an option gives is that of the last
+    /// option of its kind and length; other options are not read.
     pub fn parse(packet: &Packet<&'a [u8]>) -> Result<Repr<'a>>
         ensures sound { IfOk result (λ repr. IsPacket (inner packet.now).now (value_of repr)) }
         ensures complete { (value : Value) → IsPacket (inner packet.now).now value
@@ -89,7 +89,8 @@ impl<'a> Repr<'a> {
     // The value of a packet whose options were read.
     fn of(packet: &Packet<&'a [u8]>, message_type: MessageType, found: Found<'a>) -> Repr<'a>
         requires { HasHeader (inner packet.now).now }
-        ensures { IsMadeOf (inner packet.now).now message_type (kept_of found.entry) (value_of result) }
+        ensures { IsMadeOf (inner packet.now).now message_type (kept_of found.entry)
+            (value_of result) }
     {
         Repr {
             message_type,

@@ -4,7 +4,8 @@ ghost use Rattle.std.specs.Prelude.{⊤, ◌≡◌};
 ghost use Rattle.std.specs.Int.RustNames.{bit_and, bit_or, bit_xor};
 ghost use Rattle.bitflags.specs.Sets.{without};
 ghost use Rattle.wirebase.specs.Numbered.{IsProper, IsTable};
-ghost use Rattle.dhcp_wire.specs.Dhcpv4Tables.{opcode_number, opcode_rows, opcode_of, message_number, message_rows, message_of, operation_of, flag_table};
+ghost use Rattle.dhcp_wire.specs.Dhcpv4Tables.{opcode_number, opcode_rows, opcode_of, message_number, message_rows};
+ghost use Rattle.dhcp_wire.specs.Dhcpv4Tables.{message_of, operation_of, flag_table};
 
 use bitflags::Flag;
 use std::ops::{BitAnd, BitOr, BitXor, Not, Sub};

@@ -4,7 +4,8 @@ ghost use Rattle.std.specs.Prelude.{⊤, ◌≡◌};
 ghost use Rattle.std.specs.Int.RustNames.{bit_and, bit_or, bit_xor};
 ghost use Rattle.bitflags.specs.Sets.{without};
 ghost use Rattle.wirebase.specs.Numbered.{IsProper, IsTable};
-ghost use Rattle.dns_wire.specs.DnsTables.{opcode_number, opcode_rows, opcode_of, rcode_number, rcode_rows, rcode_of, type_number, type_rows, type_of, flag_rows};
+ghost use Rattle.dns_wire.specs.DnsTables.{opcode_number, opcode_rows, opcode_of, rcode_number, rcode_rows, rcode_of};
+ghost use Rattle.dns_wire.specs.DnsTables.{type_number, type_rows, type_of, flag_rows};
 
 use bitflags::Flag;
 use std::ops::{BitAnd, BitOr, BitXor, Not, Sub};

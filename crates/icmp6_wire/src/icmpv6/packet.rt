@@ -8,7 +8,8 @@ ghost use Rattle.wirebase.specs.Bytes.{splice, Reaches, byte_of, number_of};
 ghost use Rattle.wirebase.specs.Checksum.{fold, IsGood, sealed};
 ghost use Rattle.wirebase.specs.Icmp.{type_field, code_field, checksum_field, ident_field, seq_no_field};
 ghost use Rattle.icmp6_wire.specs.Icmpv6Tables.{message_number, message_of};
-ghost use Rattle.icmp6_wire.specs.Icmpv6Packet.{inner, with_inner, view_octets, Sets, KeepsLen, word_field, message_in, header_len_in, payload_in, BeginsWhole, cleared, CanClear, message_sum};
+ghost use Rattle.icmp6_wire.specs.Icmpv6Packet.{inner, with_inner, view_octets, Sets, KeepsLen, word_field, message_in};
+ghost use Rattle.icmp6_wire.specs.Icmpv6Packet.{header_len_in, payload_in, BeginsWhole, cleared, CanClear, message_sum};
 ghost use Rattle.icmp6_wire.specs.contracts.icmpv6.packet.Packet.{the_row};
 
 use super::field;
@@ -175,7 +176,8 @@ impl<T: OctetsMut> Packet<T> {
     /// Writes the type. Asks 1 byte.
     pub fn set_msg_type(&mut self, value: Message)
         requires { Reaches type_field (T.bytes (inner self.old)) }
-        ensures writes { Sets T.bytes T.put self.old self.new type_field (message_number value ∷ []) }
+        ensures writes { Sets T.bytes T.put self.old self.new type_field (message_number value ∷ [])
+            }
         ensures len { KeepsLen T.bytes self.old self.new }
     {
         self.buffer.set_u8(field::TYPE, value.into());
@@ -196,7 +198,8 @@ impl<T: OctetsMut> Packet<T> {
     /// bytes up to what is reserved: 8, 25 of a query, 6 of a report.
     pub fn clear_reserved(&mut self)
         requires kind { Reaches type_field (T.bytes (inner self.old)) }
-        requires known { CanClear (message_in (T.bytes (inner self.old))) (T.bytes (inner self.old)) }
+        requires known { CanClear (message_in (T.bytes (inner self.old))) (T.bytes (inner self.old))
+            }
         ensures clears { inner self.new ≡ T.put (inner self.old)
             (cleared (message_in (T.bytes (inner self.old))) (T.bytes (inner self.old))) }
         ensures len { KeepsLen T.bytes self.old self.new }
@@ -274,7 +277,8 @@ impl<T: OctetsMut> Packet<T> {
     /// Lends what stands after the header for writing; the header stays. Asks the header of the type.
     pub fn payload_mut(&mut self) -> &mut [u8]
         requires kind { Reaches type_field (T.bytes (inner self.old)) }
-        requires whole { header_len_in (T.bytes (inner self.old)) ≤ length (T.bytes (inner self.old)) }
+        requires whole { header_len_in (T.bytes (inner self.old)) ≤ length
+            (T.bytes (inner self.old)) }
         ensures* lends { sem 𝓛 (Lends (the_row T.row) (Array byte 0) self.entry result
             (λ w. with_inner self.old (T.put (inner self.old) (splice (T.bytes (inner self.old))
             (header_len_in (T.bytes (inner self.old))) (length (T.bytes (inner self.old))) w)))) }

@@ -12,7 +12,9 @@ ghost use Rattle.wirebase.specs.declared.ipv6.address.Ipv6Address.{Ipv6Address};
 ghost use Rattle.wirebase.specs.declared.ipv6.Ipv6Repr.{Ipv6Repr};
 ghost use Rattle.icmp6_wire.specs.Icmpv6Tables.{message_number};
 ghost use Rattle.icmp6_wire.specs.Icmpv6Packet.{inner, view_octets, BeginsWhole};
-ghost use Rattle.icmp6_wire.specs.Icmpv6.{MessageValue, value_of, quoted_data, error_fields, text, error_len, text_len, IsErrorValue, seal, packet_text, CanEmit, IsContent, IsMessage, format, Emits};
+ghost use Rattle.icmp6_wire.specs.Icmpv6.{MessageValue, value_of, quoted_data, error_fields, text, error_len, text_len};
+ghost use Rattle.icmp6_wire.specs.Icmpv6.{IsErrorValue, seal, packet_text, CanEmit, IsContent, IsMessage, format};
+ghost use Rattle.icmp6_wire.specs.Icmpv6.{Emits};
 
 use super::packet::{Packet, fill};
 use super::tables::{DstUnreachable, Message, ParamProblem, TimeExceeded};
@@ -87,7 +89,9 @@ impl<'a> Repr<'a> {
             → IsMessage checksum_caps.now src_addr.now dst_addr.now (view_octets packet.now) value
             → IsOkAnd result (λ repr. value_of repr ≡ value) }
         ensures rewrites { length (view_octets packet.now) ≤ 65515
-            → IfOk result (λ repr. Rewrites (format checksum_caps.now src_addr.now dst_addr.now) (value_of repr)) }
+            → IfOk result
+            (λ repr. Rewrites (format checksum_caps.now src_addr.now dst_addr.now) (value_of repr))
+            }
     {
         are_bytes(packet.buffer);
         Repr::read(src_addr, dst_addr, packet, checksum_caps)
@@ -117,7 +121,8 @@ impl<'a> Repr<'a> {
     fn read_content(packet: &Packet<&'a [u8]>) -> Result<Repr<'a>>
         requires { BeginsWhole (view_octets packet.now) }
         ensures sound { IfOk result (λ repr. IsContent (view_octets packet.now) (value_of repr)) }
-        ensures reads { (value : MessageValue) → IsContent (view_octets packet.now) value → IsOk result }
+        ensures reads { (value : MessageValue) → IsContent (view_octets packet.now) value
+            → IsOk result }
     {
         let payload = packet.payload();
         if packet.msg_type().is_error() && payload.len() < IPV6_HEADER_LEN {
@@ -232,7 +237,8 @@ impl<'a> Repr<'a> {
         checksum_caps: &ChecksumCapabilities,
     )
         requires { CanEmit (value_of self.now) octets.old }
-        ensures { Emits checksum_caps.now src_addr.now dst_addr.now (value_of self.now) octets.old octets.new }
+        ensures { Emits checksum_caps.now src_addr.now dst_addr.now
+            (value_of self.now) octets.old octets.new }
     {
         self.write(octets);
         seal(octets, src_addr, dst_addr, checksum_caps);
@@ -246,7 +252,8 @@ impl<'a> Repr<'a> {
         dst_addr: &Ipv6Address,
         checksum_caps: &ChecksumCapabilities,
     )
-        ensures { SameText (format checksum_caps.now src_addr.now dst_addr.now) (value_of a.now) (value_of b.now) }
+        ensures { SameText (format checksum_caps.now src_addr.now dst_addr.now) (value_of a.now)
+            (value_of b.now) }
     {}
 
     // Writes the message, with the checksum zero.

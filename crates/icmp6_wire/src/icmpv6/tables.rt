@@ -2,7 +2,11 @@
 
 ghost use Rattle.std.specs.Prelude.{◌≡◌, ◌<◌, ◌↔◌, IsTrue, Some};
 ghost use Rattle.wirebase.specs.Numbered.{IsProper, IsTable};
-ghost use Rattle.icmp6_wire.specs.Icmpv6Tables.{message_number, message_rows, message_of, message_text, unreachable_number, unreachable_rows, unreachable_of, unreachable_text, param_problem_number, param_problem_rows, param_problem_of, param_problem_text, time_exceeded_number, time_exceeded_rows, time_exceeded_of, time_exceeded_text, is_ndisc, is_mld};
+ghost use Rattle.icmp6_wire.specs.Icmpv6Tables.{message_number, message_rows, message_of, message_text};
+ghost use Rattle.icmp6_wire.specs.Icmpv6Tables.{unreachable_number, unreachable_rows, unreachable_of, unreachable_text};
+ghost use Rattle.icmp6_wire.specs.Icmpv6Tables.{param_problem_number, param_problem_rows, param_problem_of};
+ghost use Rattle.icmp6_wire.specs.Icmpv6Tables.{param_problem_text, time_exceeded_number, time_exceeded_rows};
+ghost use Rattle.icmp6_wire.specs.Icmpv6Tables.{time_exceeded_of, time_exceeded_text, is_ndisc, is_mld};
 
 use std::fmt;
 

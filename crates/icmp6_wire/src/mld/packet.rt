@@ -6,7 +6,8 @@ ghost use Rattle.byteorder.specs.Endian.{big_bytes};
 ghost use Rattle.wirebase.specs.Bytes.{Reaches, byte_of, bytes_of, number_of};
 ghost use Rattle.wirebase.specs.Ipv6Address.{octets_of};
 ghost use Rattle.icmp6_wire.specs.Icmpv6Packet.{inner, Sets, KeepsLen, sqrv_field};
-ghost use Rattle.icmp6_wire.specs.MldPacket.{max_resp_code_field, mcast_addr_field, qqic_field, num_srcs_field, nr_mcast_addr_rcrds_field, s_flag_in, qrv_in};
+ghost use Rattle.icmp6_wire.specs.MldPacket.{max_resp_code_field, mcast_addr_field, qqic_field, num_srcs_field};
+ghost use Rattle.icmp6_wire.specs.MldPacket.{nr_mcast_addr_rcrds_field, s_flag_in, qrv_in};
 
 use super::field;
 use crate::icmpv6::Packet;
@@ -82,7 +83,8 @@ impl<T: OctetsMut> Packet<T> {
     /// Writes the code of the longest time to answer a query in. Asks 6 bytes.
     pub fn set_max_resp_code(&mut self, value: u16)
         requires { Reaches max_resp_code_field (T.bytes (inner self.old)) }
-        ensures writes { Sets T.bytes T.put self.old self.new max_resp_code_field (big_bytes 2 value) }
+        ensures writes { Sets T.bytes T.put self.old self.new max_resp_code_field
+            (big_bytes 2 value) }
         ensures len { KeepsLen T.bytes self.old self.new }
     {
         self.buffer.set_u16(field::MAX_RESP_CODE, value);
@@ -155,7 +157,8 @@ impl<T: OctetsMut> Packet<T> {
     /// Writes the number of records in a report. Asks 8 bytes.
     pub fn set_nr_mcast_addr_rcrds(&mut self, value: u16)
         requires { Reaches nr_mcast_addr_rcrds_field (T.bytes (inner self.old)) }
-        ensures writes { Sets T.bytes T.put self.old self.new nr_mcast_addr_rcrds_field (big_bytes 2 value) }
+        ensures writes { Sets T.bytes T.put self.old self.new nr_mcast_addr_rcrds_field
+            (big_bytes 2 value) }
         ensures len { KeepsLen T.bytes self.old self.new }
     {
         self.buffer.set_u16(field::NR_MCAST_RCRDS, value);

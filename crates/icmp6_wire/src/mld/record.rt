@@ -8,7 +8,10 @@ ghost use Rattle.wirebase.specs.Bytes.{splice, Reaches, byte_of, bytes_of, numbe
 ghost use Rattle.wirebase.specs.Format.{Rewrites, SameText};
 ghost use Rattle.wirebase.specs.Ipv6Address.{octets_of, IsMulticast};
 ghost use Rattle.icmp6_wire.specs.MldTables.{record_type_number, record_type_of};
-ghost use Rattle.icmp6_wire.specs.MldRecord.{inner, with_inner, view_octets, Sets, KeepsLen, record_type_field, aux_data_len_field, num_srcs_field, mcast_addr_field, payload_in, RecordValue, address_record, value_of, text, group_of, IsRecord, format, Emits};
+ghost use Rattle.icmp6_wire.specs.MldRecord.{inner, with_inner, view_octets, Sets, KeepsLen, record_type_field};
+ghost use Rattle.icmp6_wire.specs.MldRecord.{aux_data_len_field, num_srcs_field, mcast_addr_field, payload_in};
+ghost use Rattle.icmp6_wire.specs.MldRecord.{RecordValue, address_record, value_of, text, group_of, IsRecord, format};
+ghost use Rattle.icmp6_wire.specs.MldRecord.{Emits};
 ghost use Rattle.icmp6_wire.specs.contracts.mld.record.AddressRecord.{the_row};
 
 use super::field;
@@ -110,7 +113,8 @@ impl<T: OctetsMut> AddressRecord<T> {
     /// Writes the type. Asks 1 byte.
     pub fn set_record_type(&mut self, value: RecordType)
         requires { Reaches record_type_field (T.bytes (inner self.old)) }
-        ensures writes { Sets T.bytes T.put self.old self.new record_type_field (record_type_number value ∷ []) }
+        ensures writes { Sets T.bytes T.put self.old self.new record_type_field
+            (record_type_number value ∷ []) }
         ensures len { KeepsLen T.bytes self.old self.new }
     {
         self.buffer.set_u8(field::RECORD_TYPE, value.into());
@@ -257,7 +261,8 @@ impl<'a> AddressRecordRepr<'a> {
         requires room { Reaches mcast_addr_field (T.bytes (inner view.old)) }
         requires group { IsMulticast self.now.mcast_addr }
         ensures place { inner view.new ≡ T.put (inner view.old) (T.bytes (inner view.new)) }
-        ensures emits { Emits (value_of self.now) (T.bytes (inner view.old)) (T.bytes (inner view.new)) }
+        ensures emits { Emits (value_of self.now) (T.bytes (inner view.old))
+            (T.bytes (inner view.new)) }
     {
         self.emit_into(view.buffer.octets_mut());
     }

@@ -6,7 +6,8 @@ ghost use Rattle.wirebase.specs.Bytes.{over};
 ghost use Rattle.wirebase.specs.ByteWriter.{free, Puts, the_slice};
 ghost use Rattle.wirebase.specs.Ipv6Address.{IsMulticast};
 ghost use Rattle.icmp6_wire.specs.Icmpv6Packet.{inner, view_octets};
-ghost use Rattle.icmp6_wire.specs.Mld.{MldValue, values_of, value_of, query_fields, report_fields, record_texts, text, text_len, told_len, AreGroups, CanEmit, IsMessage};
+ghost use Rattle.icmp6_wire.specs.Mld.{MldValue, values_of, value_of, query_fields, report_fields, record_texts, text};
+ghost use Rattle.icmp6_wire.specs.Mld.{text_len, told_len, AreGroups, CanEmit, IsMessage};
 ghost use Rattle.icmp6_wire.specs.MldRecord.{value_of as record_value, text as record_text};
 
 use super::field;
@@ -59,7 +60,8 @@ impl<'a> Repr<'a> {
     // The message in the octets.
     fn read(packet: &Packet<&'a [u8]>) -> Result<Repr<'a>>
         ensures sound { IfOk result (λ repr. IsMessage (view_octets packet.now) (value_of repr)) }
-        ensures reads { (value : MldValue) → IsMessage (view_octets packet.now) value → IsOk result }
+        ensures reads { (value : MldValue) → IsMessage (view_octets packet.now) value
+            → IsOk result }
     {
         packet.check_len()?;
         match packet.msg_type() {

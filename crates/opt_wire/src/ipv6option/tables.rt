@@ -2,7 +2,8 @@
 
 ghost use Rattle.std.specs.Prelude.{◌≡◌, ◌*◌, ◌/◌, Some};
 ghost use Rattle.wirebase.specs.Numbered.{Ascends, IsProper, IsTable, IsEqualityOf};
-ghost use Rattle.opt_wire.specs.Ipv6OptionTables.{type_number, type_rows, type_of, alert_number, alert_rows, alert_of, failure_number, failures, failure_of};
+ghost use Rattle.opt_wire.specs.Ipv6OptionTables.{type_number, type_rows, type_of, alert_number, alert_rows, alert_of};
+ghost use Rattle.opt_wire.specs.Ipv6OptionTables.{failure_number, failures, failure_of};
 ghost use Rattle.opt_wire.specs.Ipv6OptionDisplay.{type_display, alert_display, failure_display};
 
 use std::fmt;

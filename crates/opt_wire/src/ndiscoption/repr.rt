@@ -1,7 +1,8 @@
 //! The values of options of neighbour discovery (RFC 4861 section 4.6).
 #![tactic(auto, using(wirebase::proofs::Pieces::pieces))]
 
-ghost use Rattle.std.specs.Prelude.{◌≡◌, ◌+◌, ◌*◌, ◌≤◌, ◌<◌, ◌^◌, ◌↔◌, [], ◌∷◌, ℕ, List, length, IsTrue, IfOk, IsErr, IsOkAnd, Some};
+ghost use Rattle.std.specs.Prelude.{◌≡◌, ◌+◌, ◌*◌, ◌≤◌, ◌<◌, ◌^◌, ◌↔◌, [], ◌∷◌, ℕ, List, length, IsTrue, IfOk, IsErr};
+ghost use Rattle.std.specs.Prelude.{IsOkAnd, Some};
 ghost use Rattle.wirebase.specs.Bytes.{bytes_of};
 ghost use Rattle.wirebase.specs.ByteWriter.{free, Puts, the_slice};
 ghost use Rattle.wirebase.specs.Format.{Rewrites, SameText};
@@ -9,7 +10,9 @@ ghost use Rattle.wirebase.specs.Ipv6.{IsPacket, payload_field, header_text};
 ghost use Rattle.wirebase.specs.declared.ipv6.Ipv6Repr.{Ipv6Repr};
 ghost use Rattle.opt_wire.specs.NdiscOption.{inner, view_octets, redirected_field};
 ghost use Rattle.opt_wire.specs.NdiscOptionTables.{type_number};
-ghost use Rattle.opt_wire.specs.NdiscOptionRepr.{OptionValue, value_of, units, link_fields, prefix_fields, redirected_fields, HasSeconds, option_fields, text, text_len, CanEmit, BeginsWith, IsValidPrefix, format, Emits, display};
+ghost use Rattle.opt_wire.specs.NdiscOptionRepr.{OptionValue, value_of, units, link_fields, prefix_fields};
+ghost use Rattle.opt_wire.specs.NdiscOptionRepr.{redirected_fields, HasSeconds, option_fields, text, text_len, CanEmit};
+ghost use Rattle.opt_wire.specs.NdiscOptionRepr.{BeginsWith, IsValidPrefix, format, Emits, display};
 ghost use Rattle.opt_wire.specs.declared.ndiscoption.repr.PrefixInformation.{PrefixInformation};
 
 use super::{NdiscOption, PrefixInfoFlags, Type, field};

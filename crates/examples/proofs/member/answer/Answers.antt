@@ -3,4 +3,5 @@ use Rattle.examples.proofs.member.answer.Goals as goal
 
 pub returns-in-Err-clause-answers : goal.returns-in-Err-clause-answers
 returns-in-Err-clause-answers c = λ time version asks.
-    let read = c.in-Err.ensures.complete (MembershipQuery time asks.0 version) (rw c.new_unchecked-packet.ensures asks.1.1) in cc
+    let read = c.in-Err.ensures.complete (MembershipQuery time asks.0 version)
+    (rw c.new_unchecked-packet.ensures asks.1.1) in cc

@@ -8,7 +8,8 @@ use Rattle.opt_wire.proofs.ipv6hbh.put_option.Goals as goal
 pub emit_into-requires-clause-room : goal.emit_into-requires-clause-room
 emit_into-requires-clause-room c =
     let len = c.buffer_len.ensures.value in
-    let long = length-free_part c.args.w.now c.buffer_len.result c.part.result.now (omega (arith, c.requires.room, len)) c.part.ensures.value in
+    let long = length-free_part c.args.w.now c.buffer_len.result c.part.result.now
+    (omega (arith, c.requires.room, len)) c.part.ensures.value in
     omega (arith, long, len)
 
 -- the part holds the option's text at the end of the borrow
@@ -19,7 +20,8 @@ returns-clause-puts c =
     let v = value_of c.args.option.now in
     let len = c.buffer_len.ensures.value in
     let room : n ≤ length (free w) = omega (arith, c.requires.room, len) in
-    let whole : c.emit_into.new.octets ≡ text v = c.emit_into.ensures.exact (length-free_part w n c.part.result.now room c.part.ensures.value ∙ len) in
+    let whole : c.emit_into.new.octets ≡ text v =
+    c.emit_into.ensures.exact (length-free_part w n c.part.result.now room c.part.ensures.value ∙ len) in
     rw whole (puts-part w n (text v) room (length-text v c.requires.enough ∙ sym len))
 
 pub returns-clause-room : goal.returns-clause-room
@@ -29,6 +31,7 @@ returns-clause-room c =
     let v = value_of c.args.option.now in
     let len = c.buffer_len.ensures.value in
     let room : n ≤ length (free w) = omega (arith, c.requires.room, len) in
-    let whole : c.emit_into.new.octets ≡ text v = c.emit_into.ensures.exact (length-free_part w n c.part.result.now room c.part.ensures.value ∙ len) in
+    let whole : c.emit_into.new.octets ≡ text v =
+    c.emit_into.ensures.exact (length-free_part w n c.part.result.now room c.part.ensures.value ∙ len) in
     let counts = part-room w n (text v) room (length-text v c.requires.enough ∙ sym len) in
     rw whole (counts ∙ ap (λ (k : ℕ). k + length (free (after_part w n (text v)))) len)

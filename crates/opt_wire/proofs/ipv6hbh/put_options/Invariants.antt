@@ -7,7 +7,8 @@ use Rattle.opt_wire.proofs.ipv6hbh.put_options.Given as goal
 -- what is left to write gives what the whole gives
 abbrev pub invariant-loop-option : goal.invariant-loop-option
 invariant-loop-option l = record {
-  texts : put_all (sheet l.w) (header_fields (map value_of (drop l.option-index l.options))) ≡ put_all (sheet l.initial.w) (header_fields (map value_of l.options));
+  texts : put_all (sheet l.w) (header_fields (map value_of (drop l.option-index l.options)))
+      ≡ put_all (sheet l.initial.w) (header_fields (map value_of l.options));
   enough : HaveData (map value_of (drop l.option-index l.options));
   room : text_len (map value_of (drop l.option-index l.options)) ≤ length (free l.w);
   same_slice : the_slice l.w ≡ the_slice l.initial.w;

@@ -4,4 +4,5 @@ use Rattle.wiredump.specs.Lines.{are_short}
 use Rattle.wiredump.proofs.shape.are_short.Given as goal
 
 abbrev pub invariant-loop-word : goal.invariant-loop-word
-invariant-loop-word l = are_short (map (λ word. word.now) l.words) ≡ are_short (map (λ word. word.now) (drop l.word-index l.words))
+invariant-loop-word l =
+    are_short (map (λ word. word.now) l.words) ≡ are_short (map (λ word. word.now) (drop l.word-index l.words))

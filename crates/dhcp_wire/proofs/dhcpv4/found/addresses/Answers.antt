@@ -6,7 +6,9 @@ use Rattle.dhcp_wire.proofs.Dhcpv4Addresses.{taken-more, taken-short, taken-full
 use Rattle.dhcp_wire.proofs.dhcpv4.found.addresses.Goals as goal
 
 pub returns-in_default : goal.returns-in_default
-returns-in_default c = taken-short c.loop-rest.addresses.items (5 - length c.loop-rest.addresses.items) c.loop-rest.rest.now (whole_addresses 5 c.args.data.now) c.in_default.ensures.cases c.loop-rest.invariant.kept
+returns-in_default c =
+    taken-short c.loop-rest.addresses.items (5 - length c.loop-rest.addresses.items) c.loop-rest.rest.now
+    (whole_addresses 5 c.args.data.now) c.in_default.ensures.cases c.loop-rest.invariant.kept
 
 pub loop-rest-preserved : goal.loop-rest-preserved
 loop-rest-preserved c =
@@ -21,8 +23,13 @@ loop-rest-preserved c =
     record {
       few = omega (arith, len);
       kept = ap (λ (n : ℕ). flat_map octets_of c.push.new.self.items ++ whole_addresses (5 - n) after) len
-          ∙ taken-more items c.push.new.self.items c.from_octets.result c.loop-rest.rest.now after (whole_addresses 5 c.args.data.now) room c.push.ensures.items long (c.from_octets.ensures.value ∙ c.in-Some.ensures.cases.0) c.in-Some.ensures.cases.1 c.loop-rest.invariant.kept;
+          ∙ taken-more items c.push.new.self.items c.from_octets.result c.loop-rest.rest.now after
+          (whole_addresses 5 c.args.data.now) room c.push.ensures.items long
+          (c.from_octets.ensures.value ∙ c.in-Some.ensures.cases.0)
+          c.in-Some.ensures.cases.1 c.loop-rest.invariant.kept;
     }
 
 pub returns : goal.returns
-returns c = taken-full c.loop-rest.addresses.items c.loop-rest.rest.now (whole_addresses 5 c.args.data.now) (eqb-true (length c.loop-rest.addresses.items) 5 (sym c.loop-rest-test.ensures.value)) c.loop-rest.invariant.kept
+returns c =
+    taken-full c.loop-rest.addresses.items c.loop-rest.rest.now (whole_addresses 5 c.args.data.now)
+    (eqb-true (length c.loop-rest.addresses.items) 5 (sym c.loop-rest-test.ensures.value)) c.loop-rest.invariant.kept

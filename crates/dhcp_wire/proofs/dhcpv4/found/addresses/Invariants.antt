@@ -6,7 +6,8 @@ use Rattle.dhcp_wire.proofs.dhcpv4.found.addresses.Given as goal
 abbrev pub invariant-loop-rest : goal.invariant-loop-rest
 invariant-loop-rest l = record {
   few : length l.addresses.items ≤ 5;
-  kept : flat_map octets_of l.addresses.items ++ whole_addresses (5 - length l.addresses.items) l.rest ≡ whole_addresses 5 l.data;
+  kept : flat_map octets_of l.addresses.items ++ whole_addresses (5 - length l.addresses.items) l.rest
+      ≡ whole_addresses 5 l.data;
 }
 
 abbrev pub decreases-loop-rest : goal.decreases-loop-rest

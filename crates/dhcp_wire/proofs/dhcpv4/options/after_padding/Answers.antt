@@ -8,4 +8,5 @@ loop-i-preserved c =
     let octets = c.args.octets.now in
     let i = c.loop-i.i in
     ap (λ (n : ℕ). list_of (drop n octets)) (add-one i) ∙ sym (list-padding (drop (suc i) octets))
-    ∙ ap (λ (k : ℕ). list_of (k ∷ drop (suc i) octets)) (sym c.if-kind-ne-OPT_PAD.false) ∙ ap list_of (sym (drop-cons octets i 0 c.loop-i-test.true)) ∙ c.loop-i.invariant
+    ∙ ap (λ (k : ℕ). list_of (k ∷ drop (suc i) octets)) (sym c.if-kind-ne-OPT_PAD.false)
+    ∙ ap list_of (sym (drop-cons octets i 0 c.loop-i-test.true)) ∙ c.loop-i.invariant

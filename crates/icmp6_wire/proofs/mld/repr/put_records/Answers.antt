@@ -8,6 +8,7 @@ use Rattle.icmp6_wire.proofs.mld.repr.put_records.Goals as goal
 
 pub returns-clause-puts : goal.returns-clause-puts
 returns-clause-puts c = record {
-  puts = ap (λ (l : List AddressRecordRepr). put_all (sheet c.loop-record.w) (record_texts (values_of l))) (sym (drop_all c.loop-record.record-index c.args.records.now (omega arith))) ∙ c.loop-record.invariant.0;
+  puts = ap (λ (l : List AddressRecordRepr). put_all (sheet c.loop-record.w) (record_texts (values_of l)))
+      (sym (drop_all c.loop-record.record-index c.args.records.now (omega arith))) ∙ c.loop-record.invariant.0;
   whole = sym (whole-sheet c.loop-record.w);
 }

@@ -5,4 +5,6 @@ use Rattle.opt_wire.proofs.Ipv6HbhFormat.{header_emits}
 use Rattle.opt_wire.proofs.ipv6hbh.Repr.emit_into.Goals as goal
 
 pub returns : goal.returns
-returns c = header_emits 8 (options_of c.args.self.now) c.args.octets.now _ (omega arith) c.requires.enough c.requires.room (grind (arith, chain))
+returns c =
+    header_emits 8 (options_of c.args.self.now) c.args.octets.now _ (omega arith) c.requires.enough c.requires.room
+    (grind (arith, chain))

@@ -16,21 +16,28 @@ returns-in_err-option-clause-complete c = λ other header.
     let read = map value_of c.loop-option.options.items in
     let next = c.in-Some.ensures.steps
     ∙ ap (λ (r : Result Repr Error). seen value_of r ∷ c.next.new.self) c.in_err-option.was in
-    absurd (header-refused 8 (inner c.args.header.now).now read other c.in_err-option.field-0.0 _ c.next.new.self c.loop-option.invariant.tile (ap (λ (l : List Answer). map Ok read ++ l) next) (omega (arith, c.loop-option.invariant.few, length-map c.loop-option.options.items value_of)) header)
+    absurd (header-refused 8 (inner c.args.header.now).now read other c.in_err-option.field-0.0 _ c.next.new.self
+    c.loop-option.invariant.tile (ap (λ (l : List Answer). map Ok read ++ l) next)
+    (omega (arith, c.loop-option.invariant.few, length-map c.loop-option.options.items value_of)) header)
 
 pub returns-clause-sound : goal.returns-clause-sound
 returns-clause-sound c =
     let bytes = (inner c.args.header.now).now in
     let read = map value_of c.loop-option.options.items in
     elim c.match-next.branch [
-      | in-None w ↦ header-end 8 bytes read _ (c.in_ok-check_len.ensures.accepts.0 refl) c.loop-option.invariant.tile (ap (λ (l : List Answer). map Ok read ++ l) w.in-None.ensures.steps.0 ∙ append-nil (map Ok read)) (omega (arith, c.loop-option.invariant.few, length-map c.loop-option.options.items value_of))
+      | in-None w ↦ header-end 8 bytes read _ (c.in_ok-check_len.ensures.accepts.0 refl) c.loop-option.invariant.tile
+          (ap (λ (l : List Answer). map Ok read ++ l) w.in-None.ensures.steps.0 ∙ append-nil (map Ok read))
+          (omega (arith, c.loop-option.invariant.few, length-map c.loop-option.options.items value_of))
       | in-Some+in_ok-option+then-is_full w ↦
           let next = w.in-Some.ensures.steps
           ∙ ap (λ (r : Result Repr Error). seen value_of r ∷ c.next.new.self) w.in_ok-option.was in
           let full = length-map c.loop-option.options.items value_of
           ∙ eqb-true (length c.loop-option.options.items) 8 (sym w.is_full.ensures.value ∙ w.if-is_full.true) in
-          header-full 8 bytes read (value_of w.in_ok-option.option) _ c.next.new.self (c.in_ok-check_len.ensures.accepts.0 refl) c.loop-option.invariant.tile (ap (λ (l : List Answer). map Ok read ++ l) next) full
+          header-full 8 bytes read (value_of w.in_ok-option.option) _ c.next.new.self
+          (c.in_ok-check_len.ensures.accepts.0 refl) c.loop-option.invariant.tile
+          (ap (λ (l : List Answer). map Ok read ++ l) next) full
     ]
 
 pub returns-clause-complete : goal.returns-clause-complete
-returns-clause-complete c = λ other header. header-unique 8 (inner c.args.header.now).now _ other (returns-clause-sound c) header
+returns-clause-complete c =
+    λ other header. header-unique 8 (inner c.args.header.now).now _ other (returns-clause-sound c) header

@@ -16,5 +16,7 @@ pub returns-in-Err-clause-writes : goal.returns-in-Err-clause-writes
 returns-in-Err-clause-writes g c =
     let bytes = g.T.Octets.bytes (inner c.args.self.now) in
     let same = ap (λ (b : Bor (List ℕ)). b.now) c.new_unchecked-option.ensures ∙ c.octets.ensures in
-    let none : front_of bytes ≡ None = front_of-refused bytes (λ v h. c.in-Err.ensures.complete v (subst (λ (b : List ℕ). BeginsWith b v) (sym same) h)) in
+    let none : front_of bytes ≡ None =
+    front_of-refused bytes
+    (λ v h. c.in-Err.ensures.complete v (subst (λ (b : List ℕ). BeginsWith b v) (sym same) h)) in
     rw none c.write-in-Err.ensures.writes

@@ -4,7 +4,8 @@ use Rattle.std.proofs.lemmas.List.{take_rest}
 use Rattle.wirebase.proofs.Answers.{answer-progress}
 use Rattle.opt_wire.specs.Ipv6Option.{inner, value_of, BeginsWith}
 use Rattle.opt_wire.proofs.Ipv6OptionTiles.{next-option, next-refusal, next-end}
-use Rattle.opt_wire.proofs.ipv6option.Ipv6OptionsIteratorIterator.next.Goals.{then-self-via-then-self, then-self-via-else-self+then-is_empty}
+use Rattle.opt_wire.proofs.ipv6option.Ipv6OptionsIteratorIterator.next.Goals.{then-self-via-then-self}
+use Rattle.opt_wire.proofs.ipv6option.Ipv6OptionsIteratorIterator.next.Goals.{then-self-via-else-self+then-is_empty}
 use Rattle.opt_wire.proofs.ipv6option.Ipv6OptionsIteratorIterator.next.Goals as goal
 
 pub returns-then-self-clause-steps : goal.returns-then-self-clause-steps
@@ -12,16 +13,19 @@ returns-then-self-clause-steps c =
     let it = c.self.inside in
     let ended = sym c.self.view_is ∙ next-end it.hit_error it.data.now (elim c.then-self.branch [
       | then-self-via-then-self w ↦ inl w.if-self.true
-      | then-self-via-else-self+then-is_empty w ↦ inr (eqb-true (length it.data.now) 0 (sym w.is_empty.ensures ∙ w.if-is_empty.true))
+      | then-self-via-else-self+then-is_empty w ↦
+          inr (eqb-true (length it.data.now) 0 (sym w.is_empty.ensures ∙ w.if-is_empty.true))
     ]) in
     (ended, ended)
 
 pub returns-in-Ok-clause-steps : goal.returns-in-Ok-clause-steps
 returns-in-Ok-clause-steps c =
     let it = c.self.inside in
-    let same : (inner c.new_unchecked.result).now ≡ it.data.now = ap (λ (b : Bor (List ℕ)). b.now) c.new_unchecked.ensures in
+    let same : (inner c.new_unchecked.result).now ≡ it.data.now =
+    ap (λ (b : Bor (List ℕ)). b.now) c.new_unchecked.ensures in
     sym c.self.view_is
-    ∙ next-option it.hit_error it.data.now _ (value_of c.in-Ok.repr) c.if-self.false (subst (λ (b : List ℕ). BeginsWith b (value_of c.in-Ok.repr)) same c.in-Ok.ensures.sound)
+    ∙ next-option it.hit_error it.data.now _ (value_of c.in-Ok.repr) c.if-self.false
+    (subst (λ (b : List ℕ). BeginsWith b (value_of c.in-Ok.repr)) same c.in-Ok.ensures.sound)
     (take_rest it.data.now c.buffer_len.result ∙ ap (λ (n : ℕ). drop n it.data.now) c.buffer_len.ensures.value)
 
 pub returns-in-Ok-clause-goes : goal.returns-in-Ok-clause-goes
@@ -30,10 +34,13 @@ returns-in-Ok-clause-goes c = answer-progress value_of _ _ _ (returns-in-Ok-clau
 pub returns-in-Err-clause-steps : goal.returns-in-Err-clause-steps
 returns-in-Err-clause-steps c =
     let it = c.self.inside in
-    let same : (inner c.new_unchecked.result).now ≡ it.data.now = ap (λ (b : Bor (List ℕ)). b.now) c.new_unchecked.ensures in
-    let some : 0 < length it.data.now = omega (arith, eqb-false (length it.data.now) 0 (sym c.is_empty.ensures ∙ c.if-is_empty.false)) in
+    let same : (inner c.new_unchecked.result).now ≡ it.data.now =
+    ap (λ (b : Bor (List ℕ)). b.now) c.new_unchecked.ensures in
+    let some : 0 < length it.data.now =
+    omega (arith, eqb-false (length it.data.now) 0 (sym c.is_empty.ensures ∙ c.if-is_empty.false)) in
     sym c.self.view_is
-    ∙ next-refusal it.hit_error it.data.now c.in-Err.error c.if-self.false some (λ v h. c.in-Err.ensures.complete v (subst (λ (b : List ℕ). BeginsWith b v) (sym same) h))
+    ∙ next-refusal it.hit_error it.data.now c.in-Err.error c.if-self.false some
+    (λ v h. c.in-Err.ensures.complete v (subst (λ (b : List ℕ). BeginsWith b v) (sym same) h))
 
 pub returns-in-Err-clause-goes : goal.returns-in-Err-clause-goes
 returns-in-Err-clause-goes c = answer-progress value_of _ _ _ (returns-in-Err-clause-steps c)

@@ -5,4 +5,5 @@ use Rattle.opt_wire.proofs.Ipv6OptionFormat.{option_emits}
 use Rattle.opt_wire.proofs.ipv6option.Repr.emit_into.Goals as goal
 
 pub returns : goal.returns
-returns c = option_emits (value_of c.args.self.now) c.args.octets.now _ c.requires.enough c.requires.room (grind (arith, chain))
+returns c =
+    option_emits (value_of c.args.self.now) c.args.octets.now _ c.requires.enough c.requires.room (grind (arith, chain))

@@ -4,4 +4,6 @@ use Rattle.opt_wire.proofs.Ipv6OptionFormat.{option_format}
 use Rattle.opt_wire.proofs.ipv6option.Repr.parse.Goals as goal
 
 pub returns-clause-rewrites : goal.returns-clause-rewrites
-returns-clause-rewrites c = all_rewrites format option_format value_of (view_octets c.args.opt.now) c.read.result c.are_bytes.ensures c.read.ensures.sound
+returns-clause-rewrites c =
+    all_rewrites format option_format value_of (view_octets c.args.opt.now)
+    c.read.result c.are_bytes.ensures c.read.ensures.sound

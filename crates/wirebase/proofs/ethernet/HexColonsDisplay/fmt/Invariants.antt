@@ -5,4 +5,5 @@ use Rattle.wirebase.proofs.ethernet.HexColonsDisplay.fmt.Given as goal
 
 abbrev pub invariant-loop-byte : goal.invariant-loop-byte
 invariant-loop-byte g l =
-    IsPlainFormatter l.fn.f → HasWritten g.W.Write.write_str_gives l.fn.f (hex_colons (get_or l.self.0.now 0 0 ∷ take l.byte-index l.rest)) l.f
+    IsPlainFormatter l.fn.f → HasWritten g.W.Write.write_str_gives l.fn.f
+    (hex_colons (get_or l.self.0.now 0 0 ∷ take l.byte-index l.rest)) l.f

@@ -14,9 +14,12 @@ loop-option-init c =
     let bytes = (inner c.args.packet.now).now in
     let op = byte_of op_field bytes in
     let whole : List OptionValue = list_of (options_in bytes) in
-    let same : whole ≡ c.into_iter-option-iterator.result = c.options-option-items.ensures.unique whole (list-options (options_in bytes)) ∙ sym c.into_iter-option-iterator.ensures.into_iter_gives in
+    let same : whole ≡ c.into_iter-option-iterator.result =
+    c.options-option-items.ensures.unique whole (list-options (options_in bytes))
+    ∙ sym c.into_iter-option-iterator.ensures.into_iter_gives in
     record {
-      kept = ap (λ (k : Kept). keep_all op k c.into_iter-option-iterator.result) c.nothing-found.ensures ∙ ap (λ (os : List OptionValue). keep_all op nothing os) (sym same);
+      kept = ap (λ (k : Kept). keep_all op k c.into_iter-option-iterator.result) c.nothing-found.ensures
+          ∙ ap (λ (os : List OptionValue). keep_all op nothing os) (sym same);
       good = λ h. subst (λ (os : List OptionValue). AreOfEthernet os) (sym same) h;
       all_good = λ h. subst (λ (os : List OptionValue). AreOfEthernet os) same h;
     }
@@ -30,13 +33,19 @@ loop-option-preserved c =
     let steps = c.in-Some.ensures.steps in
     let same : c.into-op.result ≡ op = c.into-op.ensures ∙ ap opcode_number c.opcode.ensures ∙ opcode_back op in
     record {
-      kept = ap (λ (l : Kept). keep_all op l rest) (c.note.ensures ∙ ap (λ (n : ℕ). keep n k o) same) ∙ sym (keep_all-more op k o rest) ∙ ap (λ (os : List OptionValue). keep_all op k os) (sym steps) ∙ c.loop-option.invariant.kept;
-      good = λ h. c.loop-option.invariant.good (subst (λ (os : List OptionValue). AreOfEthernet os) (sym steps) (c.is_of_ethernet.ensures.0 c.if-not-is_of_ethernet.false, h));
-      all_good = λ h. (subst (λ (os : List OptionValue). AreOfEthernet os) steps (c.loop-option.invariant.all_good h)).1;
+      kept = ap (λ (l : Kept). keep_all op l rest) (c.note.ensures ∙ ap (λ (n : ℕ). keep n k o) same)
+          ∙ sym (keep_all-more op k o rest) ∙ ap (λ (os : List OptionValue). keep_all op k os) (sym steps)
+          ∙ c.loop-option.invariant.kept;
+      good = λ h. c.loop-option.invariant.good
+          (subst (λ (os : List OptionValue). AreOfEthernet os) (sym steps)
+          (c.is_of_ethernet.ensures.0 c.if-not-is_of_ethernet.false, h));
+      all_good = λ h.
+          (subst (λ (os : List OptionValue). AreOfEthernet os) steps (c.loop-option.invariant.all_good h)).1;
     }
 
 pub returns-clause-found : goal.returns-clause-found
 returns-clause-found c =
     let op = byte_of op_field (inner c.args.packet.now).now in
     let k = kept_of c.loop-option.found in
-    sym (keep_all-none op k) ∙ ap (λ (os : List OptionValue). keep_all op k os) (sym c.in-None.ensures.steps.0) ∙ c.loop-option.invariant.kept
+    sym (keep_all-none op k) ∙ ap (λ (os : List OptionValue). keep_all op k os) (sym c.in-None.ensures.steps.0)
+    ∙ c.loop-option.invariant.kept

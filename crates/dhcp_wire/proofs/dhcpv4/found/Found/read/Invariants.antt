@@ -9,7 +9,8 @@ use Rattle.dhcp_wire.proofs.dhcpv4.found.Found.read.Given as goal
 -- what is left to do gives what the whole gives
 abbrev pub invariant-loop-option : goal.invariant-loop-option
 invariant-loop-option l = record {
-  kept : keep_all (byte_of op_field (inner l.packet).now) (kept_of l.found) l.option-iterator ≡ keep_all (byte_of op_field (inner l.packet).now) nothing (list_of (options_in (inner l.packet).now));
+  kept : keep_all (byte_of op_field (inner l.packet).now) (kept_of l.found) l.option-iterator
+      ≡ keep_all (byte_of op_field (inner l.packet).now) nothing (list_of (options_in (inner l.packet).now));
   good : AreOfEthernet l.option-iterator → AreOfEthernet (list_of (options_in (inner l.packet).now));
   all_good : AreOfEthernet (list_of (options_in (inner l.packet).now)) → AreOfEthernet l.option-iterator;
 }

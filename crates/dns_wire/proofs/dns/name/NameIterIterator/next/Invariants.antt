@@ -8,7 +8,8 @@ invariant-loop-label l =
     let from = read_in it.in_message it.message.now it.slice.now in
     record {
       going : it.ended ≡ false;
-      same : ahead_of false it.steps (slice_range from it.place it.end) (take it.open_len it.message.now) ≡ l.fn.self.ahead;
+      same : ahead_of false it.steps (slice_range from it.place it.end) (take it.open_len it.message.now)
+          ≡ l.fn.self.ahead;
       places : (it.place ≤ it.end) × (it.end ≤ length from) × (it.open_len ≤ length it.message.now);
       room : 2 * it.steps + (it.end - it.place) + it.open_len < 2 ^ 65;
     }

@@ -13,11 +13,16 @@ returns c =
     let destination = c.args.dst_addr.now in
     let v = value_of c.args.self.now in
     let left = c.seal.ensures ∙ ap (λ (l : List ℕ). seal capabilities source destination l) c.write.ensures in
-    let exact : length c.args.octets.now ≡ text_len v → c.seal.new.octets ≡ packet_text capabilities source destination v = λ long. left ∙ ap (λ (l : List ℕ). seal capabilities source destination l) (over-exact c.args.octets.now (text v) (long ∙ sym (length-text v))) in
+    let exact : length c.args.octets.now ≡ text_len v → c.seal.new.octets
+    ≡ packet_text capabilities source destination v =
+    λ long. left ∙ ap (λ (l : List ℕ). seal capabilities source destination l)
+    (over-exact c.args.octets.now (text v) (long ∙ sym (length-text v))) in
     record {
       text_ = left;
       exact = exact;
       reads_back = λ long fills canonical.
-          subst (λ (bytes : List ℕ). IsMessage capabilities source destination bytes (norm v)) (sym (exact long)) (message_text capabilities source destination v fills canonical);
-      round_trips = round_trips (format capabilities source destination) (icmpv6_format capabilities source destination) v;
+          subst (λ (bytes : List ℕ). IsMessage capabilities source destination bytes (norm v)) (sym (exact long))
+          (message_text capabilities source destination v fills canonical);
+      round_trips =
+          round_trips (format capabilities source destination) (icmpv6_format capabilities source destination) v;
     }

@@ -5,7 +5,8 @@ use Rattle.icmp6_wire.proofs.mld.record.AddressRecordRepr.read.Goals as goal
 
 pub returns-clause-complete : goal.returns-clause-complete
 returns-clause-complete c = λ value is.
-    let read : IsFields (view_octets c.args.view.now) c.record_type.result c.aux_data_len.result c.num_srcs.result c.mcast_addr.result c.payload.result.now = record {
+    let read : IsFields (view_octets c.args.view.now) c.record_type.result c.aux_data_len.result c.num_srcs.result
+    c.mcast_addr.result c.payload.result.now = record {
       whole = c.in_ok-check_len.ensures.accepts.0 refl;
       kind_ = c.record_type.ensures;
       words_ = c.aux_data_len.ensures;

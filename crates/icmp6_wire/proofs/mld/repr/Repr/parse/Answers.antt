@@ -7,4 +7,5 @@ use Rattle.icmp6_wire.proofs.mld.repr.Repr.parse.Goals as goal
 pub returns-clause-complete : goal.returns-clause-complete
 returns-clause-complete c = λ value is.
     let octets = view_octets c.args.packet.now in
-    reads-complete (IsMessage octets) (message-one octets) value_of c.read.result c.read.ensures.sound (c.read.ensures.reads value is) value is
+    reads-complete (IsMessage octets) (message-one octets) value_of c.read.result c.read.ensures.sound
+    (c.read.ensures.reads value is) value is

@@ -8,4 +8,5 @@ pub returns-in_err-header-in-RedirectedHeader-default-clause-refuses :
     goal.returns-in_err-header-in-RedirectedHeader-default-clause-refuses
 returns-in_err-header-in-RedirectedHeader-default-clause-refuses c = λ err.
     redirected-packet (view_octets c.args.opt.now) (sym c.option_type.ensures ∙ c.in-RedirectedHeader-default.is-0)
-    (λ h is. c.in_err-header-in-RedirectedHeader-default.ensures.refuses refl h (subst (λ (bytes : List ℕ). IsPacket bytes h) (sym c.redirected.ensures) is))
+    (λ h is. c.in_err-header-in-RedirectedHeader-default.ensures.refuses refl h
+    (subst (λ (bytes : List ℕ). IsPacket bytes h) (sym c.redirected.ensures) is))
