@@ -99,15 +99,17 @@ pub fn read_hop_by_hop(packet: &[u8], _room: &mut [u8]) -> u64 {
     }
 }
 
-// Writes the options that the packet holds, without reading it.
+// Writes a router alert and padding, as long as the first byte has it.
 pub fn write_hop_by_hop(packet: &[u8], room: &mut [u8]) -> u64 {
     let mut header = ipv6hbh::Repr::mldv2_router_alert();
-    header.push_padn_option(0);
+    if let Some(first) = packet.first() {
+        header.push_padn_option(*first % 4);
+    }
     let len = header.buffer_len();
     if len <= room.len() {
         header.emit_into(&mut room[..len]);
     }
-    packet.len() as u64
+    len as u64
 }
 
 // fe80::1, fe80::2, ..
