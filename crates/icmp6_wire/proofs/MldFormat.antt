@@ -120,7 +120,7 @@ norm-norm (query code group flag qrv qqic sources d) = refl
 norm-norm (report count d) = refl
 norm-norm (records rs) = refl
 
-norm-read : (bytes : List ℕ) (v : MldValue) → IsMessage bytes v → norm v ≡ v
+pub norm-read : (bytes : List ℕ) (v : MldValue) → IsMessage bytes v → norm v ≡ v
 norm-read bytes (query code group flag qrv qqic sources d) m = refl
 norm-read bytes (report count d) m = refl
 norm-read bytes (records rs) m = absurd m

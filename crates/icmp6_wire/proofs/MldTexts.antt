@@ -1,5 +1,5 @@
 -- The texts of messages of multicast listener discovery, and their lengths; bytes are one message at the most.
-use Rattle.std.proofs.Common.{◌≡◌, ◌↔◌, ℕ, suc, ◌*◌, Bool, true, false, IsTrue, List, [], ◌∷◌, ◌++◌, length, refl}
+use Rattle.std.proofs.Common.{◌≡◌, ◌↔◌, ◌≤◌, ℕ, suc, ◌*◌, Bool, true, false, IsTrue, List, [], ◌∷◌, ◌++◌, length, refl}
 use Rattle.std.proofs.Common.{sym, ap, ◌∙◌, arith, length-append}
 use Rattle.std.proofs.lemmas.List.{append-nil}
 use Rattle.byteorder.specs.Endian.{big_bytes}
@@ -36,7 +36,6 @@ pub length-values : (rs : List AddressRecordRepr) → length (values_of rs) ≡ 
 length-values [] = refl
 length-values (r ∷ rs) = ap (λ (n : ℕ). suc n) (length-values rs)
 
-
 pub length-records : (rs : List RecordValue) → length (fields (texts_of rs)) ≡ 20 * length rs
 unfolding fields
 length-records [] = refl
@@ -54,6 +53,11 @@ length-text (query code group flag qrv qqic sources d) =
     )
 length-text (report count d) = omega (arith, ap length (report_text count (d ∷ [])), length-data d)
 length-text (records rs) = omega (arith, ap length (report_text (length rs) (texts_of rs)), length-records rs)
+
+pub text_some : (v : MldValue) → 8 ≤ text_len v
+text_some (query code group flag qrv qqic sources d) = omega arith
+text_some (report count d) = omega arith
+text_some (records rs) = omega arith
 
 -- how many records there are, and how many bytes a message takes
 pub ruleset counts = (length-values, length-text)
