@@ -1,7 +1,10 @@
 -- Messages of multicast listener discovery, version 2 (RFC 3810 section 5).
-use Rattle.std.specs.Prelude.{◌≡◌, ◌↔◌, ℕ, ◌+◌, ◌*◌, ◌<◌, ◌≤◌, Bool, IsTrue, List, [], ◌∷◌, length, drop, if◌then◌else◌}
-use Rattle.wirebase.specs.Bytes.{Reaches, byte_of, bytes_of, number_of}
+use Rattle.std.specs.Prelude.{◌≡◌, ◌↔◌, ℕ, ◌+◌, ◌*◌, ◌^◌, ◌<◌, ◌≤◌, Bool, IsTrue, List, [], ◌∷◌, length, drop}
+use Rattle.std.specs.Prelude.{if◌then◌else◌}
+use Rattle.std.specs.List.{AllByRecursion}
+use Rattle.wirebase.specs.Bytes.{Reaches, byte_of, bytes_of, number_of, over}
 use Rattle.wirebase.specs.ByteWriter.{be8, be16, fields}
+use Rattle.wirebase.specs.Format.{Format, RoundTrips}
 use Rattle.wirebase.specs.Icmp.{type_field}
 use Rattle.wirebase.specs.Ipv6Address.{octets_of, IsMulticast}
 use Rattle.wirebase.specs.declared.ipv6.address.Ipv6Address.{Ipv6Address}
@@ -108,3 +111,38 @@ abbrev pub IsMessage : List ℕ → MldValue → Type 0
 IsMessage bytes (query code group flag qrv qqic sources d) = IsQuery bytes code group flag qrv qqic sources d
 IsMessage bytes (report count d) = IsReport bytes count d
 IsMessage bytes (records rs) = ⊥
+
+-- ---- canonical values and the normal form
+
+-- a message that its own text gives back as its normal form
+abbrev pub IsCanonical : MldValue → Type 0
+IsCanonical (query code group flag qrv qqic sources d) =
+    (code < 2 ^ 16) × (qrv < 8) × (qqic < 256) × (sources < 2 ^ 16) × (28 + length d ≤ 65535)
+IsCanonical (report count d) = (count < 2 ^ 16) × (8 + length d ≤ 65535)
+IsCanonical (records rs) = (8 + 20 * length rs ≤ 65535) × AllByRecursion a_record.IsCanonical rs
+
+-- the normal form: of a list of records, the report of their number and of their texts one after another
+abbrev pub norm : MldValue → MldValue
+norm (records rs) = report (length rs) (fields (record_texts rs))
+norm v = v
+
+-- the format; no value is an exception, and what was read is its own normal form
+abbrev pub format : Format MldValue
+format =
+    record {
+      Reads = IsMessage;
+      Fills = Unit {0};
+      text = text;
+      IsCanonical = IsCanonical;
+      IsException = λ v. ⊥;
+      norm = norm;
+      IsCut = λ v. ⊥;
+    }
+
+-- What writing a message leaves where `old` stood, which is as long as the message: its text alone. A canonical value
+-- is read back from it as its normal form.
+pub record Emits (v : MldValue) (old new : List ℕ) : Type 0 where
+  pub text_ : new ≡ over old (text v)
+  pub exact : length old ≡ text_len v → new ≡ text v
+  pub reads_back : length old ≡ text_len v → IsCanonical v → IsMessage new (norm v)
+  pub round_trips : RoundTrips format v

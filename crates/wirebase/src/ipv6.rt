@@ -183,8 +183,7 @@ impl<T: OctetsMut> Ipv6Packet<T> {
         requires { BeginsWhole (T.bytes (inner self.old)) }
         ensures* lends { sem 𝓛 (Lends (the_row T.row) (Array byte 0) self.entry result
             (λ w. with_inner self.old (T.put (inner self.old)
-            (with_field (payload_field (T.bytes (inner self.old))) w (T.bytes (inner self.old))))))
-            }
+            (with_field (payload_field (T.bytes (inner self.old))) w (T.bytes (inner self.old)))))) }
         ensures value { result.now
             ≡ bytes_of (payload_field (T.bytes (inner self.old))) (T.bytes (inner self.old)) }
         ensures len { length result.now ≡ payload_len_in (T.bytes (inner self.old)) }
