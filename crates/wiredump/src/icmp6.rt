@@ -12,6 +12,7 @@ ghost use Rattle.wiredump.specs.Output.{Gains, GainsSome};
 
 use crate::icmp4::show_echo;
 use crate::ipv6::show_header;
+use crate::mld;
 use crate::printer::{field, line};
 use icmp6_wire::icmpv6::{Packet, Repr};
 use std::io;
@@ -100,6 +101,7 @@ fn show_message<W: Write>(output: &mut W, message: &Repr<'_>) -> io::Result<()>
             seq_no,
             data,
         } => show_echo(output, "EchoReply", ident, seq_no, data),
+        Repr::Mld(message) => mld::show_message(output, &message),
     }
 }
 
