@@ -1,6 +1,6 @@
--- ICMPv6 messages (RFC 4443), whose header and echoes are those of ICMP in wirebase. The word behind the checksum is, of
--- an error, zero, the largest packet or the pointer; behind the header stands the IPv6 header that an error speaks of,
--- and the data behind that.
+-- ICMPv6 messages (RFC 4443), whose header and echoes are those of ICMP in wirebase. The word behind the checksum is,
+-- of an error, zero, the largest packet or the pointer; behind the header stands the IPv6 header that an error speaks
+-- of, and the data behind that.
 use Rattle.std.specs.Prelude.{◌≡◌, ◌≢◌, ℕ, ◌+◌, ◌≤◌, ◌<◌, ◌^◌, min, true, List, [], ◌∷◌, length, drop, take}
 use Rattle.wirebase.specs.declared.capabilities.ChecksumCapabilities.{ChecksumCapabilities}
 use Rattle.wirebase.specs.declared.capabilities.Checksum.TheVariants.{Rx}
