@@ -13,7 +13,8 @@ use Rattle.dhcp_wire.specs.declared.dhcpv4.tables.MessageType.{MessageType}
 use Rattle.dhcp_wire.specs.Dhcpv4.{Value, HasHeader, IsPacket, AreOfEthernet, last_of, said, of_len, number_in}
 use Rattle.dhcp_wire.specs.Dhcpv4.{identifier_in, addresses_in, type_in}
 use Rattle.dhcp_wire.specs.Dhcpv4Found.{Kept, nothing, keep, keep_all, IsMadeOf}
-use Rattle.dhcp_wire.specs.Dhcpv4Options.{OptionValue, Options, list_of}
+use Rattle.dhcp_wire.specs.Dhcpv4Options.{OptionValue, Options}
+use Rattle.dhcp_wire.specs.Dhcpv4OptionsAhead.{list_of}
 use Rattle.dhcp_wire.specs.Dhcpv4Packet.{op_field, options_in}
 use Rattle.wirebase.proofs.Numbered.{number-case_in}
 use Rattle.dhcp_wire.specs.declared.dhcpv4.tables.OpCode.TheVariants as opcode

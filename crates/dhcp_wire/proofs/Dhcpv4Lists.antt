@@ -7,8 +7,9 @@ use Rattle.std.proofs.lemmas.List.{take-append-drop, take_at, drop_at, length-ta
 use Rattle.std.specs.Iterator.{MakesProgress, at_most}
 use Rattle.dhcp_wire.specs.declared.dhcpv4.options.DhcpOption.{DhcpOption}
 use Rattle.dhcp_wire.specs.Dhcpv4Options.{OptionValue, value_of_option, option, option_text, IsKind, Options, none}
-use Rattle.dhcp_wire.specs.Dhcpv4Options.{ended, padded, lone, torn, goes_on, after_kind, counted, options_within}
-use Rattle.dhcp_wire.specs.Dhcpv4Options.{list_of, HasNoPadding}
+use Rattle.dhcp_wire.specs.Dhcpv4Options.{ended, padded, lone, torn, goes_on}
+use Rattle.dhcp_wire.specs.Dhcpv4OptionsAhead.{after_kind, counted, options_within, list_of}
+use Rattle.dhcp_wire.specs.Dhcpv4Options.{HasNoPadding}
 
 -- a kind that data follows
 at_kind : (most kind : ℕ) (rest : List ℕ) → IsKind kind → options_within (suc most) (kind ∷ rest)

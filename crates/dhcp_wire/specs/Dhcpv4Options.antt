@@ -5,8 +5,7 @@
 -- +---------------+---------------+- -
 -- |     kind      |    length     | data, as many bytes
 -- +---------------+---------------+- -
-use Rattle.std.specs.Prelude.{◌≡◌, ◌≢◌, ℕ, zero, suc, ◌<◌, ◌==◌, nat_lt, List, [], ◌∷◌, ◌++◌, length, take, drop}
-use Rattle.std.specs.Prelude.{if◌then◌else◌, Option, None, Some}
+use Rattle.std.specs.Prelude.{◌≡◌, ◌≢◌, ℕ, ◌<◌, List, [], ◌∷◌, ◌++◌, length, Option, None, Some}
 use Rattle.dhcp_wire.specs.declared.dhcpv4.options.DhcpOption.{DhcpOption}
 
 -- an option by its content: its kind, and the bytes of its data
@@ -46,26 +45,6 @@ pub data Options : List ℕ → List OptionValue → Type 0 where
 -- the bytes don't begin with padding
 abbrev pub HasNoPadding : List ℕ → Type 0
 HasNoPadding bytes = (rest : List ℕ) → bytes ≢ 0 ∷ rest
-
--- ---- the same list as it is computed
-
-abbrev pub counted : ℕ → ℕ → List ℕ → (List ℕ → List OptionValue) → List OptionValue
-counted kind n rest go = if nat_lt (length rest) n then [] else option kind (take n rest) ∷ go (drop n rest)
-
-abbrev pub after_kind : ℕ → List ℕ → (List ℕ → List OptionValue) → List OptionValue
-after_kind kind [] go = []
-after_kind kind (n ∷ rest) go = counted kind n rest go
-
--- in at most so many turns; each takes a byte at least
-unfoldable pub options_within : ℕ → List ℕ → List OptionValue
-options_within most [] = []
-options_within zero (kind ∷ rest) = []
-options_within (suc most) (kind ∷ rest) =
-    if kind == 255 then [] else if kind == 0 then options_within most rest
-    else after_kind kind rest (options_within most)
-
-abbrev pub list_of : List ℕ → List OptionValue
-list_of bytes = options_within (length bytes) bytes
 
 -- a call of `next` gives the first option and takes it off; where none is left it gives None, and none is left still
 abbrev pub GivesFirst : List OptionValue → Option DhcpOption → List OptionValue → Type 0

@@ -1,6 +1,7 @@
 pub mod Dhcpv4
 pub mod Dhcpv4Found
 pub mod Dhcpv4Options
+pub mod Dhcpv4OptionsAhead
 pub mod Dhcpv4Packet
 pub mod Dhcpv4Tables
 pub mod Dhcpv4Writer

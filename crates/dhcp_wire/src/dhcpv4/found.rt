@@ -9,7 +9,8 @@ ghost use Rattle.wirebase.specs.Ipv4.{octets_of};
 ghost use Rattle.dhcp_wire.specs.Dhcpv4.{of_len, number_in, identifier_in, whole_addresses, type_in, IsOfEthernet};
 ghost use Rattle.dhcp_wire.specs.Dhcpv4.{AreOfEthernet};
 ghost use Rattle.dhcp_wire.specs.Dhcpv4Found.{kept_of, nothing, keep, keep_all};
-ghost use Rattle.dhcp_wire.specs.Dhcpv4Options.{value_of_option, list_of};
+ghost use Rattle.dhcp_wire.specs.Dhcpv4Options.{value_of_option};
+ghost use Rattle.dhcp_wire.specs.Dhcpv4OptionsAhead.{list_of};
 ghost use Rattle.dhcp_wire.specs.Dhcpv4Packet.{inner, op_field, magic_field, options_in};
 
 use super::MAX_DNS_SERVER_COUNT;

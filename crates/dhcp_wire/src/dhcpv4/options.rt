@@ -1,7 +1,8 @@
 //! Options, read in turn and written in turn (RFC 2132 section 2).
 
 ghost use Rattle.std.specs.Prelude.{◌≡◌, ◌≤◌, ◌<◌, ◌+◌, ◌++◌, ◌∷◌, [], ◌↔◌, List, ℕ, length, drop, IsOk, OnOk, OnErr};
-ghost use Rattle.dhcp_wire.specs.Dhcpv4Options.{OptionValue, value_of_option, option_text, Options, list_of};
+ghost use Rattle.dhcp_wire.specs.Dhcpv4Options.{OptionValue, value_of_option, option_text, Options};
+ghost use Rattle.dhcp_wire.specs.Dhcpv4OptionsAhead.{list_of};
 ghost use Rattle.dhcp_wire.specs.Dhcpv4Options.{GivesFirst, HasNoPadding};
 
 use super::kinds::{OPT_END, OPT_PAD};
@@ -27,7 +28,8 @@ pub struct OptionsIter<'a> {
 
 impl<'a> Model for OptionsIter<'a> {
     ghost use Rattle.std.specs.Prelude.{List};
-    ghost use Rattle.dhcp_wire.specs.Dhcpv4Options.{OptionValue, list_of};
+    ghost use Rattle.dhcp_wire.specs.Dhcpv4Options.{OptionValue};
+    ghost use Rattle.dhcp_wire.specs.Dhcpv4OptionsAhead.{list_of};
 
     ghost Value = { List OptionValue };
 

@@ -461,3 +461,23 @@ fn an_ack_into_buffers_of_every_length(rt: HostRuntime) -> Result<(), Fail> {
     }
     Ok(())
 }
+
+#[test]
+fn a_bare_discover_into_buffers_of_every_length(rt: HostRuntime) -> Result<(), Fail> {
+    let repr = bare(MessageType::Discover);
+    for fill in [0x00, 0xff, 0x2a] {
+        for len in 240..=250 {
+            let mut octets = [fill; 250];
+            let answer = repr.emit_into(&mut octets[..len]);
+            assert_eq!(rt; answer.is_ok(), 244 <= len, "{len}");
+            assert_eq!(rt; octets[236..240], [0x63, 0x82, 0x53, 0x63][..], "{len}");
+            let end = if 243 <= len { [0x35, 1, 1] } else { [fill; 3] };
+            assert_eq!(rt; octets[240..243], end[..], "{len}");
+            assert_eq!(rt; octets[243], if 244 <= len { 0xff } else { fill }, "{len}");
+            for place in 244..250 {
+                assert_eq!(rt; octets[place], fill, "{len} {place}");
+            }
+        }
+    }
+    Ok(())
+}

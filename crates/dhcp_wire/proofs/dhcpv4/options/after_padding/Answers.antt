@@ -1,5 +1,5 @@
 use Rattle.std.proofs.Common.{ℕ, List, ◌∷◌, suc, drop, ap, sym, ◌∙◌, add-one, drop-cons}
-use Rattle.dhcp_wire.specs.Dhcpv4Options.{list_of}
+use Rattle.dhcp_wire.specs.Dhcpv4OptionsAhead.{list_of}
 use Rattle.dhcp_wire.proofs.Dhcpv4Lists.{list-padding}
 use Rattle.dhcp_wire.proofs.dhcpv4.options.after_padding.Goals as goal
 

@@ -1,5 +1,5 @@
 use Rattle.std.proofs.Common.{◌≡◌, drop}
-use Rattle.dhcp_wire.specs.Dhcpv4Options.{list_of}
+use Rattle.dhcp_wire.specs.Dhcpv4OptionsAhead.{list_of}
 use Rattle.dhcp_wire.proofs.dhcpv4.options.after_padding.Given as goal
 
 abbrev pub invariant-loop-i : goal.invariant-loop-i

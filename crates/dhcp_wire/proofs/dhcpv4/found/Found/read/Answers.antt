@@ -2,7 +2,8 @@ use Rattle.std.proofs.Common.{◌≡◌, ℕ, List, ◌∷◌, refl, sym, ap, su
 use Rattle.wirebase.specs.Bytes.{byte_of}
 use Rattle.dhcp_wire.specs.Dhcpv4.{AreOfEthernet}
 use Rattle.dhcp_wire.specs.Dhcpv4Found.{Kept, kept_of, nothing, keep, keep_all}
-use Rattle.dhcp_wire.specs.Dhcpv4Options.{OptionValue, value_of_option, list_of}
+use Rattle.dhcp_wire.specs.Dhcpv4Options.{OptionValue, value_of_option}
+use Rattle.dhcp_wire.specs.Dhcpv4OptionsAhead.{list_of}
 use Rattle.dhcp_wire.specs.Dhcpv4Packet.{inner, op_field, options_in}
 use Rattle.dhcp_wire.specs.Dhcpv4Tables.{opcode_number}
 use Rattle.dhcp_wire.proofs.Dhcpv4Kept.{keep_all-none, keep_all-more, opcode_back}

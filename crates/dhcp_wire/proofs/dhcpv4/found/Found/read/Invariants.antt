@@ -2,7 +2,7 @@ use Rattle.std.proofs.Common.{◌≡◌}
 use Rattle.wirebase.specs.Bytes.{byte_of}
 use Rattle.dhcp_wire.specs.Dhcpv4.{AreOfEthernet}
 use Rattle.dhcp_wire.specs.Dhcpv4Found.{kept_of, nothing, keep_all}
-use Rattle.dhcp_wire.specs.Dhcpv4Options.{list_of}
+use Rattle.dhcp_wire.specs.Dhcpv4OptionsAhead.{list_of}
 use Rattle.dhcp_wire.specs.Dhcpv4Packet.{inner, op_field, options_in}
 use Rattle.dhcp_wire.proofs.dhcpv4.found.Found.read.Given as goal
 
