@@ -1,0 +1,3 @@
+pub mod Alerts
+pub mod Cuts
+pub mod ResolverSearch
