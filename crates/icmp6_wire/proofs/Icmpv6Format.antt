@@ -1,5 +1,5 @@
 -- The format of messages: what was read is canonical, and a normal form has the text of its value.
-use Rattle.std.proofs.Common.{◌≡◌, ℕ, ◌<◌, ◌≤◌, ◌^◌, Bool, true, false, List, length, drop, refl, sym, ap, subst, ◌∙◌}
+use Rattle.std.proofs.Common.{◌≡◌, ℕ, ◌<◌, ◌≤◌, Bool, true, false, List, length, refl, sym, ap, subst, ◌∙◌}
 use Rattle.std.proofs.Common.{arith}
 use Rattle.std.proofs.lemmas.List.{length-drop}
 use Rattle.wirebase.specs.declared.capabilities.ChecksumCapabilities.{ChecksumCapabilities}
@@ -7,7 +7,7 @@ use Rattle.wirebase.specs.declared.ip.IpProtocol.{IpProtocol}
 use Rattle.wirebase.specs.declared.ip.IpProtocol.TheVariants as protocol
 use Rattle.wirebase.specs.declared.ipv6.address.Ipv6Address.{Ipv6Address}
 use Rattle.wirebase.specs.declared.ipv6.Ipv6Repr.{Ipv6Repr}
-use Rattle.wirebase.specs.Bytes.{IsBytes, byte_of, number_of}
+use Rattle.wirebase.specs.Bytes.{IsBytes, byte_of}
 use Rattle.wirebase.specs.ByteWriter.{fields}
 use Rattle.wirebase.specs.Format.{SameText}
 use Rattle.wirebase.specs.Icmp.{code_field, data_in}
@@ -24,13 +24,14 @@ use Rattle.icmp6_wire.specs.declared.icmpv6.tables.ParamProblem.{ParamProblem}
 use Rattle.icmp6_wire.specs.declared.icmpv6.tables.ParamProblem.TheVariants as problems
 use Rattle.icmp6_wire.specs.declared.icmpv6.tables.TimeExceeded.{TimeExceeded}
 use Rattle.icmp6_wire.specs.declared.icmpv6.tables.TimeExceeded.TheVariants as times
-use Rattle.icmp6_wire.specs.Icmpv6Packet.{word_field}
 use Rattle.icmp6_wire.specs.Icmpv6Tables.{unreachable_number, unreachables, unreachable_rows, unreachable_of}
 use Rattle.icmp6_wire.specs.Icmpv6Tables.{param_problem_number, param_problems, param_problem_rows, param_problem_of}
 use Rattle.icmp6_wire.specs.Icmpv6Tables.{time_exceeded_number, time_exceededs, time_exceeded_rows, time_exceeded_of}
 use Rattle.icmp6_wire.specs.Icmpv6.{MessageValue, unreachable, too_big, time_exceeded, param_problem, echo_request}
-use Rattle.icmp6_wire.specs.Icmpv6.{echo_reply, quoted_data, error_fields, text, seal, IsContent, CanQuote, IsCanonical}
-use Rattle.icmp6_wire.specs.Icmpv6.{norm, IsCut, format}
+use Rattle.icmp6_wire.specs.Icmpv6.{echo_reply, mld, quoted_data, error_fields, text, seal, IsContent, CanQuote}
+use Rattle.icmp6_wire.specs.Icmpv6.{IsCanonical, norm, IsCut, format}
+use Rattle.icmp6_wire.specs.Mld.{MldValue}
+use Rattle.icmp6_wire.proofs.MldFormat.{mld_format, norm-text as norm-mld, norm-read}
 use Rattle.icmp6_wire.proofs.Icmpv6Grammar.{content-one, message-unique}
 use Rattle.icmp6_wire.proofs.Icmpv6Texts.{quoted-quoted, quoted-whole, message_text, content_read}
 
@@ -135,6 +136,7 @@ content-canonical bytes (echo_reply ident seq_no d) are some small m = (
   omega (arith, m.sequence, number_of-small 6 8 bytes refl are),
   omega (arith, ap (λ (l : List ℕ). length l) m.data_, length-drop 8 bytes),
 )
+content-canonical bytes (mld m) are some small c = mld_format.accepted bytes m are small c.0
 
 -- ---- the normal form
 
@@ -145,6 +147,7 @@ norm-canonical (time_exceeded reason quoted d) c = c
 norm-canonical (param_problem reason pointer quoted d) c = c
 norm-canonical (echo_request ident seq_no d) c = c
 norm-canonical (echo_reply ident seq_no d) c = c
+norm-canonical (mld m) c = mld_format.norm_canonical m c
 
 norm-norm : (v : MessageValue) → norm (norm v) ≡ norm v
 norm-norm (unreachable reason quoted d) = ap (λ (l : List ℕ). unreachable reason quoted l) (quoted-quoted d)
@@ -154,6 +157,7 @@ norm-norm (param_problem reason pointer quoted d) =
     ap (λ (l : List ℕ). param_problem reason pointer quoted l) (quoted-quoted d)
 norm-norm (echo_request ident seq_no d) = refl
 norm-norm (echo_reply ident seq_no d) = refl
+norm-norm (mld m) = ap (λ (x : MldValue). mld x) (mld_format.norm_norm m)
 
 quoted-fields : (t code word : ℕ) (quoted : Ipv6Repr) (d : List ℕ)
     → fields (error_fields t code word quoted (quoted_data d)) ≡ fields (error_fields t code word quoted d)
@@ -166,20 +170,23 @@ norm-text (time_exceeded reason quoted d) = quoted-fields 3 (time_exceeded_numbe
 norm-text (param_problem reason pointer quoted d) = quoted-fields 4 (param_problem_number reason) pointer quoted d
 norm-text (echo_request ident seq_no d) = refl
 norm-text (echo_reply ident seq_no d) = refl
+norm-text (mld m) = norm-mld m
 
 few : (d : List ℕ) → (1192 < length d → ⊥) → length d ≤ 1192
 few d uncut = grind (arith, uncut)
 
-norm-uncut : (v : MessageValue) → (IsCut v → ⊥) → norm v ≡ v
-norm-uncut (unreachable reason quoted d) uncut =
+norm-uncut : (bytes : List ℕ) (v : MessageValue) → IsContent bytes v → (IsCut v → ⊥) → norm v ≡ v
+norm-uncut bytes (unreachable reason quoted d) c uncut =
     ap (λ (l : List ℕ). unreachable reason quoted l) (quoted-whole d (few d uncut))
-norm-uncut (too_big mtu quoted d) uncut = ap (λ (l : List ℕ). too_big mtu quoted l) (quoted-whole d (few d uncut))
-norm-uncut (time_exceeded reason quoted d) uncut =
+norm-uncut bytes (too_big mtu quoted d) c uncut =
+    ap (λ (l : List ℕ). too_big mtu quoted l) (quoted-whole d (few d uncut))
+norm-uncut bytes (time_exceeded reason quoted d) c uncut =
     ap (λ (l : List ℕ). time_exceeded reason quoted l) (quoted-whole d (few d uncut))
-norm-uncut (param_problem reason pointer quoted d) uncut =
+norm-uncut bytes (param_problem reason pointer quoted d) c uncut =
     ap (λ (l : List ℕ). param_problem reason pointer quoted l) (quoted-whole d (few d uncut))
-norm-uncut (echo_request ident seq_no d) uncut = refl
-norm-uncut (echo_reply ident seq_no d) uncut = refl
+norm-uncut bytes (echo_request ident seq_no d) c uncut = refl
+norm-uncut bytes (echo_reply ident seq_no d) c uncut = refl
+norm-uncut bytes (mld m) c uncut = ap (λ (x : MldValue). mld x) (norm-read bytes m c.0)
 
 -- ---- all of it
 
@@ -193,7 +200,7 @@ module _ (capabilities : ChecksumCapabilities) (source destination : Ipv6Address
     norm_text = λ v c regular. ap (λ (bytes : List ℕ). seal capabilities source destination bytes) (norm-text v);
     accepted = λ bytes v are small m. content-canonical bytes v are m.whole.fixed small m.content;
     regular = λ bytes v m e. e;
-    kept = λ bytes v are c m uncut. norm-uncut v uncut;
+    kept = λ bytes v are c m uncut. norm-uncut bytes v m.content uncut;
   }
 
   -- also where the checksum is verified and not filled: the contents are read back by themselves

@@ -1,5 +1,5 @@
 -- The texts of ICMPv6 messages: their lengths, and what is read in them.
-use Rattle.std.proofs.Common.{◌≡◌, ◌≢◌, ℕ, ◌+◌, ◌%◌, ◌<◌, ◌≤◌, ◌^◌, min, true, List, [], ◌∷◌, ◌++◌, length, take, drop}
+use Rattle.std.proofs.Common.{◌≡◌, ℕ, ◌<◌, ◌≤◌, ◌^◌, min, List, [], ◌∷◌, ◌++◌, length, take, drop}
 use Rattle.std.proofs.Common.{refl, sym, ap, subst, ◌∙◌, arith, length-append}
 use Rattle.std.proofs.lemmas.List.{append-nil, length-take, take_all, take_min}
 use Rattle.byteorder.specs.Endian.{big_bytes}
@@ -9,20 +9,20 @@ use Rattle.wirebase.specs.declared.ipv6.address.Ipv6Address.{Ipv6Address}
 use Rattle.wirebase.specs.declared.ipv6.Ipv6Repr.{Ipv6Repr}
 use Rattle.wirebase.specs.Bytes.{part, byte_of, number_of}
 use Rattle.wirebase.specs.ByteWriter.{be8, be16, be32, fields}
-use Rattle.wirebase.specs.Icmp.{code_field, checksum_field, data_in, IsEcho, echo_fields}
+use Rattle.wirebase.specs.Icmp.{code_field, checksum_field, IsEcho, echo_fields}
 use Rattle.wirebase.specs.Ipv6.{header_text}
 use Rattle.wirebase.specs.Numbered.{IsProper}
 use Rattle.wirebase.proofs.CapabilitySeals.{length-sealed_where, IsGood-sealed_where}
 use Rattle.wirebase.proofs.IcmpTexts.{echo_text, echo_read}
 use Rattle.wirebase.proofs.Ipv6Header.{length-header_text, header-read, drop-header_text}
 use Rattle.wirebase.proofs.Numbered.{case_in-unnamed}
-use Rattle.icmp6_wire.specs.Icmpv6Packet.{BeginsWhole, word_field, message_sum}
+use Rattle.icmp6_wire.specs.Icmpv6Packet.{word_field, message_sum}
 use Rattle.icmp6_wire.specs.Icmpv6Tables.{unreachable_number, unreachable_rows, unreachable_of, param_problem_number}
 use Rattle.icmp6_wire.specs.Icmpv6Tables.{param_problem_rows, param_problem_of, time_exceeded_number}
 use Rattle.icmp6_wire.specs.Icmpv6Tables.{time_exceeded_rows, time_exceeded_of}
 use Rattle.icmp6_wire.specs.Icmpv6.{MessageValue, unreachable, too_big, time_exceeded, param_problem, echo_request}
-use Rattle.icmp6_wire.specs.Icmpv6.{echo_reply, quoted_data, error_fields, text, error_len, text_len, seal, packet_text}
-use Rattle.icmp6_wire.specs.Icmpv6.{IsError, IsContent, IsMessage, CanQuote, IsCanonical, Fills, norm}
+use Rattle.icmp6_wire.specs.Icmpv6.{echo_reply, mld, quoted_data, error_fields, text, error_len, text_len, seal}
+use Rattle.icmp6_wire.specs.Icmpv6.{packet_text, IsError, IsContent, IsMessage, CanQuote, IsCanonical, Fills, norm}
 use Rattle.icmp6_wire.specs.declared.icmpv6.tables.DstUnreachable.{DstUnreachable}
 use Rattle.icmp6_wire.specs.declared.icmpv6.tables.DstUnreachable.TheVariants as reasons
 use Rattle.icmp6_wire.specs.declared.icmpv6.tables.ParamProblem.{ParamProblem}
@@ -32,6 +32,10 @@ use Rattle.icmp6_wire.specs.declared.icmpv6.tables.TimeExceeded.TheVariants as t
 use Rattle.wirebase.specs.Checksum.{IsGood}
 use Rattle.icmp6_wire.proofs.Icmpv6Grammar.{whole-content}
 use Rattle.icmp6_wire.proofs.Icmpv6Seals.{Begins, sealed-begins}
+use Rattle.icmp6_wire.specs.Mld as listeners
+use Rattle.icmp6_wire.specs.Mld.{MldValue}
+use Rattle.icmp6_wire.proofs.MldFormat.{type_of, message_read, text-begins, message-unsealed}
+use Rattle.icmp6_wire.proofs.MldTexts.{length-text as length-mld, text_some as mld_some}
 
 -- ---- what an error quotes
 
@@ -81,6 +85,7 @@ length-text (time_exceeded reason quoted d) = length-error 3 (time_exceeded_numb
 length-text (param_problem reason pointer quoted d) = length-error 4 (param_problem_number reason) pointer quoted d
 length-text (echo_request ident seq_no d) = omega (arith, ap length (echo_text 0x80 ident seq_no d))
 length-text (echo_reply ident seq_no d) = omega (arith, ap length (echo_text 0x81 ident seq_no d))
+length-text (mld m) = length-mld m
 
 pub text_some : (v : MessageValue) → 8 ≤ text_len v
 text_some (unreachable reason quoted d) = omega arith
@@ -89,6 +94,7 @@ text_some (time_exceeded reason quoted d) = omega arith
 text_some (param_problem reason pointer quoted d) = omega arith
 text_some (echo_request ident seq_no d) = omega arith
 text_some (echo_reply ident seq_no d) = omega arith
+text_some (mld m) = mld_some m
 
 pub length-packet_text : (capabilities : ChecksumCapabilities) (source destination : Ipv6Address) (v : MessageValue)
     → length (packet_text capabilities source destination v) ≡ text_len v
@@ -151,6 +157,16 @@ module _ (capabilities : ChecksumCapabilities) (source destination : Ipv6Address
       (echo_text t ident seq_no d) in
       echo_read _ t ident seq_no d h k (record { first = b.first; second = b.second; whole = b.whole })
 
+  sealed_mld : (m : MldValue) → listeners.IsCanonical m
+      → IsContent (seal capabilities source destination (listeners.text m)) (mld (listeners.norm m))
+  sealed_mld m c =
+      let rest : List ℕ = drop 4 (listeners.text m) in
+      let b = sealed-begins capabilities.icmpv6 (listeners.text m)
+      (message_sum source destination (length (listeners.text m))) (type_of m) 0 rest (text-begins m) in
+      let alone = subst (λ (bytes : List ℕ). listeners.IsMessage bytes (listeners.norm m)) (text-begins m)
+      (message_read m c) in
+      rw b.whole (message-unsealed (type_of m) 0 0 0 b.first b.second rest (listeners.norm m) alone, refl)
+
   pub content_read : (v : MessageValue) → IsCanonical v → IsContent (packet_text capabilities source destination v)
       (norm v)
   content_read (unreachable reason quoted d) c =
@@ -167,6 +183,7 @@ module _ (capabilities : ChecksumCapabilities) (source destination : Ipv6Address
       (read.error, param_problem_of-number reason c.0 ∙ ap param_problem_of (sym read.code_), read.word_)
   content_read (echo_request ident seq_no d) c = sealed_echo 0x80 ident seq_no d c.0 c.1
   content_read (echo_reply ident seq_no d) c = sealed_echo 0x81 ident seq_no d c.0 c.1
+  content_read (mld m) c = sealed_mld m c
 
 -- the packet of a canonical value is read as its normal form
 pub message_text : (capabilities : ChecksumCapabilities) (source destination : Ipv6Address) (v : MessageValue)

@@ -1,6 +1,6 @@
 -- Records of reports: their texts, what is read in them, and their format.
-use Rattle.std.proofs.Common.{◌≡◌, ℕ, ◌<◌, ◌≤◌, ◌^◌, Bool, true, false, List, [], ◌∷◌, ◌++◌, length, take, drop, refl}
-use Rattle.std.proofs.Common.{sym, ap, subst, ◌∙◌, arith, Result, Ok, Err, IfOk}
+use Rattle.std.proofs.Common.{◌≡◌, ℕ, ◌<◌, ◌^◌, Bool, true, false, List, [], ◌∷◌, ◌++◌, length, refl}
+use Rattle.std.proofs.Common.{sym, ap, subst, ◌∙◌, arith, Result, IfOk}
 use Rattle.std.proofs.lemmas.List.{append-nil, take_all, drop_all, nil_from_length}
 use Rattle.byteorder.specs.Endian.{big_bytes}
 use Rattle.byteorder.specs.Numbers.{big_number-reads_back}
@@ -12,7 +12,7 @@ use Rattle.wirebase.specs.Ipv6Address.{octets_of, IsMulticast}
 use Rattle.wirebase.specs.Numbered.{IsProper}
 use Rattle.wirebase.specs.declared.ipv6.address.Ipv6Address.{Ipv6Address}
 use Rattle.wirebase.proofs.ByteParts.{number_of-small}
-use Rattle.wirebase.proofs.Format.{IsFormat, rewrites, same_text}
+use Rattle.wirebase.proofs.Format.{IsFormat, same_text}
 use Rattle.wirebase.proofs.Ipv6Header.{same_address}
 use Rattle.wirebase.proofs.Numbered.{case_in-unnamed, case_in-proper, number-case_in}
 use Rattle.icmp6_wire.specs.MldTables.{record_type_number, record_types, record_type_rows, record_type_of}

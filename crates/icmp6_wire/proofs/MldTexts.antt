@@ -1,30 +1,27 @@
 -- The texts of messages of multicast listener discovery, and their lengths; bytes are one message at the most.
-use Rattle.std.proofs.Common.{◌≡◌, ◌↔◌, ℕ, suc, ◌+◌, ◌*◌, Bool, true, false, IsTrue, List, [], ◌∷◌, ◌++◌, length, refl}
+use Rattle.std.proofs.Common.{◌≡◌, ◌↔◌, ◌≤◌, ℕ, ◌*◌, Bool, true, false, IsTrue, List, [], ◌∷◌, ◌++◌, length, refl}
 use Rattle.std.proofs.Common.{sym, ap, ◌∙◌, arith, length-append}
-use Rattle.std.proofs.lemmas.List.{append-nil}
+use Rattle.std.proofs.lemmas.List.{append-nil, length-map}
 use Rattle.byteorder.specs.Endian.{big_bytes}
-use Rattle.wirebase.specs.Bytes.{over}
 use Rattle.wirebase.specs.ByteWriter.{be8, be16, fields}
 use Rattle.wirebase.specs.Ipv6Address.{octets_of}
 use Rattle.wirebase.specs.declared.ipv6.address.Ipv6Address.{Ipv6Address}
 use Rattle.wirebase.proofs.Ipv6Header.{same_address}
-use Rattle.wirebase.proofs.Pieces.{over-exact}
-use Rattle.icmp6_wire.specs.Mld.{MldValue, values_of, query, report, records, sqrv, query_fields, report_fields}
-use Rattle.icmp6_wire.specs.Mld.{record_texts as texts_of, text, text_len, CanEmit, IsMessage}
+use Rattle.icmp6_wire.specs.Mld.{MldValue, query, report, records, sqrv, query_fields, report_fields}
+use Rattle.icmp6_wire.specs.Mld.{record_texts as texts_of, text, text_len, IsMessage}
 use Rattle.icmp6_wire.specs.MldRecord.{RecordValue, text as record_text}
-use Rattle.icmp6_wire.specs.declared.mld.record.AddressRecordRepr.{AddressRecordRepr}
 use Rattle.icmp6_wire.proofs.MldRecords.{length-text as length-record}
 
 pub ruleset record_texts = (length-record)
 
-query_text : (code : ℕ) (group : Ipv6Address) (flag : Bool) (qrv qqic sources : ℕ) (d : List ℕ)
+pub query_text : (code : ℕ) (group : Ipv6Address) (flag : Bool) (qrv qqic sources : ℕ) (d : List ℕ)
     → fields (query_fields code group flag qrv qqic sources d)
     ≡ 0x82 ∷ 0 ∷ 0 ∷ 0
     ∷ (big_bytes 2 code ++ (0 ∷ 0 ∷ (octets_of group ++ (sqrv flag qrv ∷ qqic ∷ (big_bytes 2 sources ++ d)))))
 unfolding fields be8 be16
 query_text code group flag qrv qqic sources d = simp append-nil
 
-report_text : (count : ℕ) (rest : List (List ℕ)) → fields (report_fields count rest) ≡ 0x8f ∷ 0 ∷ 0 ∷ 0 ∷ 0 ∷ 0
+pub report_text : (count : ℕ) (rest : List (List ℕ)) → fields (report_fields count rest) ≡ 0x8f ∷ 0 ∷ 0 ∷ 0 ∷ 0 ∷ 0
     ∷ (big_bytes 2 count ++ fields rest)
 unfolding fields be8 be16
 report_text count rest = refl
@@ -33,14 +30,7 @@ length-data : (d : List ℕ) → length (fields (d ∷ [])) ≡ length d
 unfolding fields
 length-data d = ap length (append-nil d)
 
--- as many values as records
-pub length-values : (rs : List AddressRecordRepr) → length (values_of rs) ≡ length rs
-length-values [] = refl
-length-values (r ∷ rs) = ap (λ (n : ℕ). suc n) (length-values rs)
-
-pub ruleset counts = (length-values)
-
-length-records : (rs : List RecordValue) → length (fields (texts_of rs)) ≡ 20 * length rs
+pub length-records : (rs : List RecordValue) → length (fields (texts_of rs)) ≡ 20 * length rs
 unfolding fields
 length-records [] = refl
 length-records (r ∷ rs) =
@@ -58,14 +48,13 @@ length-text (query code group flag qrv qqic sources d) =
 length-text (report count d) = omega (arith, ap length (report_text count (d ∷ [])), length-data d)
 length-text (records rs) = omega (arith, ap length (report_text (length rs) (texts_of rs)), length-records rs)
 
-can-length : (v : MldValue) (bytes : List ℕ) → CanEmit v bytes → length bytes ≡ text_len v
-can-length (query code group flag qrv qqic sources d) bytes can = can.0
-can-length (report count d) bytes can = can
-can-length (records rs) bytes can = can.0
+pub text_some : (v : MldValue) → 8 ≤ text_len v
+text_some (query code group flag qrv qqic sources d) = omega arith
+text_some (report count d) = omega arith
+text_some (records rs) = omega arith
 
--- a message in octets of just its length
-pub over-message : (old : List ℕ) (v : MldValue) → CanEmit v old → over old (text v) ≡ text v
-over-message old v can = over-exact old (text v) (can-length v old can ∙ sym (length-text v))
+-- how many records there are, and how many bytes a message takes
+pub ruleset counts = (length-map, length-text)
 
 -- ---- one message at the most
 

@@ -1,14 +1,6 @@
--- ICMPv6 messages (RFC 4443).
---
---  0                   1                   2                   3
---  0 1 2 3 4 5 6 7 8 9 0 1 2 3 4 5 6 7 8 9 0 1 2 3 4 5 6 7 8 9 0 1
--- +---------------+---------------+-------------------------------+
--- |     type      |     code      |           checksum            |
--- +---------------+---------------+-------------------------------+
--- |          identifier           |        sequence number        |  an echo; of an error zero, the largest packet or
--- +-------------------------------+-------------------------------+  the pointer
--- | data: of an error, the IPv6 header that it speaks of and the data behind it
--- +- - - -
+-- ICMPv6 messages (RFC 4443), whose header and echoes are those of ICMP in wirebase. The word behind the checksum is,
+-- of an error, zero, the largest packet or the pointer; behind the header stands the IPv6 header that an error speaks
+-- of, and the data behind that.
 use Rattle.std.specs.Prelude.{◌≡◌, ◌≢◌, ℕ, ◌+◌, ◌≤◌, ◌<◌, ◌^◌, min, true, List, [], ◌∷◌, length, drop, take}
 use Rattle.wirebase.specs.declared.capabilities.ChecksumCapabilities.{ChecksumCapabilities}
 use Rattle.wirebase.specs.declared.capabilities.Checksum.TheVariants.{Rx}
@@ -28,6 +20,8 @@ use Rattle.icmp6_wire.specs.Icmpv6Packet.{BeginsWhole, word_field, message_sum}
 use Rattle.icmp6_wire.specs.Icmpv6Tables.{unreachable_number, unreachable_rows, unreachable_of, param_problem_number}
 use Rattle.icmp6_wire.specs.Icmpv6Tables.{param_problem_rows, param_problem_of, time_exceeded_number}
 use Rattle.icmp6_wire.specs.Icmpv6Tables.{time_exceeded_rows, time_exceeded_of}
+use Rattle.icmp6_wire.specs.Mld as listeners
+use Rattle.icmp6_wire.specs.Mld.{MldValue}
 use Rattle.icmp6_wire.specs.declared.icmpv6.repr.Repr.{Repr}
 use Rattle.icmp6_wire.specs.declared.icmpv6.repr.Repr.TheVariants as repr
 use Rattle.icmp6_wire.specs.declared.icmpv6.tables.DstUnreachable.{DstUnreachable}
@@ -38,7 +32,8 @@ use Rattle.icmp6_wire.specs.declared.icmpv6.tables.TimeExceeded.{TimeExceeded}
 use Rattle.icmp6_wire.specs.declared.icmpv6.tables.TimeExceeded.TheVariants as times
 
 -- A message by its content: an error with its reason, the largest packet, the time or the problem and its place, the
--- header that it speaks of and the data behind it; or an echo with its identifier, its sequence number and its data.
+-- header that it speaks of and the data behind it; an echo with its identifier, its sequence number and its data; or a
+-- message of multicast listener discovery.
 pub data MessageValue : Type 0 where
   unreachable : DstUnreachable → Ipv6Repr → List ℕ → MessageValue
   too_big : ℕ → Ipv6Repr → List ℕ → MessageValue
@@ -46,6 +41,7 @@ pub data MessageValue : Type 0 where
   param_problem : ParamProblem → ℕ → Ipv6Repr → List ℕ → MessageValue
   echo_request : ℕ → ℕ → List ℕ → MessageValue
   echo_reply : ℕ → ℕ → List ℕ → MessageValue
+  mld : MldValue → MessageValue
 
 abbrev pub value_of : Repr → MessageValue
 value_of (repr.DstUnreachable reason quoted d) = unreachable reason quoted d.now
@@ -54,6 +50,7 @@ value_of (repr.TimeExceeded reason quoted d) = time_exceeded reason quoted d.now
 value_of (repr.ParamProblem reason pointer quoted d) = param_problem reason pointer quoted d.now
 value_of (repr.EchoRequest ident seq_no d) = echo_request ident seq_no d.now
 value_of (repr.EchoReply ident seq_no d) = echo_reply ident seq_no d.now
+value_of (repr.Mld m) = mld (listeners.value_of m)
 
 -- ---- the text
 
@@ -73,11 +70,12 @@ message_fields (time_exceeded reason quoted d) = error_fields 3 (time_exceeded_n
 message_fields (param_problem reason pointer quoted d) = error_fields 4 (param_problem_number reason) pointer quoted d
 message_fields (echo_request ident seq_no d) = echo_fields 0x80 ident seq_no d
 message_fields (echo_reply ident seq_no d) = echo_fields 0x81 ident seq_no d
+message_fields (mld m) = listeners.message_fields m
 
 abbrev pub text : MessageValue → List ℕ
 text v = fields (message_fields v)
 
--- the bytes that it takes
+-- the bytes that it takes, and those that are told before a list of records is written
 abbrev pub error_len : List ℕ → ℕ
 error_len d = 48 + min (length d) 1192
 
@@ -88,11 +86,17 @@ text_len (time_exceeded reason quoted d) = error_len d
 text_len (param_problem reason pointer quoted d) = error_len d
 text_len (echo_request ident seq_no d) = 8 + length d
 text_len (echo_reply ident seq_no d) = 8 + length d
+text_len (mld m) = listeners.text_len m
+
+abbrev pub told_len : MessageValue → ℕ
+told_len (mld m) = listeners.told_len m
+told_len v = text_len v
 
 -- a message that tells of an error
 abbrev pub IsErrorValue : MessageValue → Type 0
 IsErrorValue (echo_request ident seq_no d) = ⊥
 IsErrorValue (echo_reply ident seq_no d) = ⊥
+IsErrorValue (mld m) = ⊥
 IsErrorValue _ = Unit {0}
 
 -- the octets with their checksum, where the capabilities have it computed
@@ -108,7 +112,8 @@ abbrev pub emitted : ChecksumCapabilities → Ipv6Address → Ipv6Address → Me
 emitted capabilities source destination v old = seal capabilities source destination (over old (text v))
 
 -- What is asked of a message and of the octets that it is written into: of an echo that its header has room, of an
--- error that all of it has, and that the quoted header can tell its payload's length.
+-- error that all of it has, and that the quoted header can tell its payload's length; of a message of multicast
+-- listener discovery what it asks alone.
 abbrev pub CanEmitError : Ipv6Repr → List ℕ → List ℕ → Type 0
 CanEmitError quoted d bytes = (error_len d ≤ length bytes) × (quoted.payload_len ≤ 65535)
 
@@ -119,6 +124,7 @@ CanEmit (time_exceeded reason quoted d) bytes = CanEmitError quoted d bytes
 CanEmit (param_problem reason pointer quoted d) bytes = CanEmitError quoted d bytes
 CanEmit (echo_request ident seq_no d) bytes = Reaches header bytes
 CanEmit (echo_reply ident seq_no d) bytes = Reaches header bytes
+CanEmit (mld m) bytes = listeners.CanEmit m bytes
 
 -- ---- the grammar
 
@@ -142,6 +148,7 @@ IsContent bytes (param_problem reason pointer quoted d) =
     × (pointer ≡ number_of word_field bytes)
 IsContent bytes (echo_request ident seq_no d) = IsEcho 0x80 bytes ident seq_no d
 IsContent bytes (echo_reply ident seq_no d) = IsEcho 0x81 bytes ident seq_no d
+IsContent bytes (mld m) = listeners.IsMessage bytes m × (byte_of code_field bytes ≡ 0)
 
 -- The grammar: the header of the type is there, its checksum is good where it is verified, and the message is this one.
 pub record IsMessage (capabilities : ChecksumCapabilities) (source destination : Ipv6Address) (bytes : List ℕ)
@@ -170,17 +177,19 @@ IsCanonical (param_problem reason pointer quoted d) =
     × CanQuote quoted
 IsCanonical (echo_request ident seq_no d) = (ident < 2 ^ 16) × (seq_no < 2 ^ 16) × (8 + length d ≤ 65535)
 IsCanonical (echo_reply ident seq_no d) = (ident < 2 ^ 16) × (seq_no < 2 ^ 16) × (8 + length d ≤ 65535)
+IsCanonical (mld m) = listeners.IsCanonical m
 
 -- the checksum is filled where it is verified
 abbrev pub Fills : ChecksumCapabilities → Type 0
 Fills capabilities = capabilities.icmpv6 ≢ Rx
 
--- the normal form: of an error, the data that it quotes
+-- the normal form: of an error, the data that it quotes; of a message of multicast listener discovery its own
 abbrev pub norm : MessageValue → MessageValue
 norm (unreachable reason quoted d) = unreachable reason quoted (quoted_data d)
 norm (too_big mtu quoted d) = too_big mtu quoted (quoted_data d)
 norm (time_exceeded reason quoted d) = time_exceeded reason quoted (quoted_data d)
 norm (param_problem reason pointer quoted d) = param_problem reason pointer quoted (quoted_data d)
+norm (mld m) = mld (listeners.norm m)
 norm v = v
 
 -- an error with more data than it quotes

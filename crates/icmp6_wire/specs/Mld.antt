@@ -1,7 +1,10 @@
 -- Messages of multicast listener discovery, version 2 (RFC 3810 section 5).
-use Rattle.std.specs.Prelude.{◌≡◌, ◌↔◌, ℕ, ◌+◌, ◌*◌, ◌<◌, ◌≤◌, Bool, IsTrue, List, [], ◌∷◌, length, drop, if◌then◌else◌}
-use Rattle.wirebase.specs.Bytes.{Reaches, byte_of, bytes_of, number_of}
+use Rattle.std.specs.Prelude.{◌≡◌, ◌↔◌, ℕ, ◌+◌, ◌*◌, ◌^◌, ◌<◌, ◌≤◌, Bool, IsTrue, List, [], ◌∷◌, length, drop, map}
+use Rattle.std.specs.Prelude.{if◌then◌else◌}
+use Rattle.std.specs.List.{AllByRecursion}
+use Rattle.wirebase.specs.Bytes.{Reaches, byte_of, bytes_of, number_of, over}
 use Rattle.wirebase.specs.ByteWriter.{be8, be16, fields}
+use Rattle.wirebase.specs.Format.{Format, RoundTrips}
 use Rattle.wirebase.specs.Icmp.{type_field}
 use Rattle.wirebase.specs.Ipv6Address.{octets_of, IsMulticast}
 use Rattle.wirebase.specs.declared.ipv6.address.Ipv6Address.{Ipv6Address}
@@ -22,8 +25,7 @@ pub data MldValue : Type 0 where
   records : List RecordValue → MldValue
 
 abbrev pub values_of : List AddressRecordRepr → List RecordValue
-values_of [] = []
-values_of (r ∷ rs) = a_record.value_of r ∷ values_of rs
+values_of rs = map a_record.value_of rs
 
 abbrev pub value_of : Repr → MldValue
 value_of (repr.Query code group flag qrv qqic sources d) = query code group flag qrv qqic sources d.now
@@ -50,8 +52,7 @@ report_fields count rest = be8 0x8f ∷ be8 0 ∷ be16 0 ∷ be16 0 ∷ be16 cou
 
 -- the text of each record
 abbrev pub record_texts : List RecordValue → List (List ℕ)
-record_texts [] = []
-record_texts (r ∷ rs) = a_record.text r ∷ record_texts rs
+record_texts rs = map a_record.text rs
 
 abbrev pub message_fields : MldValue → List (List ℕ)
 message_fields (query code group flag qrv qqic sources d) = query_fields code group flag qrv qqic sources d
@@ -73,8 +74,7 @@ told_len v = text_len v
 
 -- all records are of groups
 abbrev pub AreGroups : List RecordValue → Type 0
-AreGroups [] = Unit {0}
-AreGroups (r ∷ rs) = IsMulticast (group_of r) × AreGroups rs
+AreGroups rs = AllByRecursion (λ r. IsMulticast (group_of r)) rs
 
 -- What is asked of a message and of the octets that it is written into: they are just its length; a query's robustness
 -- variable has three bits; records are of groups, and their number has two bytes.
@@ -108,3 +108,38 @@ abbrev pub IsMessage : List ℕ → MldValue → Type 0
 IsMessage bytes (query code group flag qrv qqic sources d) = IsQuery bytes code group flag qrv qqic sources d
 IsMessage bytes (report count d) = IsReport bytes count d
 IsMessage bytes (records rs) = ⊥
+
+-- ---- canonical values and the normal form
+
+-- a message that its own text gives back as its normal form
+abbrev pub IsCanonical : MldValue → Type 0
+IsCanonical (query code group flag qrv qqic sources d) =
+    (code < 2 ^ 16) × (qrv < 8) × (qqic < 256) × (sources < 2 ^ 16) × (28 + length d ≤ 65535)
+IsCanonical (report count d) = (count < 2 ^ 16) × (8 + length d ≤ 65535)
+IsCanonical (records rs) = (8 + 20 * length rs ≤ 65535) × AllByRecursion a_record.IsCanonical rs
+
+-- the normal form: of a list of records, the report of their number and of their texts one after another
+abbrev pub norm : MldValue → MldValue
+norm (records rs) = report (length rs) (fields (record_texts rs))
+norm v = v
+
+-- the format; no value is an exception, and what was read is its own normal form
+abbrev pub format : Format MldValue
+format =
+    record {
+      Reads = IsMessage;
+      Fills = Unit {0};
+      text = text;
+      IsCanonical = IsCanonical;
+      IsException = λ v. ⊥;
+      norm = norm;
+      IsCut = λ v. ⊥;
+    }
+
+-- What writing a message leaves where `old` stood, which is as long as the message: its text alone. A canonical value
+-- is read back from it as its normal form.
+pub record Emits (v : MldValue) (old new : List ℕ) : Type 0 where
+  pub text_ : new ≡ over old (text v)
+  pub exact : length old ≡ text_len v → new ≡ text v
+  pub reads_back : length old ≡ text_len v → IsCanonical v → IsMessage new (norm v)
+  pub round_trips : RoundTrips format v

@@ -22,7 +22,7 @@
 -- +-------------------------------+-------------------------------+
 -- | records
 -- +- - - -
-use Rattle.std.specs.Prelude.{◌≡◌, ℕ, ◌+◌, ◌*◌, ◌/◌, ◌%◌, List}
+use Rattle.std.specs.Prelude.{ℕ, ◌/◌, ◌%◌, List}
 use Rattle.wirebase.specs.Bytes.{Field, field, byte_of}
 use Rattle.icmp6_wire.specs.Icmpv6Packet.{sqrv_field}
 

@@ -19,23 +19,7 @@ mod flags;
 
 pub use flags::{NeighborFlags, RouterFlags};
 
-// The fields behind the checksum (RFC 4861 section 4).
-//
-// +---------------+---------------+-------------------------------+
-// |   hop limit   |     flags     |        router lifetime        |  a router advertisement
-// +---------------+---------------+-------------------------------+
-// |                         reachable time                        |
-// +---------------------------------------------------------------+
-// |                        retransmit time                        |
-// +---------------------------------------------------------------+
-//
-// +---------------+-----------------------------------------------+
-// |     flags     |                   reserved                    |  neighbor messages and redirects
-// +---------------+-----------------------------------------------+
-// |                    target address, 16 bytes                   |
-// +---------------------------------------------------------------+
-// |                  destination address, 16 bytes                |  a redirect
-// +---------------------------------------------------------------+
+// The fields behind the checksum (RFC 4861 section 4); their picture is in specs/NdiscPacket.antt.
 mod field {
     use wirebase::Field;
 

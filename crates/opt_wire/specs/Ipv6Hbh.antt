@@ -8,7 +8,7 @@ use Rattle.wirebase.specs.Format.{Format, RoundTrips}
 use Rattle.opt_wire.specs.declared.ipv6hbh.Header.{Header}
 use Rattle.opt_wire.specs.declared.ipv6hbh.Repr.{Repr}
 use Rattle.opt_wire.specs.Ipv6Option as option
-use Rattle.opt_wire.specs.Ipv6Option.{OptionValue, value_of}
+use Rattle.opt_wire.specs.Ipv6Option.{OptionValue, value_of as option_value}
 use Rattle.opt_wire.specs.Ipv6OptionAnswers.{Answer, Tile}
 
 -- what a view was made from, and the view made from something else
@@ -22,8 +22,8 @@ abbrev pub view_octets : Header (Bor (List ℕ)) → List ℕ
 view_octets view = (inner view).now
 
 -- the options by their content
-abbrev pub options_of : Repr → List OptionValue
-options_of repr = map value_of repr.options.items
+abbrev pub value_of : Repr → List OptionValue
+value_of repr = map option_value repr.options.items
 
 -- their texts one after another, and the text of a header
 abbrev pub header_fields : List OptionValue → List (List ℕ)

@@ -6,9 +6,9 @@ ghost use Rattle.std.specs.Prelude.{IsOkAnd};
 ghost use Rattle.std.specs.Borrow.{sem, Lends, Array, u8 as byte};
 ghost use Rattle.wirebase.specs.ByteWriter.{free, Puts, the_slice};
 ghost use Rattle.wirebase.specs.Format.{Rewrites, SameText};
-ghost use Rattle.opt_wire.specs.Ipv6Option.{OptionValue, value_of, pad_n, router_alert, HasData};
+ghost use Rattle.opt_wire.specs.Ipv6Option.{OptionValue, value_of as option_value, pad_n, router_alert, HasData};
 ghost use Rattle.opt_wire.specs.Ipv6Option.{text as option_text, text_len as option_len};
-ghost use Rattle.opt_wire.specs.Ipv6Hbh.{inner, with_inner, view_octets, options_of, header_fields, text, text_len};
+ghost use Rattle.opt_wire.specs.Ipv6Hbh.{inner, with_inner, view_octets, value_of, header_fields, text, text_len};
 ghost use Rattle.opt_wire.specs.Ipv6Hbh.{HaveData, IsHeader, format, Emits};
 ghost use Rattle.opt_wire.specs.declared.ipv6option.tables.RouterAlert.TheVariants.{MulticastListenerDiscovery};
 ghost use Rattle.opt_wire.specs.contracts.ipv6hbh.Header.{the_row};
@@ -95,12 +95,12 @@ impl<'a> Repr<'a> {
     /// where one of these options, or the one after them, can't be read; what follows is not looked at.
     pub fn parse(header: &Header<&'a [u8]>) -> Result<Repr<'a>>
         ensures sound { IfOk result (λ repr.
-            IsHeader IPV6_HBH_MAX_OPTIONS (view_octets header.now) (options_of repr)) }
+            IsHeader IPV6_HBH_MAX_OPTIONS (view_octets header.now) (value_of repr)) }
         ensures complete { (options : List OptionValue)
             → IsHeader IPV6_HBH_MAX_OPTIONS (view_octets header.now) options
-            → IsOkAnd result (λ repr. options_of repr ≡ options) }
+            → IsOkAnd result (λ repr. value_of repr ≡ options) }
         ensures rewrites { length (view_octets header.now) ≤ 65515
-            → IfOk result (λ repr. Rewrites (format IPV6_HBH_MAX_OPTIONS) (options_of repr)) }
+            → IfOk result (λ repr. Rewrites (format IPV6_HBH_MAX_OPTIONS) (value_of repr)) }
     {
         are_bytes(header.buffer);
         Repr::read(header)
@@ -109,10 +109,10 @@ impl<'a> Repr<'a> {
     // The options of a header.
     fn read(header: &Header<&'a [u8]>) -> Result<Repr<'a>>
         ensures sound { IfOk result (λ repr.
-            IsHeader IPV6_HBH_MAX_OPTIONS (view_octets header.now) (options_of repr)) }
+            IsHeader IPV6_HBH_MAX_OPTIONS (view_octets header.now) (value_of repr)) }
         ensures complete { (options : List OptionValue)
             → IsHeader IPV6_HBH_MAX_OPTIONS (view_octets header.now) options
-            → IsOkAnd result (λ repr. options_of repr ≡ options) }
+            → IsOkAnd result (λ repr. value_of repr ≡ options) }
     {
         header.check_len()?;
         let mut options = ArrayVec::new();
@@ -128,9 +128,9 @@ impl<'a> Repr<'a> {
 
     /// The bytes that the options take, by the lengths that they count.
     pub fn buffer_len(&self) -> usize
-        ensures value { result ≡ text_len (options_of self.now) }
-        ensures exact { HaveData (options_of self.now)
-            → result ≡ length (text (options_of self.now)) }
+        ensures value { result ≡ text_len (value_of self.now) }
+        ensures exact { HaveData (value_of self.now)
+            → result ≡ length (text (value_of self.now)) }
     {
         let options = self.options.as_slice();
         let mut len = 0;
@@ -142,7 +142,7 @@ impl<'a> Repr<'a> {
 
     /// The header of the multicast listener reports of version 2: one router alert (RFC 3810 section 5).
     pub fn mldv2_router_alert() -> Repr<'a>
-        ensures { options_of result ≡ router_alert MulticastListenerDiscovery ∷ [] }
+        ensures { value_of result ≡ router_alert MulticastListenerDiscovery ∷ [] }
     {
         let mut options = ArrayVec::new();
         options.push(ipv6option::Repr::RouterAlert(RouterAlert::MulticastListenerDiscovery));
@@ -151,8 +151,8 @@ impl<'a> Repr<'a> {
 
     /// Adds padding, a PadN of `n` bytes of data, last. Asks that the list has room.
     pub fn push_padn_option(&mut self, n: u8)
-        requires { length (options_of self.old) < IPV6_HBH_MAX_OPTIONS }
-        ensures { options_of self.new ≡ options_of self.old ++ pad_n n ∷ [] }
+        requires { length (value_of self.old) < IPV6_HBH_MAX_OPTIONS }
+        ensures { value_of self.new ≡ value_of self.old ++ pad_n n ∷ [] }
     {
         self.options.push(ipv6option::Repr::PadN(n));
     }
@@ -160,10 +160,10 @@ impl<'a> Repr<'a> {
     /// Writes the options over the front of the octets; the others stay. Asks the bytes that they take, and that
     /// each holds as much data as it counts.
     pub fn emit<T: OctetsMut>(&self, header: &mut Header<T>)
-        requires enough { HaveData (options_of self.now) }
-        requires room { text_len (options_of self.now) ≤ length (T.bytes (inner header.old)) }
+        requires enough { HaveData (value_of self.now) }
+        requires room { text_len (value_of self.now) ≤ length (T.bytes (inner header.old)) }
         ensures place { inner header.new ≡ T.put (inner header.old) (T.bytes (inner header.new)) }
-        ensures emits { Emits IPV6_HBH_MAX_OPTIONS (options_of self.now)
+        ensures emits { Emits IPV6_HBH_MAX_OPTIONS (value_of self.now)
             (T.bytes (inner header.old)) (T.bytes (inner header.new)) }
     {
         self.emit_into(header.options_mut());
@@ -172,9 +172,9 @@ impl<'a> Repr<'a> {
     /// The same into octets that stand by themselves.
     #[tactic(auto, using(wirebase::proofs::Chains::chain))]
     pub fn emit_into(&self, octets: &mut [u8])
-        requires enough { HaveData (options_of self.now) }
-        requires room { text_len (options_of self.now) ≤ length octets.old }
-        ensures { Emits IPV6_HBH_MAX_OPTIONS (options_of self.now) octets.old octets.new }
+        requires enough { HaveData (value_of self.now) }
+        requires room { text_len (value_of self.now) ≤ length octets.old }
+        ensures { Emits IPV6_HBH_MAX_OPTIONS (value_of self.now) octets.old octets.new }
     {
         let mut w = ByteWriter::new(octets);
         put_options(&mut w, self.options.as_slice());
@@ -183,15 +183,15 @@ impl<'a> Repr<'a> {
     /// Does nothing. Of two lists of options that a header can hold, equal texts mean equal normal forms, and
     /// conversely.
     pub fn same_text(a: &Self, b: &Self)
-        ensures { SameText (format IPV6_HBH_MAX_OPTIONS) (options_of a.now) (options_of b.now) }
+        ensures { SameText (format IPV6_HBH_MAX_OPTIONS) (value_of a.now) (value_of b.now) }
     {}
 }
 
 // Writes options one after another.
 fn put_options(w: &mut ByteWriter<'_>, options: &[ipv6option::Repr<'_>])
-    requires enough { HaveData (map value_of options.now) }
-    requires room { text_len (map value_of options.now) ≤ length (free w.old) }
-    ensures puts { Puts w.old w.new (header_fields (map value_of options.now)) }
+    requires enough { HaveData (map option_value options.now) }
+    requires room { text_len (map option_value options.now) ≤ length (free w.old) }
+    ensures puts { Puts w.old w.new (header_fields (map option_value options.now)) }
     ensures same_slice { the_slice w.new ≡ the_slice w.old }
 {
     for option in options {
@@ -202,10 +202,10 @@ fn put_options(w: &mut ByteWriter<'_>, options: &[ipv6option::Repr<'_>])
 // Writes an option.
 #[tactic(auto, using(wirebase::proofs::Chains::parts, crate::proofs::Ipv6OptionText::texts))]
 fn put_option(w: &mut ByteWriter<'_>, option: &ipv6option::Repr<'_>)
-    requires enough { HasData (value_of option.now) }
-    requires room { option_len (value_of option.now) ≤ length (free w.old) }
-    ensures puts { Puts w.old w.new (option_text (value_of option.now) ∷ []) }
-    ensures room { length (free w.old) ≡ option_len (value_of option.now) + length (free w.new) }
+    requires enough { HasData (option_value option.now) }
+    requires room { option_len (option_value option.now) ≤ length (free w.old) }
+    ensures puts { Puts w.old w.new (option_text (option_value option.now) ∷ []) }
+    ensures room { length (free w.old) ≡ option_len (option_value option.now) + length (free w.new) }
     ensures same_slice { the_slice w.new ≡ the_slice w.old }
 {
     option.emit_into(w.part(option.buffer_len()));

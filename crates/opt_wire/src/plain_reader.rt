@@ -52,41 +52,55 @@ fn answers(alloc: Global, octets: &[u8]) -> Result<Vec<wirebase::Result<Repr<'_>
     Ok(answers)
 }
 
-// Compares the iterator and the header's reader with the plain reader, over these octets and over each shorter part
-// of them from their start on.
-pub(crate) fn compare_at_each_length(
-    rt: &impl Abort,
-    alloc: Global,
-    packet: &[u8],
-) -> Result<(), Fail> {
+// What a byte of a packet is set to, one byte at a time.
+const DAMAGE: [u8; 6] = [0x00, 0x40, 0x7f, 0x80, 0xc0, 0xff];
+
+// Compares the crate with the plain reader over these octets, over each shorter part of them from their start on, and
+// over each copy of them in which one byte is damaged.
+pub(crate) fn compare_damaged(rt: &impl Abort, alloc: Global, packet: &[u8]) -> Result<(), Fail> {
     for len in 0..=packet.len() {
-        let octets = &packet[..len];
-        let plain = answers(alloc, octets)?;
-
-        let mut options = Ipv6OptionsIterator::new(octets);
-        for answer in plain.as_slice() {
-            assert_eq!(rt; options.next(), Some(*answer), "in {octets:?}");
-        }
-        assert!(rt; options.next().is_none(), "after {octets:?}");
-        assert!(rt; options.next().is_none(), "long after {octets:?}");
-
-        let read = &plain[..plain.len().min(IPV6_HBH_MAX_OPTIONS + 1)];
-        let is_header = !octets.is_empty() && read.iter().all(|answer| answer.is_ok());
-        match ipv6hbh::Repr::parse(&Header::new_unchecked(octets)) {
-            Ok(header) => {
-                assert!(rt; is_header, "read {octets:?}");
-                let kept = header.options.as_slice();
-                assert_eq!(rt;
-                    kept.len(),
-                    plain.len().min(IPV6_HBH_MAX_OPTIONS),
-                    "of {octets:?}"
-                );
-                for (option, answer) in kept.iter().zip(plain.as_slice()) {
-                    assert_eq!(rt; Ok(*option), *answer, "of {octets:?}");
-                }
+        compare(rt, alloc, &packet[..len])?;
+    }
+    for at in 0..packet.len() {
+        for value in DAMAGE {
+            let mut damaged = Vec::new(alloc);
+            damaged.extend_from_slice(packet)?;
+            if let Some(octet) = damaged.as_mut_slice().get_mut(at) {
+                *octet = value;
             }
-            Err(_) => assert!(rt; !is_header, "refused {octets:?}"),
+            compare(rt, alloc, damaged.as_slice())?;
         }
+    }
+    Ok(())
+}
+
+// Compares the iterator and the header's reader with the plain reader.
+fn compare(rt: &impl Abort, alloc: Global, octets: &[u8]) -> Result<(), Fail> {
+    let plain = answers(alloc, octets)?;
+
+    let mut options = Ipv6OptionsIterator::new(octets);
+    for answer in plain.as_slice() {
+        assert_eq!(rt; options.next(), Some(*answer), "in {octets:?}");
+    }
+    assert!(rt; options.next().is_none(), "after {octets:?}");
+    assert!(rt; options.next().is_none(), "long after {octets:?}");
+
+    let read = &plain[..plain.len().min(IPV6_HBH_MAX_OPTIONS + 1)];
+    let is_header = !octets.is_empty() && read.iter().all(|answer| answer.is_ok());
+    match ipv6hbh::Repr::parse(&Header::new_unchecked(octets)) {
+        Ok(header) => {
+            assert!(rt; is_header, "read {octets:?}");
+            let kept = header.options.as_slice();
+            assert_eq!(rt;
+                kept.len(),
+                plain.len().min(IPV6_HBH_MAX_OPTIONS),
+                "of {octets:?}"
+            );
+            for (option, answer) in kept.iter().zip(plain.as_slice()) {
+                assert_eq!(rt; Ok(*option), *answer, "of {octets:?}");
+            }
+        }
+        Err(_) => assert!(rt; !is_header, "refused {octets:?}"),
     }
     Ok(())
 }

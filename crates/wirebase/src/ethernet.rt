@@ -112,11 +112,9 @@ impl Model for RawHardwareAddress {
 
     ghost view = { λ s. take s.len s.bytes };
 
-    ghost invariant =
-        { λ s. (s.len ≤ 8) × (length s.bytes ≡ 8) × (drop s.len s.bytes ≡ zeros (8 - s.len)) };
+    ghost invariant = { λ s. (s.len ≤ 8) × (length s.bytes ≡ 8) × (drop s.len s.bytes ≡ zeros (8 - s.len)) };
 
-    ghost inverse =
-        { λ bytes. record { len = length bytes; bytes = bytes ++ zeros (8 - length bytes) } };
+    ghost inverse = { λ bytes. record { len = length bytes; bytes = bytes ++ zeros (8 - length bytes) } };
 
     ghost inverse_ok = { λ s h i. record {
       len = length-take-le s.len s.bytes (omega (arith, h.0, h.1)) i;

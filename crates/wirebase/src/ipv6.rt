@@ -30,23 +30,7 @@ pub const IPV6_HEADER_LEN: usize = field::DST_ADDR.end;
 /// The bytes of a packet that every link can carry whole (RFC 8200 section 5).
 pub const IPV6_MIN_MTU: usize = 1280;
 
-// The header (RFC 8200 section 3).
-//
-//  0                   1                   2                   3
-//  0 1 2 3 4 5 6 7 8 9 0 1 2 3 4 5 6 7 8 9 0 1 2 3 4 5 6 7 8 9 0 1
-// +-------+---------------+---------------------------------------+
-// |version| traffic class |              flow label               |
-// +-------+---------------+-------+---------------+---------------+
-// |        payload length         |  next header  |   hop limit   |
-// +-------------------------------+---------------+---------------+
-// |                                                               |
-// |                  source address, 16 bytes                     |
-// |                                                               |
-// +---------------------------------------------------------------+
-// |                                                               |
-// |                destination address, 16 bytes                  |
-// |                                                               |
-// +---------------------------------------------------------------+
+// The fields of the header (RFC 8200 section 3); their picture is in specs/Ipv6.antt.
 mod field {
     use crate::octets::Field;
 
@@ -183,8 +167,7 @@ impl<T: OctetsMut> Ipv6Packet<T> {
         requires { BeginsWhole (T.bytes (inner self.old)) }
         ensures* lends { sem 𝓛 (Lends (the_row T.row) (Array byte 0) self.entry result
             (λ w. with_inner self.old (T.put (inner self.old)
-            (with_field (payload_field (T.bytes (inner self.old))) w (T.bytes (inner self.old))))))
-            }
+            (with_field (payload_field (T.bytes (inner self.old))) w (T.bytes (inner self.old)))))) }
         ensures value { result.now
             ≡ bytes_of (payload_field (T.bytes (inner self.old))) (T.bytes (inner self.old)) }
         ensures len { length result.now ≡ payload_len_in (T.bytes (inner self.old)) }

@@ -1,11 +1,13 @@
 -- The shape of a line, of which the first five words are known.
 use Rattle.std.proofs.Common.{◌≡◌, ◌≢◌, ℕ, ◌+◌, ◌-◌, ◌<◌, ◌≤◌, Bool, true, false, List, [], ◌∷◌, length, get_or, take}
-use Rattle.std.proofs.Common.{drop, refl, ap, sym, ◌∙◌, arith, drop-cons, add-one}
+use Rattle.std.proofs.Common.{drop, Option, None, refl, ap, sym, ◌∙◌, arith, drop-cons, add-one}
 use Rattle.std.proofs.lemmas.Bool.{le-leb}
 use Rattle.std.specs.Prelude.{map}
 use Rattle.wiredump.specs.Lines.{are_short}
-use Rattle.wiredump.specs.Words.{word_of}
-use Rattle.wiredump.specs.Listing.{Shape, bad, command_of, shape_with, shape_of, shape_of_words}
+use Rattle.wiredump.specs.Words.{word_of, offset_of, address_of}
+use Rattle.wiredump.specs.Listing.{Shape, bad, command_of, command_alone, command_at, command_between, shape_with}
+use Rattle.wiredump.specs.Listing.{shape_of, shape_of_words}
+use Rattle.wiredump.specs.declared.command.Command.{Command}
 use Rattle.wiredump.proofs.Keeping.{both_bad, le-leb-false}
 
 few : (words : List (List ℕ)) → shape_of (take 5 words) ≡ shape_of words
@@ -71,3 +73,30 @@ module _ {X : Type 0} (now : X → List ℕ) (xs : List X) (i : ℕ) (d : X) (wi
 
   pub are_short-not : 131070 < length (now (get_or xs i d)) → are_short (map now (drop i xs)) ≡ false
   are_short-not long = rw (rest_is, le-leb-false (length (now (get_or xs i d))) 131070 long) refl
+
+-- the command of a word, by the number of the words behind it
+module _ {X : Type 0} (now : X → List ℕ) (word : List ℕ) where
+  pub command_of-alone : (xs : List X) → length xs ≡ 0 → command_of word (map now xs) ≡ command_alone word
+  command_of-alone [] none = refl
+  command_of-alone (a ∷ xs) none = absurd (omega (arith, none))
+
+  pub command_of-at : (xs : List X) (x : X) → length xs ≡ 1
+      → command_of word (map now xs) ≡ command_at word (offset_of (now (get_or xs 0 x)))
+  command_of-at [] x one = absurd (omega (arith, one))
+  command_of-at (a ∷ []) x one = refl
+  command_of-at (a ∷ b ∷ xs) x one = absurd (omega (arith, one))
+
+  pub command_of-between : (xs : List X) (x : X) → length xs ≡ 2
+      → command_of word (map now xs)
+      ≡ command_between word (address_of (now (get_or xs 0 x))) (address_of (now (get_or xs 1 x)))
+  command_of-between [] x two = absurd (omega (arith, two))
+  command_of-between (a ∷ []) x two = absurd (omega (arith, two))
+  command_of-between (a ∷ b ∷ []) x two = refl
+  command_of-between (a ∷ b ∷ c ∷ xs) x two = absurd (omega (arith, two))
+
+  pub command_of-many : (xs : List X) → length xs ≢ 0 → length xs ≢ 1 → length xs ≢ 2
+      → command_of word (map now xs) ≡ None
+  command_of-many [] none one two = absurd (none refl)
+  command_of-many (a ∷ []) none one two = absurd (one refl)
+  command_of-many (a ∷ b ∷ []) none one two = absurd (two refl)
+  command_of-many (a ∷ b ∷ c ∷ xs) none one two = refl

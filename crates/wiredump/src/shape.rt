@@ -56,7 +56,13 @@ impl Shape {
     {
         match command {
             Some(command) => match packet {
-                Some(packet) => Shape::Packet(command, packet),
+                Some(packet) => {
+                    if command.reads(packet.as_slice()) {
+                        Shape::Packet(command, packet)
+                    } else {
+                        Shape::Bad
+                    }
+                }
                 None => Shape::Bad,
             },
             None => Shape::Bad,

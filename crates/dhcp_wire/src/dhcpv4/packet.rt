@@ -20,19 +20,7 @@ use super::tables::{Flags, OpCode};
 use bitflags::Flags as _;
 use wirebase::{Error, EthernetAddress, Hardware, Ipv4Address, Octets, OctetsMut, Result};
 
-// A packet (RFC 2131 section 2).
-//
-// +---------------+---------------+---------------+---------------+
-// |      op       |     htype     |     hlen      |     hops      |
-// +---------------+---------------+---------------+---------------+
-// |                              xid                              |
-// +-------------------------------+-------------------------------+
-// |             secs              |             flags             |
-// +-------------------------------+-------------------------------+
-// |  ciaddr, yiaddr, siaddr, giaddr: four bytes each              |
-// +---------------------------------------------------------------+
-// |  chaddr, sname and file, magic cookie, options
-// +- - - - -
+// The fields of a packet (RFC 2131 section 2); their picture is in specs/Dhcpv4Packet.antt.
 pub(super) mod field {
     use wirebase::Field;
 

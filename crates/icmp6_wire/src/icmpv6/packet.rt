@@ -176,8 +176,8 @@ impl<T: OctetsMut> Packet<T> {
     /// Writes the type. Asks 1 byte.
     pub fn set_msg_type(&mut self, value: Message)
         requires { Reaches type_field (T.bytes (inner self.old)) }
-        ensures writes { Sets T.bytes T.put self.old self.new type_field (message_number value ∷ [])
-            }
+        ensures writes { Sets T.bytes T.put self.old self.new type_field
+            (message_number value ∷ []) }
         ensures len { KeepsLen T.bytes self.old self.new }
     {
         self.buffer.set_u8(field::TYPE, value.into());
@@ -198,8 +198,8 @@ impl<T: OctetsMut> Packet<T> {
     /// bytes up to what is reserved: 8, 25 of a query, 6 of a report.
     pub fn clear_reserved(&mut self)
         requires kind { Reaches type_field (T.bytes (inner self.old)) }
-        requires known { CanClear (message_in (T.bytes (inner self.old))) (T.bytes (inner self.old))
-            }
+        requires known { CanClear (message_in (T.bytes (inner self.old)))
+            (T.bytes (inner self.old)) }
         ensures clears { inner self.new ≡ T.put (inner self.old)
             (cleared (message_in (T.bytes (inner self.old))) (T.bytes (inner self.old))) }
         ensures len { KeepsLen T.bytes self.old self.new }

@@ -12,13 +12,15 @@ ghost use Rattle.wirebase.specs.declared.ipv6.address.Ipv6Address.{Ipv6Address};
 ghost use Rattle.wirebase.specs.declared.ipv6.Ipv6Repr.{Ipv6Repr};
 ghost use Rattle.icmp6_wire.specs.Icmpv6Tables.{message_number};
 ghost use Rattle.icmp6_wire.specs.Icmpv6Packet.{inner, view_octets, BeginsWhole};
-ghost use Rattle.icmp6_wire.specs.Icmpv6.{MessageValue, value_of, quoted_data, error_fields, text, error_len, text_len};
+ghost use Rattle.icmp6_wire.specs.Icmpv6.{MessageValue, value_of, quoted_data, error_fields, text, error_len};
+ghost use Rattle.icmp6_wire.specs.Icmpv6.{text_len, told_len};
 ghost use Rattle.icmp6_wire.specs.Icmpv6.{IsErrorValue, seal, packet_text, CanEmit, IsContent, IsMessage, format};
 ghost use Rattle.icmp6_wire.specs.Icmpv6.{Emits};
 
 use super::packet::{Packet, fill};
 use super::tables::{DstUnreachable, Message, ParamProblem, TimeExceeded};
 use super::{MAX_QUOTED_DATA, field};
+use crate::mld;
 use wirebase::{
     ByteWriter, ChecksumCapabilities, Error, IPV6_HEADER_LEN, Ipv6Address, Ipv6Packet, Ipv6Repr,
     Octets, OctetsMut, Result, are_bytes,
@@ -70,13 +72,16 @@ pub enum Repr<'a> {
         seq_no: u16,
         data: &'a [u8],
     },
+    /// A message of multicast listener discovery (RFC 3810).
+    Mld(mld::Repr<'a>),
 }
 
 impl<'a> Repr<'a> {
     /// The message in the octets, which goes from `src_addr` to `dst_addr`. Refused where they don't begin with the
     /// header of a type that is read here, where their checksum is to be verified and isn't good, and where the message
-    /// is none of these; an echo and a packet that is too big have code 0, and an error quotes a whole header, whose
-    /// version and payload length are not looked at. All that stands behind that header is the data.
+    /// is none of these. Of all but three errors the code is 0: those of an unreachable destination, an exceeded time
+    /// and a parameter problem. An error quotes a whole header, whose version and payload length are not looked at, and
+    /// all that stands behind that header is the data. A query and a report are read by `mld::Repr::parse`.
     pub fn parse(
         src_addr: &Ipv6Address,
         dst_addr: &Ipv6Address,
@@ -90,8 +95,7 @@ impl<'a> Repr<'a> {
             → IsOkAnd result (λ repr. value_of repr ≡ value) }
         ensures rewrites { length (view_octets packet.now) ≤ 65515
             → IfOk result
-            (λ repr. Rewrites (format checksum_caps.now src_addr.now dst_addr.now) (value_of repr))
-            }
+            (λ repr. Rewrites (format checksum_caps.now src_addr.now dst_addr.now) (value_of repr)) }
     {
         are_bytes(packet.buffer);
         Repr::read(src_addr, dst_addr, packet, checksum_caps)
@@ -172,18 +176,25 @@ impl<'a> Repr<'a> {
                 seq_no: packet.echo_seq_no(),
                 data: payload,
             }),
+            (Message::MldQuery | Message::MldReport, 0) => {
+                let message = mld::Repr::parse(packet)?;
+                Ok(Repr::Mld(message))
+            }
             _ => Err(Error),
         }
     }
 
-    /// The bytes that the message takes, of an error at most 1,240. Asks that a `usize` holds their number.
-    #[tactic(auto, using(crate::proofs::Icmpv6Texts::texts))]
+    /// The bytes that the message takes, of an error at most 1,240; of a report by its records those before them, 8.
+    /// Asks that a `usize` holds their number.
     pub fn buffer_len(&self) -> usize
-        requires { text_len (value_of self.now) < 2 ^ 64 }
-        ensures value { result ≡ text_len (value_of self.now) }
+        requires { told_len (value_of self.now) < 2 ^ 64 }
+        ensures value { result ≡ told_len (value_of self.now) }
         ensures bound { IsErrorValue (value_of self.now) → result ≤ 1240 }
     {
-        self.packet_len()
+        match self {
+            Repr::Mld(message) => message.buffer_len(),
+            _ => self.packet_len(),
+        }
     }
 
     /// The bytes that the packet of the message has, of an error at most 1,240. Asks that a `usize` holds their number.
@@ -202,12 +213,14 @@ impl<'a> Repr<'a> {
             Repr::ParamProblem { header, data, .. } => error_len(header, data),
             Repr::EchoRequest { data, .. } => field::HEADER_END + data.len(),
             Repr::EchoReply { data, .. } => field::HEADER_END + data.len(),
+            Repr::Mld(message) => message.packet_len(),
         }
     }
 
     /// Writes the message over the front of the octets, as far as they go, and then, where the capabilities have it
     /// computed, the checksum of all of them as a message from `src_addr` to `dst_addr`. Asks 8 bytes or more of an
-    /// echo; of an error its length or more, and that the quoted `payload_len` is at most 65,535.
+    /// echo; of an error its length or more, and that the quoted `payload_len` is at most 65,535; of a message of
+    /// multicast listener discovery what `mld::Repr::emit` asks.
     pub fn emit<T: OctetsMut>(
         &self,
         src_addr: &Ipv6Address,
@@ -262,14 +275,13 @@ impl<'a> Repr<'a> {
         requires { CanEmit (value_of self.now) octets.old }
         ensures { octets.new ≡ over octets.old (text (value_of self.now)) }
     {
-        let mut w = ByteWriter::new(octets);
         match *self {
             Repr::DstUnreachable {
                 reason,
                 header,
                 data,
             } => put_error(
-                &mut w,
+                &mut ByteWriter::new(octets),
                 Message::DstUnreachable,
                 reason.into(),
                 0,
@@ -277,14 +289,21 @@ impl<'a> Repr<'a> {
                 data,
             ),
             Repr::PktTooBig { mtu, header, data } => {
-                put_error(&mut w, Message::PktTooBig, 0, mtu, &header, data);
+                put_error(
+                    &mut ByteWriter::new(octets),
+                    Message::PktTooBig,
+                    0,
+                    mtu,
+                    &header,
+                    data,
+                );
             }
             Repr::TimeExceeded {
                 reason,
                 header,
                 data,
             } => put_error(
-                &mut w,
+                &mut ByteWriter::new(octets),
                 Message::TimeExceeded,
                 reason.into(),
                 0,
@@ -297,7 +316,7 @@ impl<'a> Repr<'a> {
                 header,
                 data,
             } => put_error(
-                &mut w,
+                &mut ByteWriter::new(octets),
                 Message::ParamProblem,
                 reason.into(),
                 pointer,
@@ -308,12 +327,25 @@ impl<'a> Repr<'a> {
                 ident,
                 seq_no,
                 data,
-            } => put_echo(&mut w, Message::EchoRequest, ident, seq_no, data),
+            } => put_echo(
+                &mut ByteWriter::new(octets),
+                Message::EchoRequest,
+                ident,
+                seq_no,
+                data,
+            ),
             Repr::EchoReply {
                 ident,
                 seq_no,
                 data,
-            } => put_echo(&mut w, Message::EchoReply, ident, seq_no, data),
+            } => put_echo(
+                &mut ByteWriter::new(octets),
+                Message::EchoReply,
+                ident,
+                seq_no,
+                data,
+            ),
+            Repr::Mld(message) => message.emit_into(octets),
         }
     }
 }

@@ -4,16 +4,17 @@
 ghost use Rattle.std.specs.Prelude.{◌≡◌, ◌≤◌, ◌<◌, ◌+◌, ◌*◌, ◌^◌, length, [], ◌∷◌, IsOk, IfOk, IsOkAnd};
 ghost use Rattle.wirebase.specs.Bytes.{over};
 ghost use Rattle.wirebase.specs.ByteWriter.{free, Puts, the_slice};
+ghost use Rattle.wirebase.specs.Format.{Rewrites, SameText};
 ghost use Rattle.wirebase.specs.Ipv6Address.{IsMulticast};
 ghost use Rattle.icmp6_wire.specs.Icmpv6Packet.{inner, view_octets};
 ghost use Rattle.icmp6_wire.specs.Mld.{MldValue, values_of, value_of, query_fields, report_fields, record_texts, text};
-ghost use Rattle.icmp6_wire.specs.Mld.{text_len, told_len, AreGroups, CanEmit, IsMessage};
+ghost use Rattle.icmp6_wire.specs.Mld.{text_len, told_len, AreGroups, CanEmit, IsMessage, format, Emits};
 ghost use Rattle.icmp6_wire.specs.MldRecord.{value_of as record_value, text as record_text};
 
 use super::field;
 use super::record::AddressRecordRepr;
 use crate::icmpv6::{Message, Packet};
-use wirebase::{ByteWriter, Error, Ipv6Address, OctetsMut, Result};
+use wirebase::{ByteWriter, Error, Ipv6Address, OctetsMut, Result, are_bytes};
 
 /// A message (RFC 3810 section 5).
 #[derive(Debug, PartialEq, Eq, Clone, Copy)]
@@ -53,7 +54,10 @@ impl<'a> Repr<'a> {
         ensures sound { IfOk result (λ repr. IsMessage (view_octets packet.now) (value_of repr)) }
         ensures complete { (value : MldValue) → IsMessage (view_octets packet.now) value
             → IsOkAnd result (λ repr. value_of repr ≡ value) }
+        ensures rewrites { length (view_octets packet.now) ≤ 65515
+            → IfOk result (λ repr. Rewrites format (value_of repr)) }
     {
+        are_bytes(packet.buffer);
         Repr::read(packet)
     }
 
@@ -89,9 +93,24 @@ impl<'a> Repr<'a> {
         ensures { result ≡ told_len (value_of self.now) }
     {
         match self {
+            Repr::ReportRecordReprs(_) => field::NR_MCAST_RCRDS.end,
+            _ => self.packet_len(),
+        }
+    }
+
+    /// The bytes that the packet of the message has, a list of records counted. Asks that a `usize` holds their number.
+    #[tactic(auto, using(crate::proofs::MldTexts::counts))]
+    pub fn packet_len(&self) -> usize
+        requires { text_len (value_of self.now) < 2 ^ 64 }
+        ensures value { result ≡ text_len (value_of self.now) }
+        ensures exact { result ≡ length (text (value_of self.now)) }
+    {
+        match self {
             Repr::Query { data, .. } => field::QUERY_NUM_SRCS.end + data.len(),
             Repr::Report { data, .. } => field::NR_MCAST_RCRDS.end + data.len(),
-            Repr::ReportRecordReprs(_) => field::NR_MCAST_RCRDS.end,
+            Repr::ReportRecordReprs(records) => {
+                field::NR_MCAST_RCRDS.end + field::RECORD_MCAST_ADDR.end * records.len()
+            }
         }
     }
 
@@ -99,7 +118,9 @@ impl<'a> Repr<'a> {
     /// of records that they are of groups and at most 65,535.
     pub fn emit<T: OctetsMut>(&self, packet: &mut Packet<T>)
         requires { CanEmit (value_of self.now) (T.bytes (inner packet.old)) }
-        ensures { inner packet.new ≡ T.put (inner packet.old) (text (value_of self.now)) }
+        ensures place { inner packet.new ≡ T.put (inner packet.old) (T.bytes (inner packet.new)) }
+        ensures emits { Emits (value_of self.now) (T.bytes (inner packet.old))
+            (T.bytes (inner packet.new)) }
     {
         self.emit_into(packet.buffer.octets_mut());
     }
@@ -107,10 +128,15 @@ impl<'a> Repr<'a> {
     /// The same into octets that stand by themselves.
     pub fn emit_into(&self, octets: &mut [u8])
         requires { CanEmit (value_of self.now) octets.old }
-        ensures { octets.new ≡ text (value_of self.now) }
+        ensures { Emits (value_of self.now) octets.old octets.new }
     {
         self.write(octets);
     }
+
+    /// Does nothing. Of two messages that a packet can hold, equal texts mean equal normal forms, and conversely.
+    pub fn same_text(a: &Self, b: &Self)
+        ensures { SameText format (value_of a.now) (value_of b.now) }
+    {}
 
     // Writes the message into octets of just its length.
     #[tactic(auto, using(wirebase::proofs::Chains::chain, crate::proofs::MldTexts::counts))]

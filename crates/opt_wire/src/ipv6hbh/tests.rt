@@ -1,7 +1,7 @@
 use super::{Header, Repr};
 use crate::ipv6option;
 use crate::ipv6option::{RouterAlert, Type};
-use crate::plain_reader::compare_at_each_length;
+use crate::plain_reader::compare_damaged;
 use arrayvec::ArrayVec;
 use std::test::Fail;
 
@@ -47,7 +47,7 @@ fn headers_and_the_options_that_they_keep(rt: HostRuntime) -> Result<(), Fail> {
     for (octets, options) in rows {
         let header = Repr::parse(&Header::new_checked(octets)?)?;
         assert_eq!(rt; header.options.as_slice(), options, "of {octets:?}");
-        compare_at_each_length(&rt, rt.alloc(), octets)?;
+        compare_damaged(&rt, rt.alloc(), octets)?;
     }
     Ok(())
 }
@@ -67,7 +67,7 @@ fn headers_refused(rt: HostRuntime) -> Result<(), Fail> {
     for octets in rows {
         let header = Header::new_unchecked(octets);
         assert!(rt; Repr::parse(&header).is_err(), "of {octets:?}");
-        compare_at_each_length(&rt, rt.alloc(), octets)?;
+        compare_damaged(&rt, rt.alloc(), octets)?;
     }
     Ok(())
 }
@@ -104,7 +104,7 @@ fn multicast_listener_report_with_padding(rt: HostRuntime) -> Result<(), Fail> {
     header.emit_into(plain.as_mut_slice());
     assert_eq!(rt; plain, octets);
     assert_eq!(rt; header.clone()?, header);
-    compare_at_each_length(&rt, rt.alloc(), &octets)
+    compare_damaged(&rt, rt.alloc(), &octets)
 }
 
 #[test]
@@ -134,5 +134,5 @@ fn options_written_one_after_another(rt: HostRuntime) -> Result<(), Fail> {
             "after the options over {fill}"
         );
     }
-    compare_at_each_length(&rt, rt.alloc(), &text)
+    compare_damaged(&rt, rt.alloc(), &text)
 }

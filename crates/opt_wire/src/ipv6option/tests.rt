@@ -2,7 +2,7 @@ ghost use Rattle.std.specs.Prelude.{◌≡◌, true};
 ghost use Rattle.opt_wire.specs.Ipv6Option.{value_of, HasData};
 
 use super::{FailureType, Ipv6Option, Ipv6OptionsIterator, Repr, RouterAlert, Type};
-use crate::plain_reader::compare_at_each_length;
+use crate::plain_reader::compare_damaged;
 use std::fmt::Write;
 use std::hash::{DefaultHasher, Hash, Hasher};
 use std::test::Fail;
@@ -222,7 +222,7 @@ fn options_in_turn(rt: HostRuntime) -> Result<(), Fail> {
     assert_eq!(rt; options.next(), Some(Err(Error)));
     assert_eq!(rt; options.next(), None);
     assert_eq!(rt; options.next(), None);
-    compare_at_each_length(&rt, rt.alloc(), &octets)
+    compare_damaged(&rt, rt.alloc(), &octets)
 }
 
 #[test]
@@ -235,7 +235,7 @@ fn longest_padding(rt: HostRuntime) -> Result<(), Fail> {
         let view = Ipv6Option::new_unchecked(octets);
         assert_eq!(rt; Repr::parse(&view), answer, "of {} octets", octets.len());
     }
-    compare_at_each_length(&rt, rt.alloc(), whole)
+    compare_damaged(&rt, rt.alloc(), whole)
 }
 
 #[test]
@@ -253,7 +253,7 @@ fn options_refused(rt: HostRuntime) -> Result<(), Fail> {
     for octets in rows {
         let view = Ipv6Option::new_unchecked(octets);
         assert_eq!(rt; Repr::parse(&view), Err(Error), "of {octets:?}");
-        compare_at_each_length(&rt, rt.alloc(), octets)?;
+        compare_damaged(&rt, rt.alloc(), octets)?;
     }
     Ok(())
 }
@@ -309,7 +309,7 @@ fn options_written_over_octets_of_any_kind(rt: HostRuntime) -> Result<(), Fail> 
                 assert_eq!(rt; Repr::parse(&view), Ok(read), "over {fill}");
             }
         }
-        compare_at_each_length(&rt, rt.alloc(), text)?;
+        compare_damaged(&rt, rt.alloc(), text)?;
     }
     Ok(())
 }

@@ -46,6 +46,49 @@ fn addresses_in_hexadecimal(rt: HostRuntime) -> Result<(), Fail> {
     Ok(())
 }
 
+// A run of groups that are zero, in a text that begins and ends with a colon; the longest first.
+const RUNS: [&str; 7] = [
+    ":0:0:0:0:0:0:0:0:",
+    ":0:0:0:0:0:0:0:",
+    ":0:0:0:0:0:0:",
+    ":0:0:0:0:0:",
+    ":0:0:0:0:",
+    ":0:0:0:",
+    ":0:0:",
+];
+
+#[test]
+fn addresses_of_every_pattern_of_zero_groups(rt: HostRuntime) -> Result<(), Fail> {
+    for pattern in 0..256 {
+        let mut groups: [u16; 8] = [0; 8];
+        let mut whole = String::new(rt.alloc());
+        let mut rest: u16 = pattern;
+        for group in groups.iter_mut() {
+            *group = rest % 2;
+            rest /= 2;
+            whole.push_str(if *group == 0 { ":0" } else { ":1" })?;
+        }
+        whole.push_str(":")?;
+        let mut expected = String::new(rt.alloc());
+        for run in RUNS {
+            if let Some((before, after)) = whole.as_str().split_once(run) {
+                if expected.is_empty() {
+                    expected.push_str(before.strip_prefix(":").unwrap_or(before))?;
+                    expected.push_str("::")?;
+                    expected.push_str(after.strip_suffix(":").unwrap_or(after))?;
+                }
+            }
+        }
+        if expected.is_empty() {
+            expected.push_str(whole.as_str().trim_matches(':'))?;
+        }
+        let [a, b, c, d, e, f, g, h] = groups;
+        let address = Ipv6Address::new(a, b, c, d, e, f, g, h);
+        assert_eq!(rt; address.to_string(rt.alloc())?.as_str(), expected.as_str());
+    }
+    Ok(())
+}
+
 #[test]
 fn printing_a_header_fails_only_with_its_writer(rt: HostRuntime) -> Result<(), Fail> {
     let header = quoted();

@@ -1,0 +1,321 @@
+//! Messages as values (RFC 792).
+#![tactic(auto, using(wirebase::proofs::Pieces::pieces))]
+
+ghost use Rattle.std.specs.Prelude.{◌≡◌, ◌≤◌, ◌<◌, ◌+◌, ◌^◌, ℕ, List, length, IfOk, IsOkAnd, Some};
+ghost use Rattle.wirebase.specs.Bytes.{over, Reaches};
+ghost use Rattle.wirebase.specs.ByteWriter.{free, Puts, the_slice};
+ghost use Rattle.wirebase.specs.Format.{Rewrites, SameText};
+ghost use Rattle.wirebase.specs.Icmp.{checksum_field, echo_fields};
+ghost use Rattle.wirebase.specs.declared.capabilities.ChecksumCapabilities.{ChecksumCapabilities};
+ghost use Rattle.wirebase.specs.declared.ipv4.Ipv4Repr.{Ipv4Repr};
+ghost use Rattle.icmp4_wire.specs.Icmpv4Tables.{message_number};
+ghost use Rattle.icmp4_wire.specs.Icmpv4.{inner, view_octets, MessageValue, value_of, error_fields, text, text_len};
+ghost use Rattle.icmp4_wire.specs.Icmpv4.{packet_text, CanEmit, IsQuote, IsMessage, seal as sealed_octets, format};
+ghost use Rattle.icmp4_wire.specs.Icmpv4.{Emits};
+ghost use Rattle.icmp4_wire.specs.Icmpv4Display.{repr_display};
+
+use super::field;
+use super::packet::Packet;
+use super::tables::{DstUnreachable, Message, TimeExceeded};
+use std::fmt;
+use wirebase::{
+    ByteWriter, ChecksumCapabilities, Error, Ipv4Packet, Ipv4Repr, OctetsMut, Result, are_bytes,
+    checksum,
+};
+
+// The bytes that stand at least behind the header that an error quotes.
+const MIN_QUOTED_DATA: usize = 8;
+
+/// A message (RFC 792).
+#[derive(Debug, PartialEq, Eq, Clone, Copy)]
+pub enum Repr<'a> {
+    /// An echo request.
+    EchoRequest {
+        ident: u16,
+        seq_no: u16,
+        data: &'a [u8],
+    },
+    /// An echo reply.
+    EchoReply {
+        ident: u16,
+        seq_no: u16,
+        data: &'a [u8],
+    },
+    /// An error: the destination of the quoted packet is unreachable.
+    DstUnreachable {
+        reason: DstUnreachable,
+        header: Ipv4Repr,
+        /// What stands behind the quoted header.
+        data: &'a [u8],
+    },
+    /// An error: a time of the quoted packet was exceeded.
+    TimeExceeded {
+        reason: TimeExceeded,
+        header: Ipv4Repr,
+        /// What stands behind the quoted header.
+        data: &'a [u8],
+    },
+}
+
+impl<'a> Repr<'a> {
+    /// The message in the octets. Refused where they are fewer than 8, where their checksum is to be verified and
+    /// isn't good, and where it is none of these messages; an echo has code 0, and an error quotes a packet that is
+    /// whole by its own lengths, with 8 bytes or more behind its header. All that stands behind that header is the
+    /// data, and its bytes are the `payload_len`.
+    pub fn parse(
+        packet: &Packet<&'a [u8]>,
+        checksum_caps: &ChecksumCapabilities,
+    ) -> Result<Repr<'a>>
+        ensures sound { IfOk result (λ repr.
+            IsMessage checksum_caps.now (view_octets packet.now) (value_of repr)) }
+        ensures complete { (value : MessageValue)
+            → IsMessage checksum_caps.now (view_octets packet.now) value
+            → IsOkAnd result (λ repr. value_of repr ≡ value) }
+        ensures rewrites { length (view_octets packet.now) ≤ 65515
+            → IfOk result (λ repr. Rewrites (format checksum_caps.now) (value_of repr)) }
+    {
+        are_bytes(packet.buffer);
+        Repr::read(packet, checksum_caps)
+    }
+
+    // The message in the octets.
+    fn read(packet: &Packet<&'a [u8]>, checksum_caps: &ChecksumCapabilities) -> Result<Repr<'a>>
+        ensures sound { IfOk result (λ repr.
+            IsMessage checksum_caps.now (view_octets packet.now) (value_of repr)) }
+        ensures complete { (value : MessageValue)
+            → IsMessage checksum_caps.now (view_octets packet.now) value
+            → IsOkAnd result (λ repr. value_of repr ≡ value) }
+    {
+        packet.check_len()?;
+        if checksum_caps.icmpv4.rx() && !packet.verify_checksum() {
+            return Err(Error);
+        }
+        match (packet.msg_type(), packet.msg_code()) {
+            (Message::EchoRequest, 0) => Ok(Repr::EchoRequest {
+                ident: packet.echo_ident(),
+                seq_no: packet.echo_seq_no(),
+                data: packet.data(),
+            }),
+            (Message::EchoReply, 0) => Ok(Repr::EchoReply {
+                ident: packet.echo_ident(),
+                seq_no: packet.echo_seq_no(),
+                data: packet.data(),
+            }),
+            (Message::DstUnreachable, code) => {
+                let (header, data) = read_quote(packet.data())?;
+                Ok(Repr::DstUnreachable {
+                    reason: code.into(),
+                    header,
+                    data,
+                })
+            }
+            (Message::TimeExceeded, code) => {
+                let (header, data) = read_quote(packet.data())?;
+                Ok(Repr::TimeExceeded {
+                    reason: code.into(),
+                    header,
+                    data,
+                })
+            }
+            _ => Err(Error),
+        }
+    }
+
+    /// The bytes that the message takes. Asks that a `usize` holds their number.
+    #[tactic(auto, using(crate::proofs::Icmpv4Texts::texts))]
+    pub fn buffer_len(&self) -> usize
+        requires { text_len (value_of self.now) < 2 ^ 64 }
+        ensures value { result ≡ text_len (value_of self.now) }
+        ensures exact { (capabilities : ChecksumCapabilities)
+            → result ≡ length (packet_text capabilities (value_of self.now)) }
+    {
+        match self {
+            Repr::EchoRequest { data, .. } => field::HEADER_END + data.len(),
+            Repr::EchoReply { data, .. } => field::HEADER_END + data.len(),
+            Repr::DstUnreachable { header, data, .. } => {
+                field::HEADER_END + header.buffer_len() + data.len()
+            }
+            Repr::TimeExceeded { header, data, .. } => {
+                field::HEADER_END + header.buffer_len() + data.len()
+            }
+        }
+    }
+
+    /// Writes the message over the front of the octets, as far as they go, and then, where the capabilities have it
+    /// computed, the checksum of all of them. Asks 8 bytes or more of an echo; of an error just its length, and that
+    /// the quoted `payload_len` is at most 65,515.
+    pub fn emit<T: OctetsMut>(&self, packet: &mut Packet<T>, checksum_caps: &ChecksumCapabilities)
+        requires { CanEmit (value_of self.now) (T.bytes (inner packet.old)) }
+        ensures place { inner packet.new ≡ T.put (inner packet.old) (T.bytes (inner packet.new)) }
+        ensures emits { Emits checksum_caps.now (value_of self.now) (T.bytes (inner packet.old))
+            (T.bytes (inner packet.new)) }
+    {
+        self.emit_into(packet.buffer.octets_mut(), checksum_caps);
+    }
+
+    /// The same into octets that stand by themselves.
+    pub fn emit_into(&self, octets: &mut [u8], checksum_caps: &ChecksumCapabilities)
+        requires { CanEmit (value_of self.now) octets.old }
+        ensures { Emits checksum_caps.now (value_of self.now) octets.old octets.new }
+    {
+        self.write(octets, checksum_caps);
+        seal(octets, checksum_caps);
+    }
+
+    /// Does nothing. Of two messages that a packet can hold, equal texts mean equal normal forms, and conversely where
+    /// neither is an error whose quoted `payload_len` is below its data's length.
+    pub fn same_text(a: &Self, b: &Self, checksum_caps: &ChecksumCapabilities)
+        ensures { SameText (format checksum_caps.now) (value_of a.now) (value_of b.now) }
+    {}
+
+    // Writes the message, with the checksum zero.
+    #[tactic(auto, using(wirebase::proofs::Chains::chain))]
+    fn write(&self, octets: &mut [u8], checksum_caps: &ChecksumCapabilities)
+        requires { CanEmit (value_of self.now) octets.old }
+        ensures { octets.new ≡ over octets.old (text checksum_caps.now (value_of self.now)) }
+    {
+        let mut w = ByteWriter::new(octets);
+        match *self {
+            Repr::EchoRequest {
+                ident,
+                seq_no,
+                data,
+            } => put_echo(&mut w, Message::EchoRequest, ident, seq_no, data),
+            Repr::EchoReply {
+                ident,
+                seq_no,
+                data,
+            } => put_echo(&mut w, Message::EchoReply, ident, seq_no, data),
+            Repr::DstUnreachable {
+                reason,
+                header,
+                data,
+            } => {
+                let code = reason.into();
+                put_error(
+                    &mut w,
+                    Message::DstUnreachable,
+                    code,
+                    &header,
+                    data,
+                    checksum_caps,
+                );
+            }
+            Repr::TimeExceeded {
+                reason,
+                header,
+                data,
+            } => {
+                let code = reason.into();
+                put_error(
+                    &mut w,
+                    Message::TimeExceeded,
+                    code,
+                    &header,
+                    data,
+                    checksum_caps,
+                );
+            }
+        }
+    }
+}
+
+/// The message: an echo by its numbers and the bytes of its data, an error by its reason.
+impl fmt::Display for Repr<'_> {
+    ghost output = { λ repr. Some (repr_display (value_of repr)) };
+
+    fn fmt<W: fmt::Write>(&self, f: &mut fmt::Formatter<W>) -> fmt::Result {
+        match self {
+            Repr::EchoRequest {
+                ident,
+                seq_no,
+                data,
+            } => {
+                let len = data.len();
+                write!(f, "ICMPv4 echo request id={ident} seq={seq_no} len={len}")
+            }
+            Repr::EchoReply {
+                ident,
+                seq_no,
+                data,
+            } => {
+                let len = data.len();
+                write!(f, "ICMPv4 echo reply id={ident} seq={seq_no} len={len}")
+            }
+            Repr::DstUnreachable { reason, .. } => {
+                write!(f, "ICMPv4 destination unreachable ({reason})")
+            }
+            Repr::TimeExceeded { reason, .. } => { write!(f, "ICMPv4 time exceeded ({reason})") }
+        }
+    }
+}
+
+// The header that an error quotes, and all that stands behind it (RFC 792).
+fn read_quote(octets: &[u8]) -> Result<(Ipv4Repr, &[u8])>
+    ensures sound { IfOk result (λ quote_. IsQuote octets.now quote_.0 quote_.1.now) }
+    ensures complete { (quoted : Ipv4Repr) (behind : List ℕ) → IsQuote octets.now quoted behind
+        → IsOkAnd result (λ quote_. (quote_.0 ≡ quoted) × (quote_.1.now ≡ behind)) }
+{
+    let packet = Ipv4Packet::new_checked(octets)?;
+    let header_len = packet.header_len() as usize;
+    if octets.len() < header_len + MIN_QUOTED_DATA {
+        return Err(Error);
+    }
+    let data = &octets[header_len..];
+    let header = Ipv4Repr {
+        src_addr: packet.src_addr(),
+        dst_addr: packet.dst_addr(),
+        next_header: packet.next_header(),
+        payload_len: data.len(),
+        hop_limit: packet.hop_limit(),
+    };
+    Ok((header, data))
+}
+
+// Writes the checksum, where it is computed.
+fn seal(octets: &mut [u8], checksum_caps: &ChecksumCapabilities)
+    requires { Reaches checksum_field octets.old }
+    ensures { octets.new ≡ sealed_octets checksum_caps.now octets.old }
+{
+    if checksum_caps.icmpv4.tx() {
+        checksum::fill(octets, field::CHECKSUM, 0);
+    }
+}
+
+// Writes an echo of this type, as much of its data as there is room for.
+fn put_echo(w: &mut ByteWriter<'_>, kind: Message, ident: u16, seq_no: u16, data: &[u8])
+    requires { 8 ≤ length (free w.old) }
+    ensures puts { Puts w.old w.new (echo_fields (message_number kind) ident seq_no «data».now) }
+    ensures same_slice { the_slice w.new ≡ the_slice w.old }
+{
+    w.put_u8(kind.into());
+    w.put_u8(0);
+    w.put_u16(0);
+    w.put_u16(ident);
+    w.put_u16(seq_no);
+    w.put_front(data);
+}
+
+// Writes an error of this type.
+#[tactic(auto, using(wirebase::proofs::Chains::parts, wirebase::proofs::Ipv4Header::header_texts))]
+fn put_error(
+    w: &mut ByteWriter<'_>,
+    kind: Message,
+    code: u8,
+    quoted: &Ipv4Repr,
+    data: &[u8],
+    checksum_caps: &ChecksumCapabilities,
+)
+    requires room { length (free w.old) ≡ 28 + length «data».now }
+    requires count { quoted.now.payload_len ≤ 65515 }
+    ensures puts { Puts w.old w.new
+        (error_fields checksum_caps.now (message_number kind) code quoted.now «data».now) }
+    ensures same_slice { the_slice w.new ≡ the_slice w.old }
+{
+    w.put_u8(kind.into());
+    w.put_u8(code);
+    w.put_u16(0);
+    w.put_u32(0);
+    quoted.emit_into(w.part(quoted.buffer_len()), checksum_caps);
+    w.put_bytes(data);
+}

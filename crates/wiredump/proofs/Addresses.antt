@@ -1,0 +1,19 @@
+-- Addresses with commas between them.
+use Rattle.std.proofs.Common.{◌≡◌, ℕ, ◌-◌, ◌≤◌, List, [], ◌∷◌, ◌++◌, length, get_or, take, drop, codes, refl, arith}
+use Rattle.std.proofs.lemmas.List.{take_all}
+use Rattle.std.specs.Prelude.{flat_map}
+use Rattle.wirebase.specs.Ipv4.{address_text}
+use Rattle.wirebase.specs.declared.ipv4.Ipv4Address.{Ipv4Address}
+use Rattle.wiredump.specs.ListingDhcp.{addresses_text}
+
+-- an address behind a comma
+abbrev pub with_comma : Ipv4Address → List ℕ
+with_comma next = codes "," ++ address_text next
+
+pub addresses_text-some : (addresses : List Ipv4Address) (d : Ipv4Address) → 1 ≤ length addresses
+    → addresses_text addresses ≡ address_text (get_or addresses 0 d)
+    ++ flat_map with_comma (take (length addresses - 1) (drop 1 addresses))
+addresses_text-some [] d some = absurd (omega (arith, some))
+addresses_text-some (first ∷ rest) d some =
+    let all : take (length (first ∷ rest) - 1) rest ≡ rest = take_all (length (first ∷ rest) - 1) rest (omega arith) in
+    rw all refl

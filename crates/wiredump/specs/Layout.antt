@@ -1,0 +1,46 @@
+-- How the program lays out what it prints: lines and fields, and the values behind a field's name.
+use Rattle.std.specs.Prelude.{◌≡◌, ℕ, ◌/◌, ◌⊎◌, Bool, if◌then◌else◌, List, [], ◌∷◌, ◌++◌, Option, None, Some, codes}
+use Rattle.std.specs.Prelude.{decimal}
+use Rattle.hex.specs.Hex.{encode_lower}
+
+-- ---- lines and fields
+
+-- a line of its own: a variant's name, a value that has none, or an answer that is no value
+unfoldable pub line : List ℕ → List ℕ
+line text = text ++ codes "\n"
+
+-- a field, or a variant with one unnamed value, as `name=value`
+unfoldable pub field : List ℕ → List ℕ → List ℕ
+field name value = name ++ codes "=" ++ value ++ codes "\n"
+
+-- a field of a part, behind the part's name with its dot; of a value that is no part, behind nothing
+unfoldable pub part_field : List ℕ → List ℕ → List ℕ → List ℕ
+part_field part name value = part ++ field name value
+
+-- ---- values: numbers are in decimal digits, addresses as IPv4 ones are written, and names as they are
+
+-- octets: two lower-case hexadecimal digits each, or `-` for none
+abbrev pub octets_text : List ℕ → List ℕ
+octets_text [] = codes "-"
+octets_text (octet ∷ rest) = encode_lower (octet ∷ rest)
+
+-- a time, from its microseconds: its whole milliseconds
+abbrev pub millis_text : ℕ → List ℕ
+millis_text micros = decimal (micros / 1000)
+
+-- a truth value
+abbrev pub truth_text : Bool → List ℕ
+truth_text is = if is then codes "true" else codes "false"
+
+-- what may be missing: `none`
+abbrev pub text_or_none : {V : Type 0} → (V → List ℕ) → Option V → List ℕ
+text_or_none text None = codes "none"
+text_or_none text (Some value) = text value
+
+-- ---- what a packet prints
+
+-- the listing of the value that the grammar has for its octets, or `refused` exactly where it has none
+abbrev pub IsListingOrRefused : {V : Type 0} → (V → Type 0) → (V → List ℕ) → List ℕ → Type 0
+IsListingOrRefused {V = V} IsValue listing text =
+    ((value : V) × IsValue value × (text ≡ listing value))
+    ⊎ (((value : V) → IsValue value → ⊥) × (text ≡ line (codes "refused")))
