@@ -16,8 +16,11 @@ use bitflags::Flags as _;
 use wirebase::{Duration, Ipv6Address, Octets, OctetsMut};
 
 mod flags;
+mod found;
+mod repr;
 
 pub use flags::{NeighborFlags, RouterFlags};
+pub use repr::Repr;
 
 // The fields behind the checksum (RFC 4861 section 4); their picture is in specs/NdiscPacket.antt.
 mod field {
@@ -34,6 +37,9 @@ mod field {
     pub const RETRANS_TIME: Field = 12..16;
 
     pub const NEIGHBOR_FLAGS: Field = 4..5;
+
+    // The end of the word that is reserved in solicitations and redirects.
+    pub const RESERVED_END: usize = 8;
 
     pub const TARGET_ADDR: Field = 8..24;
 
