@@ -41,9 +41,14 @@ pub use Rattle.icmp6_wire.specs.Mld
 pub use Rattle.icmp6_wire.specs.MldPacket
 pub use Rattle.icmp6_wire.specs.MldRecord
 pub use Rattle.icmp6_wire.specs.MldTables
+pub use Rattle.icmp6_wire.specs.Ndisc
+pub use Rattle.icmp6_wire.specs.NdiscBlocks
+pub use Rattle.icmp6_wire.specs.NdiscFound
 pub use Rattle.icmp6_wire.specs.NdiscPacket
 pub use Rattle.icmp6_wire.specs.NdiscTables
 pub use Rattle.dhcp_wire.specs.Dhcpv4
+pub use Rattle.dhcp_wire.specs.Dhcpv4Emission
+pub use Rattle.dhcp_wire.specs.Dhcpv4Format
 pub use Rattle.dhcp_wire.specs.Dhcpv4Found
 pub use Rattle.dhcp_wire.specs.Dhcpv4Options
 pub use Rattle.dhcp_wire.specs.Dhcpv4Packet
@@ -76,6 +81,7 @@ pub use Rattle.icmp6_wire.specs.declared.icmpv6.tables.DstUnreachable as Icmpv6D
 pub use Rattle.icmp6_wire.specs.declared.icmpv6.tables.ParamProblem as Icmpv6ParamProblemType
 pub use Rattle.icmp6_wire.specs.declared.icmpv6.tables.TimeExceeded as Icmpv6TimeExceededType
 pub use Rattle.icmp6_wire.specs.declared.mld.repr.Repr as MldReprType
+pub use Rattle.icmp6_wire.specs.declared.ndisc.repr.Repr as NdiscReprType
 pub use Rattle.icmp6_wire.specs.declared.mld.record.AddressRecordRepr as MldAddressRecordReprType
 pub use Rattle.icmp6_wire.specs.declared.mld.tables.RecordType as MldRecordTypeType
 pub use Rattle.dhcp_wire.specs.declared.dhcpv4.repr.Repr as Dhcpv4ReprType

@@ -10,6 +10,7 @@ pub use dns_wire::dns;
 pub use icmp4_wire::{icmpv4, igmp};
 pub use icmp6_wire::icmpv6::Repr as Icmpv6Repr;
 pub use icmp6_wire::mld::Repr as MldRepr;
+pub use icmp6_wire::ndisc::Repr as NdiscRepr;
 pub use icmp6_wire::{icmpv6, mld, ndisc};
 pub use opt_wire::ipv6option::{Ipv6Option, Ipv6OptionsIterator, Repr as Ipv6OptionRepr};
 pub use opt_wire::ndiscoption::{

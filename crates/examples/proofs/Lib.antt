@@ -1,3 +1,2 @@
-pub mod Alerts
 pub mod Cuts
 pub mod ResolverSearch
