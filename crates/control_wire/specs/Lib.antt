@@ -1,3 +1,6 @@
+-- What a contract over these modules cites: the definitions of each crate, file by file, and the types of the modules
+-- with their cases, where a definition has to name them.
+
 pub use Rattle.wirebase.specs.Answers
 pub use Rattle.wirebase.specs.ByteWriter
 pub use Rattle.wirebase.specs.Bytes
@@ -38,9 +41,14 @@ pub use Rattle.icmp6_wire.specs.Mld
 pub use Rattle.icmp6_wire.specs.MldPacket
 pub use Rattle.icmp6_wire.specs.MldRecord
 pub use Rattle.icmp6_wire.specs.MldTables
+pub use Rattle.icmp6_wire.specs.Ndisc
+pub use Rattle.icmp6_wire.specs.NdiscBlocks
+pub use Rattle.icmp6_wire.specs.NdiscFound
 pub use Rattle.icmp6_wire.specs.NdiscPacket
 pub use Rattle.icmp6_wire.specs.NdiscTables
 pub use Rattle.dhcp_wire.specs.Dhcpv4
+pub use Rattle.dhcp_wire.specs.Dhcpv4Emission
+pub use Rattle.dhcp_wire.specs.Dhcpv4Format
 pub use Rattle.dhcp_wire.specs.Dhcpv4Found
 pub use Rattle.dhcp_wire.specs.Dhcpv4Options
 pub use Rattle.dhcp_wire.specs.Dhcpv4Packet
@@ -55,4 +63,32 @@ pub use Rattle.dns_wire.specs.DnsPart
 pub use Rattle.dns_wire.specs.DnsQuestion
 pub use Rattle.dns_wire.specs.DnsRepr
 pub use Rattle.dns_wire.specs.DnsRecord
-pub use Rattle.icmp4_wire.specs.declared.igmp.Repr as IgmpRepr
+pub use Rattle.wirebase.specs.declared.capabilities.Checksum as ChecksumType
+pub use Rattle.wirebase.specs.declared.capabilities.ChecksumCapabilities as ChecksumCapabilitiesType
+pub use Rattle.wirebase.specs.declared.error.Error as ErrorType
+pub use Rattle.wirebase.specs.declared.ip.IpProtocol as IpProtocolType
+pub use Rattle.wirebase.specs.declared.ipv4.Ipv4Address as Ipv4AddressType
+pub use Rattle.wirebase.specs.declared.ipv4.Ipv4Repr as Ipv4ReprType
+pub use Rattle.wirebase.specs.declared.ipv6.address.Ipv6Address as Ipv6AddressType
+pub use Rattle.wirebase.specs.declared.ipv6.Ipv6Repr as Ipv6ReprType
+pub use Rattle.icmp4_wire.specs.declared.icmpv4.repr.Repr as Icmpv4ReprType
+pub use Rattle.icmp4_wire.specs.declared.icmpv4.tables.DstUnreachable as Icmpv4DstUnreachableType
+pub use Rattle.icmp4_wire.specs.declared.icmpv4.tables.TimeExceeded as Icmpv4TimeExceededType
+pub use Rattle.icmp4_wire.specs.declared.igmp.IgmpVersion as IgmpVersionType
+pub use Rattle.icmp4_wire.specs.declared.igmp.Repr as IgmpReprType
+pub use Rattle.icmp6_wire.specs.declared.icmpv6.repr.Repr as Icmpv6ReprType
+pub use Rattle.icmp6_wire.specs.declared.icmpv6.tables.DstUnreachable as Icmpv6DstUnreachableType
+pub use Rattle.icmp6_wire.specs.declared.icmpv6.tables.ParamProblem as Icmpv6ParamProblemType
+pub use Rattle.icmp6_wire.specs.declared.icmpv6.tables.TimeExceeded as Icmpv6TimeExceededType
+pub use Rattle.icmp6_wire.specs.declared.mld.repr.Repr as MldReprType
+pub use Rattle.icmp6_wire.specs.declared.ndisc.repr.Repr as NdiscReprType
+pub use Rattle.icmp6_wire.specs.declared.mld.record.AddressRecordRepr as MldAddressRecordReprType
+pub use Rattle.icmp6_wire.specs.declared.mld.tables.RecordType as MldRecordTypeType
+pub use Rattle.dhcp_wire.specs.declared.dhcpv4.repr.Repr as Dhcpv4ReprType
+pub use Rattle.dhcp_wire.specs.declared.dhcpv4.tables.MessageType as Dhcpv4MessageTypeType
+pub use Rattle.dns_wire.specs.declared.dns.tables.Opcode as DnsOpcodeType
+pub use Rattle.dns_wire.specs.declared.dns.tables.Rcode as DnsRcodeType
+pub use Rattle.dns_wire.specs.declared.dns.tables.Type as DnsTypeType
+pub use Rattle.dns_wire.specs.declared.dns.tables.Flags as DnsFlagsType
+pub use Rattle.dns_wire.specs.declared.dns.repr.Repr as DnsReprType
+pub use Rattle.opt_wire.specs.declared.ipv6option.tables.RouterAlert as RouterAlertType

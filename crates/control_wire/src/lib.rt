@@ -10,6 +10,7 @@ pub use dns_wire::dns;
 pub use icmp4_wire::{icmpv4, igmp};
 pub use icmp6_wire::icmpv6::Repr as Icmpv6Repr;
 pub use icmp6_wire::mld::Repr as MldRepr;
+pub use icmp6_wire::ndisc::Repr as NdiscRepr;
 pub use icmp6_wire::{icmpv6, mld, ndisc};
 pub use opt_wire::ipv6option::{Ipv6Option, Ipv6OptionsIterator, Repr as Ipv6OptionRepr};
 pub use opt_wire::ndiscoption::{
@@ -22,5 +23,6 @@ pub use wirebase::{
     ByteWriter, ChecksumCapabilities, Duration, Error, EthernetAddress, Field, Hardware,
     IPV6_HBH_MAX_OPTIONS, IPV6_HEADER_LEN, IPV6_LINK_LOCAL_ALL_NODES, IPV6_LINK_LOCAL_ALL_ROUTERS,
     IPV6_MIN_MTU, IpProtocol, Ipv4Address, Ipv4Packet, Ipv4Repr, Ipv6Address, Ipv6Packet, Ipv6Repr,
-    MAX_HARDWARE_ADDRESS_LEN, Octets, OctetsMut, RawHardwareAddress, Result, checksum, octets,
+    MAX_HARDWARE_ADDRESS_LEN, Octets, OctetsMut, RawHardwareAddress, Result, are_bytes, checksum,
+    octets,
 };

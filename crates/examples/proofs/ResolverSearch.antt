@@ -1,7 +1,7 @@
 -- Searches through the answers of a response.
 use Rattle.std.proofs.Common.{◌≡◌, ℕ, ◌+◌, Bool, true, false, ◌↔◌, List, refl, sym, ap, ◌∙◌, subst, arith, IsTrue}
-use Rattle.dns_wire.specs.DnsName.{HaveSameLabels}
-use Rattle.dns_wire.specs.DnsRecord.{RecordValue, IsRecord}
+use Rattle.control_wire.specs.DnsName.{HaveSameLabels}
+use Rattle.control_wire.specs.DnsRecord.{RecordValue, IsRecord}
 use Rattle.examples.specs.Resolver.{Search, TurnValue, found, sought, said, Says, Finds, here, later}
 use Rattle.examples.specs.declared.resolver.Address.{Address}
 

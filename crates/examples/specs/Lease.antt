@@ -1,11 +1,11 @@
 -- What a client of DHCP takes from a server's message (RFC 2131 section 4.4).
 use Rattle.std.specs.Prelude.{◌≡◌, ℕ, List, Option, Some}
 use Rattle.std.specs.Option.{option_map}
-use Rattle.wirebase.specs.Ethernet.{Ethernet}
-use Rattle.wirebase.specs.declared.ipv4.Ipv4Address.{Ipv4Address}
-use Rattle.dhcp_wire.specs.Dhcpv4.{Value, IsPacket}
-use Rattle.dhcp_wire.specs.declared.dhcpv4.repr.Repr.{Repr}
-use Rattle.dhcp_wire.specs.declared.dhcpv4.tables.MessageType.{MessageType}
+use Rattle.control_wire.specs.Ethernet.{Ethernet}
+use Rattle.control_wire.specs.Ipv4AddressType.{Ipv4Address}
+use Rattle.control_wire.specs.Dhcpv4.{Value, IsPacket}
+use Rattle.control_wire.specs.Dhcpv4ReprType.{Repr}
+use Rattle.control_wire.specs.Dhcpv4MessageTypeType.{MessageType}
 use Rattle.examples.specs.declared.lease.Lease.{Lease}
 
 -- what a client is given; times are in seconds

@@ -1,12 +1,12 @@
 -- What a host that is a member of multicast groups sends, and when.
 use Rattle.std.specs.Prelude.{◌≡◌, ◌⊎◌, ℕ, List, [], ◌∷◌}
-use Rattle.wirebase.specs.Checksum.{IsGood}
-use Rattle.wirebase.specs.Ipv4.{octets_of}
-use Rattle.wirebase.specs.declared.ipv4.Ipv4Address.{Ipv4Address}
-use Rattle.icmp4_wire.specs.Igmp.{IsMessage}
-use Rattle.icmp4_wire.specs.declared.igmp.IgmpVersion.{IgmpVersion}
-use Rattle.icmp4_wire.specs.declared.igmp.Repr.{Repr}
-use Rattle.icmp4_wire.specs.declared.igmp.Repr.TheVariants.{MembershipQuery}
+use Rattle.control_wire.specs.Checksum.{IsGood}
+use Rattle.control_wire.specs.Ipv4.{octets_of}
+use Rattle.control_wire.specs.Ipv4AddressType.{Ipv4Address}
+use Rattle.control_wire.specs.Igmp.{IsMessage}
+use Rattle.control_wire.specs.IgmpVersionType.{IgmpVersion}
+use Rattle.control_wire.specs.IgmpReprType.{Repr}
+use Rattle.control_wire.specs.IgmpReprType.TheVariants.{MembershipQuery}
 
 -- a message with a good checksum
 abbrev pub IsGoodMessage : List ℕ → Repr → Type 0

@@ -1,19 +1,17 @@
 -- What a resolver asks, which responses it takes, and which addresses it finds there (RFC 1035 section 4).
-use Rattle.std.specs.Prelude.{◌≡◌, ℕ, ◌+◌, ◌==◌, Bool, true, false, ◌↔◌, List, [], ◌∷◌, length, IsTrue}
+use Rattle.std.specs.Prelude.{◌≡◌, ℕ, ◌+◌, ◌==◌, Bool, true, false, ◌↔◌, List, IsTrue}
 use Rattle.std.specs.Int.Bits.{bit_and}
-use Rattle.wirebase.specs.Bytes.{Reaches, number_of}
-use Rattle.wirebase.specs.declared.ipv4.Ipv4Address.{Ipv4Address}
-use Rattle.wirebase.specs.declared.ipv6.address.Ipv6Address.{Ipv6Address}
-use Rattle.dns_wire.specs.DnsTables.{opcode_of, rcode_of, flag_bits}
-use Rattle.dns_wire.specs.DnsPacket.{id_field, flags_field, question_count_field, answer_count_field, header, payload_in}
-use Rattle.dns_wire.specs.DnsPacket.{flags_in, opcode_in, rcode_in}
-use Rattle.dns_wire.specs.DnsName.{HaveSameLabels}
-use Rattle.dns_wire.specs.DnsQuestion.{IsQuestion}
-use Rattle.dns_wire.specs.DnsRecord.{DataValue, address4, address6, canonical_name, other, RecordValue, IsRecord}
-use Rattle.dns_wire.specs.DnsRepr.{QueryValue}
-use Rattle.dns_wire.specs.declared.dns.tables.Opcode.TheVariants as opcode
-use Rattle.dns_wire.specs.declared.dns.tables.Rcode.TheVariants as rcode
-use Rattle.dns_wire.specs.declared.dns.tables.Type.{«Type» as RecordType}
+use Rattle.control_wire.specs.Bytes.{Reaches, number_of}
+use Rattle.control_wire.specs.DnsTables.{opcode_of, rcode_of}
+use Rattle.control_wire.specs.DnsPacket.{id_field, flags_field, question_count_field, answer_count_field, header, payload_in}
+use Rattle.control_wire.specs.DnsPacket.{flags_in, opcode_in, rcode_in}
+use Rattle.control_wire.specs.DnsName.{HaveSameLabels}
+use Rattle.control_wire.specs.DnsQuestion.{IsQuestion}
+use Rattle.control_wire.specs.DnsRecord.{DataValue, address4, address6, canonical_name, other, RecordValue, IsRecord}
+use Rattle.control_wire.specs.DnsRepr.{QueryValue}
+use Rattle.control_wire.specs.DnsOpcodeType.TheVariants as opcode
+use Rattle.control_wire.specs.DnsRcodeType.TheVariants as rcode
+use Rattle.control_wire.specs.DnsTypeType.{«Type» as RecordType}
 use Rattle.examples.specs.declared.resolver.Address.{Address}
 use Rattle.examples.specs.declared.resolver.Address.TheVariants.{V4, V6}
 use Rattle.examples.specs.declared.resolver.Answers.{Answers}

@@ -1,18 +1,18 @@
 -- The error that tells a sender that no one listens at a datagram's port.
 use Rattle.std.specs.Prelude.{◌≡◌, ℕ, ◌≤◌, List, length, take, slice_range}
-use Rattle.wirebase.specs.Bytes.{bytes_of, byte_of}
-use Rattle.wirebase.specs.Capabilities.{all_of}
-use Rattle.wirebase.specs.Ip.{protocol_of}
-use Rattle.wirebase.specs.Ipv4 as ipv4
-use Rattle.wirebase.specs.Ipv6 as ipv6
-use Rattle.wirebase.specs.declared.capabilities.Checksum.TheVariants.{Both}
-use Rattle.wirebase.specs.declared.ipv4.Ipv4Repr.{Ipv4Repr}
-use Rattle.wirebase.specs.declared.ipv6.address.Ipv6Address.{Ipv6Address}
-use Rattle.wirebase.specs.declared.ipv6.Ipv6Repr.{Ipv6Repr}
-use Rattle.icmp4_wire.specs.Icmpv4 as icmpv4
-use Rattle.icmp4_wire.specs.declared.icmpv4.tables.DstUnreachable.TheVariants as icmpv4_reason
-use Rattle.icmp6_wire.specs.Icmpv6 as icmpv6
-use Rattle.icmp6_wire.specs.declared.icmpv6.tables.DstUnreachable.TheVariants as icmpv6_reason
+use Rattle.control_wire.specs.Bytes.{bytes_of, byte_of}
+use Rattle.control_wire.specs.Capabilities.{all_of}
+use Rattle.control_wire.specs.Ip.{protocol_of}
+use Rattle.control_wire.specs.Ipv4 as ipv4
+use Rattle.control_wire.specs.Ipv6 as ipv6
+use Rattle.control_wire.specs.ChecksumType.TheVariants.{Both}
+use Rattle.control_wire.specs.Ipv4ReprType.{Ipv4Repr}
+use Rattle.control_wire.specs.Ipv6AddressType.{Ipv6Address}
+use Rattle.control_wire.specs.Ipv6ReprType.{Ipv6Repr}
+use Rattle.control_wire.specs.Icmpv4 as icmpv4
+use Rattle.control_wire.specs.Icmpv4DstUnreachableType.TheVariants as icmpv4_reason
+use Rattle.control_wire.specs.Icmpv6 as icmpv6
+use Rattle.control_wire.specs.Icmpv6DstUnreachableType.TheVariants as icmpv6_reason
 
 -- ---- over IPv4
 

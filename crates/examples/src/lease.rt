@@ -5,8 +5,8 @@ ghost use Rattle.std.specs.Prelude.{◌≡◌, ◌↔◌, ℕ, IsTrue, IfSome, I
 ghost use Rattle.examples.specs.Lease.{LeaseValue, value_of, IsFor, Gives};
 
 use arrayvec::ArrayVec;
-use dhcp_wire::dhcpv4::{MAX_DNS_SERVER_COUNT, MessageType, Packet, Repr};
-use wirebase::{EthernetAddress, Ipv4Address};
+use control_wire::dhcpv4::{MAX_DNS_SERVER_COUNT, MessageType, Packet, Repr};
+use control_wire::{EthernetAddress, Ipv4Address};
 
 /// What a client is given. Times are in seconds from when the client asked; what the server didn't say is None.
 #[derive(Debug, Drop)]

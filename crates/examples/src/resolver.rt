@@ -4,19 +4,19 @@
 //! equal where their labels are, byte by byte: a server gives a name back in the case in which it was asked.
 
 ghost use Rattle.std.specs.Prelude.{◌≡◌, ◌≤◌, ◌<◌, ◌↔◌, ℕ, List, length, take, IsTrue, IfSome, IsSome, IsSomeAnd, None};
-ghost use Rattle.wirebase.specs.Bytes.{Reaches};
-ghost use Rattle.dns_wire.specs.DnsName.{HaveSameLabels};
-ghost use Rattle.dns_wire.specs.DnsNameWalk.{answer_of, label, ending};
-ghost use Rattle.dns_wire.specs.DnsPacket.{view_octets, header};
-ghost use Rattle.dns_wire.specs.DnsRecord.{value_of};
-ghost use Rattle.dns_wire.specs.DnsRepr.{text, text_len, IsCanonical, IsQuery};
+ghost use Rattle.control_wire.specs.Bytes.{Reaches};
+ghost use Rattle.control_wire.specs.DnsName.{HaveSameLabels};
+ghost use Rattle.control_wire.specs.DnsNameWalk.{answer_of, label, ending};
+ghost use Rattle.control_wire.specs.DnsPacket.{view_octets, header};
+ghost use Rattle.control_wire.specs.DnsRecord.{value_of};
+ghost use Rattle.control_wire.specs.DnsRepr.{text, text_len, IsCanonical, IsQuery};
 ghost use Rattle.examples.specs.declared.resolver.Address.{Address};
 ghost use Rattle.examples.specs.Resolver.{query_for, TellsOfSuccess, Asks, IsSuccess, IsResponse, Search, search_of, turn_of};
 ghost use Rattle.examples.specs.Resolver.{Says, Finds};
 
 use bitflags::Flags as _;
-use dns_wire::dns::{Flags, Opcode, Packet, Question, Rcode, Record, RecordData, Repr, Type};
-use wirebase::{Ipv4Address, Ipv6Address, Result};
+use control_wire::dns::{Flags, Opcode, Packet, Question, Rcode, Record, RecordData, Repr, Type};
+use control_wire::{Ipv4Address, Ipv6Address, Result};
 
 /// An address of a name.
 #[derive(Debug, PartialEq, Eq, Clone, Copy)]

@@ -3,20 +3,19 @@
 //! 4443 section 2.4): that is the caller's to see.
 
 ghost use Rattle.std.specs.Prelude.{◌≡◌, ◌≤◌, ◌+◌, List, ℕ, length, take, min, IfSome, IsSome, None};
-ghost use Rattle.wirebase.specs.Capabilities.{all_of};
-ghost use Rattle.wirebase.specs.declared.capabilities.Checksum.TheVariants.{Both};
-ghost use Rattle.icmp4_wire.specs.Icmpv4.{packet_text, unreachable};
-ghost use Rattle.icmp4_wire.specs.declared.icmpv4.tables.DstUnreachable.TheVariants.{PortUnreachable};
-ghost use Rattle.wirebase.specs.declared.ipv4.Ipv4Repr.{Ipv4Repr};
-ghost use Rattle.wirebase.specs.declared.ipv6.Ipv6Repr.{Ipv6Repr};
-ghost use Rattle.icmp6_wire.specs.Icmpv6.{packet_text as packet_text_v6, unreachable as unreachable_v6};
-ghost use Rattle.icmp6_wire.specs.declared.icmpv6.tables.DstUnreachable.TheVariants.{PortUnreachable as PortUnreachableV6};
+ghost use Rattle.control_wire.specs.Capabilities.{all_of};
+ghost use Rattle.control_wire.specs.ChecksumType.TheVariants.{Both};
+ghost use Rattle.control_wire.specs.Icmpv4.{packet_text, unreachable};
+ghost use Rattle.control_wire.specs.Icmpv4DstUnreachableType.TheVariants.{PortUnreachable};
+ghost use Rattle.control_wire.specs.Ipv4ReprType.{Ipv4Repr};
+ghost use Rattle.control_wire.specs.Ipv6ReprType.{Ipv6Repr};
+ghost use Rattle.control_wire.specs.Icmpv6.{packet_text as packet_text_v6, unreachable as unreachable_v6};
+ghost use Rattle.control_wire.specs.Icmpv6DstUnreachableType.TheVariants.{PortUnreachable as PortUnreachableV6};
 ghost use Rattle.examples.specs.Unreachable.{IsDatagram, quoted, Tells, IsDatagramV6, TellsV6};
 
-use icmp4_wire::icmpv4;
-use icmp6_wire::icmpv6;
-use wirebase::{
+use control_wire::{
     ChecksumCapabilities, Ipv4Packet, Ipv4Repr, Ipv6Address, Ipv6Packet, Ipv6Repr, are_bytes,
+    icmpv4, icmpv6,
 };
 
 // The bytes of an IPv4 header without options.

@@ -1,7 +1,7 @@
 use super::read_lease;
-use dhcp_wire::dhcpv4::MessageType;
+use control_wire::dhcpv4::MessageType;
+use control_wire::{EthernetAddress, Ipv4Address};
 use std::test::Fail;
-use wirebase::{EthernetAddress, Ipv4Address};
 
 // The header of an answer to the client 00:0b:82:01:fc:42 in exchange 0x00003d1d, with the address 192.168.0.10.
 const HEADER: [u8; 34] = [

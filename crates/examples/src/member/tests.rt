@@ -1,7 +1,7 @@
-ghost use Rattle.wirebase.specs.Ipv4.{IsMulticast};
+ghost use Rattle.control_wire.specs.Ipv4.{IsMulticast};
 
 use super::{MESSAGE_LEN, answer, join, leave};
-use wirebase::{Duration, Ipv4Address};
+use control_wire::{Duration, Ipv4Address};
 
 // 224.0.6.150
 fn group() -> Ipv4Address

@@ -1,5 +1,5 @@
 use super::{answer, answer_v6};
-use wirebase::Ipv6Address;
+use control_wire::Ipv6Address;
 
 // An echo request with identifier 0x1234, sequence number 0xabcd and four bytes, and its reply.
 const REQUEST: [u8; 12] = [

@@ -1,9 +1,9 @@
 //! A response of a real server for www.facebook.com: its canonical name, and the address of that.
 
 use super::{Address, next_address, query, read_answers};
-use dns_wire::dns::Type;
+use control_wire::Ipv4Address;
+use control_wire::dns::Type;
 use std::test::Fail;
-use wirebase::Ipv4Address;
 
 const NAME: [u8; 18] = [
     0x03, 0x77, 0x77, 0x77, 0x08, 0x66, 0x61, 0x63, 0x65, 0x62, 0x6f, 0x6f, 0x6b, 0x03, 0x63, 0x6f,

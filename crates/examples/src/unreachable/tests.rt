@@ -1,5 +1,5 @@
 use super::{port_unreachable, port_unreachable_v6};
-use wirebase::Ipv6Address;
+use control_wire::Ipv6Address;
 
 // A datagram from port 53 of 10.0.0.1 to port 53 of 10.0.0.2, with no data.
 const DATAGRAM: [u8; 28] = [

@@ -1,5 +1,5 @@
 use Rattle.std.proofs.Common.{◌≡◌, ◌∙◌, refl, sym, ap, subst}
-use Rattle.dhcp_wire.specs.Dhcpv4.{IsPacket, value_of}
+use Rattle.control_wire.specs.Dhcpv4.{IsPacket, value_of}
 use Rattle.examples.specs.Lease.{lease_of}
 use Rattle.examples.proofs.lease.read_lease.Goals as goal
 

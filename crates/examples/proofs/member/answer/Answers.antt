@@ -1,4 +1,4 @@
-use Rattle.icmp4_wire.specs.declared.igmp.Repr.TheVariants.{MembershipQuery}
+use Rattle.control_wire.specs.IgmpReprType.TheVariants.{MembershipQuery}
 use Rattle.examples.proofs.member.answer.Goals as goal
 
 pub returns-in-Err-clause-answers : goal.returns-in-Err-clause-answers

@@ -1,4 +1,4 @@
-use Rattle.icmp6_wire.specs.Icmpv6.{echo_request}
+use Rattle.control_wire.specs.Icmpv6.{echo_request}
 use Rattle.examples.proofs.ping.answer_v6.Goals as goal
 
 pub returns-in-Err-clause-answers : goal.returns-in-Err-clause-answers

@@ -1,5 +1,5 @@
 use Rattle.std.proofs.Common.{◌≡◌, ap, sym, subst, rules}
-use Rattle.dns_wire.specs.DnsName.{HaveSameLabels}
+use Rattle.control_wire.specs.DnsName.{HaveSameLabels}
 use Rattle.examples.proofs.resolver.after_question.Goals as goal
 
 pub returns-in-Err-clause-all : goal.returns-in-Err-clause-all

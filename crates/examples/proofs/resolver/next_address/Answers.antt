@@ -1,5 +1,5 @@
 use Rattle.std.proofs.Common.{◌≡◌, ◌+◌, ◌-◌, arith, refl, subst}
-use Rattle.dns_wire.specs.DnsRecord.{value_of}
+use Rattle.control_wire.specs.DnsRecord.{value_of}
 use Rattle.examples.specs.Resolver.{Search, found, sought, Says, here, later}
 use Rattle.examples.proofs.ResolverSearch.{later_found, none_left, none_read}
 use Rattle.examples.proofs.resolver.next_address.Goals as goal

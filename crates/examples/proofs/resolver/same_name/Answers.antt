@@ -1,6 +1,6 @@
 use Rattle.std.proofs.Common.{◌≡◌, [], Some, ap}
-use Rattle.dns_wire.specs.DnsNameWalk.{answer_of, label, ending}
-use Rattle.dns_wire.proofs.DnsNameLabels.{same_before, same_after, same_at_end, same_no_fault, none_at_end}
+use Rattle.control_wire.specs.DnsNameWalk.{answer_of, label, ending}
+use Rattle.control_wire.proofs.DnsNameLabels.{same_before, same_after, same_at_end, same_no_fault, none_at_end}
 use Rattle.examples.proofs.resolver.same_name.Goals as goal
 
 pub loop-item-init : goal.loop-item-init

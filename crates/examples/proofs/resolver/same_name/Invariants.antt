@@ -1,6 +1,6 @@
-use Rattle.dns_wire.specs.DnsName.{HaveSameLabels}
-use Rattle.dns_wire.specs.DnsPacket.{view_octets}
-use Rattle.dns_wire.proofs.DnsNameLabels.{GiveSame}
+use Rattle.control_wire.specs.DnsName.{HaveSameLabels}
+use Rattle.control_wire.specs.DnsPacket.{view_octets}
+use Rattle.control_wire.proofs.DnsNameLabels.{GiveSame}
 use Rattle.examples.proofs.resolver.same_name.Given as goal
 
 abbrev pub invariant-loop-item : goal.invariant-loop-item

@@ -1,9 +1,9 @@
 use Rattle.std.proofs.Common.{◌≡◌, sym, ap, ◌∙◌, length, arith}
 use Rattle.std.proofs.lemmas.Option.{IfSome_then}
-use Rattle.wirebase.specs.Capabilities.{all_of}
-use Rattle.wirebase.specs.declared.capabilities.Checksum.TheVariants.{Both}
-use Rattle.icmp4_wire.specs.Icmpv4.{packet_text, unreachable}
-use Rattle.icmp4_wire.specs.declared.icmpv4.tables.DstUnreachable.TheVariants.{PortUnreachable}
+use Rattle.control_wire.specs.Capabilities.{all_of}
+use Rattle.control_wire.specs.ChecksumType.TheVariants.{Both}
+use Rattle.control_wire.specs.Icmpv4.{packet_text, unreachable}
+use Rattle.control_wire.specs.Icmpv4DstUnreachableType.TheVariants.{PortUnreachable}
 use Rattle.examples.specs.Unreachable.{quoted}
 use Rattle.examples.proofs.unreachable.port_unreachable.Goals as goal
 

@@ -1,6 +1,6 @@
 use Rattle.std.proofs.Common.{refl, subst, arith}
-use Rattle.wirebase.specs.Ipv6.{IsPacket}
-use Rattle.wirebase.proofs.ByteParts.{number_of-small}
+use Rattle.control_wire.specs.Ipv6.{IsPacket}
+use Rattle.control_wire.proofs.ByteParts.{number_of-small}
 use Rattle.examples.proofs.unreachable.read_datagram_v6.Goals as goal
 
 pub returns-in-Err-clause-complete : goal.returns-in-Err-clause-complete
