@@ -22,11 +22,11 @@ use Rattle.dhcp_wire.proofs.Dhcpv4Lists.{list-options, options-unique}
 
 -- ---- the last word of each
 
-or-assoc : {A : Type 0} (a b c : Option A) → option_or a (option_or b c) ≡ option_or (option_or a b) c
+pub or-assoc : {A : Type 0} (a b c : Option A) → option_or a (option_or b c) ≡ option_or (option_or a b) c
 or-assoc None b c = refl
 or-assoc (Some x) b c = refl
 
-or-none : {A : Type 0} (a : Option A) → option_or a None ≡ a
+pub or-none : {A : Type 0} (a : Option A) → option_or a None ≡ a
 or-none None = refl
 or-none (Some x) = refl
 

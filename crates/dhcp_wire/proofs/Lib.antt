@@ -3,3 +3,8 @@ pub mod Dhcpv4Writes
 pub mod Dhcpv4Text
 pub mod Dhcpv4Addresses
 pub mod Dhcpv4Kept
+pub mod Dhcpv4Emission
+pub mod Dhcpv4Lengths
+pub mod Dhcpv4Reading
+pub mod Dhcpv4Canonical
+pub mod Dhcpv4Laws

@@ -4,3 +4,5 @@ pub mod Dhcpv4Options
 pub mod Dhcpv4Packet
 pub mod Dhcpv4Tables
 pub mod Dhcpv4Writer
+pub mod Dhcpv4Format
+pub mod Dhcpv4Emission

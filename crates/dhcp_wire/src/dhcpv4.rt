@@ -1,5 +1,6 @@
 //! The Dynamic Host Configuration Protocol (RFC 2131) with its options (RFC 2132).
 
+mod emission;
 mod found;
 mod kinds;
 mod options;
@@ -42,3 +43,6 @@ pub const CLIENT_PORT: u16 = 68;
 
 /// The greatest number of DNS servers that a value holds.
 pub const MAX_DNS_SERVER_COUNT: usize = 5;
+
+#[cfg(test)]
+mod tests;

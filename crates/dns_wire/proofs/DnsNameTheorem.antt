@@ -9,6 +9,7 @@ use Rattle.dns_wire.specs.DnsName.{IsBrokenPath, joined, Follows, HasPath}
 use Rattle.dns_wire.specs.DnsNameAhead.{Front, whole, pointer, stop, torn, front_of, by_front, answers, ahead_of}
 use Rattle.dns_wire.specs.DnsNameWalk.{Coming, at_end, at_fault, in_windows, whole_name, broken_name, FollowsOnly}
 use Rattle.dns_wire.specs.DnsNameWalk.{IsWalkOver}
+use Rattle.dns_wire.proofs.DnsNameLabels.{name_gives, gives_name}
 use Rattle.dns_wire.proofs.DnsNameTurns.{whole_parts, Whole-front, Whole-length, Points-front, Points-length}
 use Rattle.dns_wire.proofs.DnsNameTurns.{parts_length}
 use Rattle.dns_wire.proofs.DnsNameParts.{part_one, label_front, after_first_label}
@@ -211,5 +212,10 @@ walks_over text message = record {
   complete = gives_complete text message;
   follows = complete_follows text message;
   broken = gives_broken text message;
+  names = λ labels. (
+    gives_name text message (ahead_of false 0 text message) (either_path text message) (gives_complete text message)
+        (gives_broken text message) labels,
+    name_gives text message (ahead_of false 0 text message) (gives_complete text message) labels,
+  );
   linear = is_linear text message;
 }

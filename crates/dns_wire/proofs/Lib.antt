@@ -3,6 +3,7 @@ pub mod DnsNameGiving
 pub mod DnsNameParts
 pub mod DnsNameRoutes
 pub mod DnsNamePaths
+pub mod DnsNameLabels
 pub mod DnsNameTheorem
 pub mod DnsNameRanges
 pub mod DnsPartLen

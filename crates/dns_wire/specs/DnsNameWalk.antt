@@ -1,10 +1,10 @@
 -- The walk over a name: what a caller sees of it, and what it gives.
 use Rattle.std.specs.Prelude.{◌≡◌, ℕ, ◌+◌, ◌*◌, ◌≤◌, Bool, true, false, if◌then◌else◌, List, [], ◌∷◌, ◌++◌, length}
-use Rattle.std.specs.Prelude.{Option, None, Some, Result, Ok, Err, slice_get}
+use Rattle.std.specs.Prelude.{◌↔◌, Option, None, Some, Result, Ok, Err, slice_get}
 use Rattle.std.specs.Borrow.{Bor}
 use Rattle.std.specs.List.{AllByRecursion}
 use Rattle.wirebase.specs.declared.error.Error.{Error}
-use Rattle.dns_wire.specs.DnsName.{IsCompletePath, IsBrokenPath, HasPath, Follows, joined}
+use Rattle.dns_wire.specs.DnsName.{IsCompletePath, IsBrokenPath, IsName, HasPath, Follows, joined}
 
 -- ---- what a caller sees
 
@@ -56,6 +56,12 @@ abbrev pub items_in : List Coming → ℕ
 items_in [] = 0
 items_in (c ∷ cs) = if is_ending c.answer then 0 else items_in cs + 1
 
+-- these labels come, and then the end
+abbrev pub Gives : List Coming → List (List ℕ) → Type 0
+Gives [] labels = ⊥
+Gives (c ∷ cs) [] = c.answer ≡ ending
+Gives (c ∷ cs) (bytes ∷ more) = (c.answer ≡ label bytes) × Gives cs more
+
 -- ---- what it gives
 
 -- The labels of window i, where n labels stand before them: after the n-th label, in window i, there were n + i steps.
@@ -84,7 +90,8 @@ FollowsOnly message text labels =
 -- The walk over the name that begins in a text and may go on in a message. It has taken no step. There is a complete
 -- path, or else a broken one. On a complete path it gives the labels and then the end, and these are the labels that
 -- following finds; on a broken path it gives the labels before the break, one error, and then the end. No answer
--- comes after more than half as many steps as there are bytes.
+-- comes after more than half as many steps as there are bytes. So it gives labels and then the end exactly where the
+-- name has these labels.
 pub record IsWalkOver (text message : List ℕ) (walk : Walk) : Type 0 where
   pub start : walk.steps ≡ 0
   pub either : HasPath text message
@@ -94,4 +101,5 @@ pub record IsWalkOver (text message : List ℕ) (walk : Walk) : Type 0 where
       → IsCompletePath text message targets parts → FollowsOnly message text (joined parts)
   pub broken : (targets : List ℕ) (parts : List (List (List ℕ))) (front : List (List ℕ))
       → IsBrokenPath text message targets parts front → walk.ahead ≡ broken_name targets (parts ++ front ∷ [])
+  pub names : (labels : List (List ℕ)) → Gives walk.ahead labels ↔ IsName text message labels
   pub linear : AllByRecursion (λ c. 2 * c.steps ≤ length text + length message) walk.ahead

@@ -5,3 +5,7 @@ pub mod Icmpv6Texts
 pub mod MldFormat
 pub mod MldRecords
 pub mod MldTexts
+pub mod NdiscFormat
+pub mod NdiscReading
+pub mod NdiscTexts
+pub mod NdiscTiling

@@ -1,16 +1,15 @@
 -- The texts of messages of multicast listener discovery, and their lengths; bytes are one message at the most.
-use Rattle.std.proofs.Common.{◌≡◌, ◌↔◌, ◌≤◌, ℕ, suc, ◌*◌, Bool, true, false, IsTrue, List, [], ◌∷◌, ◌++◌, length, refl}
+use Rattle.std.proofs.Common.{◌≡◌, ◌↔◌, ◌≤◌, ℕ, ◌*◌, Bool, true, false, IsTrue, List, [], ◌∷◌, ◌++◌, length, refl}
 use Rattle.std.proofs.Common.{sym, ap, ◌∙◌, arith, length-append}
-use Rattle.std.proofs.lemmas.List.{append-nil}
+use Rattle.std.proofs.lemmas.List.{append-nil, length-map}
 use Rattle.byteorder.specs.Endian.{big_bytes}
 use Rattle.wirebase.specs.ByteWriter.{be8, be16, fields}
 use Rattle.wirebase.specs.Ipv6Address.{octets_of}
 use Rattle.wirebase.specs.declared.ipv6.address.Ipv6Address.{Ipv6Address}
 use Rattle.wirebase.proofs.Ipv6Header.{same_address}
-use Rattle.icmp6_wire.specs.Mld.{MldValue, values_of, query, report, records, sqrv, query_fields, report_fields}
+use Rattle.icmp6_wire.specs.Mld.{MldValue, query, report, records, sqrv, query_fields, report_fields}
 use Rattle.icmp6_wire.specs.Mld.{record_texts as texts_of, text, text_len, IsMessage}
 use Rattle.icmp6_wire.specs.MldRecord.{RecordValue, text as record_text}
-use Rattle.icmp6_wire.specs.declared.mld.record.AddressRecordRepr.{AddressRecordRepr}
 use Rattle.icmp6_wire.proofs.MldRecords.{length-text as length-record}
 
 pub ruleset record_texts = (length-record)
@@ -30,11 +29,6 @@ report_text count rest = refl
 length-data : (d : List ℕ) → length (fields (d ∷ [])) ≡ length d
 unfolding fields
 length-data d = ap length (append-nil d)
-
--- as many values as records
-pub length-values : (rs : List AddressRecordRepr) → length (values_of rs) ≡ length rs
-length-values [] = refl
-length-values (r ∷ rs) = ap (λ (n : ℕ). suc n) (length-values rs)
 
 pub length-records : (rs : List RecordValue) → length (fields (texts_of rs)) ≡ 20 * length rs
 unfolding fields
@@ -60,7 +54,7 @@ text_some (report count d) = omega arith
 text_some (records rs) = omega arith
 
 -- how many records there are, and how many bytes a message takes
-pub ruleset counts = (length-values, length-text)
+pub ruleset counts = (length-map, length-text)
 
 -- ---- one message at the most
 

@@ -1,14 +1,6 @@
--- ICMPv6 messages (RFC 4443).
---
---  0                   1                   2                   3
---  0 1 2 3 4 5 6 7 8 9 0 1 2 3 4 5 6 7 8 9 0 1 2 3 4 5 6 7 8 9 0 1
--- +---------------+---------------+-------------------------------+
--- |     type      |     code      |           checksum            |
--- +---------------+---------------+-------------------------------+
--- |          identifier           |        sequence number        |  an echo; of an error zero, the largest packet or
--- +-------------------------------+-------------------------------+  the pointer
--- | data: of an error, the IPv6 header that it speaks of and the data behind it
--- +- - - -
+-- ICMPv6 messages (RFC 4443), whose header and echoes are those of ICMP in wirebase. The word behind the checksum is,
+-- of an error, zero, the largest packet or the pointer; behind the header stands the IPv6 header that an error speaks
+-- of, and the data behind that.
 use Rattle.std.specs.Prelude.{◌≡◌, ◌≢◌, ℕ, ◌+◌, ◌≤◌, ◌<◌, ◌^◌, min, true, List, [], ◌∷◌, length, drop, take}
 use Rattle.wirebase.specs.declared.capabilities.ChecksumCapabilities.{ChecksumCapabilities}
 use Rattle.wirebase.specs.declared.capabilities.Checksum.TheVariants.{Rx}

@@ -1,12 +1,5 @@
--- The view of an ICMPv6 message (RFC 4443 section 2.1).
---
---  0                   1                   2                   3
---  0 1 2 3 4 5 6 7 8 9 0 1 2 3 4 5 6 7 8 9 0 1 2 3 4 5 6 7 8 9 0 1
--- +---------------+---------------+-------------------------------+
--- |     type      |     code      |           checksum            |
--- +---------------+---------------+-------------------------------+
--- |                            by type                            |
--- +- - - -
+-- The view of an ICMPv6 message (RFC 4443 section 2.1), whose header is that of ICMP in wirebase; what the word behind
+-- the checksum is goes by the type.
 use Rattle.std.specs.Prelude.{◌≡◌, ℕ, ◌%◌, ◌^◌, ◌≤◌, Bool, true, false, List, [], ◌∷◌, length, drop}
 use Rattle.std.specs.Borrow.{Bor}
 use Rattle.wirebase.specs.Bytes.{Field, field, Reaches, Writes, byte_of, with_field}

@@ -5,5 +5,8 @@ pub mod Mld
 pub mod MldPacket
 pub mod MldRecord
 pub mod MldTables
+pub mod Ndisc
+pub mod NdiscBlocks
+pub mod NdiscFound
 pub mod NdiscPacket
 pub mod NdiscTables

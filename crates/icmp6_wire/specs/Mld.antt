@@ -1,5 +1,5 @@
 -- Messages of multicast listener discovery, version 2 (RFC 3810 section 5).
-use Rattle.std.specs.Prelude.{◌≡◌, ◌↔◌, ℕ, ◌+◌, ◌*◌, ◌^◌, ◌<◌, ◌≤◌, Bool, IsTrue, List, [], ◌∷◌, length, drop}
+use Rattle.std.specs.Prelude.{◌≡◌, ◌↔◌, ℕ, ◌+◌, ◌*◌, ◌^◌, ◌<◌, ◌≤◌, Bool, IsTrue, List, [], ◌∷◌, length, drop, map}
 use Rattle.std.specs.Prelude.{if◌then◌else◌}
 use Rattle.std.specs.List.{AllByRecursion}
 use Rattle.wirebase.specs.Bytes.{Reaches, byte_of, bytes_of, number_of, over}
@@ -25,8 +25,7 @@ pub data MldValue : Type 0 where
   records : List RecordValue → MldValue
 
 abbrev pub values_of : List AddressRecordRepr → List RecordValue
-values_of [] = []
-values_of (r ∷ rs) = a_record.value_of r ∷ values_of rs
+values_of rs = map a_record.value_of rs
 
 abbrev pub value_of : Repr → MldValue
 value_of (repr.Query code group flag qrv qqic sources d) = query code group flag qrv qqic sources d.now
@@ -53,8 +52,7 @@ report_fields count rest = be8 0x8f ∷ be8 0 ∷ be16 0 ∷ be16 0 ∷ be16 cou
 
 -- the text of each record
 abbrev pub record_texts : List RecordValue → List (List ℕ)
-record_texts [] = []
-record_texts (r ∷ rs) = a_record.text r ∷ record_texts rs
+record_texts rs = map a_record.text rs
 
 abbrev pub message_fields : MldValue → List (List ℕ)
 message_fields (query code group flag qrv qqic sources d) = query_fields code group flag qrv qqic sources d
@@ -76,8 +74,7 @@ told_len v = text_len v
 
 -- all records are of groups
 abbrev pub AreGroups : List RecordValue → Type 0
-AreGroups [] = Unit {0}
-AreGroups (r ∷ rs) = IsMulticast (group_of r) × AreGroups rs
+AreGroups rs = AllByRecursion (λ r. IsMulticast (group_of r)) rs
 
 -- What is asked of a message and of the octets that it is written into: they are just its length; a query's robustness
 -- variable has three bits; records are of groups, and their number has two bytes.

@@ -15,15 +15,7 @@ const MAX_ERROR_PACKET_LEN: usize = IPV6_MIN_MTU - IPV6_HEADER_LEN;
 
 const MAX_QUOTED_DATA: usize = MAX_ERROR_PACKET_LEN - field::HEADER_END - IPV6_HEADER_LEN;
 
-// A message (RFC 4443 section 2.1), and what follows by its type.
-//
-// +---------------+---------------+-------------------------------+
-// |     type      |     code      |           checksum            |
-// +---------------+---------------+-------------------------------+
-// |  unused, largest packet, pointer; or identifier and sequence  |
-// +---------------------------------------------------------------+
-// | data
-// +- - - -
+// The fields of a message; the picture of their header is in specs/Icmp.antt of wirebase.
 pub(crate) mod field {
     use wirebase::Field;
 

@@ -16,26 +16,13 @@ use bitflags::Flags as _;
 use wirebase::{Duration, Ipv6Address, Octets, OctetsMut};
 
 mod flags;
+mod found;
+mod repr;
 
 pub use flags::{NeighborFlags, RouterFlags};
+pub use repr::Repr;
 
-// The fields behind the checksum (RFC 4861 section 4).
-//
-// +---------------+---------------+-------------------------------+
-// |   hop limit   |     flags     |        router lifetime        |  a router advertisement
-// +---------------+---------------+-------------------------------+
-// |                         reachable time                        |
-// +---------------------------------------------------------------+
-// |                        retransmit time                        |
-// +---------------------------------------------------------------+
-//
-// +---------------+-----------------------------------------------+
-// |     flags     |                   reserved                    |  neighbor messages and redirects
-// +---------------+-----------------------------------------------+
-// |                    target address, 16 bytes                   |
-// +---------------------------------------------------------------+
-// |                  destination address, 16 bytes                |  a redirect
-// +---------------------------------------------------------------+
+// The fields behind the checksum (RFC 4861 section 4); their picture is in specs/NdiscPacket.antt.
 mod field {
     use wirebase::Field;
 
@@ -50,6 +37,9 @@ mod field {
     pub const RETRANS_TIME: Field = 12..16;
 
     pub const NEIGHBOR_FLAGS: Field = 4..5;
+
+    // The end of the word that is reserved in solicitations and redirects.
+    pub const RESERVED_END: usize = 8;
 
     pub const TARGET_ADDR: Field = 8..24;
 

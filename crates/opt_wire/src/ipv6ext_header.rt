@@ -13,11 +13,7 @@ ghost use Rattle.opt_wire.specs.contracts.ipv6ext_header.Header.{the_row};
 
 use wirebase::{ByteWriter, Error, IPV6_HBH_MAX_OPTIONS, IpProtocol, Octets, OctetsMut, Result};
 
-// A header.
-//
-// +---------------+---------------+- - - - - - - - - - - - - - - -
-// |  next header  |    length     | payload: the bytes up to 8 * length + 8
-// +---------------+---------------+- - - - - - - - - - - - - - - -
+// The fields of a header; their picture is in specs/Ipv6ExtHeader.antt.
 mod field {
     use wirebase::Field;
 

@@ -30,23 +30,7 @@ pub const IPV6_HEADER_LEN: usize = field::DST_ADDR.end;
 /// The bytes of a packet that every link can carry whole (RFC 8200 section 5).
 pub const IPV6_MIN_MTU: usize = 1280;
 
-// The header (RFC 8200 section 3).
-//
-//  0                   1                   2                   3
-//  0 1 2 3 4 5 6 7 8 9 0 1 2 3 4 5 6 7 8 9 0 1 2 3 4 5 6 7 8 9 0 1
-// +-------+---------------+---------------------------------------+
-// |version| traffic class |              flow label               |
-// +-------+---------------+-------+---------------+---------------+
-// |        payload length         |  next header  |   hop limit   |
-// +-------------------------------+---------------+---------------+
-// |                                                               |
-// |                  source address, 16 bytes                     |
-// |                                                               |
-// +---------------------------------------------------------------+
-// |                                                               |
-// |                destination address, 16 bytes                  |
-// |                                                               |
-// +---------------------------------------------------------------+
+// The fields of the header (RFC 8200 section 3); their picture is in specs/Ipv6.antt.
 mod field {
     use crate::octets::Field;
 

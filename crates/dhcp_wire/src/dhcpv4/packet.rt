@@ -3,36 +3,26 @@
 
 ghost use Rattle.std.specs.Prelude.{◌≡◌, ◌≤◌, ◌<◌, ◌↔◌, [], ◌∷◌, List, ℕ, length, take, slice_index, IsTrue, IsOk};
 ghost use Rattle.std.specs.Prelude.{IfOk, OnErr, IsOkAnd, replicate};
+ghost use Rattle.std.specs.Borrow.{sem, follows, Array, u8 as byte};
 ghost use Rattle.std.specs.Int.RustNames.{bit_and};
 ghost use Rattle.byteorder.specs.Endian.{big_bytes};
-ghost use Rattle.wirebase.specs.Bytes.{Reaches, byte_of, bytes_of, number_of};
+ghost use Rattle.wirebase.specs.Bytes.{Reaches, byte_of, bytes_of, number_of, splice};
 ghost use Rattle.wirebase.specs.Ethernet.{octets_of as ethernet_octets};
 ghost use Rattle.wirebase.specs.Hardware.{hardware_number, hardware_of};
 ghost use Rattle.wirebase.specs.Ipv4.{octets_of};
-ghost use Rattle.dhcp_wire.specs.Dhcpv4Packet.{inner, Sets, KeepsLen, op_field, htype_field, hlen_field, hops_field};
+ghost use Rattle.dhcp_wire.specs.Dhcpv4Packet.{inner, with_inner, Sets, KeepsLen, op_field, htype_field, hlen_field};
+ghost use Rattle.dhcp_wire.specs.Dhcpv4Packet.{hops_field};
 ghost use Rattle.dhcp_wire.specs.Dhcpv4Packet.{xid_field, secs_field, flags_field, ciaddr_field, yiaddr_field};
 ghost use Rattle.dhcp_wire.specs.Dhcpv4Packet.{siaddr_field, giaddr_field, chaddr_field, sname_field, file_field};
 ghost use Rattle.dhcp_wire.specs.Dhcpv4Packet.{names_field, magic_field, options_in, HasNoZero, IsTextIn};
 ghost use Rattle.dhcp_wire.specs.Dhcpv4Tables.{opcode_number, opcode_of, flag_bits};
 
-use super::options::OptionsIter;
+use super::options::{DhcpOptionWriter, OptionsIter};
 use super::tables::{Flags, OpCode};
 use bitflags::Flags as _;
 use wirebase::{Error, EthernetAddress, Hardware, Ipv4Address, Octets, OctetsMut, Result};
 
-// A packet (RFC 2131 section 2).
-//
-// +---------------+---------------+---------------+---------------+
-// |      op       |     htype     |     hlen      |     hops      |
-// +---------------+---------------+---------------+---------------+
-// |                              xid                              |
-// +-------------------------------+-------------------------------+
-// |             secs              |             flags             |
-// +-------------------------------+-------------------------------+
-// |  ciaddr, yiaddr, siaddr, giaddr: four bytes each              |
-// +---------------------------------------------------------------+
-// |  chaddr, sname and file, magic cookie, options
-// +- - - - -
+// The fields of a packet (RFC 2131 section 2); their picture is in specs/Dhcpv4Packet.antt.
 pub(super) mod field {
     use wirebase::Field;
 
@@ -74,7 +64,7 @@ pub(super) mod field {
 /// A view of the octets of a packet.
 #[derive(Debug, Clone, Copy)]
 pub struct Packet<T: Octets> {
-    buffer: T,
+    pub(super) buffer: T,
 }
 
 /// Views are equal exactly when their octets are.
@@ -294,6 +284,9 @@ impl<'a> Packet<&'a [u8]> {
 }
 
 impl<T: OctetsMut> Packet<T> {
+    ghost use Rattle.dhcp_wire.specs.Dhcpv4Writer.{settled, free, the_slice};
+    ghost use Rattle.dhcp_wire.specs.contracts.dhcpv4.packet.Packet.{the_row};
+
     /// Writes zeros for the names of a server and of a file to start from. Asks 236 bytes.
     pub fn set_sname_and_boot_file_to_zero(&mut self)
         requires { Reaches names_field (T.bytes (inner self.old)) }
@@ -421,6 +414,20 @@ impl<T: OctetsMut> Packet<T> {
         ensures len { KeepsLen T.bytes self.old self.new }
     {
         self.buffer.set_u16(field::FLAGS, value.bits());
+    }
+
+    /// A writer over the options: over all octets from 240 on, which are free. What it leaves there the view then
+    /// holds. Asks 240 bytes.
+    pub fn options_mut(&mut self) -> DhcpOptionWriter<'_>
+        requires { Reaches magic_field (T.bytes (inner self.old)) }
+        ensures* lends { sem 𝓛 (follows (the_row T.row) (Array byte 0) self.entry.ghost_name
+            (the_slice result) (λ w. with_inner self.old (T.put (inner self.old)
+            (splice (T.bytes (inner self.old)) 240 (length (T.bytes (inner self.old))) w)))) }
+        ensures settled { settled result ≡ [] }
+        ensures free { free result ≡ options_in (T.bytes (inner self.old)) }
+    {
+        let len = self.buffer.octets().len();
+        DhcpOptionWriter::new(self.buffer.range_mut(field::OPTIONS, len))
     }
 }
 

@@ -3,8 +3,10 @@
 
 ghost use Rattle.std.specs.Prelude.{◌≡◌, ◌≤◌, ◌↔◌, length, IsOk, IfOk, IsOkAnd};
 ghost use Rattle.dhcp_wire.specs.Dhcpv4.{Value, value_of, has_broadcast, HasHeader, IsPacket};
+ghost use Rattle.dhcp_wire.specs.Dhcpv4Format.{format};
 ghost use Rattle.dhcp_wire.specs.Dhcpv4Found.{kept_of, IsMadeOf};
 ghost use Rattle.wirebase.specs.Bytes.{number_of};
+ghost use Rattle.wirebase.specs.Format.{Rewrites};
 ghost use Rattle.dhcp_wire.specs.Dhcpv4Packet.{inner, flags_field};
 
 use super::MAX_DNS_SERVER_COUNT;
@@ -14,7 +16,7 @@ use super::packet::Packet;
 use super::tables::{Flags, MessageType};
 use arrayvec::ArrayVec;
 use bitflags::Flags as _;
-use wirebase::{Error, EthernetAddress, Hardware, Ipv4Address, Result};
+use wirebase::{Error, EthernetAddress, Hardware, Ipv4Address, Result, are_bytes};
 
 /// What a packet says (RFC 2131 section 2), with the options that a client or a server asks for (RFC 2132).
 #[derive(Debug, PartialEq, Eq, Clone, Drop)]
@@ -64,9 +66,9 @@ pub struct Repr<'a> {
 }
 
 // The bytes of an address of Ethernet, and the number before the options (RFC 2131 section 3).
-const ETHERNET_LEN: u8 = 6;
+pub(super) const ETHERNET_LEN: u8 = 6;
 
-const MAGIC_NUMBER: u32 = 0x6382_5363;
+pub(super) const MAGIC_NUMBER: u32 = 0x6382_5363;
 
 impl<'a> Repr<'a> {
     /// What a packet says. Refused where the octets are fewer than 240; where the hardware is not Ethernet, or the
@@ -74,6 +76,18 @@ impl<'a> Repr<'a> {
     /// a type of message that has the operation of the packet. Every field that an option gives is that of the last
     /// option of its kind and length; other options are not read.
     pub fn parse(packet: &Packet<&'a [u8]>) -> Result<Repr<'a>>
+        ensures sound { IfOk result (λ repr. IsPacket (inner packet.now).now (value_of repr)) }
+        ensures complete { (value : Value) → IsPacket (inner packet.now).now value
+            → IsOkAnd result (λ repr. value_of repr ≡ value) }
+        ensures rewrites { length (inner packet.now).now ≤ 65515
+            → IfOk result (λ repr. Rewrites format (value_of repr)) }
+    {
+        are_bytes(packet.buffer);
+        Repr::read(packet)
+    }
+
+    // What a packet says.
+    fn read(packet: &Packet<&'a [u8]>) -> Result<Repr<'a>>
         ensures sound { IfOk result (λ repr. IsPacket (inner packet.now).now (value_of repr)) }
         ensures complete { (value : Value) → IsPacket (inner packet.now).now value
             → IsOkAnd result (λ repr. value_of repr ≡ value) }
@@ -141,3 +155,6 @@ fn check_header(packet: &Packet<&[u8]>) -> Result<()>
     }
     Ok(())
 }
+
+#[cfg(test)]
+mod tests;

@@ -18,17 +18,7 @@ use crate::dns::tables::{Flags, Opcode, Rcode};
 use bitflags::Flags as _;
 use wirebase::{Error, Octets, OctetsMut, Result};
 
-// The header of a message (RFC 1035 section 4.1.1).
-//
-// +-------------------------------+-+-------+-------------+-------+
-// |        transaction id         |R| opcode|    flags    | rcode |
-// +-------------------------------+-+-------+-------------+-------+
-// |           questions           |            answers            |
-// +-------------------------------+-------------------------------+
-// |      authority records        |      additional records       |
-// +-------------------------------+-------------------------------+
-// | questions and records
-// +- - - -
+// The fields of the header (RFC 1035 section 4.1.1); their picture is in specs/DnsPacket.antt.
 mod field {
     use wirebase::Field;
 

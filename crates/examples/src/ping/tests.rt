@@ -1,4 +1,5 @@
-use super::answer;
+use super::{answer, answer_v6};
+use wirebase::Ipv6Address;
 
 // An echo request with identifier 0x1234, sequence number 0xabcd and four bytes, and its reply.
 const REQUEST: [u8; 12] = [
@@ -29,4 +30,26 @@ fn what_is_no_good_request_or_has_no_room_is_not_answered(rt: HostRuntime) {
     let mut short = [0x2a; 11];
     assert_eq!(rt; answer(&REQUEST, &mut short), None);
     assert_eq!(rt; short.as_slice(), [0x2a; 11].as_slice());
+}
+
+#[test]
+fn echo_request_over_ipv6_is_answered_from_the_own_address(rt: HostRuntime) {
+    let peer = Ipv6Address::new(0xfe80, 0, 0, 0, 0, 0, 0, 1);
+    let own = Ipv6Address::new(0xfe80, 0, 0, 0, 0, 0, 0, 2);
+    let request = [
+        0x80, 0x00, 0x19, 0xb3, 0x12, 0x34, 0xab, 0xcd, 0xaa, 0x00, 0x00, 0xff,
+    ];
+    let mut reply = [0x2a; 14];
+    assert_eq!(rt;
+        answer_v6(&peer, &own, &own, &request, &mut reply),
+        Some(12)
+    );
+    let written = [
+        0x81, 0x00, 0x18, 0xb3, 0x12, 0x34, 0xab, 0xcd, 0xaa, 0x00, 0x00, 0xff, 0x2a, 0x2a,
+    ];
+    assert_eq!(rt; reply, written);
+    let mut short = [0x2a; 11];
+    assert_eq!(rt; answer_v6(&peer, &own, &own, &request, &mut short), None);
+    assert_eq!(rt; short, [0x2a; 11]);
+    assert_eq!(rt; answer_v6(&own, &own, &own, &request, &mut reply), None);
 }

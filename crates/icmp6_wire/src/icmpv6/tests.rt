@@ -1,8 +1,10 @@
 ghost use Rattle.std.specs.Prelude.{◌≡◌, ◌≤◌, ◌+◌, length};
 
 use super::{DstUnreachable, Message, Packet, ParamProblem, Repr, TimeExceeded};
+use std::fmt::Write;
 use std::test::Fail;
 use wirebase::capabilities::Checksum;
+use wirebase::failing_writer::FailingWriter;
 use wirebase::{ChecksumCapabilities, IpProtocol, Ipv6Address, Ipv6Repr};
 
 // The octets that stand in a buffer before it is written into.
@@ -132,6 +134,125 @@ fn errors_are_written_and_read(rt: HostRuntime) -> Result<(), Fail> {
 }
 
 #[test]
+fn echo_replies_are_written_and_read(rt: HostRuntime) {
+    let caps = all(Checksum::Both);
+    let mut wanted = ECHO;
+    wanted[0] = 0x81;
+    wanted[2] = 0x18;
+    for fill in FILLS {
+        let mut octets = [fill; 12];
+        let mut packet = Packet::new_unchecked(octets.as_mut_slice());
+        Repr::EchoReply {
+            ident: 0x1234,
+            seq_no: 0xabcd,
+            data: &[0xaa, 0x00, 0x00, 0xff],
+        }
+        .emit(&source(), &destination(), &mut packet, &caps);
+        assert_eq!(rt; octets.as_slice(), wanted.as_slice(), "over {fill}");
+    }
+    let packet = Packet::new_unchecked(wanted.as_slice());
+    assert!(rt;
+        Repr::parse(&source(), &destination(), &packet, &caps)
+            == Ok(Repr::EchoReply {
+                ident: 0x1234,
+                seq_no: 0xabcd,
+                data: &[0xaa, 0x00, 0x00, 0xff]
+            })
+    );
+}
+
+#[test]
+fn times_exceeded_are_written_and_read(rt: HostRuntime) {
+    let caps = all(Checksum::Both);
+    let data = QUOTED_DATA;
+    let mut wanted = TOO_BIG;
+    wanted[..8].copy_from_slice(&[0x03, 0x01, 0x14, 0xa4, 0x00, 0x00, 0x00, 0x00]);
+    for fill in FILLS {
+        let mut octets = [fill; 60];
+        let mut packet = Packet::new_unchecked(octets.as_mut_slice());
+        Repr::TimeExceeded {
+            reason: TimeExceeded::FragReassemExceeded,
+            header: quoted(),
+            data: &data,
+        }
+        .emit(&source(), &destination(), &mut packet, &caps);
+        assert_eq!(rt; octets.as_slice(), wanted.as_slice(), "over {fill}");
+    }
+    let packet = Packet::new_unchecked(wanted.as_slice());
+    assert!(rt;
+        Repr::parse(&source(), &destination(), &packet, &caps)
+            == Ok(Repr::TimeExceeded {
+                reason: TimeExceeded::FragReassemExceeded,
+                header: quoted(),
+                data: &data
+            })
+    );
+}
+
+#[test]
+fn parameter_problems_are_written_and_read(rt: HostRuntime) {
+    let caps = all(Checksum::Both);
+    let data = QUOTED_DATA;
+    let mut wanted = TOO_BIG;
+    wanted[..8].copy_from_slice(&[0x04, 0x01, 0x0f, 0x9c, 0x01, 0x02, 0x03, 0x06]);
+    for fill in FILLS {
+        let mut octets = [fill; 60];
+        let mut packet = Packet::new_unchecked(octets.as_mut_slice());
+        Repr::ParamProblem {
+            reason: ParamProblem::UnrecognizedNxtHdr,
+            pointer: 0x0102_0306,
+            header: quoted(),
+            data: &data,
+        }
+        .emit(&source(), &destination(), &mut packet, &caps);
+        assert_eq!(rt; octets.as_slice(), wanted.as_slice(), "over {fill}");
+    }
+    let packet = Packet::new_unchecked(wanted.as_slice());
+    assert!(rt;
+        Repr::parse(&source(), &destination(), &packet, &caps)
+            == Ok(Repr::ParamProblem {
+                reason: ParamProblem::UnrecognizedNxtHdr,
+                pointer: 0x0102_0306,
+                header: quoted(),
+                data: &data
+            })
+    );
+}
+
+#[test]
+fn errors_that_differ_past_what_they_quote_have_the_same_text(rt: HostRuntime) {
+    let caps = all(Checksum::Both);
+    let mut data = [0x11; 1194];
+    data[1192] = 0x12;
+    data[1193] = 0x13;
+    let one = Repr::DstUnreachable {
+        reason: DstUnreachable::PortUnreachable,
+        header: quoted(),
+        data: &data[..1192],
+    };
+    let other = Repr::DstUnreachable {
+        reason: DstUnreachable::PortUnreachable,
+        header: quoted(),
+        data: &data,
+    };
+    let mut written = [0; 1240];
+    one.emit_into(&source(), &destination(), &mut written, &caps);
+    let mut over = [0xff; 1240];
+    other.emit_into(&source(), &destination(), &mut over, &caps);
+    assert!(rt; one != other);
+    assert_eq!(rt; written.as_slice(), over.as_slice());
+    Repr::same_text(&one, &other, &source(), &destination(), &caps);
+    assert!(rt;
+        Repr::parse(
+            &source(),
+            &destination(),
+            &Packet::new_unchecked(written.as_slice()),
+            &caps
+        ) == Ok(one)
+    );
+}
+
+#[test]
 fn errors_quote_1192_bytes_at_the_most(rt: HostRuntime) -> Result<(), Fail> {
     let data = [0x11; 9999];
     for (count, len) in [(0, 48), (1, 49), (1192, 1240), (1193, 1240), (9999, 1240)] {
@@ -214,7 +335,7 @@ fn each_type_asks_its_header(rt: HostRuntime) -> Result<(), Fail> {
 }
 
 #[test]
-fn a_code_is_asked_of_echoes_and_packets_that_are_too_big(rt: HostRuntime) -> Result<(), Fail> {
+fn three_errors_have_any_code_and_the_others_code_0(rt: HostRuntime) -> Result<(), Fail> {
     let caps = all(Checksum::None);
     for code in 0..=255 {
         for (kind, any) in [
@@ -224,6 +345,8 @@ fn a_code_is_asked_of_echoes_and_packets_that_are_too_big(rt: HostRuntime) -> Re
             (4, true),
             (0x80, false),
             (0x81, false),
+            (0x82, false),
+            (0x8f, false),
         ] {
             let mut octets = TOO_BIG;
             octets[0] = kind;
@@ -360,5 +483,113 @@ fn classes_and_texts_of_types(rt: HostRuntime) -> Result<(), Fail> {
         text.as_str(),
         "source address failed ingress/egress policy"
     );
+    Ok(())
+}
+
+#[test]
+fn printing_fails_only_with_its_writer(rt: HostRuntime) {
+    let mut none = FailingWriter { left: 0 };
+    assert!(rt; write!(none, "{}", Message::EchoReply).is_err());
+    assert!(rt; write!(none, "{}", Message::Unknown(5)).is_err());
+    assert!(rt; write!(none, "{}", DstUnreachable::NoRoute).is_err());
+    assert!(rt; write!(none, "{}", ParamProblem::ErroneousHdrField).is_err());
+    assert!(rt; write!(none, "{}", TimeExceeded::HopLimitExceeded).is_err());
+    let mut five = FailingWriter { left: 5 };
+    assert!(rt; write!(five, "{}", Message::EchoReply).is_ok());
+    assert!(rt; write!(five, "{}", Message::Unknown(5)).is_ok());
+    assert!(rt; write!(five, "{}", DstUnreachable::NoRoute).is_ok());
+    assert!(rt; write!(five, "{}", ParamProblem::ErroneousHdrField).is_ok());
+    assert!(rt; write!(five, "{}", TimeExceeded::HopLimitExceeded).is_ok());
+    assert!(rt; write!(five, "{}", Message::EchoReply).is_err());
+}
+
+#[test]
+fn what_is_reserved_is_cleared(rt: HostRuntime) {
+    let mut octets = [0xff; 8];
+    octets[0] = 0x85;
+    Packet::new_unchecked(octets.as_mut_slice()).clear_reserved();
+    assert_eq!(rt; octets, [0x85, 0xff, 0xff, 0xff, 0, 0, 0, 0]);
+    let mut octets = [0xff; 9];
+    octets[0] = 0x87;
+    Packet::new_unchecked(octets.as_mut_slice()).clear_reserved();
+    assert_eq!(rt; octets, [0x87, 0xff, 0xff, 0xff, 0, 0, 0, 0, 0xff]);
+    let mut octets = [0xff; 9];
+    octets[0] = 0x88;
+    Packet::new_unchecked(octets.as_mut_slice()).clear_reserved();
+    assert_eq!(rt; octets, [0x88, 0xff, 0xff, 0xff, 0, 0, 0, 0, 0xff]);
+    let mut octets = [0xff; 9];
+    octets[0] = 0x89;
+    Packet::new_unchecked(octets.as_mut_slice()).clear_reserved();
+    assert_eq!(rt; octets, [0x89, 0xff, 0xff, 0xff, 0, 0, 0, 0, 0xff]);
+    let mut octets = [0xff; 6];
+    octets[0] = 0x8f;
+    Packet::new_unchecked(octets.as_mut_slice()).clear_reserved();
+    assert_eq!(rt; octets, [0x8f, 0xff, 0xff, 0xff, 0, 0]);
+}
+
+#[test]
+fn what_a_query_has_reserved_is_cleared(rt: HostRuntime) {
+    for byte in 0..=255 {
+        let mut octets = [0xff; 26];
+        octets[0] = 0x82;
+        octets[24] = byte;
+        Packet::new_unchecked(octets.as_mut_slice()).clear_reserved();
+        let mut wanted = [0xff; 26];
+        wanted[0] = 0x82;
+        wanted[6] = 0;
+        wanted[7] = 0;
+        wanted[24] = byte & 0x0f;
+        assert_eq!(rt; octets, wanted, "byte {byte}");
+    }
+}
+
+#[test]
+fn fields_are_set_and_read(rt: HostRuntime) {
+    let mut octets = [0x2a; 9];
+    let mut packet = Packet::new_unchecked(octets.as_mut_slice());
+    packet.set_msg_type(Message::EchoReply);
+    packet.set_msg_code(0x01);
+    packet.set_checksum(0x1234);
+    packet.set_echo_ident(0x5678);
+    packet.set_echo_seq_no(0x9abc);
+    assert_eq!(rt; packet.msg_type(), Message::EchoReply);
+    assert_eq!(rt; packet.msg_code(), 0x01);
+    assert_eq!(rt; packet.checksum(), 0x1234);
+    assert_eq!(rt; packet.echo_ident(), 0x5678);
+    assert_eq!(rt; packet.echo_seq_no(), 0x9abc);
+    assert_eq!(rt;
+        packet.as_ref(),
+        [0x81, 0x01, 0x12, 0x34, 0x56, 0x78, 0x9a, 0xbc, 0x2a].as_slice()
+    );
+    packet.set_pkt_too_big_mtu(0x0102_0304);
+    assert_eq!(rt; packet.pkt_too_big_mtu(), 0x0102_0304);
+    packet.set_param_problem_ptr(0x0506_0708);
+    assert_eq!(rt; packet.param_problem_ptr(), 0x0506_0708);
+    assert_eq!(rt;
+        &*packet.into_inner(),
+        [0x81, 0x01, 0x12, 0x34, 0x05, 0x06, 0x07, 0x08, 0x2a].as_slice()
+    );
+}
+
+#[test]
+fn checksums_and_what_stands_behind_the_header(rt: HostRuntime) -> Result<(), Fail> {
+    let mut octets = ECHO;
+    let mut packet = Packet::new_unchecked(octets.as_mut_slice());
+    packet.payload_mut().fill(0xff);
+    let written = [
+        0x80, 0x00, 0x19, 0xb3, 0x12, 0x34, 0xab, 0xcd, 0xff, 0xff, 0xff, 0xff,
+    ];
+    assert_eq!(rt; &*packet.into_inner(), written.as_slice());
+    let mut octets = ECHO;
+    octets[2] = 0;
+    let mut packet = Packet::new_unchecked(octets.as_mut_slice());
+    assert!(rt; !packet.verify_checksum(&source(), &destination()));
+    packet.fill_checksum(&source(), &destination());
+    assert!(rt; packet.verify_checksum(&source(), &destination()));
+    assert_eq!(rt; &*packet.into_inner(), ECHO.as_slice());
+    let octets = ECHO;
+    let packet = Packet::new_checked(octets.as_slice())?;
+    assert!(rt; packet == Packet::new_unchecked(octets.as_slice()));
+    assert!(rt; packet != Packet::new_unchecked(&octets[..11]));
     Ok(())
 }

@@ -93,9 +93,8 @@ impl<'a> Repr<'a> {
         ensures { result ≡ told_len (value_of self.now) }
     {
         match self {
-            Repr::Query { data, .. } => field::QUERY_NUM_SRCS.end + data.len(),
-            Repr::Report { data, .. } => field::NR_MCAST_RCRDS.end + data.len(),
             Repr::ReportRecordReprs(_) => field::NR_MCAST_RCRDS.end,
+            _ => self.packet_len(),
         }
     }
 

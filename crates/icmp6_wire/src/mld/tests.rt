@@ -1,9 +1,11 @@
 ghost use Rattle.std.specs.Prelude.{◌≡◌};
 
 use super::{AddressRecord, AddressRecordRepr, RecordType, Repr};
-use crate::icmpv6::Packet;
+use crate::icmpv6::{self, Packet};
 use std::test::Fail;
-use wirebase::{IPV6_LINK_LOCAL_ALL_NODES, IPV6_LINK_LOCAL_ALL_ROUTERS, Ipv6Address};
+use wirebase::{
+    ChecksumCapabilities, IPV6_LINK_LOCAL_ALL_NODES, IPV6_LINK_LOCAL_ALL_ROUTERS, Ipv6Address,
+};
 
 // The octets that stand in a buffer before it is written into.
 const FILLS: [u8; 4] = [0x00, 0xff, 0x2a, 0xa5];
@@ -18,6 +20,13 @@ const QUERY: [u8; 44] = [
 // A report of one record: a host excludes no source of ff02::2 from now on.
 const REPORT: [u8; 28] = [
     0x8f, 0x00, 0x00, 0x00, 0x00, 0x00, 0x00, 0x01, 0x04, 0x00, 0x00, 0x00, 0xff, 0x02, 0x00, 0x00,
+    0x00, 0x00, 0x00, 0x00, 0x00, 0x00, 0x00, 0x00, 0x00, 0x00, 0x00, 0x02,
+];
+
+// A report from ff02::1 to ff02::2, with its checksum: a host includes one source of ff02::1, ff02::2.
+const SOURCE_REPORT: [u8; 44] = [
+    0x8f, 0x00, 0x73, 0x85, 0x00, 0x00, 0x00, 0x01, 0x01, 0x00, 0x00, 0x01, 0xff, 0x02, 0x00, 0x00,
+    0x00, 0x00, 0x00, 0x00, 0x00, 0x00, 0x00, 0x00, 0x00, 0x00, 0x00, 0x01, 0xff, 0x02, 0x00, 0x00,
     0x00, 0x00, 0x00, 0x00, 0x00, 0x00, 0x00, 0x00, 0x00, 0x00, 0x00, 0x02,
 ];
 
@@ -42,6 +51,7 @@ fn queries_are_written_and_read(rt: HostRuntime) -> Result<(), Fail> {
     let packet = Packet::new_unchecked(octets.as_slice());
     assert!(rt; Repr::parse(&packet) == Ok(query));
     assert_eq!(rt; query.buffer_len(), 44);
+    assert_eq!(rt; query.packet_len(), 44);
     for len in 0..28 {
         let packet = Packet::new_unchecked(&octets[..len]);
         assert!(rt; Repr::parse(&packet).is_err(), "{len} bytes");
@@ -74,7 +84,15 @@ fn reports_are_written_and_read(rt: HostRuntime) -> Result<(), Fail> {
     let packet = Packet::new_unchecked(octets.as_slice());
     assert!(rt; Repr::parse(&packet) == Ok(report));
     assert_eq!(rt; report.buffer_len(), 28);
+    assert_eq!(rt; report.packet_len(), 28);
     assert_eq!(rt; by_records.buffer_len(), 8);
+    assert_eq!(rt; by_records.packet_len(), 28);
+    for len in 0..8 {
+        let packet = Packet::new_unchecked(&octets[..len]);
+        assert!(rt; Repr::parse(&packet).is_err(), "{len} bytes");
+    }
+    let packet = Packet::new_unchecked(&octets[..8]);
+    assert!(rt; Repr::parse(&packet).is_ok());
     Ok(())
 }
 
@@ -131,4 +149,251 @@ fn records_are_read_by_their_first_20_bytes(rt: HostRuntime) -> Result<(), Fail>
         assert_eq!(rt; written[20], fill, "over {fill}");
     }
     Ok(())
+}
+
+#[test]
+fn queries_inside_icmpv6_have_a_checksum(rt: HostRuntime) {
+    let caps = ChecksumCapabilities::default();
+    let mut sealed = QUERY;
+    sealed[2] = 0x73;
+    sealed[3] = 0x74;
+    let octets = QUERY;
+    let query = icmpv6::Repr::Mld(Repr::Query {
+        max_resp_code: 0x400,
+        mcast_addr: IPV6_LINK_LOCAL_ALL_NODES,
+        s_flag: true,
+        qrv: 2,
+        qqic: 0x12,
+        num_srcs: 1,
+        data: &octets[28..],
+    });
+    assert_eq!(rt; query.buffer_len(), 44);
+    assert_eq!(rt; query.packet_len(), 44);
+    for fill in FILLS {
+        let mut written = [fill; 44];
+        query.emit(
+            &IPV6_LINK_LOCAL_ALL_NODES,
+            &IPV6_LINK_LOCAL_ALL_ROUTERS,
+            &mut Packet::new_unchecked(written.as_mut_slice()),
+            &caps,
+        );
+        assert_eq!(rt; written.as_slice(), sealed.as_slice(), "over {fill}");
+    }
+    let read = icmpv6::Repr::parse(
+        &IPV6_LINK_LOCAL_ALL_NODES,
+        &IPV6_LINK_LOCAL_ALL_ROUTERS,
+        &Packet::new_unchecked(sealed.as_slice()),
+        &caps,
+    );
+    assert!(rt; read == Ok(query));
+    let read = icmpv6::Repr::parse(
+        &IPV6_LINK_LOCAL_ALL_NODES,
+        &IPV6_LINK_LOCAL_ALL_ROUTERS,
+        &Packet::new_unchecked(octets.as_slice()),
+        &caps,
+    );
+    assert!(rt; read.is_err(), "no checksum");
+}
+
+#[test]
+fn reports_inside_icmpv6_have_a_checksum(rt: HostRuntime) {
+    let caps = ChecksumCapabilities::default();
+    let octets = SOURCE_REPORT;
+    let report = icmpv6::Repr::Mld(Repr::Report {
+        nr_mcast_addr_rcrds: 1,
+        data: &octets[8..],
+    });
+    assert_eq!(rt; report.buffer_len(), 44);
+    assert_eq!(rt; report.packet_len(), 44);
+    for fill in FILLS {
+        let mut written = [fill; 44];
+        report.emit(
+            &IPV6_LINK_LOCAL_ALL_NODES,
+            &IPV6_LINK_LOCAL_ALL_ROUTERS,
+            &mut Packet::new_unchecked(written.as_mut_slice()),
+            &caps,
+        );
+        assert_eq!(rt; written.as_slice(), octets.as_slice(), "over {fill}");
+    }
+    let read = icmpv6::Repr::parse(
+        &IPV6_LINK_LOCAL_ALL_NODES,
+        &IPV6_LINK_LOCAL_ALL_ROUTERS,
+        &Packet::new_unchecked(octets.as_slice()),
+        &caps,
+    );
+    assert!(rt; read == Ok(report));
+}
+
+#[test]
+fn a_list_of_records_is_read_back_as_a_report(rt: HostRuntime) {
+    let caps = ChecksumCapabilities::ignored();
+    let octets = REPORT;
+    let records = [AddressRecordRepr::new(
+        RecordType::ChangeToExclude,
+        IPV6_LINK_LOCAL_ALL_ROUTERS,
+    )];
+    let by_records = icmpv6::Repr::Mld(Repr::ReportRecordReprs(&records));
+    assert_eq!(rt; by_records.buffer_len(), 8);
+    assert_eq!(rt; by_records.packet_len(), 28);
+    for fill in FILLS {
+        let mut written = [fill; 28];
+        by_records.emit(
+            &Ipv6Address::UNSPECIFIED,
+            &Ipv6Address::UNSPECIFIED,
+            &mut Packet::new_unchecked(written.as_mut_slice()),
+            &caps,
+        );
+        assert_eq!(rt; written.as_slice(), octets.as_slice(), "over {fill}");
+    }
+    let read = icmpv6::Repr::parse(
+        &Ipv6Address::UNSPECIFIED,
+        &Ipv6Address::UNSPECIFIED,
+        &Packet::new_unchecked(octets.as_slice()),
+        &caps,
+    );
+    let report = icmpv6::Repr::Mld(Repr::Report {
+        nr_mcast_addr_rcrds: 1,
+        data: &octets[8..],
+    });
+    assert!(rt; read == Ok(report));
+}
+
+#[test]
+fn records_are_written_in_their_order(rt: HostRuntime) {
+    let octets = [
+        0x8f, 0x00, 0x00, 0x00, 0x00, 0x00, 0x00, 0x02, 0x02, 0x01, 0x02, 0x03, 0xff, 0x02, 0x00,
+        0x00, 0x00, 0x00, 0x00, 0x00, 0x00, 0x00, 0x00, 0x00, 0x00, 0x00, 0x00, 0x01, 0x07, 0x00,
+        0x00, 0x00, 0xff, 0x02, 0x00, 0x00, 0x00, 0x00, 0x00, 0x00, 0x00, 0x00, 0x00, 0x00, 0x00,
+        0x00, 0x00, 0x02,
+    ];
+    let records = [
+        AddressRecordRepr {
+            record_type: RecordType::ModeIsExclude,
+            aux_data_len: 1,
+            num_srcs: 0x0203,
+            mcast_addr: IPV6_LINK_LOCAL_ALL_NODES,
+            payload: &[0xaa],
+        },
+        AddressRecordRepr::new(RecordType::Unknown(7), IPV6_LINK_LOCAL_ALL_ROUTERS),
+    ];
+    let report = Repr::ReportRecordReprs(&records);
+    assert_eq!(rt; report.packet_len(), 48);
+    for fill in FILLS {
+        let mut written = [fill; 48];
+        report.emit(&mut Packet::new_unchecked(written.as_mut_slice()));
+        assert_eq!(rt; written.as_slice(), octets.as_slice(), "over {fill}");
+    }
+    let report = Repr::ReportRecordReprs(&[]);
+    assert_eq!(rt; report.packet_len(), 8);
+    for fill in FILLS {
+        let mut written = [fill; 8];
+        report.emit(&mut Packet::new_unchecked(written.as_mut_slice()));
+        assert_eq!(rt; written, [0x8f, 0, 0, 0, 0, 0, 0, 0], "over {fill}");
+    }
+}
+
+#[test]
+fn a_report_of_300_records(rt: HostRuntime) {
+    let record = AddressRecordRepr::new(RecordType::ModeIsExclude, IPV6_LINK_LOCAL_ALL_NODES);
+    let records = [record; 300];
+    let report = Repr::ReportRecordReprs(&records);
+    assert_eq!(rt; report.buffer_len(), 8);
+    assert_eq!(rt; report.packet_len(), 6008);
+    let mut octets = [0x2a; 6008];
+    report.emit(&mut Packet::new_unchecked(octets.as_mut_slice()));
+    let head = [0x8f, 0x00, 0x00, 0x00, 0x00, 0x00, 0x01, 0x2c];
+    let one = [
+        0x02, 0, 0, 0, 0xff, 0x02, 0, 0, 0, 0, 0, 0, 0, 0, 0, 0, 0, 0, 0, 0x01,
+    ];
+    for (at, byte) in octets.iter().enumerate() {
+        let wanted = if at < 8 { head[at] } else { one[(at - 8) % 20] };
+        assert_eq!(rt; *byte, wanted, "byte {at}");
+    }
+}
+
+#[test]
+fn fields_of_queries_and_reports(rt: HostRuntime) {
+    let mut octets = [0x2a; 28];
+    let mut packet = Packet::new_unchecked(octets.as_mut_slice());
+    packet.set_max_resp_code(0x0102);
+    packet.set_mcast_addr(IPV6_LINK_LOCAL_ALL_ROUTERS);
+    packet.set_qqic(0x12);
+    packet.set_num_srcs(0x0304);
+    assert_eq!(rt; packet.max_resp_code(), 0x0102);
+    assert_eq!(rt; packet.mcast_addr(), IPV6_LINK_LOCAL_ALL_ROUTERS);
+    assert_eq!(rt; packet.qqic(), 0x12);
+    assert_eq!(rt; packet.num_srcs(), 0x0304);
+    let written = [
+        0x2a, 0x2a, 0x2a, 0x2a, 0x01, 0x02, 0x2a, 0x2a, 0xff, 0x02, 0, 0, 0, 0, 0, 0, 0, 0, 0, 0,
+        0, 0, 0, 0x02, 0x2a, 0x12, 0x03, 0x04,
+    ];
+    assert_eq!(rt; octets, written);
+    let mut octets = [0x2a; 8];
+    let mut packet = Packet::new_unchecked(octets.as_mut_slice());
+    packet.set_nr_mcast_addr_rcrds(0x0102);
+    assert_eq!(rt; packet.nr_mcast_addr_rcrds(), 0x0102);
+    assert_eq!(rt; octets, [0x2a, 0x2a, 0x2a, 0x2a, 0x2a, 0x2a, 0x01, 0x02]);
+}
+
+#[test]
+fn fields_of_records(rt: HostRuntime) -> Result<(), Fail> {
+    let mut octets = [0x2a; 22];
+    let mut record = AddressRecord::new_checked(octets.as_mut_slice())?;
+    record.set_record_type(RecordType::BlockOldSources);
+    record.set_aux_data_len(0x01);
+    record.set_num_srcs(0x0203);
+    record.set_mcast_addr(IPV6_LINK_LOCAL_ALL_NODES);
+    assert_eq!(rt; record.record_type(), RecordType::BlockOldSources);
+    assert_eq!(rt; record.aux_data_len(), 0x01);
+    assert_eq!(rt; record.num_srcs(), 0x0203);
+    assert_eq!(rt; record.mcast_addr(), IPV6_LINK_LOCAL_ALL_NODES);
+    record.payload_mut().copy_from_slice(&[0xaa, 0xbb]);
+    let written = [
+        0x06, 0x01, 0x02, 0x03, 0xff, 0x02, 0, 0, 0, 0, 0, 0, 0, 0, 0, 0, 0, 0, 0, 0x01, 0xaa, 0xbb,
+    ];
+    assert_eq!(rt; &*record.into_inner(), written.as_slice());
+    let record = AddressRecord::new_unchecked(written.as_slice());
+    assert_eq!(rt; record.payload(), [0xaa, 0xbb].as_slice());
+    assert!(rt; record == AddressRecord::new_unchecked(written.as_slice()));
+    assert!(rt; record != AddressRecord::new_unchecked(&written[..21]));
+    Ok(())
+}
+
+#[test]
+fn equal_texts_have_equal_normal_forms(rt: HostRuntime) {
+    let records = [AddressRecordRepr::new(
+        RecordType::ChangeToExclude,
+        IPV6_LINK_LOCAL_ALL_ROUTERS,
+    )];
+    let by_records = Repr::ReportRecordReprs(&records);
+    let octets = REPORT;
+    let report = Repr::Report {
+        nr_mcast_addr_rcrds: 1,
+        data: &octets[8..],
+    };
+    let other = Repr::Report {
+        nr_mcast_addr_rcrds: 2,
+        data: &octets[8..],
+    };
+    let mut one = [0; 28];
+    by_records.emit_into(&mut one);
+    let mut two = [0; 28];
+    report.emit_into(&mut two);
+    let mut three = [0; 28];
+    other.emit_into(&mut three);
+    assert_eq!(rt; one, two);
+    assert!(rt; two != three);
+    assert!(rt; by_records != report, "another value of the same text");
+    Repr::same_text(&by_records, &report);
+    Repr::same_text(&report, &other);
+    let with_payload = AddressRecordRepr {
+        payload: &[0xaa],
+        ..records[0]
+    };
+    let mut one = [0; 20];
+    records[0].emit_into(&mut one);
+    let mut two = [0; 20];
+    with_payload.emit_into(&mut two);
+    assert_eq!(rt; one, two);
+    AddressRecordRepr::same_text(&records[0], &with_payload);
 }

@@ -1,0 +1,34 @@
+//! A message of either ICMP.
+
+ghost use Rattle.std.specs.Prelude.{◌≡◌};
+
+use icmp4_wire::icmpv4;
+use icmp6_wire::icmpv6;
+
+/// A message of ICMP over IPv4 (RFC 792) or over IPv6 (RFC 4443).
+#[derive(Debug, PartialEq, Eq, Clone, Copy)]
+pub enum Repr<'a> {
+    Ipv4(icmpv4::Repr<'a>),
+    Ipv6(icmpv6::Repr<'a>),
+}
+
+impl<'a> From<icmpv4::Repr<'a>> for Repr<'a> {
+    /// The same message.
+    fn from(message: icmpv4::Repr<'a>) -> Repr<'a>
+        ensures { result ≡ Repr.Ipv4 message.entry }
+    {
+        Repr::Ipv4(message)
+    }
+}
+
+impl<'a> From<icmpv6::Repr<'a>> for Repr<'a> {
+    /// The same message.
+    fn from(message: icmpv6::Repr<'a>) -> Repr<'a>
+        ensures { result ≡ Repr.Ipv6 message.entry }
+    {
+        Repr::Ipv6(message)
+    }
+}
+
+#[cfg(test)]
+mod tests;

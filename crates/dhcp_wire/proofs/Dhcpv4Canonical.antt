@@ -1,0 +1,254 @@
+-- A value that was read is canonical: it can be written again.
+use Rattle.std.proofs.Common.{◌≡◌, ℕ, zero, suc, ◌+◌, ◌-◌, ◌*◌, ◌≤◌, ◌<◌, ◌^◌, Bool, true, false, cond, eqb, List, []}
+use Rattle.std.proofs.Common.{◌∷◌, ◌++◌, length, take, drop, flat_map, slice_index, Option, None, Some, refl, sym, ap}
+use Rattle.std.proofs.Common.{subst}
+use Rattle.std.proofs.Common.{◌∙◌, ◌⊎◌, inl, inr, arith, length-append}
+use Rattle.std.specs.Option.{option_map, option_or}
+use Rattle.std.proofs.lemmas.List.{append-nil, take-append-drop}
+use Rattle.std.proofs.lemmas.List.Concat.{flat_map-cons}
+use Rattle.byteorder.specs.Endian.{big_number}
+use Rattle.byteorder.specs.Numbers.{big_from-lt}
+use Rattle.wirebase.specs.Bytes.{IsBytes, part, byte_of}
+use Rattle.wirebase.specs.ByteWriter.{be8, be16, be32}
+use Rattle.wirebase.specs.Ethernet.{Ethernet}
+use Rattle.wirebase.specs.Ethernet.{octets_of as ethernet_octets}
+use Rattle.wirebase.specs.Ipv4.{octets_of}
+use Rattle.wirebase.specs.Numbered.{IsProper}
+use Rattle.wirebase.specs.declared.ipv4.Ipv4Address.{Ipv4Address}
+use Rattle.wirebase.proofs.ByteParts.{IsBytes-drop, IsBytes-front, IsBytes-rest}
+use Rattle.wirebase.proofs.Numbered.{case_in-proper}
+use Rattle.dhcp_wire.specs.declared.dhcpv4.tables.MessageType.{MessageType}
+use Rattle.dhcp_wire.specs.declared.dhcpv4.tables.MessageType.TheVariants as message
+use Rattle.dhcp_wire.specs.Dhcpv4.{Value, of_slot, of_slots, slots_of, options_of, options_text, header_text, text}
+use Rattle.dhcp_wire.specs.Dhcpv4.{last_of, said, of_len, number_in, whole_addresses, addresses_in, type_in, IsPacket}
+use Rattle.dhcp_wire.specs.Dhcpv4Format.{AllShort, AreAdditional, IsBelow, IsFew, IsCanonical, text_len}
+use Rattle.dhcp_wire.specs.Dhcpv4Options.{OptionValue, option, option_text, Options, none, ended, padded, lone, torn}
+use Rattle.dhcp_wire.specs.Dhcpv4Options.{goes_on}
+use Rattle.dhcp_wire.specs.Dhcpv4Packet.{op_field, options_in}
+use Rattle.dhcp_wire.specs.Dhcpv4Tables.{opcode_number, operation_of, message_number, message_of, message_rows}
+use Rattle.dhcp_wire.proofs.Dhcpv4Lengths.{octets-len, be16-len, be32-len, text_len-options, text_len-whole}
+
+-- ---- what holds of each option holds of the last
+
+-- an option of bytes that one byte counts
+abbrev IsSmall : OptionValue → Type 0
+IsSmall o = IsBytes o.body × (length o.body ≤ 255)
+
+abbrev AreSmall : List OptionValue → Type 0
+AreSmall [] = Unit {0}
+AreSmall (o ∷ os) = IsSmall o × AreSmall os
+
+small-options : {bytes : List ℕ} {os : List OptionValue} → Options bytes os → IsBytes bytes → AreSmall os
+small-options none are = tt
+small-options (ended rest e) are = tt
+small-options (padded rest tail e) are =
+    small-options tail (IsBytes-rest (0 ∷ []) rest (subst (λ (l : List ℕ). IsBytes l) e are))
+small-options (lone kind k e) are = tt
+small-options (torn kind n rest k short e) are = tt
+small-options (goes_on o rest k tail e) are =
+    let moved : IsBytes (option_text o ++ rest) = subst (λ (l : List ℕ). IsBytes l) e are in
+    let counted : length o.body < 256 = moved 1 in (
+      (IsBytes-front o.body rest (λ i. moved (suc (suc i))), omega (arith, counted)),
+      small-options tail (IsBytes-rest (option_text o) rest moved),
+    )
+
+last-or : {A : Type 0} (a b : Option A) (x : A) → option_or a b ≡ Some x → (a ≡ Some x) ⊎ (b ≡ Some x)
+last-or None b x e = inr e
+last-or (Some y) b x e = inl e
+
+last-holds : {A : Type 0} (says : OptionValue → Option A) (Q : A → Type 0)
+    → ((o : OptionValue) (x : A) → IsSmall o → says o ≡ Some x → Q x)
+    → (os : List OptionValue) (x : A) → AreSmall os → last_of says os ≡ Some x → Q x
+last-holds says Q each [] x h e = absurd (cc)
+last-holds says Q each (o ∷ os) x h e = elim (last-or (last_of says os) (says o) x e) as (λ _. Q x) [
+  | inl before ↦ last-holds says Q each os x h.1 before
+  | inr here ↦ each o x h.0 here
+]
+
+where-true : {A : Type 0} (b : Bool) (y : Option A) (x : A) → cond b y None ≡ Some x → y ≡ Some x
+where-true true y x e = e
+where-true false y x e = absurd (cc)
+
+number-some : (b : Bool) (d : List ℕ) (n x : ℕ) → option_map (big_number n) (cond b (Some d) None) ≡ Some x
+    → big_number n d ≡ x
+number-some true d n x e = cc
+number-some false d n x e = absurd (cc)
+
+-- ---- numbers
+
+number-small : (kind n : ℕ) (o : OptionValue) (x : ℕ) → IsSmall o → said kind (number_in n) o ≡ Some x → x < 256 ^ n
+number-small kind n o x small e =
+    let one : number_in n o.body ≡ Some x = where-true (eqb o.kind kind) (number_in n o.body) x e in
+    subst (λ (k : ℕ). k < 256 ^ n) (number-some (eqb (length o.body) n) o.body n x one) (big_from-lt 0 n o.body small.0)
+
+number-below : (kind n : ℕ) (os : List OptionValue) (a : Option ℕ) → AreSmall os
+    → a ≡ last_of (said kind (number_in n)) os → IsBelow (256 ^ n) a
+number-below kind n os None h e = tt
+number-below kind n os (Some x) h e =
+    last-holds (said kind (number_in n)) (λ k. k < 256 ^ n) (number-small kind n) os x h (sym e)
+
+part-small : (bytes : List ℕ) (i j n : ℕ) → IsBytes bytes → big_number n (part bytes i j) < 256 ^ n
+unfolding part
+part-small bytes i j n are =
+    let tail : List ℕ = drop i bytes in
+    let front : List ℕ = take (j - i) tail in
+    big_from-lt 0 n front (IsBytes-front front (drop (j - i) tail)
+    (subst (λ (l : List ℕ). IsBytes l) (sym (take-append-drop (j - i) tail)) (IsBytes-drop i bytes are)))
+
+-- ---- lists
+
+abbrev IsWithin : ℕ → Option (List ℕ) → Type 0
+IsWithin most None = Unit {0}
+IsWithin most (Some d) = length d ≤ most
+
+list-small : (kind : ℕ) (o : OptionValue) (x : List ℕ) → IsSmall o → said kind Some o ≡ Some x → length x ≤ 255
+list-small kind o x small e =
+    let one : Some o.body ≡ Some x = where-true (eqb o.kind kind) (Some o.body) x e in
+    let same : o.body ≡ x = cc in
+    subst (λ (l : List ℕ). length l ≤ 255) same small.1
+
+list-within : (kind : ℕ) (os : List OptionValue) (a : Option (List ℕ)) → AreSmall os → a ≡ last_of (said kind Some) os
+    → IsWithin 255 a
+list-within kind os None h e = tt
+list-within kind os (Some d) h e =
+    last-holds (said kind Some) (λ l. length l ≤ 255) (list-small kind) os d h (sym e)
+
+whole-len : (n : ℕ) (d : List ℕ) → length (whole_addresses n d) ≤ 4 * n
+unfolding whole_addresses
+whole-len zero d = omega arith
+whole-len (suc n) [] = omega arith
+whole-len (suc n) (a ∷ []) = omega arith
+whole-len (suc n) (a ∷ b ∷ []) = omega arith
+whole-len (suc n) (a ∷ b ∷ c ∷ []) = omega arith
+whole-len (suc n) (a ∷ b ∷ c ∷ d ∷ rest) = omega (arith, whole-len n rest)
+
+servers-small : (o : OptionValue) (x : List ℕ) → IsSmall o → said 6 addresses_in o ≡ Some x → length x ≤ 20
+servers-small o x small e =
+    let one : Some (whole_addresses 5 o.body) ≡ Some x =
+    where-true (eqb o.kind 6) (Some (whole_addresses 5 o.body)) x e in
+    let same : whole_addresses 5 o.body ≡ x = cc in
+    let most = whole-len 5 o.body in
+    subst (λ (l : List ℕ). length l ≤ 20) same (omega (arith, most))
+
+servers-few : (os : List OptionValue) (a : Option (List Ipv4Address)) → AreSmall os
+    → option_map (flat_map octets_of) a ≡ last_of (said 6 addresses_in) os → IsFew a
+servers-few os None h e = tt
+servers-few os (Some xs) h e =
+    let most : length (flat_map octets_of xs) ≤ 20 =
+    last-holds (said 6 addresses_in) (λ l. length l ≤ 20) servers-small os (flat_map octets_of xs) h (sym e) in
+    omega (arith, most, octets-len xs)
+
+servers-within : (a : Option (List Ipv4Address)) → IsFew a → IsWithin 20 (option_map (flat_map octets_of) a)
+servers-within None h = tt
+servers-within (Some xs) h = let few : length xs ≤ 5 = h in omega (arith, few, octets-len xs)
+
+map-within : {A : Type 0} (f : A → List ℕ) (n : ℕ) → ((x : A) → length (f x) ≡ n) → (a : Option A)
+    → IsWithin n (option_map f a)
+map-within f n long None = tt
+map-within f n long (Some x) = omega (arith, long x)
+
+-- ---- the type of a message
+
+is_unknown : MessageType → Bool
+is_unknown message.Discover = false
+is_unknown message.Offer = false
+is_unknown message.Request = false
+is_unknown message.Decline = false
+is_unknown message.Ack = false
+is_unknown message.Nak = false
+is_unknown message.Release = false
+is_unknown message.Inform = false
+is_unknown (message.Unknown n) = true
+
+named : (n : ℕ) → IsProper message.Unknown message_rows (message_of n)
+unfolding is_unknown
+named n = case_in-proper message_number message.Unknown (λ k. refl) is_unknown (λ k. refl) message_rows n refl
+
+type-small : (op : ℕ) (o : OptionValue) (t : MessageType) → IsSmall o → said 53 (type_in op) o ≡ Some t
+    → IsProper message.Unknown message_rows t
+type-small op o t small e =
+    let n : ℕ = slice_index o.body 0 in
+    let one : type_in op o.body ≡ Some t = where-true (eqb o.kind 53) (type_in op o.body) t e in
+    let two : Some (message_of n) ≡ Some t = where-true _ (Some (message_of n)) t one in
+    let same : message_of n ≡ t = cc in
+    subst (λ (m : MessageType). IsProper message.Unknown message_rows m) same (named n)
+
+-- ---- the options of the fields
+
+-- none has too much data, and all take so many bytes at most
+record Bounded (most : ℕ) (os : List OptionValue) : Type 0 where
+  short : AllShort os
+  len : length (options_text os) ≤ most
+
+bounded-none : Bounded 0 []
+unfolding options_text
+bounded-none = record { short = tt; len = omega arith }
+
+bounded-slot : (m n kind : ℕ) (body : Option (List ℕ)) (rest : List OptionValue) → m ≤ 255 → IsWithin m body
+    → Bounded n rest → Bounded (2 + m + n) (of_slot kind body rest)
+unfolding options_text
+bounded-slot m n kind None rest small h b = let len = b.len in record { short = b.short; len = omega (arith, len) }
+bounded-slot m n kind (Some d) rest small h b =
+    let few : length d ≤ m = h in
+    let len = b.len in
+    record {
+      short = (omega (arith, few, small), b.short);
+      len = omega (arith, few, len, length-append (option_text (option kind d)) (options_text rest));
+    }
+
+be8-len : (n : ℕ) → length (be8 n) ≤ 1
+unfolding be8
+be8-len n = omega arith
+
+bounded-slots : (v : Value) → IsWithin 255 v.parameter_request_list → IsFew v.dns_servers
+    → Bounded 337 (of_slots (slots_of v))
+bounded-slots v list few =
+    bounded-slot 1 334 53 (Some (be8 (message_number v.message_type))) _ (omega arith) (be8-len
+    (message_number v.message_type))
+    (bounded-slot 7 325 61 _ _ (omega arith)
+    (map-within (λ address. 1 ∷ ethernet_octets address) 7 (λ x. refl) v.client_identifier)
+    (bounded-slot 4 319 54 _ _ (omega arith) (map-within octets_of 4 (λ x. refl) v.server_identifier)
+    (bounded-slot 4 313 3 _ _ (omega arith) (map-within octets_of 4 (λ x. refl) v.router)
+    (bounded-slot 4 307 1 _ _ (omega arith) (map-within octets_of 4 (λ x. refl) v.subnet_mask)
+    (bounded-slot 4 301 50 _ _ (omega arith) (map-within octets_of 4 (λ x. refl) v.requested_ip)
+    (bounded-slot 2 297 57 _ _ (omega arith) (map-within be16 2 be16-len v.max_size)
+    (bounded-slot 4 291 51 _ _ (omega arith) (map-within be32 4 be32-len v.lease_duration)
+    (bounded-slot 4 285 58 _ _ (omega arith) (map-within be32 4 be32-len v.renew_duration)
+    (bounded-slot 4 279 59 _ _ (omega arith) (map-within be32 4 be32-len v.rebind_duration)
+    (bounded-slot 255 22 55 _ _ (omega arith) list
+    (bounded-slot 20 0 6 _ _ (omega arith) (servers-within v.dns_servers few) bounded-none)))))))))))
+
+text-bounded : (v : Value) → Bounded 337 (options_of v) → text_len v ≤ 65535
+text-bounded v b =
+    let len = b.len in
+    let whole : length (text v) ≤ 65535 = omega (arith, len, text_len-options v) in
+    subst (λ (n : ℕ). n ≤ 65535) (text_len-whole v) whole
+
+-- ---- a value that was read
+
+pub canonical-read : (bytes : List ℕ) (v : Value) → IsBytes bytes → IsPacket bytes v → IsCanonical v
+canonical-read bytes v are p =
+    let small : AreSmall p.options = small-options p.listed (IsBytes-drop 240 bytes are) in
+    let few : IsFew v.dns_servers = servers-few p.options v.dns_servers small p.dns_servers in
+    let list : IsWithin 255 v.parameter_request_list =
+    list-within 55 p.options v.parameter_request_list small p.parameter_request_list in
+    let alone : of_slots (slots_of v) ≡ options_of v =
+    sym (append-nil (of_slots (slots_of v)))
+    ∙ ap (λ (os : List OptionValue). of_slots (slots_of v) ++ os) (sym p.additional_options) in
+    let all : Bounded 337 (options_of v) =
+    subst (λ (os : List OptionValue). Bounded 337 os) alone (bounded-slots v list few) in
+    record {
+      whole = text-bounded v all;
+      short = all.short;
+      additional = subst (λ (os : List OptionValue). AreAdditional os) (sym p.additional_options) tt;
+      message_type =
+          last-holds (said 53 (type_in (byte_of op_field bytes))) (λ t. IsProper message.Unknown message_rows t)
+          (type-small (byte_of op_field bytes)) p.options v.message_type small p.message_type;
+      transaction_id = subst (λ (n : ℕ). n < 2 ^ 32) (sym p.transaction_id) (part-small bytes 4 8 4 are);
+      secs = subst (λ (n : ℕ). n < 2 ^ 16) (sym p.secs) (part-small bytes 8 10 2 are);
+      dns_servers = few;
+      max_size = number-below 57 2 p.options v.max_size small p.max_size;
+      lease_duration = number-below 51 4 p.options v.lease_duration small p.lease_duration;
+      renew_duration = number-below 58 4 p.options v.renew_duration small p.renew_duration;
+      rebind_duration = number-below 59 4 p.options v.rebind_duration small p.rebind_duration;
+    }

@@ -1,0 +1,59 @@
+-- What writing a value leaves, option by option: what a writer has settled, what is free, and whether all went well.
+use Rattle.std.specs.Prelude.{ℕ, ◌+◌, Bool, true, false, List, [], ◌∷◌, ◌++◌, length, drop, Option, None, Some, Result}
+use Rattle.std.specs.Prelude.{is_ok, ◌≡◌, ◌≤◌, ◌↔◌, IsOk, OnOk, OnErr}
+use Rattle.wirebase.specs.Bytes.{over}
+use Rattle.wirebase.specs.declared.error.Error.{Error}
+use Rattle.dhcp_wire.specs.declared.dhcpv4.options.DhcpOptionWriter.{DhcpOptionWriter}
+use Rattle.dhcp_wire.specs.Dhcpv4.{Slot, options_text}
+use Rattle.dhcp_wire.specs.Dhcpv4Format.{fits, texts_before, AllShort}
+use Rattle.dhcp_wire.specs.Dhcpv4Options.{OptionValue, option, option_text}
+use Rattle.dhcp_wire.specs.Dhcpv4Writer.{settled, free}
+
+-- What writing options and the end mark leaves where `old` stood.
+pub record WritesOptions (os : List OptionValue) (old : List ℕ) (result : Result (Unit {0}) Error)
+    (new : List ℕ) : Type 0
+  where
+    pub accepts : IsOk result ↔ (AllShort os × (length (options_text os ++ 255 ∷ []) ≤ length old))
+    pub ok : OnOk result (new ≡ over old (options_text os ++ 255 ∷ []))
+    pub refused : OnErr result (new ≡ over old (texts_before (length old) os))
+
+-- ---- the same, option by option
+
+-- what is settled, what is free, and whether nothing was refused so far
+pub record Progress : Type 0 where
+  pub settled_ : List ℕ
+  pub free_ : List ℕ
+  pub going : Bool
+
+abbrev pub at : List ℕ → List ℕ → Bool → Progress
+at s f going = record { settled_ = s; free_ = f; going = going }
+
+unfoldable pub progress : DhcpOptionWriter → Result (Unit {0}) Error → Progress
+progress w result = at (settled w) (free w) (is_ok result)
+
+-- one more option, where none was refused
+abbrev pub fitted : Bool → Progress → OptionValue → Progress
+fitted true p o = at (p.settled_ ++ option_text o) (drop (2 + length o.body) p.free_) true
+fitted false p o = at p.settled_ p.free_ false
+
+abbrev pub going_on : Bool → Progress → OptionValue → Progress
+going_on true p o = fitted (fits (length p.free_) o) p o
+going_on false p o = p
+
+unfoldable pub step : Progress → OptionValue → Progress
+step p o = going_on p.going p o
+
+abbrev pub slot_step : Progress → ℕ → Option (List ℕ) → Progress
+slot_step p kind None = p
+slot_step p kind (Some body) = step p (option kind body)
+
+unfoldable pub step_slot : Progress → Slot → Progress
+step_slot p s = slot_step p s.kind s.body
+
+abbrev pub steps : Progress → List Slot → Progress
+steps p [] = p
+steps p (s ∷ rest) = steps (step_slot p s) rest
+
+unfoldable pub step_all : Progress → List OptionValue → Progress
+step_all p [] = p
+step_all p (o ∷ os) = step_all (step p o) os

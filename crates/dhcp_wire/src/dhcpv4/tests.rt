@@ -1,0 +1,292 @@
+use super::{
+    CLIENT_PORT, DhcpOption, DhcpOptionWriter, Flags, MessageType, OPT_DHCP_MESSAGE_TYPE, OPT_END,
+    OPT_HOST_NAME, OPT_PAD, OPT_REBINDING_TIME_VALUE, OPT_RENEWAL_TIME_VALUE, OpCode, Packet,
+    SERVER_PORT,
+};
+use bitflags::Flags as _;
+use std::alloc::Global;
+use std::test::Fail;
+use wirebase::{Error, EthernetAddress, Hardware, Ipv4Address};
+
+// A packet of this operation, of Ethernet and with the cookie of DHCP, and these options behind it.
+fn packet(alloc: Global, op: u8, options: &[u8]) -> Result<Vec<u8>, Fail> {
+    let mut octets = Vec::from_slice(alloc, &[op, 1, 6, 0])?;
+    octets.extend_from_slice(&[0; 232])?;
+    octets.extend_from_slice(&[0x63, 0x82, 0x53, 0x63])?;
+    octets.extend_from_slice(options)?;
+    Ok(octets)
+}
+
+// The options of a packet with these bytes: the kind, the data and ee of each.
+fn listed(alloc: Global, bytes: &[u8]) -> Result<Vec<u8>, Fail> {
+    let octets = packet(alloc, 1, bytes)?;
+    let mut listed = Vec::new(alloc);
+    let Ok(view) = Packet::new_checked(octets.as_slice()) else {
+        return Ok(listed);
+    };
+    for option in view.options() {
+        listed.push(option.kind)?;
+        listed.extend_from_slice(option.data)?;
+        listed.push(0xee)?;
+    }
+    Ok(listed)
+}
+
+#[test]
+fn options_in_turn(rt: HostRuntime) -> Result<(), Fail> {
+    let rows: [(&[u8], &[u8]); 9] = [
+        (&[], &[]),
+        (&[0xff, 1, 0], &[]),
+        (&[0, 0, 12, 1, 0x61], &[12, 0x61, 0xee]),
+        (&[12], &[]),
+        (&[12, 2, 0x61], &[]),
+        (&[12, 0, 0xff, 12, 0], &[12, 0xee]),
+        (
+            &[12, 1, 0x61, 0, 13, 2, 0x62, 0x63, 0xff],
+            &[12, 0x61, 0xee, 13, 0x62, 0x63, 0xee],
+        ),
+        (&[12, 1, 0x61, 13, 2, 0x62], &[12, 0x61, 0xee]),
+        (&[0, 0xff], &[]),
+    ];
+    for (bytes, wanted) in rows {
+        let options = listed(rt.alloc(), bytes)?;
+        assert_eq!(rt; options.as_slice(), wanted, "{bytes:?}");
+    }
+    Ok(())
+}
+
+#[test]
+fn after_the_last_option_comes_the_end_for_good(rt: HostRuntime) -> Result<(), Fail> {
+    let octets = packet(rt.alloc(), 1, &[12, 0, 0xff, 12, 0])?;
+    let Ok(view) = Packet::new_checked(octets.as_slice()) else {
+        assert!(rt; false, "240 bytes are enough");
+        return Ok(());
+    };
+    let mut options = view.options();
+    assert!(rt; options.next().is_some());
+    assert!(rt; options.next().is_none());
+    assert!(rt; options.next().is_none());
+    Ok(())
+}
+
+#[test]
+fn a_thousand_bytes_of_padding_before_an_option(rt: HostRuntime) -> Result<(), Fail> {
+    let mut octets = packet(rt.alloc(), 1, &[0x35, 1, 1])?;
+    octets.extend_from_slice(&[0; 1000])?;
+    octets.extend_from_slice(&[0x01, 4, 0xff, 0xff, 0xff, 0x00])?;
+    let Ok(view) = Packet::new_checked(octets.as_slice()) else {
+        assert!(rt; false, "240 bytes are enough");
+        return Ok(());
+    };
+    let mut options = view.options();
+    assert_eq!(rt;
+        options.next(),
+        Some(DhcpOption {
+            kind: 53,
+            data: &[1]
+        })
+    );
+    assert_eq!(rt;
+        options.next(),
+        Some(DhcpOption {
+            kind: 1,
+            data: &[0xff, 0xff, 0xff, 0]
+        })
+    );
+    assert!(rt; options.next().is_none());
+    Ok(())
+}
+
+#[test]
+fn names_before_the_first_zero(rt: HostRuntime) -> Result<(), Fail> {
+    let rows: [(u8, u8, Option<&str>); 4] = [
+        (0x00, 0x00, None),
+        (0x61, 0x61, None),
+        (0xff, 0x00, None),
+        (0x61, 0x00, Some("a")),
+    ];
+    for (first, rest, wanted) in rows {
+        let mut octets = [rest; 240];
+        octets[34] = first;
+        octets[108] = first;
+        let Ok(view) = Packet::new_checked(&octets[..]) else {
+            assert!(rt; false, "240 bytes are enough");
+            return Ok(());
+        };
+        assert_eq!(rt; view.get_sname().ok(), wanted, "{first} {rest}");
+        assert_eq!(rt; view.get_boot_file().ok(), wanted, "{first} {rest}");
+    }
+    Ok(())
+}
+
+#[test]
+fn a_writer_and_its_refusals(rt: HostRuntime) -> Result<(), Fail> {
+    let name = DhcpOption {
+        kind: OPT_HOST_NAME,
+        data: b"ab",
+    };
+    for room in 0..=5 {
+        let mut octets = [0x2a; 5];
+        let mut writer = DhcpOptionWriter::new(&mut octets[..room]);
+        assert_eq!(rt; writer.emit(name).is_ok(), 4 <= room, "{room}");
+        assert_eq!(rt; writer.end().is_ok(), room != 0 && room != 4, "{room}");
+        assert_eq!(rt; writer.end(), Err(Error), "{room}");
+        assert_eq!(rt;
+            writer.emit(DhcpOption {
+                kind: 12,
+                data: b""
+            }),
+            Err(Error),
+            "{room}"
+        );
+        let wanted: [u8; 5] = match room {
+            0 => [0x2a; 5],
+            1 | 2 | 3 => [0xff, 0x2a, 0x2a, 0x2a, 0x2a],
+            4 => [12, 2, 0x61, 0x62, 0x2a],
+            _ => [12, 2, 0x61, 0x62, 0xff],
+        };
+        assert_eq!(rt; octets, wanted, "{room}");
+    }
+    Ok(())
+}
+
+#[test]
+fn a_writer_takes_255_bytes_of_data_and_no_more(rt: HostRuntime) -> Result<(), Fail> {
+    let data = [0x2a; 256];
+    let mut octets = [0; 600];
+    let mut writer = DhcpOptionWriter::new(&mut octets);
+    assert_eq!(rt;
+        writer.emit(DhcpOption {
+            kind: 12,
+            data: &data
+        }),
+        Err(Error)
+    );
+    assert_eq!(rt;
+        writer.emit(DhcpOption {
+            kind: 12,
+            data: &data[..255]
+        }),
+        Ok(())
+    );
+    assert_eq!(rt; writer.end(), Ok(()));
+    assert_eq!(rt; octets[1], 255);
+    assert_eq!(rt; octets[257], 0xff);
+    assert_eq!(rt; octets[258], 0);
+    Ok(())
+}
+
+#[test]
+fn fields_of_a_packet(rt: HostRuntime) -> Result<(), Fail> {
+    let mut octets = [0x2a; 250];
+    let mut view = Packet::new_unchecked(&mut octets[..]);
+    view.set_sname_and_boot_file_to_zero();
+    view.set_opcode(OpCode::Reply);
+    view.set_hardware_type(Hardware::Ethernet);
+    view.set_hardware_len(6);
+    view.set_hops(3);
+    view.set_transaction_id(0x0102_0304);
+    view.set_secs(0x0506);
+    view.set_flags(Flags::BROADCAST);
+    view.set_client_ip(Ipv4Address::new(10, 0, 0, 1));
+    view.set_your_ip(Ipv4Address::new(10, 0, 0, 2));
+    view.set_server_ip(Ipv4Address::new(10, 0, 0, 3));
+    view.set_relay_agent_ip(Ipv4Address::new(10, 0, 0, 4));
+    view.set_client_hardware_address(EthernetAddress([2, 3, 4, 5, 6, 7]));
+    view.set_magic_number(0x6382_5363);
+    let head: [u8; 34] = [
+        0x02, 0x01, 0x06, 0x03, 0x01, 0x02, 0x03, 0x04, 0x05, 0x06, 0x80, 0x00, 0x0a, 0x00, 0x00,
+        0x01, 0x0a, 0x00, 0x00, 0x02, 0x0a, 0x00, 0x00, 0x03, 0x0a, 0x00, 0x00, 0x04, 0x02, 0x03,
+        0x04, 0x05, 0x06, 0x07,
+    ];
+    let mut wanted = [0x2a; 250];
+    wanted[0..34].copy_from_slice(&head);
+    wanted[34..236].fill(0);
+    wanted[236..240].copy_from_slice(&[0x63, 0x82, 0x53, 0x63]);
+    assert_eq!(rt; octets, wanted);
+
+    let read = Packet::new_checked(&octets[..]);
+    let Ok(read) = read else {
+        assert!(rt; false, "240 bytes are enough");
+        return Ok(());
+    };
+    assert_eq!(rt; read.opcode(), OpCode::Reply);
+    assert_eq!(rt; read.hardware_type(), Hardware::Ethernet);
+    assert_eq!(rt; read.hardware_len(), 6);
+    assert_eq!(rt; read.hops(), 3);
+    assert_eq!(rt; read.transaction_id(), 0x0102_0304);
+    assert_eq!(rt; read.secs(), 0x0506);
+    assert_eq!(rt; read.flags(), Flags::BROADCAST);
+    assert_eq!(rt; read.client_ip(), Ipv4Address::new(10, 0, 0, 1));
+    assert_eq!(rt; read.your_ip(), Ipv4Address::new(10, 0, 0, 2));
+    assert_eq!(rt; read.server_ip(), Ipv4Address::new(10, 0, 0, 3));
+    assert_eq!(rt; read.relay_agent_ip(), Ipv4Address::new(10, 0, 0, 4));
+    assert_eq!(rt;
+        read.client_hardware_address(),
+        EthernetAddress([2, 3, 4, 5, 6, 7])
+    );
+    assert_eq!(rt; read.magic_number(), 0x6382_5363);
+    assert!(rt; read == read);
+    assert_eq!(rt; read.into_inner().len(), 250);
+    assert!(rt; Packet::new_checked(&[0; 239][..]).is_err());
+    Ok(())
+}
+
+#[test]
+fn numbers_of_operations_and_of_types_of_message(rt: HostRuntime) -> Result<(), Fail> {
+    let opcodes = [
+        (0, OpCode::Unknown(0)),
+        (1, OpCode::Request),
+        (2, OpCode::Reply),
+        (3, OpCode::Unknown(3)),
+    ];
+    for (number, opcode) in opcodes {
+        assert_eq!(rt; OpCode::from(number), opcode);
+        assert_eq!(rt; u8::from(opcode), number);
+    }
+    let types = [
+        (1, MessageType::Discover),
+        (2, MessageType::Offer),
+        (3, MessageType::Request),
+        (4, MessageType::Decline),
+        (5, MessageType::Ack),
+        (6, MessageType::Nak),
+        (7, MessageType::Release),
+        (8, MessageType::Inform),
+        (9, MessageType::Unknown(9)),
+        (0, MessageType::Unknown(0)),
+    ];
+    for (number, message) in types {
+        assert_eq!(rt; MessageType::from(number), message);
+        assert_eq!(rt; u8::from(message), number);
+    }
+    assert!(rt; MessageType::Inform < MessageType::Unknown(0));
+    assert_eq!(rt; Flags::all().bits(), 0x8000);
+    assert_eq!(rt; Flags::from_bits_truncate(0xffff), Flags::BROADCAST);
+    assert_eq!(rt; (!Flags::BROADCAST).bits(), 0);
+    assert_eq!(rt; [SERVER_PORT, CLIENT_PORT], [67, 68]);
+    assert_eq!(rt;
+        [OPT_PAD, OPT_DHCP_MESSAGE_TYPE, OPT_RENEWAL_TIME_VALUE],
+        [0, 53, 58]
+    );
+    assert_eq!(rt; [OPT_REBINDING_TIME_VALUE, OPT_END], [59, 255]);
+    Ok(())
+}
+
+#[test]
+fn options_written_into_a_view(rt: HostRuntime) -> Result<(), Fail> {
+    let mut octets = [0x2a; 245];
+    let mut view = Packet::new_unchecked(&mut octets[..]);
+    let mut options = view.options_mut();
+    let message_type = DhcpOption {
+        kind: OPT_DHCP_MESSAGE_TYPE,
+        data: &[1],
+    };
+    assert_eq!(rt; options.emit(message_type), Ok(()));
+    assert_eq!(rt; options.emit(message_type), Err(Error));
+    assert_eq!(rt; options.end(), Ok(()));
+    let mut wanted = [0x2a; 245];
+    wanted[240..244].copy_from_slice(&[0x35, 1, 1, 0xff]);
+    assert_eq!(rt; octets, wanted);
+    Ok(())
+}

@@ -1,0 +1,60 @@
+-- What a client of DHCP takes from a server's message (RFC 2131 section 4.4).
+use Rattle.std.specs.Prelude.{◌≡◌, ℕ, List, Option, Some}
+use Rattle.std.specs.Option.{option_map}
+use Rattle.wirebase.specs.Ethernet.{Ethernet}
+use Rattle.wirebase.specs.declared.ipv4.Ipv4Address.{Ipv4Address}
+use Rattle.dhcp_wire.specs.Dhcpv4.{Value, IsPacket}
+use Rattle.dhcp_wire.specs.declared.dhcpv4.repr.Repr.{Repr}
+use Rattle.dhcp_wire.specs.declared.dhcpv4.tables.MessageType.{MessageType}
+use Rattle.examples.specs.declared.lease.Lease.{Lease}
+
+-- what a client is given; times are in seconds
+pub record LeaseValue : Type 0 where
+  pub address : Ipv4Address
+  pub server : Ipv4Address
+  pub subnet_mask : Option Ipv4Address
+  pub router : Option Ipv4Address
+  pub dns_servers : Option (List Ipv4Address)
+  pub lease_duration : Option ℕ
+  pub renew_duration : Option ℕ
+  pub rebind_duration : Option ℕ
+
+abbrev pub value_of : Lease → LeaseValue
+value_of lease = record {
+  address = lease.address;
+  server = lease.server;
+  subnet_mask = lease.subnet_mask;
+  router = lease.router;
+  dns_servers = option_map (λ l. l.items) lease.dns_servers;
+  lease_duration = lease.lease_duration;
+  renew_duration = lease.renew_duration;
+  rebind_duration = lease.rebind_duration;
+}
+
+-- what a packet says that this server gives the client
+abbrev pub lease_of : Value → Ipv4Address → LeaseValue
+lease_of v server = record {
+  address = v.your_ip;
+  server = server;
+  subnet_mask = v.subnet_mask;
+  router = v.router;
+  dns_servers = v.dns_servers;
+  lease_duration = v.lease_duration;
+  renew_duration = v.renew_duration;
+  rebind_duration = v.rebind_duration;
+}
+
+-- a packet's value is of this type, exchange and client
+abbrev pub IsFor : Repr → MessageType → ℕ → Ethernet → Type 0
+IsFor repr kind id client =
+    (repr.message_type ≡ kind) × (repr.transaction_id ≡ id) × (repr.client_hardware_address ≡ client)
+
+-- The bytes are a packet of this type, exchange and client, which says that this is given and by which server.
+pub record Gives (bytes : List ℕ) (kind : MessageType) (id : ℕ) (client : Ethernet) (lease : LeaseValue) : Type 0 where
+  pub says : Value
+  pub packet : IsPacket bytes says
+  pub kind_ : says.message_type ≡ kind
+  pub exchange : says.transaction_id ≡ id
+  pub client_ : says.client_hardware_address ≡ client
+  pub server_ : says.server_identifier ≡ Some lease.server
+  pub is : lease ≡ lease_of says lease.server

@@ -1,0 +1,62 @@
+use super::read_lease;
+use dhcp_wire::dhcpv4::MessageType;
+use std::test::Fail;
+use wirebase::{EthernetAddress, Ipv4Address};
+
+// The header of an answer to the client 00:0b:82:01:fc:42 in exchange 0x00003d1d, with the address 192.168.0.10.
+const HEADER: [u8; 34] = [
+    0x02, 0x01, 0x06, 0x00, 0x00, 0x00, 0x3d, 0x1d, 0x00, 0x00, 0x00, 0x00, 0x00, 0x00, 0x00, 0x00,
+    0xc0, 0xa8, 0x00, 0x0a, 0xc0, 0xa8, 0x00, 0x01, 0x00, 0x00, 0x00, 0x00, 0x00, 0x0b, 0x82, 0x01,
+    0xfc, 0x42,
+];
+
+// The options of an offer: mask, renewal and rebinding times, lease, server, DNS servers, router.
+const OPTIONS: [u8; 58] = [
+    0x63, 0x82, 0x53, 0x63, 0x35, 0x01, 0x02, 0x01, 0x04, 0xff, 0xff, 0xff, 0x00, 0x3a, 0x04, 0x00,
+    0x00, 0x07, 0x08, 0x3b, 0x04, 0x00, 0x00, 0x0c, 0x4e, 0x33, 0x04, 0x00, 0x00, 0x0e, 0x10, 0x36,
+    0x04, 0xc0, 0xa8, 0x00, 0x01, 0x06, 0x08, 0x08, 0x08, 0x08, 0x08, 0x01, 0x01, 0x01, 0x01, 0x03,
+    0x04, 0xc0, 0xa8, 0x00, 0xfe, 0xff, 0x00, 0x00, 0x00, 0x00,
+];
+
+const CLIENT: [u8; 6] = [0x00, 0x0b, 0x82, 0x01, 0xfc, 0x42];
+
+fn offer() -> [u8; 294] {
+    let mut octets = [0; 294];
+    octets[..34].copy_from_slice(&HEADER);
+    octets[236..].copy_from_slice(&OPTIONS);
+    octets
+}
+
+#[test]
+fn an_offer_gives_all_that_it_says(rt: HostRuntime) -> Result<(), Fail> {
+    let client = EthernetAddress::from_bytes(&CLIENT);
+    let octets = offer();
+    let lease = read_lease(&octets, MessageType::Offer, 0x3d1d, client).ok_or("refused")?;
+    assert!(rt; lease.address == Ipv4Address::new(192, 168, 0, 10));
+    assert!(rt; lease.server == Ipv4Address::new(192, 168, 0, 1));
+    assert!(rt; lease.subnet_mask == Some(Ipv4Address::new(255, 255, 255, 0)));
+    assert!(rt; lease.router == Some(Ipv4Address::new(192, 168, 0, 254)));
+    assert_eq!(rt; lease.lease_duration, Some(3600));
+    assert_eq!(rt; lease.renew_duration, Some(1800));
+    assert_eq!(rt; lease.rebind_duration, Some(3150));
+    let servers = lease.dns_servers.ok_or("no DNS servers")?;
+    assert_eq!(rt; servers.len(), 2);
+    assert!(rt; servers.as_slice()[0] == Ipv4Address::new(8, 8, 8, 8));
+    assert!(rt; servers.as_slice()[1] == Ipv4Address::new(1, 1, 1, 1));
+    Ok(())
+}
+
+#[test]
+fn what_is_of_another_exchange_gives_nothing(rt: HostRuntime) {
+    let client = EthernetAddress::from_bytes(&CLIENT);
+    let other = EthernetAddress::from_bytes(&[0x00, 0x0b, 0x82, 0x01, 0xfc, 0x43]);
+    let octets = offer();
+    assert!(rt; read_lease(&octets, MessageType::Ack, 0x3d1d, client).is_none());
+    assert!(rt; read_lease(&octets, MessageType::Offer, 0x3d1e, client).is_none());
+    assert!(rt; read_lease(&octets, MessageType::Offer, 0x3d1d, other).is_none());
+    assert!(rt; read_lease(&HEADER, MessageType::Offer, 0x3d1d, client).is_none());
+    // without the server's identifier
+    let mut octets = octets;
+    octets[267] = 0x37;
+    assert!(rt; read_lease(&octets, MessageType::Offer, 0x3d1d, client).is_none());
+}

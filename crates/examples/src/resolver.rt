@@ -1,0 +1,236 @@
+//! A resolver: the query for a name, and the addresses that the response has for it (RFC 1035 section 4).
+//!
+//! A name is given as it is written in messages: labels of 1 to 63 bytes, each after its length, and byte 0. Names are
+//! equal where their labels are, byte by byte: a server gives a name back in the case in which it was asked.
+
+ghost use Rattle.std.specs.Prelude.{◌≡◌, ◌≤◌, ◌<◌, ◌↔◌, ℕ, List, length, take, IsTrue, IfSome, IsSome, IsSomeAnd, None};
+ghost use Rattle.wirebase.specs.Bytes.{Reaches};
+ghost use Rattle.dns_wire.specs.DnsName.{HaveSameLabels};
+ghost use Rattle.dns_wire.specs.DnsNameWalk.{answer_of, label, ending};
+ghost use Rattle.dns_wire.specs.DnsPacket.{view_octets, header};
+ghost use Rattle.dns_wire.specs.DnsRecord.{value_of};
+ghost use Rattle.dns_wire.specs.DnsRepr.{text, text_len, IsCanonical, IsQuery};
+ghost use Rattle.examples.specs.declared.resolver.Address.{Address};
+ghost use Rattle.examples.specs.Resolver.{query_for, TellsOfSuccess, Asks, IsSuccess, IsResponse, Search, search_of, turn_of};
+ghost use Rattle.examples.specs.Resolver.{Says, Finds};
+
+use bitflags::Flags as _;
+use dns_wire::dns::{Flags, Opcode, Packet, Question, Rcode, Record, RecordData, Repr, Type};
+use wirebase::{Ipv4Address, Ipv6Address, Result};
+
+/// An address of a name.
+#[derive(Debug, PartialEq, Eq, Clone, Copy)]
+pub enum Address {
+    V4(Ipv4Address),
+    V6(Ipv6Address),
+}
+
+/// Writes the query for the records of a type at a name over the front of the octets, and says how many bytes it
+/// takes. None exactly where they have no room; then they are as they were. Asks a name of at most 255 bytes (RFC 1035
+/// section 2.3.4).
+pub fn query(transaction_id: u16, name: &[u8], type_: Type, out: &mut [u8]) -> Option<usize>
+    requires { length name.now ≤ 255 }
+    ensures written { let query = query_for transaction_id name.now type_ in
+        text_len query ≤ length out.old → IsSomeAnd result (λ n. take n out.new ≡ text query) }
+    ensures read { let query = query_for transaction_id name.now type_ in
+        IsCanonical query → IfSome result (λ n. IsQuery (take n out.new) query) }
+    ensures unwritten { result ≡ None → out.new ≡ out.old }
+{
+    let question = Question { name, type_ };
+    let query = Repr {
+        transaction_id,
+        opcode: Opcode::Query,
+        flags: Flags::RECURSION_DESIRED,
+        question,
+    };
+    let len = query.buffer_len();
+    if out.len() < len {
+        return None;
+    }
+    query.emit_into(&mut out[..len]);
+    Some(len)
+}
+
+/// What is left to read of a response's answers, and the name whose addresses are sought in it.
+#[derive(Clone, Copy)]
+pub struct Answers<'a> {
+    pub message: &'a [u8],
+    pub name: &'a [u8],
+    pub left: u16,
+    pub bytes: &'a [u8],
+}
+
+/// The answers of the response to a query. None exactly where the octets are no response to it, or tell of a failure.
+pub fn read_answers<'a>(
+    message: &'a [u8],
+    transaction_id: u16,
+    name: &'a [u8],
+    type_: Type,
+) -> Option<Answers<'a>>
+    ensures response { IfSome result (λ answers.
+        IsResponse message.entry.now transaction_id name.entry.now type_ answers) }
+    ensures answers { (rest : List ℕ)
+        → IsSuccess message.entry.now transaction_id name.entry.now type_ rest → IsSome result }
+{
+    let packet = match Packet::new_checked(message) {
+        Ok(packet) => packet,
+        Err(_) => return None,
+    };
+    if !tells_of_success(&packet, transaction_id) {
+        return None;
+    }
+    let bytes = match after_question(message, name, type_) {
+        Some(bytes) => bytes,
+        None => return None,
+    };
+    Some(Answers {
+        message,
+        name,
+        left: packet.answer_record_count(),
+        bytes,
+    })
+}
+
+// Whether the header is that of the response to a query, and tells of success.
+fn tells_of_success(packet: &Packet<&[u8]>, transaction_id: u16) -> bool
+    requires { Reaches header (view_octets packet.now) }
+    ensures { IsTrue result ↔ TellsOfSuccess (view_octets packet.now) transaction_id }
+{
+    if packet.transaction_id() != transaction_id {
+        return false;
+    }
+    if !packet.flags().contains(Flags::RESPONSE) {
+        return false;
+    }
+    if packet.opcode() != Opcode::Query {
+        return false;
+    }
+    if packet.rcode() != Rcode::NoError {
+        return false;
+    }
+    packet.question_count() == 1
+}
+
+// What stands behind the question, where it is the one that was asked.
+fn after_question<'a>(message: &'a [u8], name: &'a [u8], type_: Type) -> Option<&'a [u8]>
+    requires { Reaches header message.now }
+    ensures asks { IfSome result (λ rest. Asks message.entry.now name.entry.now type_ rest.now) }
+    ensures all { (rest : List ℕ)
+        → Asks message.entry.now name.entry.now type_ rest → IsSome result }
+{
+    let packet = Packet::new_unchecked(message);
+    let (rest, question) = match Question::parse(packet.payload()) {
+        Ok(read) => read,
+        Err(_) => return None,
+    };
+    if question.type_ != type_ {
+        return None;
+    }
+    if !same_name(&packet, question.name, name) {
+        return None;
+    }
+    Some(rest)
+}
+
+/// The next address of the name, and what is left to read after it. None where no record has another.
+pub fn next_address(answers: Answers<'_>) -> Option<(Address, Answers<'_>)>
+    ensures found { IfSome result (λ next.
+        Finds answers.entry.message.now next.0 (search_of next.1) (search_of answers.entry)) }
+    ensures none { result ≡ None → (address : Address) (after : Search)
+        → Finds answers.entry.message.now address after (search_of answers.entry) → ⊥ }
+    ensures fewer { IfSome result (λ next. next.1.left < answers.entry.left) }
+{
+    let message = answers.message;
+    let packet = Packet::new_unchecked(message);
+    let mut name = answers.name;
+    let mut left = answers.left;
+    let mut bytes = answers.bytes;
+    'records: while left > 0 {
+        let (rest, record) = match Record::parse(bytes) {
+            Ok(read) => read,
+            Err(_) => return None,
+        };
+        left -= 1;
+        bytes = rest;
+        match read_turn(&packet, &record, name) {
+            Turn::Found(address) => {
+                let after = Answers {
+                    message,
+                    name,
+                    left,
+                    bytes,
+                };
+                return Some((address, after));
+            }
+            Turn::Sought(next) => name = next,
+        }
+    }
+    None
+}
+
+/// What a record says to who seeks a name's addresses: one of them, or for which name to go on.
+#[derive(Clone, Copy)]
+enum Turn<'a> {
+    Found(Address),
+    Sought(&'a [u8]),
+}
+
+// What the record says.
+fn read_turn<'a>(packet: &Packet<&'a [u8]>, record: &Record<'a>, name: &'a [u8]) -> Turn<'a>
+    ensures { Says (view_octets packet.entry.now) name.entry.now (value_of record.entry.now)
+        (turn_of result) }
+{
+    if !same_name(packet, record.name, name) {
+        return Turn::Sought(name);
+    }
+    match record.data {
+        RecordData::A(address) => Turn::Found(Address::V4(address)),
+        RecordData::Aaaa(address) => Turn::Found(Address::V6(address)),
+        RecordData::Cname(alias_of) => Turn::Sought(alias_of),
+        RecordData::Other(_, _) => Turn::Sought(name),
+    }
+}
+
+/// Whether two names of a message have the same labels, wherever their pointers lead.
+pub fn same_name<'a>(packet: &Packet<&'a [u8]>, a: &'a [u8], b: &'a [u8]) -> bool
+    ensures { IsTrue result
+        ↔ HaveSameLabels (view_octets packet.entry.now) a.entry.now b.entry.now }
+{
+    let mut left = packet.parse_name(a);
+    let mut right = packet.parse_name(b);
+    while let Some(item) = left.next() {
+        let label = match item {
+            Ok(label) => label,
+            Err(_) => return false,
+        };
+        if !is_label(right.next(), label) {
+            return false;
+        }
+    }
+    is_end(right.next())
+}
+
+// Whether a walk gave this label.
+fn is_label(answer: Option<Result<&[u8]>>, bytes: &[u8]) -> bool
+    ensures { IsTrue result ↔ (answer_of answer.entry ≡ label bytes.now) }
+{
+    match answer {
+        Some(Ok(found)) => found == bytes,
+        Some(Err(_)) => false,
+        None => false,
+    }
+}
+
+// Whether a walk came to its end.
+fn is_end(answer: Option<Result<&[u8]>>) -> bool
+    ensures { IsTrue result ↔ (answer_of answer.entry ≡ ending) }
+{
+    match answer {
+        Some(Ok(_)) => false,
+        Some(Err(_)) => false,
+        None => true,
+    }
+}
+
+#[cfg(test)]
+mod tests;

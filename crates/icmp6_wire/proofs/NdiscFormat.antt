@@ -1,0 +1,438 @@
+-- The format of messages of neighbor discovery: bytes have one value, and what was read is canonical and its own normal
+-- form.
+use Rattle.std.proofs.Common.{◌≡◌, ℕ, ◌+◌, ◌*◌, ◌<◌, ◌≤◌, ◌^◌, List, [], ◌∷◌, ◌++◌, length, refl, sym, ap, subst, ◌∙◌}
+use Rattle.std.proofs.Common.{arith}
+use Rattle.std.specs.Prelude.{Option, None, Some}
+use Rattle.std.specs.List.{AllByRecursion}
+use Rattle.std.specs.Option.{option_map, option_or}
+use Rattle.std.proofs.lemmas.Nat.{and_assoc}
+use Rattle.wirebase.specs.Bytes.{IsBytes, over, byte_of, number_of}
+use Rattle.wirebase.specs.ByteWriter.{be8, be16, be32, fields}
+use Rattle.wirebase.specs.Format.{SameText}
+use Rattle.wirebase.specs.Icmp.{type_field}
+use Rattle.wirebase.specs.Ipv6Address.{octets_of}
+use Rattle.wirebase.specs.declared.ipv6.Ipv6Repr.{Ipv6Repr}
+use Rattle.wirebase.proofs.ByteParts.{IsBytes-drop, IsBytes-front, IsBytes-rest, number_of-small}
+use Rattle.wirebase.proofs.Format.{IsFormat, round_trips, same_text}
+use Rattle.wirebase.proofs.Ipv6Header.{same_address}
+use Rattle.wirebase.proofs.Pieces.{over-exact}
+use Rattle.wirebase.proofs.WideParts.{number_of-small4}
+use Rattle.opt_wire.specs.NdiscOptionRepr as option
+use Rattle.opt_wire.specs.NdiscOptionRepr.{OptionValue, source, target, prefix_, redirected, mtu, filled}
+use Rattle.opt_wire.specs.declared.ndiscoption.repr.PrefixInformation.{PrefixInformation}
+use Rattle.opt_wire.proofs.NdiscOptionFormat.{ndisc_option_format}
+use Rattle.icmp6_wire.specs.Icmpv6Packet.{header_len_in, payload_in}
+use Rattle.icmp6_wire.specs.NdiscBlocks.{AreBlocks, ends, goes_on, skips, last_of, source_in, target_in, mtu_in}
+use Rattle.icmp6_wire.specs.NdiscBlocks.{prefix_in, redirected_in}
+use Rattle.icmp6_wire.specs.NdiscPacket.{router_flags_field, neighbor_flags_field, router_lifetime_field}
+use Rattle.icmp6_wire.specs.NdiscPacket.{reachable_time_field, retrans_time_field, seconds, millis}
+use Rattle.icmp6_wire.specs.NdiscTables.{router_bits, neighbor_bits, known_router, known_neighbor}
+use Rattle.icmp6_wire.specs.Ndisc.{NdiscValue, router_solicit, router_advert, neighbor_solicit, neighbor_advert, redirect}
+use Rattle.icmp6_wire.specs.Ndisc.{sources, targets, mtus, prefixes, packets, option_text, text, text_len}
+use Rattle.icmp6_wire.specs.Ndisc.{IfThere, IsContent, IsMessage, IsCanonicalHeader, IsCanonical}
+use Rattle.icmp6_wire.specs.Ndisc.{whole_seconds, whole_millis, whole_prefix, norm, format, Emits}
+use Rattle.icmp6_wire.specs.declared.ndisc.flags.NeighborFlags.{NeighborFlags}
+use Rattle.icmp6_wire.specs.declared.ndisc.flags.RouterFlags.{RouterFlags}
+use Rattle.icmp6_wire.proofs.NdiscReading.{kind_of, message_text}
+use Rattle.icmp6_wire.proofs.NdiscTexts.{length-text}
+use Rattle.icmp6_wire.proofs.NdiscTiling.{blocks-unique}
+
+-- ---- one message at the most
+
+router_flags_of : ℕ → RouterFlags
+router_flags_of bits = record { 0 = bits }
+
+same_router_flags : (f g : RouterFlags) → f.0 ≡ g.0 → f ≡ g
+unfolding router_flags_of
+same_router_flags f g e = ap router_flags_of e
+
+neighbor_flags_of : ℕ → NeighborFlags
+neighbor_flags_of bits = record { 0 = bits }
+
+same_neighbor_flags : (f g : NeighborFlags) → f.0 ≡ g.0 → f ≡ g
+unfolding neighbor_flags_of
+same_neighbor_flags f g e = ap neighbor_flags_of e
+
+kind-content : (bytes : List ℕ) (os : List OptionValue) (v : NdiscValue) → IsContent bytes os v
+    → byte_of type_field bytes ≡ kind_of v
+kind-content bytes os (router_solicit l) a = a.0
+kind-content bytes os (router_advert hops flags lifetime reachable retrans l m p) a = a.0.kind
+kind-content bytes os (neighbor_solicit t l) a = a.0
+kind-content bytes os (neighbor_advert flags t l) a = a.0
+kind-content bytes os (redirect t d l r) a = a.0
+
+same_content : (bytes : List ℕ) (os : List OptionValue) (v w : NdiscValue) → IsContent bytes os v → IsContent bytes os w
+    → kind_of v ≡ kind_of w → v ≡ w
+same_content bytes os (router_solicit l) (router_solicit k) a b same = ap router_solicit (a.1 ∙ sym b.1)
+same_content bytes os (router_advert hops flags lifetime reachable retrans l m p)
+    (router_advert others marks time reaches waits k n q) a b same =
+    let one = a.0.hops_ ∙ sym b.0.hops_ in
+    let two = same_router_flags flags marks (a.0.flags_ ∙ sym b.0.flags_) in
+    let three = a.0.lifetime_ ∙ sym b.0.lifetime_ in
+    let four = a.0.reachable_ ∙ sym b.0.reachable_ in
+    let five = a.0.retrans_ ∙ sym b.0.retrans_ in
+    let six = a.1 ∙ sym b.1 in
+    let seven = a.2 ∙ sym b.2 in
+    let eight = a.3 ∙ sym b.3 in
+    cc
+same_content bytes os (neighbor_solicit t l) (neighbor_solicit u k) a b same =
+    let one = same_address t u (a.1 ∙ sym b.1) in
+    let two = a.2 ∙ sym b.2 in
+    cc
+same_content bytes os (neighbor_advert flags t l) (neighbor_advert marks u k) a b same =
+    let one = same_neighbor_flags flags marks (a.1 ∙ sym b.1) in
+    let two = same_address t u (a.2 ∙ sym b.2) in
+    let three = a.3 ∙ sym b.3 in
+    cc
+same_content bytes os (redirect t d l r) (redirect u e k s) a b same =
+    let one = same_address t u (a.1 ∙ sym b.1) in
+    let two = same_address d e (a.2 ∙ sym b.2) in
+    let three = a.3 ∙ sym b.3 in
+    let four = a.4 ∙ sym b.4 in
+    cc
+same_content bytes os _ _ a b same = absurd (omega arith)
+
+pub message-one : (bytes : List ℕ) (v w : NdiscValue) → IsMessage bytes v → IsMessage bytes w → v ≡ w
+message-one bytes v w a b =
+    let options = blocks-unique (payload_in bytes) b.options a.options b.tiling a.tiling in
+    let other : IsContent bytes a.options w = subst (λ (os : List OptionValue). IsContent bytes os w) options b.content in
+    same_content bytes a.options v w a.content other
+    (sym (kind-content bytes a.options v a.content) ∙ kind-content bytes a.options w other)
+
+-- ---- what was read
+
+-- an option that is canonical and its own normal form
+IsGood : OptionValue → Type 0
+IsGood v = option.IsCanonical v × (option.norm v ≡ v)
+
+good_blocks : (bytes : List ℕ) (os : List OptionValue) → IsBytes bytes → AreBlocks bytes os → AllByRecursion IsGood os
+unfolding IsGood
+good_blocks bytes os are ends = tt
+good_blocks bytes os are (goes_on {options = more} b r v h k t e) =
+    let there : IsBytes (b ++ r) = subst (λ (l : List ℕ). IsBytes l) e are in
+    let front = IsBytes-front b r there in
+    let count = front 1 in
+    let canonical = ndisc_option_format.accepted b v front (omega (arith, h.exact, count)) k in (
+      (canonical, ndisc_option_format.kept b v front canonical k (λ cut. cut)),
+      good_blocks r more (IsBytes-rest b r there) t,
+    )
+good_blocks bytes os are (skips b r h k t e) =
+    good_blocks r os (IsBytes-rest b r (subst (λ (l : List ℕ). IsBytes l) e are)) t
+
+or_good : {A : Type 0} (kind : A → OptionValue) (a b : Option A) → IfThere IsGood (option_map kind a)
+    → IfThere IsGood (option_map kind b) → IfThere IsGood (option_map kind (option_or a b))
+or_good kind None b one two = two
+or_good kind (Some a) b one two = one
+
+last_good : {A : Type 0} (says : OptionValue → Option A) (kind : A → OptionValue)
+    → ((v : OptionValue) → IsGood v → IfThere IsGood (option_map kind (says v))) → (os : List OptionValue)
+    → AllByRecursion IsGood os → IfThere IsGood (option_map kind (last_of says os))
+last_good says kind holds [] all = tt
+last_good says kind holds (o ∷ os) all =
+    or_good kind (last_of says os) (says o) (last_good says kind holds os all.1) (holds o all.0)
+
+good_source : (v : OptionValue) → IsGood v → IfThere IsGood (sources (source_in v))
+good_source (source address) g = g
+good_source _ g = tt
+
+good_target : (v : OptionValue) → IsGood v → IfThere IsGood (targets (target_in v))
+good_target (target address) g = g
+good_target _ g = tt
+
+good_mtu : (v : OptionValue) → IsGood v → IfThere IsGood (mtus (mtu_in v))
+good_mtu (mtu n) g = g
+good_mtu _ g = tt
+
+good_prefix : (v : OptionValue) → IsGood v → IfThere IsGood (prefixes (prefix_in v))
+good_prefix (prefix_ p) g = g
+good_prefix _ g = tt
+
+good_packet : (v : OptionValue) → IsGood v → IfThere IsGood (packets (redirected_in v))
+good_packet (redirected h d) g = g
+good_packet _ g = tt
+
+-- each option of a message that was read
+AreGood : NdiscValue → Type 0
+AreGood (router_solicit l) = IfThere IsGood (sources l)
+AreGood (router_advert hops flags lifetime reachable retrans l m p) =
+    IfThere IsGood (sources l) × IfThere IsGood (mtus m) × IfThere IsGood (prefixes p)
+AreGood (neighbor_solicit t l) = IfThere IsGood (sources l)
+AreGood (neighbor_advert flags t l) = IfThere IsGood (targets l)
+AreGood (redirect t d l r) = IfThere IsGood (targets l) × IfThere IsGood (packets r)
+
+good_sources : (l : Option (List ℕ)) (os : List OptionValue) → AllByRecursion IsGood os → l ≡ last_of source_in os
+    → IfThere IsGood (sources l)
+good_sources l os all e =
+    subst (λ (o : Option (List ℕ)). IfThere IsGood (sources o)) (sym e) (last_good source_in source good_source os all)
+
+good_targets : (l : Option (List ℕ)) (os : List OptionValue) → AllByRecursion IsGood os → l ≡ last_of target_in os
+    → IfThere IsGood (targets l)
+good_targets l os all e =
+    subst (λ (o : Option (List ℕ)). IfThere IsGood (targets o)) (sym e) (last_good target_in target good_target os all)
+
+good_content : (bytes : List ℕ) (os : List OptionValue) (v : NdiscValue) → AllByRecursion IsGood os
+    → IsContent bytes os v → AreGood v
+unfolding AreGood
+good_content bytes os (router_solicit l) all a = good_sources l os all a.1
+good_content bytes os (router_advert hops flags lifetime reachable retrans l m p) all a = (
+  good_sources l os all a.1,
+  subst (λ (o : Option ℕ). IfThere IsGood (mtus o)) (sym a.2) (last_good mtu_in mtu good_mtu os all),
+  subst (λ (o : Option PrefixInformation). IfThere IsGood (prefixes o)) (sym a.3)
+      (last_good prefix_in prefix_ good_prefix os all),
+)
+good_content bytes os (neighbor_solicit t l) all a = good_sources l os all a.2
+good_content bytes os (neighbor_advert flags t l) all a = good_targets l os all a.3
+good_content bytes os (redirect t d l r) all a = (
+  good_targets l os all a.3,
+  subst (λ (o : Option (Ipv6Repr × List ℕ)). IfThere IsGood (packets o)) (sym a.4)
+      (last_good redirected_in (λ packet. redirected packet.0 packet.1) good_packet os all),
+)
+
+good_message : (bytes : List ℕ) (v : NdiscValue) → IsBytes bytes → IsMessage bytes v → AreGood v
+good_message bytes v are a =
+    good_content bytes a.options v
+    (good_blocks (payload_in bytes) a.options (IsBytes-drop (header_len_in bytes) bytes are) a.tiling) a.content
+
+canonical_there : (o : Option OptionValue) → IfThere IsGood o → IfThere option.IsCanonical o
+unfolding IsGood
+canonical_there None g = tt
+canonical_there (Some v) g = g.0
+
+known-router : (bits : ℕ) → known_router (known_router bits) ≡ known_router bits
+known-router bits = and_assoc 0xc0 bits 0xc0
+
+known-neighbor : (bits : ℕ) → known_neighbor (known_neighbor bits) ≡ known_neighbor bits
+known-neighbor bits = and_assoc 0xe0 bits 0xe0
+
+few_seconds : (micros n : ℕ) → micros ≡ 1000000 * n → n < 2 ^ 16 → seconds micros ≤ 65535
+few_seconds micros n e small = omega (arith, e, small)
+
+few_millis : (micros n : ℕ) → micros ≡ 1000 * n → n < 2 ^ 32 → millis micros ≤ 4294967295
+few_millis micros n e small = omega (arith, e, small)
+
+canonical_header : (bytes : List ℕ) (os : List OptionValue) (v : NdiscValue) → IsBytes bytes → IsContent bytes os v
+    → IsCanonicalHeader v
+canonical_header bytes os (router_solicit l) are a = tt
+canonical_header bytes os (router_advert hops flags lifetime reachable retrans l m p) are a =
+    let hop = are 4 in (
+      omega (arith, a.0.hops_, hop),
+      ap known_router a.0.flags_ ∙ known-router (byte_of router_flags_field bytes) ∙ sym a.0.flags_,
+      (
+        few_seconds lifetime (number_of router_lifetime_field bytes) a.0.lifetime_
+            (number_of-small 6 8 bytes refl are),
+        few_millis reachable (number_of reachable_time_field bytes) a.0.reachable_
+            (number_of-small4 8 12 bytes refl are),
+        few_millis retrans (number_of retrans_time_field bytes) a.0.retrans_ (number_of-small4 12 16 bytes refl are),
+      ),
+    )
+canonical_header bytes os (neighbor_solicit t l) are a = tt
+canonical_header bytes os (neighbor_advert flags t l) are a =
+    ap known_neighbor a.1 ∙ known-neighbor (byte_of neighbor_flags_field bytes) ∙ sym a.1
+canonical_header bytes os (redirect t d l r) are a = tt
+
+canonical_options : (v : NdiscValue) → IsCanonicalHeader v → AreGood v → IsCanonical v
+unfolding AreGood
+canonical_options (router_solicit l) c g = (c, (canonical_there (sources l) g, tt))
+canonical_options (router_advert hops flags lifetime reachable retrans l m p) c g = (
+  c,
+  (
+    canonical_there (sources l) g.0,
+    (canonical_there (mtus m) g.1, (canonical_there (prefixes p) g.2, tt)),
+  ),
+)
+canonical_options (neighbor_solicit t l) c g = (c, (canonical_there (sources l) g, tt))
+canonical_options (neighbor_advert flags t l) c g = (c, (canonical_there (targets l) g, tt))
+canonical_options (redirect t d l r) c g =
+    (c, (canonical_there (targets l) g.0, (canonical_there (packets r) g.1, tt)))
+
+pub message-canonical : (bytes : List ℕ) (v : NdiscValue) → IsBytes bytes → IsMessage bytes v → IsCanonical v
+message-canonical bytes v are a =
+    canonical_options v (canonical_header bytes a.options v are a.content) (good_message bytes v are a)
+
+-- ---- what was read is its own normal form
+
+kept_source : (l : Option (List ℕ)) → IfThere IsGood (sources l) → option_map filled l ≡ l
+unfolding IsGood
+kept_source None g = refl
+kept_source (Some a) g = ap source_in g.1
+
+kept_target : (l : Option (List ℕ)) → IfThere IsGood (targets l) → option_map filled l ≡ l
+unfolding IsGood
+kept_target None g = refl
+kept_target (Some a) g = ap target_in g.1
+
+kept_prefix : (p : Option PrefixInformation) → IfThere IsGood (prefixes p) → option_map whole_prefix p ≡ p
+unfolding IsGood
+kept_prefix None g = refl
+kept_prefix (Some p) g = ap prefix_in g.1
+
+seconds-times : (n : ℕ) → seconds (1000000 * n) ≡ n
+seconds-times n = omega arith
+
+millis-times : (n : ℕ) → millis (1000 * n) ≡ n
+millis-times n = omega arith
+
+kept_seconds : (micros n : ℕ) → micros ≡ 1000000 * n → whole_seconds micros ≡ micros
+kept_seconds micros n e =
+    ap whole_seconds e ∙ ap (λ (k : ℕ). 1000000 * k) (seconds-times n) ∙ sym e
+
+kept_millis : (micros n : ℕ) → micros ≡ 1000 * n → whole_millis micros ≡ micros
+kept_millis micros n e = ap whole_millis e ∙ ap (λ (k : ℕ). 1000 * k) (millis-times n) ∙ sym e
+
+norm-content : (bytes : List ℕ) (os : List OptionValue) (v : NdiscValue) → IsContent bytes os v → AreGood v → norm v ≡ v
+unfolding AreGood
+norm-content bytes os (router_solicit l) a g = ap router_solicit (kept_source l g)
+norm-content bytes os (router_advert hops flags lifetime reachable retrans l m p) a g =
+    let one = kept_seconds lifetime (number_of router_lifetime_field bytes) a.0.lifetime_ in
+    let two = kept_millis reachable (number_of reachable_time_field bytes) a.0.reachable_ in
+    let three = kept_millis retrans (number_of retrans_time_field bytes) a.0.retrans_ in
+    let four = kept_source l g.0 in
+    let five = kept_prefix p g.2 in
+    cc
+norm-content bytes os (neighbor_solicit t l) a g = ap (λ x. neighbor_solicit t x) (kept_source l g)
+norm-content bytes os (neighbor_advert flags t l) a g = ap (λ x. neighbor_advert flags t x) (kept_target l g)
+norm-content bytes os (redirect t d l r) a g = ap (λ x. redirect t d x r) (kept_target l g.0)
+
+pub message-kept : (bytes : List ℕ) (v : NdiscValue) → IsBytes bytes → IsMessage bytes v → norm v ≡ v
+message-kept bytes v are a = norm-content bytes a.options v a.content (good_message bytes v are a)
+
+-- ---- the normal form
+
+norm_source : (l : Option (List ℕ)) → IfThere option.IsCanonical (sources l)
+    → IfThere option.IsCanonical (sources (option_map filled l))
+norm_source None c = tt
+norm_source (Some a) c = ndisc_option_format.norm_canonical (source a) c
+
+norm_target : (l : Option (List ℕ)) → IfThere option.IsCanonical (targets l)
+    → IfThere option.IsCanonical (targets (option_map filled l))
+norm_target None c = tt
+norm_target (Some a) c = ndisc_option_format.norm_canonical (target a) c
+
+norm_prefix : (p : Option PrefixInformation) → IfThere option.IsCanonical (prefixes p)
+    → IfThere option.IsCanonical (prefixes (option_map whole_prefix p))
+norm_prefix None c = tt
+norm_prefix (Some p) c = ndisc_option_format.norm_canonical (prefix_ p) c
+
+pub norm-canonical : (v : NdiscValue) → IsCanonical v → IsCanonical (norm v)
+norm-canonical (router_solicit l) c = (tt, (norm_source l c.1.0, tt))
+norm-canonical (router_advert hops flags lifetime reachable retrans l m p) c = (
+  (
+    c.0.0,
+    c.0.1,
+    (
+      omega (arith, seconds-times (seconds lifetime), c.0.2.0),
+      omega (arith, millis-times (millis reachable), c.0.2.1),
+      omega (arith, millis-times (millis retrans), c.0.2.2),
+    ),
+  ),
+  (norm_source l c.1.0, (c.1.1.0, (norm_prefix p c.1.1.1.0, tt))),
+)
+norm-canonical (neighbor_solicit t l) c = (tt, (norm_source l c.1.0, tt))
+norm-canonical (neighbor_advert flags t l) c = (c.0, (norm_target l c.1.0, tt))
+norm-canonical (redirect t d l r) c = (tt, (norm_target l c.1.0, c.1.1))
+
+filled-filled : (l : Option (List ℕ)) → option_map filled (option_map filled l) ≡ option_map filled l
+filled-filled None = refl
+filled-filled (Some a) = ap source_in (ndisc_option_format.norm_norm (source a))
+
+prefix-prefix : (p : Option PrefixInformation)
+    → option_map whole_prefix (option_map whole_prefix p) ≡ option_map whole_prefix p
+prefix-prefix None = refl
+prefix-prefix (Some p) = ap prefix_in (ndisc_option_format.norm_norm (prefix_ p))
+
+pub norm-norm : (v : NdiscValue) → norm (norm v) ≡ norm v
+norm-norm (router_solicit l) = ap router_solicit (filled-filled l)
+norm-norm (router_advert hops flags lifetime reachable retrans l m p) =
+    let one : whole_seconds (whole_seconds lifetime) ≡ whole_seconds lifetime =
+    kept_seconds (whole_seconds lifetime) (seconds lifetime) refl in
+    let two : whole_millis (whole_millis reachable) ≡ whole_millis reachable =
+    kept_millis (whole_millis reachable) (millis reachable) refl in
+    let three : whole_millis (whole_millis retrans) ≡ whole_millis retrans =
+    kept_millis (whole_millis retrans) (millis retrans) refl in
+    let four = filled-filled l in
+    let five = prefix-prefix p in
+    cc
+norm-norm (neighbor_solicit t l) = ap (λ x. neighbor_solicit t x) (filled-filled l)
+norm-norm (neighbor_advert flags t l) = ap (λ x. neighbor_advert flags t x) (filled-filled l)
+norm-norm (redirect t d l r) = ap (λ x. redirect t d x r) (filled-filled l)
+
+source-text : (l : Option (List ℕ)) → IfThere option.IsCanonical (sources l)
+    → option_text (sources (option_map filled l)) ≡ option_text (sources l)
+source-text None c = refl
+source-text (Some a) c = ndisc_option_format.norm_text (source a) c (λ e. e)
+
+target-text : (l : Option (List ℕ)) → IfThere option.IsCanonical (targets l)
+    → option_text (targets (option_map filled l)) ≡ option_text (targets l)
+target-text None c = refl
+target-text (Some a) c = ndisc_option_format.norm_text (target a) c (λ e. e)
+
+prefix-text : (p : Option PrefixInformation) → IfThere option.IsCanonical (prefixes p)
+    → option_text (prefixes (option_map whole_prefix p)) ≡ option_text (prefixes p)
+prefix-text None c = refl
+prefix-text (Some p) c = ndisc_option_format.norm_text (prefix_ p) c (λ e. e)
+
+abbrev router_text : ℕ → ℕ → ℕ → ℕ → ℕ → List ℕ → List ℕ → List ℕ → List ℕ
+router_text hops bits lifetime reachable retrans one two three =
+    fields (be8 0x86 ∷ be8 0 ∷ be16 0 ∷ be8 hops ∷ be8 bits ∷ be16 lifetime ∷ be32 reachable ∷ be32 retrans
+    ∷ one ∷ two ∷ three ∷ [])
+
+pub norm-text : (v : NdiscValue) → IsCanonical v → text (norm v) ≡ text v
+norm-text (router_solicit l) c =
+    ap (λ (o : List ℕ). fields (be8 0x85 ∷ be8 0 ∷ be16 0 ∷ be32 0 ∷ o ∷ [])) (source-text l c.1.0)
+norm-text (router_advert hops flags lifetime reachable retrans l m p) c =
+    let bits : ℕ = router_bits flags in
+    let middle : List ℕ = option_text (mtus m) in
+    let second : List ℕ = option_text (prefixes p) in
+    let first : List ℕ = option_text (sources l) in
+    ap (λ (n : ℕ). router_text hops bits n (millis (whole_millis reachable)) (millis (whole_millis retrans))
+    (option_text (sources (option_map filled l))) middle (option_text (prefixes (option_map whole_prefix p))))
+    (seconds-times (seconds lifetime))
+    ∙ ap (λ (n : ℕ). router_text hops bits (seconds lifetime) n (millis (whole_millis retrans))
+    (option_text (sources (option_map filled l))) middle (option_text (prefixes (option_map whole_prefix p))))
+    (millis-times (millis reachable))
+    ∙ ap (λ (n : ℕ). router_text hops bits (seconds lifetime) (millis reachable) n
+    (option_text (sources (option_map filled l))) middle (option_text (prefixes (option_map whole_prefix p))))
+    (millis-times (millis retrans))
+    ∙ ap (λ (o : List ℕ). router_text hops bits (seconds lifetime) (millis reachable) (millis retrans) o middle
+    (option_text (prefixes (option_map whole_prefix p)))) (source-text l c.1.0)
+    ∙ ap (λ (o : List ℕ). router_text hops bits (seconds lifetime) (millis reachable) (millis retrans) first middle o)
+    (prefix-text p c.1.1.1.0)
+norm-text (neighbor_solicit t l) c =
+    ap (λ (o : List ℕ). fields (be8 0x87 ∷ be8 0 ∷ be16 0 ∷ be32 0 ∷ octets_of t ∷ o ∷ [])) (source-text l c.1.0)
+norm-text (neighbor_advert flags t l) c =
+    ap (λ (o : List ℕ). fields (be8 0x88 ∷ be8 0 ∷ be16 0 ∷ be8 (neighbor_bits flags) ∷ be8 0 ∷ be16 0
+    ∷ octets_of t ∷ o ∷ [])) (target-text l c.1.0)
+norm-text (redirect t d l r) c =
+    ap (λ (o : List ℕ). fields (be8 0x89 ∷ be8 0 ∷ be16 0 ∷ be32 0 ∷ octets_of t ∷ octets_of d ∷ o
+    ∷ option_text (packets r) ∷ [])) (target-text l c.1.0)
+
+-- ---- all of it
+
+pub ndisc_format : IsFormat format
+ndisc_format = record {
+  one_value = message-one;
+  reads_back = λ v fills c. message_text v c;
+  norm_canonical = norm-canonical;
+  norm_norm = norm-norm;
+  norm_text = λ v c regular. norm-text v c;
+  accepted = λ bytes v are small m. message-canonical bytes v are m;
+  regular = λ bytes v m e. e;
+  kept = λ bytes v are c m whole. message-kept bytes v are m;
+}
+
+pub ndisc_same_text : (a b : NdiscValue) → SameText format a b
+ndisc_same_text a b = same_text format ndisc_format tt a b
+
+-- ---- what writing leaves
+
+pub ndisc_emits : (v : NdiscValue) (old new : List ℕ) → new ≡ over old (text v) → Emits v old new
+ndisc_emits v old new left =
+    let exact : length old ≡ text_len v → new ≡ text v =
+    λ long. left ∙ over-exact old (text v) (long ∙ sym (length-text v)) in
+    record {
+      text_ = left;
+      exact = exact;
+      reads_back =
+          λ long c. subst (λ (bytes : List ℕ). IsMessage bytes (norm v)) (sym (exact long)) (message_text v c);
+      round_trips = round_trips format ndisc_format v;
+    }

@@ -1,0 +1,133 @@
+-- The texts of messages of neighbor discovery, and their lengths.
+use Rattle.std.proofs.Common.{◌≡◌, ℕ, ◌+◌, ◌-◌, ◌*◌, ◌≤◌, List, [], ◌∷◌, ◌++◌, length, refl, ap, arith, length-append}
+use Rattle.std.specs.Prelude.{Option, None, Some}
+use Rattle.std.proofs.lemmas.List.{length-replicate}
+use Rattle.wirebase.specs.ByteWriter.{be8, be16, be32, fields}
+use Rattle.wirebase.specs.Ipv6.{header_text}
+use Rattle.wirebase.specs.Ipv6Address.{octets_of}
+use Rattle.wirebase.specs.declared.ipv6.Ipv6Repr.{Ipv6Repr}
+use Rattle.wirebase.proofs.Ipv6Header.{length-header_text}
+use Rattle.opt_wire.specs.NdiscOptionRepr.{units, padding, link_fields}
+use Rattle.opt_wire.specs.declared.ndiscoption.repr.PrefixInformation.{PrefixInformation}
+use Rattle.opt_wire.proofs.NdiscOptionTexts.{link_text, prefix_text, redirected_text, mtu_text}
+use Rattle.icmp6_wire.specs.Ndisc.{NdiscValue, router_solicit, router_advert, neighbor_solicit, neighbor_advert, redirect}
+use Rattle.icmp6_wire.specs.Ndisc.{sources, targets, mtus, prefixes, packets, option_text, option_texts, option_len}
+use Rattle.icmp6_wire.specs.Ndisc.{header_fields, header_len, text, text_len, options_of}
+
+-- ---- options
+
+length-link : (t : ℕ) (address : List ℕ) → length (fields (link_fields t address)) ≡ 8 * units (2 + length address)
+length-link t address =
+    omega (
+      arith,
+      ap length (link_text t address),
+      length-append address (padding (2 + length address)),
+      length-replicate {A = ℕ} (8 * units (2 + length address) - (2 + length address)) 0,
+    )
+
+length-source : (l : Option (List ℕ)) → length (option_text (sources l)) ≡ option_len (sources l)
+length-source None = refl
+length-source (Some address) = length-link 1 address
+
+length-target : (l : Option (List ℕ)) → length (option_text (targets l)) ≡ option_len (targets l)
+length-target None = refl
+length-target (Some address) = length-link 2 address
+
+length-mtu : (m : Option ℕ) → length (option_text (mtus m)) ≡ option_len (mtus m)
+length-mtu None = refl
+length-mtu (Some n) = omega (arith, ap length (mtu_text n))
+
+length-prefix : (p : Option PrefixInformation) → length (option_text (prefixes p)) ≡ option_len (prefixes p)
+length-prefix None = refl
+length-prefix (Some p) = omega (arith, ap length (prefix_text p), p.prefix.whole)
+
+length-packet : (r : Option (Ipv6Repr × List ℕ)) → length (option_text (packets r)) ≡ option_len (packets r)
+length-packet None = refl
+length-packet (Some r) =
+    omega (
+      arith,
+      ap length (redirected_text r.0 r.1),
+      length-append (header_text r.0) (r.1 ++ padding (48 + length r.1)),
+      length-header_text r.0,
+      length-append r.1 (padding (48 + length r.1)),
+      length-replicate {A = ℕ} (8 * units (48 + length r.1) - (48 + length r.1)) 0,
+    )
+
+-- ---- messages
+
+length-header : (v : NdiscValue) (behind : List (List ℕ))
+    → length (fields (header_fields v behind)) ≡ header_len v + length (fields behind)
+unfolding fields be8 be16 be32
+length-header (router_solicit l) behind = omega arith
+length-header (router_advert hops flags lifetime reachable retrans l m p) behind = omega arith
+length-header (neighbor_solicit t l) behind = omega (arith, length-append (octets_of t) (fields behind), t.whole)
+length-header (neighbor_advert flags t l) behind = omega (arith, length-append (octets_of t) (fields behind), t.whole)
+length-header (redirect t d l r) behind =
+    omega (
+      arith,
+      length-append (octets_of t) (octets_of d ++ fields behind),
+      length-append (octets_of d) (fields behind),
+      t.whole,
+      d.whole,
+    )
+
+length-one : (a : List ℕ) → length (fields (a ∷ [])) ≡ length a
+unfolding fields
+length-one a = omega (arith, length-append {A = ℕ} a [])
+
+length-more : (a : List ℕ) (rest : List (List ℕ)) → length (fields (a ∷ rest)) ≡ length a + length (fields rest)
+unfolding fields
+length-more a rest = length-append a (fields rest)
+
+pub length-text : (v : NdiscValue) → length (text v) ≡ text_len v
+length-text (router_solicit l) =
+    omega (
+      arith,
+      length-header (router_solicit l) (option_texts (sources l ∷ [])),
+      length-one (option_text (sources l)),
+      length-source l,
+    )
+length-text (router_advert hops flags lifetime reachable retrans l m p) =
+    let v : NdiscValue = router_advert hops flags lifetime reachable retrans l m p in
+    omega (
+      arith,
+      length-header v (option_texts (options_of v)),
+      length-more (option_text (sources l)) (option_text (mtus m) ∷ option_text (prefixes p) ∷ []),
+      length-more (option_text (mtus m)) (option_text (prefixes p) ∷ []),
+      length-one (option_text (prefixes p)),
+      length-source l,
+      length-mtu m,
+      length-prefix p,
+    )
+length-text (neighbor_solicit t l) =
+    omega (
+      arith,
+      length-header (neighbor_solicit t l) (option_texts (sources l ∷ [])),
+      length-one (option_text (sources l)),
+      length-source l,
+    )
+length-text (neighbor_advert flags t l) =
+    omega (
+      arith,
+      length-header (neighbor_advert flags t l) (option_texts (targets l ∷ [])),
+      length-one (option_text (targets l)),
+      length-target l,
+    )
+length-text (redirect t d l r) =
+    omega (
+      arith,
+      length-header (redirect t d l r) (option_texts (targets l ∷ packets r ∷ [])),
+      length-more (option_text (targets l)) (option_text (packets r) ∷ []),
+      length-one (option_text (packets r)),
+      length-target l,
+      length-packet r,
+    )
+
+pub text_some : (v : NdiscValue) → 8 ≤ text_len v
+text_some (router_solicit l) = omega arith
+text_some (router_advert hops flags lifetime reachable retrans l m p) = omega arith
+text_some (neighbor_solicit t l) = omega arith
+text_some (neighbor_advert flags t l) = omega arith
+text_some (redirect t d l r) = omega arith
+
+pub ruleset texts = (length-text)
