@@ -28,10 +28,12 @@ use Rattle.icmp6_wire.specs.Icmpv6Tables.{unreachable_number, unreachables, unre
 use Rattle.icmp6_wire.specs.Icmpv6Tables.{param_problem_number, param_problems, param_problem_rows, param_problem_of}
 use Rattle.icmp6_wire.specs.Icmpv6Tables.{time_exceeded_number, time_exceededs, time_exceeded_rows, time_exceeded_of}
 use Rattle.icmp6_wire.specs.Icmpv6.{MessageValue, unreachable, too_big, time_exceeded, param_problem, echo_request}
-use Rattle.icmp6_wire.specs.Icmpv6.{echo_reply, mld, quoted_data, error_fields, text, seal, IsContent, CanQuote}
+use Rattle.icmp6_wire.specs.Icmpv6.{echo_reply, mld, ndisc, quoted_data, error_fields, text, seal, IsContent, CanQuote}
 use Rattle.icmp6_wire.specs.Icmpv6.{IsCanonical, norm, IsCut, format}
+use Rattle.icmp6_wire.specs.Ndisc.{NdiscValue}
 use Rattle.icmp6_wire.specs.Mld.{MldValue}
 use Rattle.icmp6_wire.proofs.MldFormat.{mld_format, norm-text as norm-mld, norm-read}
+use Rattle.icmp6_wire.proofs.NdiscFormat.{ndisc_format, norm-text as norm-ndisc, message-kept}
 use Rattle.icmp6_wire.proofs.Icmpv6Grammar.{content-one, message-unique}
 use Rattle.icmp6_wire.proofs.Icmpv6Texts.{quoted-quoted, quoted-whole, message_text, content_read}
 
@@ -137,6 +139,7 @@ content-canonical bytes (echo_reply ident seq_no d) are some small m = (
   omega (arith, ap (λ (l : List ℕ). length l) m.data_, length-drop 8 bytes),
 )
 content-canonical bytes (mld m) are some small c = mld_format.accepted bytes m are small c.0
+content-canonical bytes (ndisc m) are some small c = ndisc_format.accepted bytes m are small c.0
 
 -- ---- the normal form
 
@@ -148,6 +151,7 @@ norm-canonical (param_problem reason pointer quoted d) c = c
 norm-canonical (echo_request ident seq_no d) c = c
 norm-canonical (echo_reply ident seq_no d) c = c
 norm-canonical (mld m) c = mld_format.norm_canonical m c
+norm-canonical (ndisc m) c = ndisc_format.norm_canonical m c
 
 norm-norm : (v : MessageValue) → norm (norm v) ≡ norm v
 norm-norm (unreachable reason quoted d) = ap (λ (l : List ℕ). unreachable reason quoted l) (quoted-quoted d)
@@ -158,35 +162,38 @@ norm-norm (param_problem reason pointer quoted d) =
 norm-norm (echo_request ident seq_no d) = refl
 norm-norm (echo_reply ident seq_no d) = refl
 norm-norm (mld m) = ap (λ (x : MldValue). mld x) (mld_format.norm_norm m)
+norm-norm (ndisc m) = ap (λ (x : NdiscValue). ndisc x) (ndisc_format.norm_norm m)
 
 quoted-fields : (t code word : ℕ) (quoted : Ipv6Repr) (d : List ℕ)
     → fields (error_fields t code word quoted (quoted_data d)) ≡ fields (error_fields t code word quoted d)
 quoted-fields t code word quoted d = rw (quoted-quoted d) refl
 
-norm-text : (v : MessageValue) → text (norm v) ≡ text v
-norm-text (unreachable reason quoted d) = quoted-fields 1 (unreachable_number reason) 0 quoted d
-norm-text (too_big mtu quoted d) = quoted-fields 2 0 mtu quoted d
-norm-text (time_exceeded reason quoted d) = quoted-fields 3 (time_exceeded_number reason) 0 quoted d
-norm-text (param_problem reason pointer quoted d) = quoted-fields 4 (param_problem_number reason) pointer quoted d
-norm-text (echo_request ident seq_no d) = refl
-norm-text (echo_reply ident seq_no d) = refl
-norm-text (mld m) = norm-mld m
+norm-text : (v : MessageValue) → IsCanonical v → text (norm v) ≡ text v
+norm-text (unreachable reason quoted d) c = quoted-fields 1 (unreachable_number reason) 0 quoted d
+norm-text (too_big mtu quoted d) c = quoted-fields 2 0 mtu quoted d
+norm-text (time_exceeded reason quoted d) c = quoted-fields 3 (time_exceeded_number reason) 0 quoted d
+norm-text (param_problem reason pointer quoted d) c = quoted-fields 4 (param_problem_number reason) pointer quoted d
+norm-text (echo_request ident seq_no d) c = refl
+norm-text (echo_reply ident seq_no d) c = refl
+norm-text (mld m) c = norm-mld m
+norm-text (ndisc m) c = norm-ndisc m c
 
 few : (d : List ℕ) → (1192 < length d → ⊥) → length d ≤ 1192
 few d uncut = grind (arith, uncut)
 
-norm-uncut : (bytes : List ℕ) (v : MessageValue) → IsContent bytes v → (IsCut v → ⊥) → norm v ≡ v
-norm-uncut bytes (unreachable reason quoted d) c uncut =
+norm-uncut : (bytes : List ℕ) (v : MessageValue) → IsBytes bytes → IsContent bytes v → (IsCut v → ⊥) → norm v ≡ v
+norm-uncut bytes (unreachable reason quoted d) are c uncut =
     ap (λ (l : List ℕ). unreachable reason quoted l) (quoted-whole d (few d uncut))
-norm-uncut bytes (too_big mtu quoted d) c uncut =
+norm-uncut bytes (too_big mtu quoted d) are c uncut =
     ap (λ (l : List ℕ). too_big mtu quoted l) (quoted-whole d (few d uncut))
-norm-uncut bytes (time_exceeded reason quoted d) c uncut =
+norm-uncut bytes (time_exceeded reason quoted d) are c uncut =
     ap (λ (l : List ℕ). time_exceeded reason quoted l) (quoted-whole d (few d uncut))
-norm-uncut bytes (param_problem reason pointer quoted d) c uncut =
+norm-uncut bytes (param_problem reason pointer quoted d) are c uncut =
     ap (λ (l : List ℕ). param_problem reason pointer quoted l) (quoted-whole d (few d uncut))
-norm-uncut bytes (echo_request ident seq_no d) c uncut = refl
-norm-uncut bytes (echo_reply ident seq_no d) c uncut = refl
-norm-uncut bytes (mld m) c uncut = ap (λ (x : MldValue). mld x) (norm-read bytes m c.0)
+norm-uncut bytes (echo_request ident seq_no d) are c uncut = refl
+norm-uncut bytes (echo_reply ident seq_no d) are c uncut = refl
+norm-uncut bytes (mld m) are c uncut = ap (λ (x : MldValue). mld x) (norm-read bytes m c.0)
+norm-uncut bytes (ndisc m) are c uncut = ap (λ (x : NdiscValue). ndisc x) (message-kept bytes m are c.0)
 
 -- ---- all of it
 
@@ -197,10 +204,10 @@ module _ (capabilities : ChecksumCapabilities) (source destination : Ipv6Address
     reads_back = message_text capabilities source destination;
     norm_canonical = norm-canonical;
     norm_norm = norm-norm;
-    norm_text = λ v c regular. ap (λ (bytes : List ℕ). seal capabilities source destination bytes) (norm-text v);
+    norm_text = λ v c regular. ap (λ (bytes : List ℕ). seal capabilities source destination bytes) (norm-text v c);
     accepted = λ bytes v are small m. content-canonical bytes v are m.whole.fixed small m.content;
     regular = λ bytes v m e. e;
-    kept = λ bytes v are c m uncut. norm-uncut bytes v m.content uncut;
+    kept = λ bytes v are c m uncut. norm-uncut bytes v are m.content uncut;
   }
 
   -- also where the checksum is verified and not filled: the contents are read back by themselves

@@ -1,21 +1,26 @@
 -- The grammar of ICMPv6 messages: the bytes are one message at the most, by the type that stands in front.
-use Rattle.std.proofs.Common.{◌≡◌, ℕ, ◌≤◌, true, List, length, refl, sym, ap, ◌∙◌, arith}
+use Rattle.std.proofs.Common.{◌≡◌, ℕ, ◌≤◌, true, false, List, length, refl, sym, ap, ◌∙◌, arith}
 use Rattle.wirebase.specs.declared.capabilities.ChecksumCapabilities.{ChecksumCapabilities}
 use Rattle.wirebase.specs.declared.ipv6.address.Ipv6Address.{Ipv6Address}
 use Rattle.wirebase.specs.declared.ipv6.Ipv6Repr.{Ipv6Repr}
 use Rattle.wirebase.specs.Bytes.{byte_of}
 use Rattle.wirebase.specs.Icmp.{type_field}
 use Rattle.wirebase.proofs.Ipv6Header.{one_header}
-use Rattle.icmp6_wire.specs.Icmpv6Tables.{message_of}
+use Rattle.icmp6_wire.specs.Icmpv6Tables.{message_of, is_ndisc}
 use Rattle.icmp6_wire.specs.Icmpv6Packet.{message_in, header_len_of, is_read, BeginsWhole}
 use Rattle.icmp6_wire.specs.declared.icmpv6.tables.Message.{Message}
 use Rattle.icmp6_wire.specs.declared.icmpv6.tables.Message.TheVariants as message
 use Rattle.icmp6_wire.specs.Icmpv6.{MessageValue, unreachable, too_big, time_exceeded, param_problem, echo_request}
-use Rattle.icmp6_wire.specs.Icmpv6.{echo_reply, mld, IsError, IsContent, IsMessage}
+use Rattle.icmp6_wire.specs.Icmpv6.{echo_reply, mld, ndisc, IsError, IsContent, IsMessage}
 use Rattle.icmp6_wire.specs.Mld.{MldValue, query, report, records}
+use Rattle.icmp6_wire.specs.Ndisc as neighbors
+use Rattle.icmp6_wire.specs.Ndisc.{NdiscValue, router_solicit, router_advert, neighbor_solicit, neighbor_advert}
+use Rattle.icmp6_wire.specs.Ndisc.{redirect}
 use Rattle.icmp6_wire.proofs.MldTexts.{message-one}
+use Rattle.icmp6_wire.proofs.NdiscFormat.{message-one as neighbor-one}
 
--- Which kind of message a type stands for, and which a value is; a query and a report for listeners are one kind.
+-- Which kind of message a type stands for, and which a value is; a query and a report for listeners are one kind, and
+-- so are the messages of neighbor discovery.
 abbrev kind_of : Message → ℕ
 kind_of message.DstUnreachable = 1
 kind_of message.PktTooBig = 2
@@ -25,6 +30,11 @@ kind_of message.EchoRequest = 5
 kind_of message.EchoReply = 6
 kind_of message.MldQuery = 7
 kind_of message.MldReport = 7
+kind_of message.RouterSolicit = 8
+kind_of message.RouterAdvert = 8
+kind_of message.NeighborSolicit = 8
+kind_of message.NeighborAdvert = 8
+kind_of message.Redirect = 8
 kind_of _ = 0
 
 abbrev value_kind : MessageValue → ℕ
@@ -35,6 +45,7 @@ value_kind (param_problem reason pointer quoted d) = 4
 value_kind (echo_request ident seq_no d) = 5
 value_kind (echo_reply ident seq_no d) = 6
 value_kind (mld m) = 7
+value_kind (ndisc m) = 8
 
 same_kind : (t : ℕ) (bytes : List ℕ) → byte_of type_field bytes ≡ t
     → kind_of (message_in bytes) ≡ kind_of (message_of t)
@@ -51,6 +62,12 @@ content-value_kind bytes (echo_reply ident seq_no d) c = same_kind 0x81 bytes c.
 content-value_kind bytes (mld (query code group flag qrv qqic sources d)) c = same_kind 0x82 bytes c.0.kind
 content-value_kind bytes (mld (report count d)) c = same_kind 0x8f bytes c.0.kind
 content-value_kind bytes (mld (records rs)) c = absurd c.0
+content-value_kind bytes (ndisc (router_solicit l)) c = same_kind 0x85 bytes c.0.content.0
+content-value_kind bytes (ndisc (router_advert hops flags lifetime reachable retrans l m p)) c =
+    same_kind 0x86 bytes c.0.content.0.kind
+content-value_kind bytes (ndisc (neighbor_solicit t l)) c = same_kind 0x87 bytes c.0.content.0
+content-value_kind bytes (ndisc (neighbor_advert flags t l)) c = same_kind 0x88 bytes c.0.content.0
+content-value_kind bytes (ndisc (redirect t d l r)) c = same_kind 0x89 bytes c.0.content.0
 
 error-unique : (t : ℕ) (bytes : List ℕ) (quoted other : Ipv6Repr) (d e : List ℕ) → IsError t bytes quoted d
     → IsError t bytes other e → (quoted ≡ other) × (d ≡ e)
@@ -88,6 +105,7 @@ content-unique bytes (echo_request ident seq_no d) (echo_request other number e)
 content-unique bytes (echo_reply ident seq_no d) (echo_reply other number e) a b same = let one =
     a.identifier ∙ sym b.identifier in let two = a.sequence ∙ sym b.sequence in let three = a.data_ ∙ sym b.data_ in cc
 content-unique bytes (mld m) (mld n) a b same = ap (λ (x : MldValue). mld x) (message-one bytes m n a.0 b.0)
+content-unique bytes (ndisc m) (ndisc n) a b same = ap (λ (x : NdiscValue). ndisc x) (neighbor-one bytes m n a.0 b.0)
 content-unique bytes _ _ a b same = absurd (omega arith)
 
 pub content-one : (bytes : List ℕ) (v w : MessageValue) → IsContent bytes v → IsContent bytes w → v ≡ w
@@ -123,3 +141,25 @@ whole-content bytes (mld (query code group flag qrv qqic sources d)) some c =
     header-known 0x82 28 bytes some refl refl c.0.whole c.0.kind
 whole-content bytes (mld (report count d)) some c = header-known 0x8f 8 bytes some refl refl c.0.whole c.0.kind
 whole-content bytes (mld (records rs)) some c = absurd c.0
+whole-content bytes (ndisc m) some c = c.0.whole
+
+other_class : (t : ℕ) (bytes : List ℕ) → is_ndisc (message_of t) ≡ false → byte_of type_field bytes ≡ t
+    → is_ndisc (message_in bytes) ≡ true → ⊥
+other_class t bytes other is kind =
+    let no : false ≡ true = sym other ∙ sym (ap (λ (n : ℕ). is_ndisc (message_of n)) is) ∙ kind in
+    cc
+
+-- bytes of a type of neighbor discovery that hold no such message hold none
+pub no_neighbor : (bytes : List ℕ) (v : MessageValue) → IsContent bytes v → is_ndisc (message_in bytes) ≡ true
+    → ((m : NdiscValue) → neighbors.IsMessage bytes m → ⊥) → ⊥
+no_neighbor bytes (unreachable reason quoted d) c kind none = other_class 1 bytes refl c.0.kind kind
+no_neighbor bytes (too_big mtu quoted d) c kind none = other_class 2 bytes refl c.0.kind kind
+no_neighbor bytes (time_exceeded reason quoted d) c kind none = other_class 3 bytes refl c.0.kind kind
+no_neighbor bytes (param_problem reason pointer quoted d) c kind none = other_class 4 bytes refl c.0.kind kind
+no_neighbor bytes (echo_request ident seq_no d) c kind none = other_class 0x80 bytes refl c.kind kind
+no_neighbor bytes (echo_reply ident seq_no d) c kind none = other_class 0x81 bytes refl c.kind kind
+no_neighbor bytes (mld (query code group flag qrv qqic sources d)) c kind none =
+    other_class 0x82 bytes refl c.0.kind kind
+no_neighbor bytes (mld (report count d)) c kind none = other_class 0x8f bytes refl c.0.kind kind
+no_neighbor bytes (mld (records rs)) c kind none = absurd c.0
+no_neighbor bytes (ndisc m) c kind none = none m c.0

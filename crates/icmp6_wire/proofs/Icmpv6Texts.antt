@@ -21,7 +21,7 @@ use Rattle.icmp6_wire.specs.Icmpv6Tables.{unreachable_number, unreachable_rows, 
 use Rattle.icmp6_wire.specs.Icmpv6Tables.{param_problem_rows, param_problem_of, time_exceeded_number}
 use Rattle.icmp6_wire.specs.Icmpv6Tables.{time_exceeded_rows, time_exceeded_of}
 use Rattle.icmp6_wire.specs.Icmpv6.{MessageValue, unreachable, too_big, time_exceeded, param_problem, echo_request}
-use Rattle.icmp6_wire.specs.Icmpv6.{echo_reply, mld, quoted_data, error_fields, text, error_len, text_len, seal}
+use Rattle.icmp6_wire.specs.Icmpv6.{echo_reply, mld, ndisc, quoted_data, error_fields, text, error_len, text_len, seal}
 use Rattle.icmp6_wire.specs.Icmpv6.{packet_text, IsError, IsContent, IsMessage, CanQuote, IsCanonical, Fills, norm}
 use Rattle.icmp6_wire.specs.declared.icmpv6.tables.DstUnreachable.{DstUnreachable}
 use Rattle.icmp6_wire.specs.declared.icmpv6.tables.DstUnreachable.TheVariants as reasons
@@ -36,6 +36,10 @@ use Rattle.icmp6_wire.specs.Mld as listeners
 use Rattle.icmp6_wire.specs.Mld.{MldValue}
 use Rattle.icmp6_wire.proofs.MldFormat.{type_of, message_read, text-begins, message-unsealed}
 use Rattle.icmp6_wire.proofs.MldTexts.{length-text as length-mld, text_some as mld_some}
+use Rattle.icmp6_wire.specs.Ndisc as neighbors
+use Rattle.icmp6_wire.specs.Ndisc.{NdiscValue}
+use Rattle.icmp6_wire.proofs.NdiscReading.{kind_of as ndisc_kind, body, text_at, begun_read}
+use Rattle.icmp6_wire.proofs.NdiscTexts.{length-text as length-ndisc, text_some as ndisc_some}
 
 -- ---- what an error quotes
 
@@ -86,6 +90,7 @@ length-text (param_problem reason pointer quoted d) = length-error 4 (param_prob
 length-text (echo_request ident seq_no d) = omega (arith, ap length (echo_text 0x80 ident seq_no d))
 length-text (echo_reply ident seq_no d) = omega (arith, ap length (echo_text 0x81 ident seq_no d))
 length-text (mld m) = length-mld m
+length-text (ndisc m) = length-ndisc m
 
 pub text_some : (v : MessageValue) → 8 ≤ text_len v
 text_some (unreachable reason quoted d) = omega arith
@@ -95,6 +100,7 @@ text_some (param_problem reason pointer quoted d) = omega arith
 text_some (echo_request ident seq_no d) = omega arith
 text_some (echo_reply ident seq_no d) = omega arith
 text_some (mld m) = mld_some m
+text_some (ndisc m) = ndisc_some m
 
 pub length-packet_text : (capabilities : ChecksumCapabilities) (source destination : Ipv6Address) (v : MessageValue)
     → length (packet_text capabilities source destination v) ≡ text_len v
@@ -167,6 +173,13 @@ module _ (capabilities : ChecksumCapabilities) (source destination : Ipv6Address
       (message_read m c) in
       rw b.whole (message-unsealed (type_of m) 0 0 0 b.first b.second rest (listeners.norm m) alone, refl)
 
+  sealed_ndisc : (m : NdiscValue) → neighbors.IsCanonical m
+      → IsContent (seal capabilities source destination (neighbors.text m)) (ndisc (neighbors.norm m))
+  sealed_ndisc m c =
+      let b = sealed-begins capabilities.icmpv6 (neighbors.text m)
+      (message_sum source destination (length (neighbors.text m))) (ndisc_kind m) 0 (body m) (text_at m) in
+      (begun_read _ m c b, ap (λ (bytes : List ℕ). byte_of code_field bytes) b.whole)
+
   pub content_read : (v : MessageValue) → IsCanonical v → IsContent (packet_text capabilities source destination v)
       (norm v)
   content_read (unreachable reason quoted d) c =
@@ -184,6 +197,7 @@ module _ (capabilities : ChecksumCapabilities) (source destination : Ipv6Address
   content_read (echo_request ident seq_no d) c = sealed_echo 0x80 ident seq_no d c.0 c.1
   content_read (echo_reply ident seq_no d) c = sealed_echo 0x81 ident seq_no d c.0 c.1
   content_read (mld m) c = sealed_mld m c
+  content_read (ndisc m) c = sealed_ndisc m c
 
 -- the packet of a canonical value is read as its normal form
 pub message_text : (capabilities : ChecksumCapabilities) (source destination : Ipv6Address) (v : MessageValue)

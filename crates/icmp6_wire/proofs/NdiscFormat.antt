@@ -1,6 +1,6 @@
 -- The format of messages of neighbor discovery: bytes have one value, and what was read is canonical and its own normal
 -- form.
-use Rattle.std.proofs.Common.{◌≡◌, ℕ, ◌+◌, ◌*◌, ◌<◌, ◌≤◌, ◌^◌, List, [], ◌∷◌, ◌++◌, length, refl, sym, ap, subst, ◌∙◌}
+use Rattle.std.proofs.Common.{◌≡◌, ℕ, ◌*◌, ◌<◌, ◌≤◌, ◌^◌, List, [], ◌∷◌, ◌++◌, length, refl, sym, ap, subst, ◌∙◌}
 use Rattle.std.proofs.Common.{arith}
 use Rattle.std.specs.Prelude.{Option, None, Some}
 use Rattle.std.specs.List.{AllByRecursion}
@@ -27,7 +27,8 @@ use Rattle.icmp6_wire.specs.NdiscBlocks.{prefix_in, redirected_in}
 use Rattle.icmp6_wire.specs.NdiscPacket.{router_flags_field, neighbor_flags_field, router_lifetime_field}
 use Rattle.icmp6_wire.specs.NdiscPacket.{reachable_time_field, retrans_time_field, seconds, millis}
 use Rattle.icmp6_wire.specs.NdiscTables.{router_bits, neighbor_bits, known_router, known_neighbor}
-use Rattle.icmp6_wire.specs.Ndisc.{NdiscValue, router_solicit, router_advert, neighbor_solicit, neighbor_advert, redirect}
+use Rattle.icmp6_wire.specs.Ndisc.{NdiscValue, router_solicit, router_advert, neighbor_solicit, neighbor_advert}
+use Rattle.icmp6_wire.specs.Ndisc.{redirect}
 use Rattle.icmp6_wire.specs.Ndisc.{sources, targets, mtus, prefixes, packets, option_text, text, text_len}
 use Rattle.icmp6_wire.specs.Ndisc.{IfThere, IsContent, IsMessage, IsCanonicalHeader, IsCanonical}
 use Rattle.icmp6_wire.specs.Ndisc.{whole_seconds, whole_millis, whole_prefix, norm, format, Emits}
@@ -95,7 +96,8 @@ same_content bytes os _ _ a b same = absurd (omega arith)
 pub message-one : (bytes : List ℕ) (v w : NdiscValue) → IsMessage bytes v → IsMessage bytes w → v ≡ w
 message-one bytes v w a b =
     let options = blocks-unique (payload_in bytes) b.options a.options b.tiling a.tiling in
-    let other : IsContent bytes a.options w = subst (λ (os : List OptionValue). IsContent bytes os w) options b.content in
+    let other : IsContent bytes a.options w =
+    subst (λ (os : List OptionValue). IsContent bytes os w) options b.content in
     same_content bytes a.options v w a.content other
     (sym (kind-content bytes a.options v a.content) ∙ kind-content bytes a.options w other)
 

@@ -1,5 +1,5 @@
 -- Reading messages of neighbor discovery that were written.
-use Rattle.std.proofs.Common.{◌≡◌, ℕ, ◌+◌, ◌*◌, List, [], ◌∷◌, ◌++◌, length, take, drop, refl, sym, ap, subst, ◌∙◌}
+use Rattle.std.proofs.Common.{◌≡◌, ℕ, ◌*◌, List, [], ◌∷◌, ◌++◌, length, take, drop, refl, sym, ap, subst, ◌∙◌}
 use Rattle.std.proofs.Common.{arith, length-append}
 use Rattle.std.specs.Prelude.{Option, None, Some}
 use Rattle.std.specs.Option.{option_map}
@@ -22,7 +22,8 @@ use Rattle.icmp6_wire.specs.NdiscBlocks.{IsBlock, AreBlocks, ends, goes_on, last
 use Rattle.icmp6_wire.specs.NdiscBlocks.{prefix_in, redirected_in}
 use Rattle.icmp6_wire.specs.NdiscPacket.{seconds, millis}
 use Rattle.icmp6_wire.specs.NdiscTables.{router_bits, neighbor_bits}
-use Rattle.icmp6_wire.specs.Ndisc.{NdiscValue, router_solicit, router_advert, neighbor_solicit, neighbor_advert, redirect}
+use Rattle.icmp6_wire.specs.Ndisc.{NdiscValue, router_solicit, router_advert, neighbor_solicit, neighbor_advert}
+use Rattle.icmp6_wire.specs.Ndisc.{redirect}
 use Rattle.icmp6_wire.specs.Ndisc.{sources, targets, mtus, prefixes, packets, options_of, option_texts, text, Each}
 use Rattle.icmp6_wire.specs.Ndisc.{IsMessage, IsCanonical, whole_prefix, norm}
 use Rattle.icmp6_wire.proofs.Icmpv6Seals.{Begins}
@@ -82,7 +83,8 @@ unfolding read_options
 one_target None = refl
 one_target (Some a) = refl
 
-record OfRouter (l : Option (List ℕ)) (m : Option ℕ) (p : Option PrefixInformation) (os : List OptionValue) : Type 0 where
+record OfRouter (l : Option (List ℕ)) (m : Option ℕ) (p : Option PrefixInformation) (os : List OptionValue)
+    : Type 0 where
   link : option_map filled l ≡ last_of source_in os
   mtu_ : m ≡ last_of mtu_in os
   prefix_info : option_map whole_prefix p ≡ last_of prefix_in os

@@ -10,7 +10,8 @@ use Rattle.wirebase.proofs.Ipv6Header.{length-header_text}
 use Rattle.opt_wire.specs.NdiscOptionRepr.{units, padding, link_fields}
 use Rattle.opt_wire.specs.declared.ndiscoption.repr.PrefixInformation.{PrefixInformation}
 use Rattle.opt_wire.proofs.NdiscOptionTexts.{link_text, prefix_text, redirected_text, mtu_text}
-use Rattle.icmp6_wire.specs.Ndisc.{NdiscValue, router_solicit, router_advert, neighbor_solicit, neighbor_advert, redirect}
+use Rattle.icmp6_wire.specs.Ndisc.{NdiscValue, router_solicit, router_advert, neighbor_solicit, neighbor_advert}
+use Rattle.icmp6_wire.specs.Ndisc.{redirect}
 use Rattle.icmp6_wire.specs.Ndisc.{sources, targets, mtus, prefixes, packets, option_text, option_texts, option_len}
 use Rattle.icmp6_wire.specs.Ndisc.{header_fields, header_len, text, text_len, options_of}
 

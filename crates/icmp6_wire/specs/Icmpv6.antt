@@ -22,6 +22,8 @@ use Rattle.icmp6_wire.specs.Icmpv6Tables.{param_problem_rows, param_problem_of, 
 use Rattle.icmp6_wire.specs.Icmpv6Tables.{time_exceeded_rows, time_exceeded_of}
 use Rattle.icmp6_wire.specs.Mld as listeners
 use Rattle.icmp6_wire.specs.Mld.{MldValue}
+use Rattle.icmp6_wire.specs.Ndisc as neighbors
+use Rattle.icmp6_wire.specs.Ndisc.{NdiscValue}
 use Rattle.icmp6_wire.specs.declared.icmpv6.repr.Repr.{Repr}
 use Rattle.icmp6_wire.specs.declared.icmpv6.repr.Repr.TheVariants as repr
 use Rattle.icmp6_wire.specs.declared.icmpv6.tables.DstUnreachable.{DstUnreachable}
@@ -33,7 +35,7 @@ use Rattle.icmp6_wire.specs.declared.icmpv6.tables.TimeExceeded.TheVariants as t
 
 -- A message by its content: an error with its reason, the largest packet, the time or the problem and its place, the
 -- header that it speaks of and the data behind it; an echo with its identifier, its sequence number and its data; or a
--- message of multicast listener discovery.
+-- message of multicast listener discovery or of neighbor discovery.
 pub data MessageValue : Type 0 where
   unreachable : DstUnreachable → Ipv6Repr → List ℕ → MessageValue
   too_big : ℕ → Ipv6Repr → List ℕ → MessageValue
@@ -42,6 +44,7 @@ pub data MessageValue : Type 0 where
   echo_request : ℕ → ℕ → List ℕ → MessageValue
   echo_reply : ℕ → ℕ → List ℕ → MessageValue
   mld : MldValue → MessageValue
+  ndisc : NdiscValue → MessageValue
 
 abbrev pub value_of : Repr → MessageValue
 value_of (repr.DstUnreachable reason quoted d) = unreachable reason quoted d.now
@@ -51,6 +54,7 @@ value_of (repr.ParamProblem reason pointer quoted d) = param_problem reason poin
 value_of (repr.EchoRequest ident seq_no d) = echo_request ident seq_no d.now
 value_of (repr.EchoReply ident seq_no d) = echo_reply ident seq_no d.now
 value_of (repr.Mld m) = mld (listeners.value_of m)
+value_of (repr.Ndisc m) = ndisc (neighbors.value_of m)
 
 -- ---- the text
 
@@ -71,6 +75,7 @@ message_fields (param_problem reason pointer quoted d) = error_fields 4 (param_p
 message_fields (echo_request ident seq_no d) = echo_fields 0x80 ident seq_no d
 message_fields (echo_reply ident seq_no d) = echo_fields 0x81 ident seq_no d
 message_fields (mld m) = listeners.message_fields m
+message_fields (ndisc m) = neighbors.message_fields m
 
 abbrev pub text : MessageValue → List ℕ
 text v = fields (message_fields v)
@@ -87,6 +92,7 @@ text_len (param_problem reason pointer quoted d) = error_len d
 text_len (echo_request ident seq_no d) = 8 + length d
 text_len (echo_reply ident seq_no d) = 8 + length d
 text_len (mld m) = listeners.text_len m
+text_len (ndisc m) = neighbors.text_len m
 
 abbrev pub told_len : MessageValue → ℕ
 told_len (mld m) = listeners.told_len m
@@ -97,6 +103,7 @@ abbrev pub IsErrorValue : MessageValue → Type 0
 IsErrorValue (echo_request ident seq_no d) = ⊥
 IsErrorValue (echo_reply ident seq_no d) = ⊥
 IsErrorValue (mld m) = ⊥
+IsErrorValue (ndisc m) = ⊥
 IsErrorValue _ = Unit {0}
 
 -- the octets with their checksum, where the capabilities have it computed
@@ -113,7 +120,7 @@ emitted capabilities source destination v old = seal capabilities source destina
 
 -- What is asked of a message and of the octets that it is written into: of an echo that its header has room, of an
 -- error that all of it has, and that the quoted header can tell its payload's length; of a message of multicast
--- listener discovery what it asks alone.
+-- listener discovery or of neighbor discovery what it asks alone.
 abbrev pub CanEmitError : Ipv6Repr → List ℕ → List ℕ → Type 0
 CanEmitError quoted d bytes = (error_len d ≤ length bytes) × (quoted.payload_len ≤ 65535)
 
@@ -125,6 +132,7 @@ CanEmit (param_problem reason pointer quoted d) bytes = CanEmitError quoted d by
 CanEmit (echo_request ident seq_no d) bytes = Reaches header bytes
 CanEmit (echo_reply ident seq_no d) bytes = Reaches header bytes
 CanEmit (mld m) bytes = listeners.CanEmit m bytes
+CanEmit (ndisc m) bytes = neighbors.CanEmit m × (neighbors.text_len m ≤ length bytes)
 
 -- ---- the grammar
 
@@ -149,6 +157,7 @@ IsContent bytes (param_problem reason pointer quoted d) =
 IsContent bytes (echo_request ident seq_no d) = IsEcho 0x80 bytes ident seq_no d
 IsContent bytes (echo_reply ident seq_no d) = IsEcho 0x81 bytes ident seq_no d
 IsContent bytes (mld m) = listeners.IsMessage bytes m × (byte_of code_field bytes ≡ 0)
+IsContent bytes (ndisc m) = neighbors.IsMessage bytes m × (byte_of code_field bytes ≡ 0)
 
 -- The grammar: the header of the type is there, its checksum is good where it is verified, and the message is this one.
 pub record IsMessage (capabilities : ChecksumCapabilities) (source destination : Ipv6Address) (bytes : List ℕ)
@@ -178,18 +187,21 @@ IsCanonical (param_problem reason pointer quoted d) =
 IsCanonical (echo_request ident seq_no d) = (ident < 2 ^ 16) × (seq_no < 2 ^ 16) × (8 + length d ≤ 65535)
 IsCanonical (echo_reply ident seq_no d) = (ident < 2 ^ 16) × (seq_no < 2 ^ 16) × (8 + length d ≤ 65535)
 IsCanonical (mld m) = listeners.IsCanonical m
+IsCanonical (ndisc m) = neighbors.IsCanonical m
 
 -- the checksum is filled where it is verified
 abbrev pub Fills : ChecksumCapabilities → Type 0
 Fills capabilities = capabilities.icmpv6 ≢ Rx
 
--- the normal form: of an error, the data that it quotes; of a message of multicast listener discovery its own
+-- the normal form: of an error, the data that it quotes; of a message of multicast listener discovery or of neighbor
+-- discovery its own
 abbrev pub norm : MessageValue → MessageValue
 norm (unreachable reason quoted d) = unreachable reason quoted (quoted_data d)
 norm (too_big mtu quoted d) = too_big mtu quoted (quoted_data d)
 norm (time_exceeded reason quoted d) = time_exceeded reason quoted (quoted_data d)
 norm (param_problem reason pointer quoted d) = param_problem reason pointer quoted (quoted_data d)
 norm (mld m) = mld (listeners.norm m)
+norm (ndisc m) = ndisc (neighbors.norm m)
 norm v = v
 
 -- an error with more data than it quotes

@@ -1,17 +1,17 @@
 //! Messages as values (RFC 4443).
 #![tactic(auto, using(wirebase::proofs::Pieces::pieces))]
 
-ghost use Rattle.std.specs.Prelude.{◌≡◌, ◌≤◌, ◌<◌, ◌+◌, ◌^◌, min, List, ℕ, length, drop, IsOk, IfOk, IsOkAnd};
-ghost use Rattle.wirebase.specs.Bytes.{Reaches, over};
+ghost use Rattle.std.specs.Prelude.{true, ◌≡◌, ◌≤◌, ◌<◌, ◌+◌, ◌^◌, min, List, ℕ, length, drop, IsOk, IfOk, IsOkAnd};
+ghost use Rattle.wirebase.specs.Bytes.{Reaches, byte_of, over};
 ghost use Rattle.wirebase.specs.ByteWriter.{free, Puts, the_slice};
 ghost use Rattle.wirebase.specs.Format.{Rewrites, SameText};
-ghost use Rattle.wirebase.specs.Icmp.{header, checksum_field, echo_fields};
+ghost use Rattle.wirebase.specs.Icmp.{header, code_field, checksum_field, echo_fields};
 ghost use Rattle.wirebase.specs.Ipv6.{IsHeader, header_text};
 ghost use Rattle.wirebase.specs.declared.capabilities.ChecksumCapabilities.{ChecksumCapabilities};
 ghost use Rattle.wirebase.specs.declared.ipv6.address.Ipv6Address.{Ipv6Address};
 ghost use Rattle.wirebase.specs.declared.ipv6.Ipv6Repr.{Ipv6Repr};
-ghost use Rattle.icmp6_wire.specs.Icmpv6Tables.{message_number};
-ghost use Rattle.icmp6_wire.specs.Icmpv6Packet.{inner, view_octets, BeginsWhole};
+ghost use Rattle.icmp6_wire.specs.Icmpv6Tables.{message_number, is_ndisc};
+ghost use Rattle.icmp6_wire.specs.Icmpv6Packet.{inner, view_octets, message_in, BeginsWhole};
 ghost use Rattle.icmp6_wire.specs.Icmpv6.{MessageValue, value_of, quoted_data, error_fields, text, error_len};
 ghost use Rattle.icmp6_wire.specs.Icmpv6.{text_len, told_len};
 ghost use Rattle.icmp6_wire.specs.Icmpv6.{IsErrorValue, seal, packet_text, CanEmit, IsContent, IsMessage, format};
@@ -20,7 +20,7 @@ ghost use Rattle.icmp6_wire.specs.Icmpv6.{Emits};
 use super::packet::{Packet, fill};
 use super::tables::{DstUnreachable, Message, ParamProblem, TimeExceeded};
 use super::{MAX_QUOTED_DATA, field};
-use crate::mld;
+use crate::{mld, ndisc};
 use wirebase::{
     ByteWriter, ChecksumCapabilities, Error, IPV6_HEADER_LEN, Ipv6Address, Ipv6Packet, Ipv6Repr,
     Octets, OctetsMut, Result, are_bytes,
@@ -74,6 +74,8 @@ pub enum Repr<'a> {
     },
     /// A message of multicast listener discovery (RFC 3810).
     Mld(mld::Repr<'a>),
+    /// A message of neighbor discovery (RFC 4861).
+    Ndisc(ndisc::Repr<'a>),
 }
 
 impl<'a> Repr<'a> {
@@ -81,7 +83,8 @@ impl<'a> Repr<'a> {
     /// header of a type that is read here, where their checksum is to be verified and isn't good, and where the message
     /// is none of these. Of all but three errors the code is 0: those of an unreachable destination, an exceeded time
     /// and a parameter problem. An error quotes a whole header, whose version and payload length are not looked at, and
-    /// all that stands behind that header is the data. A query and a report are read by `mld::Repr::parse`.
+    /// all that stands behind that header is the data. A query and a report are read by `mld::Repr::parse`, a message
+    /// of neighbor discovery by `ndisc::Repr::parse`.
     pub fn parse(
         src_addr: &Ipv6Address,
         dst_addr: &Ipv6Address,
@@ -180,6 +183,11 @@ impl<'a> Repr<'a> {
                 let message = mld::Repr::parse(packet)?;
                 Ok(Repr::Mld(message))
             }
+            (Message::RouterSolicit, 0) => read_neighbor(packet),
+            (Message::RouterAdvert, 0) => read_neighbor(packet),
+            (Message::NeighborSolicit, 0) => read_neighbor(packet),
+            (Message::NeighborAdvert, 0) => read_neighbor(packet),
+            (Message::Redirect, 0) => read_neighbor(packet),
             _ => Err(Error),
         }
     }
@@ -214,13 +222,15 @@ impl<'a> Repr<'a> {
             Repr::EchoRequest { data, .. } => field::HEADER_END + data.len(),
             Repr::EchoReply { data, .. } => field::HEADER_END + data.len(),
             Repr::Mld(message) => message.packet_len(),
+            Repr::Ndisc(message) => message.buffer_len(),
         }
     }
 
     /// Writes the message over the front of the octets, as far as they go, and then, where the capabilities have it
     /// computed, the checksum of all of them as a message from `src_addr` to `dst_addr`. Asks 8 bytes or more of an
     /// echo; of an error its length or more, and that the quoted `payload_len` is at most 65,535; of a message of
-    /// multicast listener discovery what `mld::Repr::emit` asks.
+    /// multicast listener discovery what `mld::Repr::emit` asks, and of neighbor discovery what `ndisc::Repr::emit`
+    /// asks.
     pub fn emit<T: OctetsMut>(
         &self,
         src_addr: &Ipv6Address,
@@ -275,7 +285,7 @@ impl<'a> Repr<'a> {
         requires { CanEmit (value_of self.now) octets.old }
         ensures { octets.new ≡ over octets.old (text (value_of self.now)) }
     {
-        match *self {
+        match self {
             Repr::DstUnreachable {
                 reason,
                 header,
@@ -283,9 +293,9 @@ impl<'a> Repr<'a> {
             } => put_error(
                 &mut ByteWriter::new(octets),
                 Message::DstUnreachable,
-                reason.into(),
+                (*reason).into(),
                 0,
-                &header,
+                header,
                 data,
             ),
             Repr::PktTooBig { mtu, header, data } => {
@@ -293,8 +303,8 @@ impl<'a> Repr<'a> {
                     &mut ByteWriter::new(octets),
                     Message::PktTooBig,
                     0,
-                    mtu,
-                    &header,
+                    *mtu,
+                    header,
                     data,
                 );
             }
@@ -305,9 +315,9 @@ impl<'a> Repr<'a> {
             } => put_error(
                 &mut ByteWriter::new(octets),
                 Message::TimeExceeded,
-                reason.into(),
+                (*reason).into(),
                 0,
-                &header,
+                header,
                 data,
             ),
             Repr::ParamProblem {
@@ -318,9 +328,9 @@ impl<'a> Repr<'a> {
             } => put_error(
                 &mut ByteWriter::new(octets),
                 Message::ParamProblem,
-                reason.into(),
-                pointer,
-                &header,
+                (*reason).into(),
+                *pointer,
+                header,
                 data,
             ),
             Repr::EchoRequest {
@@ -330,8 +340,8 @@ impl<'a> Repr<'a> {
             } => put_echo(
                 &mut ByteWriter::new(octets),
                 Message::EchoRequest,
-                ident,
-                seq_no,
+                *ident,
+                *seq_no,
                 data,
             ),
             Repr::EchoReply {
@@ -341,12 +351,27 @@ impl<'a> Repr<'a> {
             } => put_echo(
                 &mut ByteWriter::new(octets),
                 Message::EchoReply,
-                ident,
-                seq_no,
+                *ident,
+                *seq_no,
                 data,
             ),
             Repr::Mld(message) => message.emit_into(octets),
+            Repr::Ndisc(message) => message.emit_into(octets),
         }
+    }
+}
+
+// The message of neighbor discovery in octets of such a type and of code 0.
+fn read_neighbor<'a>(packet: &Packet<&'a [u8]>) -> Result<Repr<'a>>
+    requires kind { is_ndisc (message_in (view_octets packet.now)) ≡ true }
+    requires code { byte_of code_field (view_octets packet.now) ≡ 0 }
+    ensures sound { IfOk result (λ repr. IsContent (view_octets packet.now) (value_of repr)) }
+    ensures reads { (value : MessageValue) → IsContent (view_octets packet.now) value
+        → IsOk result }
+{
+    match ndisc::Repr::parse(packet) {
+        Ok(message) => Ok(Repr::Ndisc(message)),
+        Err(_) => Err(Error),
     }
 }
 

@@ -79,8 +79,8 @@ pub enum Repr<'a> {
 
 impl<'a> Repr<'a> {
     /// The message in the octets. Refused where they don't begin with the header of their type, where that is none of
-    /// neighbor discovery, and where what follows isn't whole options one after another. An option that can't be read is
-    /// left out, and so are flags without a name; neither code nor checksum is looked at.
+    /// neighbor discovery, and where what follows isn't whole options one after another. An option that can't be read
+    /// is left out, and so are flags without a name; neither code nor checksum is looked at.
     pub fn parse(packet: &Packet<&'a [u8]>) -> Result<Repr<'a>>
         ensures sound { IfOk result (λ repr. IsMessage (view_octets packet.now) (value_of repr)) }
         ensures complete { (value : NdiscValue) → IsMessage (view_octets packet.now) value
