@@ -67,8 +67,12 @@ fn show_option<W: Write>(output: &mut W, option: &Repr<'_>) -> io::Result<()>
     }
 }
 
-// Prints a prefix, as a part whose name and a dot are `part`.
-fn show_prefix<W: Write>(output: &mut W, part: &str, prefix: &PrefixInformation) -> io::Result<()>
+/// Prints a prefix, as a part whose name and a dot are `part`.
+pub fn show_prefix<W: Write>(
+    output: &mut W,
+    part: &str,
+    prefix: &PrefixInformation,
+) -> io::Result<()>
     ensures { OnOk result (Gains (W.contents output.old) (W.contents output.new)
         (prefix_listing part.now prefix.now)) }
 {
@@ -84,8 +88,8 @@ fn show_prefix<W: Write>(output: &mut W, part: &str, prefix: &PrefixInformation)
     part_field(output, part, "prefix", prefix.prefix)
 }
 
-// Prints a redirected packet, as a part whose name and a dot are `part`, and the same of its header.
-fn show_redirected<W: Write>(
+/// Prints a redirected packet, as a part whose name and a dot are `part`, and the same of its header.
+pub fn show_redirected<W: Write>(
     output: &mut W,
     header_part: &str,
     part: &str,
