@@ -3,7 +3,9 @@ ghost use Rattle.opt_wire.specs.declared.ndiscoption.repr.Repr.TheVariants as re
 
 use super::{NdiscOption, PrefixInfoFlags, PrefixInformation, RedirectedHeader, Repr, Type};
 use bitflags::Flags as _;
+use std::fmt::Write;
 use std::test::Fail;
+use wirebase::failing_writer::FailingWriter;
 use wirebase::{Duration, Error, IpProtocol, Ipv6Address, Ipv6Repr, RawHardwareAddress};
 
 fn here() -> Ipv6Address {
@@ -456,5 +458,37 @@ fn views_in_words(rt: HostRuntime) -> Result<(), Fail> {
         let view = NdiscOption::new_unchecked(bytes);
         assert_eq!(rt; view.to_string(rt.alloc())?.as_str(), text);
     }
+    Ok(())
+}
+
+#[test]
+fn printing_fails_only_with_its_writer(rt: HostRuntime) {
+    let rows: [&[u8]; 3] = [&[0x05, 0x01, 0, 0, 0, 0, 0x05, 0xdc], &PREFIX, &[]];
+    for bytes in rows {
+        let view = NdiscOption::new_unchecked(bytes);
+        let mut none = FailingWriter { left: 0 };
+        assert!(rt; write!(none, "{view}").is_err(), "of {bytes:?}");
+        let mut many = FailingWriter { left: 100 };
+        assert!(rt; write!(many, "{view}").is_ok(), "of {bytes:?}");
+    }
+    let mut one = FailingWriter { left: 1 };
+    assert!(rt; write!(one, "{}", Repr::Mtu(1_500)).is_err());
+    assert!(rt; write!(one, "{}", Type::Mtu).is_err());
+}
+
+#[test]
+fn equal_texts_of_options(rt: HostRuntime) -> Result<(), Fail> {
+    let short = Repr::SourceLinkLayerAddr(RawHardwareAddress::from_bytes(&[1, 2, 3, 4, 5]));
+    let filled = Repr::SourceLinkLayerAddr(RawHardwareAddress::from_bytes(&[1, 2, 3, 4, 5, 0]));
+    Repr::same_text(&short, &filled);
+    let mut first = [0x2a; 8];
+    short.emit_into(&mut first);
+    let mut second = [0xa5; 8];
+    filled.emit_into(&mut second);
+    assert_eq!(rt; first, second);
+    assert_eq!(rt;
+        Repr::parse(&NdiscOption::new_checked(first.as_slice())?)?,
+        filled
+    );
     Ok(())
 }

@@ -2,6 +2,7 @@
 //! that depends on what was read.
 
 use crate::checksum::plain;
+use dhcp_wire::dhcpv4;
 use dns_wire::dns;
 use icmp4_wire::{icmpv4, igmp};
 use icmp6_wire::icmpv6;
@@ -169,6 +170,23 @@ pub fn write_ndisc_option(packet: &[u8], room: &mut [u8]) -> u64 {
             }
             mtu as u64
         }
+        _ => 0,
+    }
+}
+
+pub fn read_dhcp(packet: &[u8], _room: &mut [u8]) -> u64 {
+    match dhcpv4::Repr::parse(&dhcpv4::Packet::new_unchecked(packet)) {
+        Ok(message) => message.transaction_id as u64,
+        Err(_) => 0,
+    }
+}
+
+pub fn write_dhcp(packet: &[u8], room: &mut [u8]) -> u64 {
+    match dhcpv4::Repr::parse(&dhcpv4::Packet::new_unchecked(packet)) {
+        Ok(message) if room.len() >= 240 => match message.emit_into(room) {
+            Ok(()) => message.transaction_id as u64,
+            Err(_) => 0,
+        },
         _ => 0,
     }
 }
