@@ -5,12 +5,10 @@ use Rattle.std.proofs.Common.{subst}
 use Rattle.std.proofs.Common.{◌∙◌, ◌⊎◌, inl, inr, arith, length-append}
 use Rattle.std.specs.Option.{option_map, option_or}
 use Rattle.std.proofs.lemmas.List.{append-nil, take-append-drop}
-use Rattle.std.proofs.lemmas.List.Concat.{flat_map-cons}
 use Rattle.byteorder.specs.Endian.{big_number}
 use Rattle.byteorder.specs.Numbers.{big_from-lt}
 use Rattle.wirebase.specs.Bytes.{IsBytes, part, byte_of}
 use Rattle.wirebase.specs.ByteWriter.{be8, be16, be32}
-use Rattle.wirebase.specs.Ethernet.{Ethernet}
 use Rattle.wirebase.specs.Ethernet.{octets_of as ethernet_octets}
 use Rattle.wirebase.specs.Ipv4.{octets_of}
 use Rattle.wirebase.specs.Numbered.{IsProper}
@@ -19,13 +17,13 @@ use Rattle.wirebase.proofs.ByteParts.{IsBytes-drop, IsBytes-front, IsBytes-rest}
 use Rattle.wirebase.proofs.Numbered.{case_in-proper}
 use Rattle.dhcp_wire.specs.declared.dhcpv4.tables.MessageType.{MessageType}
 use Rattle.dhcp_wire.specs.declared.dhcpv4.tables.MessageType.TheVariants as message
-use Rattle.dhcp_wire.specs.Dhcpv4.{Value, of_slot, of_slots, slots_of, options_of, options_text, header_text, text}
-use Rattle.dhcp_wire.specs.Dhcpv4.{last_of, said, of_len, number_in, whole_addresses, addresses_in, type_in, IsPacket}
+use Rattle.dhcp_wire.specs.Dhcpv4.{Value, of_slot, of_slots, slots_of, options_of, options_text, text}
+use Rattle.dhcp_wire.specs.Dhcpv4.{last_of, said, number_in, whole_addresses, addresses_in, type_in, IsPacket}
 use Rattle.dhcp_wire.specs.Dhcpv4Format.{AllShort, AreAdditional, IsBelow, IsFew, IsCanonical, text_len}
 use Rattle.dhcp_wire.specs.Dhcpv4Options.{OptionValue, option, option_text, Options, none, ended, padded, lone, torn}
 use Rattle.dhcp_wire.specs.Dhcpv4Options.{goes_on}
-use Rattle.dhcp_wire.specs.Dhcpv4Packet.{op_field, options_in}
-use Rattle.dhcp_wire.specs.Dhcpv4Tables.{opcode_number, operation_of, message_number, message_of, message_rows}
+use Rattle.dhcp_wire.specs.Dhcpv4Packet.{op_field}
+use Rattle.dhcp_wire.specs.Dhcpv4Tables.{message_number, message_of, message_rows}
 use Rattle.dhcp_wire.proofs.Dhcpv4Lengths.{octets-len, be16-len, be32-len, text_len-options, text_len-whole}
 
 -- ---- what holds of each option holds of the last

@@ -1,10 +1,10 @@
 -- Options written one after another, as far as there is room.
-use Rattle.std.proofs.Common.{◌≡◌, ℕ, ◌+◌, ◌-◌, ◌≤◌, ◌<◌, ◌↔◌, Bool, true, false, ◌&&◌, cond, nat_le, List, [], ◌∷◌}
+use Rattle.std.proofs.Common.{◌≡◌, ℕ, ◌+◌, ◌-◌, ◌≤◌, ◌<◌, ◌↔◌, Bool, true, false, ◌&&◌, cond, List, [], ◌∷◌}
 use Rattle.std.proofs.Common.{◌++◌, length, take, drop, IsOk, OnOk, OnErr, is_ok, Option, None, Some, Result, Ok, Err}
-use Rattle.std.proofs.Common.{refl, sym, ap, subst, ◌∙◌, arith, rules, length-append, length-drop}
+use Rattle.std.proofs.Common.{refl, sym, ap, subst, ◌∙◌, arith, length-append, length-drop}
 use Rattle.std.proofs.lemmas.Bool.Decides.{nat_tests}
 use Rattle.std.proofs.lemmas.Grind.{common_steps}
-use Rattle.std.proofs.lemmas.List.{append_assoc, append-nil, drop-drop, drop_all, take_all, take_at, drop_at, take_rest}
+use Rattle.std.proofs.lemmas.List.{append_assoc, append-nil, drop-drop, drop_all, take_at, drop_at, take_rest}
 use borrow.Rule.Slice.PartMut.{put_mid}
 use Rattle.wirebase.specs.ByteWriter.{be8, be16, be32, fields}
 use Rattle.wirebase.specs.declared.error.Error.{Error}
@@ -14,9 +14,9 @@ use Rattle.dhcp_wire.specs.declared.dhcpv4.options.DhcpOptionWriter.{DhcpOptionW
 use Rattle.dhcp_wire.specs.Dhcpv4.{Value, Slot, slot, of_slot, of_slots, slots_of, options_of, options_text}
 use Rattle.dhcp_wire.specs.Dhcpv4.{header_text}
 use Rattle.dhcp_wire.specs.Dhcpv4Format.{fits, texts_before, AllShort}
-use Rattle.dhcp_wire.specs.Dhcpv4Emission.{Progress, at, progress, WritesOptions, fitted, going_on, step, slot_step}
+use Rattle.dhcp_wire.specs.Dhcpv4Emission.{Progress, at, progress, WritesOptions, fitted, step}
 use Rattle.dhcp_wire.specs.Dhcpv4Emission.{step_slot, steps, step_all}
-use Rattle.dhcp_wire.specs.Dhcpv4Options.{OptionValue, option, option_text}
+use Rattle.dhcp_wire.specs.Dhcpv4Options.{OptionValue, option_text}
 use Rattle.dhcp_wire.specs.Dhcpv4Writer.{Fits, IsUnchanged, settled, free}
 
 -- ---- after a refusal

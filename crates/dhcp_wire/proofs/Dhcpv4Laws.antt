@@ -1,8 +1,8 @@
 -- The format of DHCP packets: their bytes have one value, which is canonical, and what was written is read back.
-use Rattle.std.proofs.Common.{◌≡◌, ◌≢◌, ◌↔◌, IsOk, ℕ, ◌+◌, ◌-◌, ◌≤◌, List, [], ◌∷◌, ◌++◌, length, take, drop, Result, Ok, Err}
+use Rattle.std.proofs.Common.{◌≡◌, ◌≢◌, ◌↔◌, IsOk, ℕ, ◌-◌, ◌≤◌, List, [], ◌∷◌, ◌++◌, length, take, drop, Result, Ok, Err}
 use Rattle.std.proofs.Common.{OnOk, is_ok, true}
 use Rattle.std.proofs.Common.{refl, sym, ap, subst, ◌∙◌, arith, length-append}
-use Rattle.std.proofs.lemmas.List.{append_assoc, append-nil}
+use Rattle.std.proofs.lemmas.List.{append_assoc}
 use Rattle.std.proofs.lemmas.Result.{on_ok_weaker}
 use borrow.Rule.Slice.PartMut.{put_mid}
 use Rattle.wirebase.specs.Bytes.{over}

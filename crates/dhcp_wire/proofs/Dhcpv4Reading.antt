@@ -1,7 +1,7 @@
 -- What was written is read back: the options of a text, and what the last of each kind says.
-use Rattle.std.proofs.Common.{◌≡◌, ◌≢◌, ℕ, zero, suc, ◌+◌, ◌≤◌, ◌<◌, ◌^◌, Bool, true, false, cond, eqb, ltb, ◌&&◌, List}
+use Rattle.std.proofs.Common.{◌≡◌, ◌≢◌, ℕ, zero, suc, ◌≤◌, ◌<◌, ◌^◌, Bool, true, false, cond, eqb, List}
 use Rattle.std.proofs.Common.{[]}
-use Rattle.std.proofs.Common.{◌∷◌, ◌++◌, length, drop, flat_map, slice_index, Option, None, Some, refl, sym, ap, subst}
+use Rattle.std.proofs.Common.{◌∷◌, ◌++◌, length, drop, flat_map, Option, None, Some, refl, sym, ap, subst}
 use Rattle.std.proofs.Common.{◌∙◌, arith, length-append}
 use Rattle.std.specs.Option.{option_map, option_or}
 use Rattle.std.proofs.lemmas.Bool.{eqb-false, ne_eqb}
@@ -27,7 +27,7 @@ use Rattle.dhcp_wire.specs.Dhcpv4Options.{OptionValue, option, option_text, IsKi
 use Rattle.dhcp_wire.specs.Dhcpv4Packet.{op_field, htype_field, hlen_field, xid_field, secs_field, flags_field}
 use Rattle.dhcp_wire.specs.Dhcpv4Packet.{ciaddr_field, yiaddr_field, siaddr_field, giaddr_field, chaddr_field}
 use Rattle.dhcp_wire.specs.Dhcpv4Packet.{magic_field}
-use Rattle.dhcp_wire.specs.Dhcpv4Tables.{opcode_number, operation_of, message_number, message_of, message_rows}
+use Rattle.dhcp_wire.specs.Dhcpv4Tables.{opcode_number, operation_of, message_number, message_rows}
 use Rattle.dhcp_wire.proofs.Dhcpv4Addresses.{whole-short}
 use Rattle.dhcp_wire.proofs.Dhcpv4Emission.{header_len-240}
 use Rattle.dhcp_wire.proofs.Dhcpv4Kept.{or-assoc, or-none}

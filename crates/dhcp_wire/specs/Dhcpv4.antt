@@ -1,27 +1,23 @@
 -- What a DHCP packet says: its value, its text, and the grammar that reads it (RFC 2131, RFC 2132).
-use Rattle.std.specs.Prelude.{◌≡◌, ◌≢◌, ℕ, zero, suc, ◌+◌, ◌-◌, ◌*◌, ◌/◌, ◌≤◌, ◌<◌, ◌^◌, ◌==◌, ◌&&◌, ◌↔◌, min, Bool}
-use Rattle.std.specs.Prelude.{true, false, nat_le, List, [], ◌∷◌, ◌++◌, length, take, drop, map, flat_map, replicate}
-use Rattle.std.specs.Prelude.{slice_index, if◌then◌else◌, Option, None, Some, Result, IsOk, OnOk, OnErr, is_ok}
+use Rattle.std.specs.Prelude.{◌≡◌, ℕ, zero, suc, ◌==◌, ◌&&◌, Bool}
+use Rattle.std.specs.Prelude.{true, false, List, [], ◌∷◌, ◌++◌, length, drop, map, flat_map, replicate}
+use Rattle.std.specs.Prelude.{slice_index, if◌then◌else◌, Option, None, Some}
 use Rattle.std.specs.Option.{option_map, option_or}
 use Rattle.std.specs.Int.RustNames.{bit_and}
 use Rattle.byteorder.specs.Endian.{big_number}
-use Rattle.wirebase.specs.Bytes.{Reaches, byte_of, bytes_of, number_of, over}
+use Rattle.wirebase.specs.Bytes.{Reaches, byte_of, bytes_of, number_of}
 use Rattle.wirebase.specs.ByteWriter.{be8, be16, be32, fields}
 use Rattle.wirebase.specs.Ethernet.{Ethernet}
 use Rattle.wirebase.specs.Ethernet.{octets_of as ethernet_octets}
-use Rattle.wirebase.specs.Format.{Format, RoundTrips}
 use Rattle.wirebase.specs.Ipv4.{octets_of}
-use Rattle.wirebase.specs.Numbered.{IsProper}
-use Rattle.wirebase.specs.declared.error.Error.{Error}
 use Rattle.wirebase.specs.declared.ipv4.Ipv4Address.{Ipv4Address}
 use Rattle.dhcp_wire.specs.declared.dhcpv4.repr.Repr.{Repr}
 use Rattle.dhcp_wire.specs.declared.dhcpv4.tables.MessageType.{MessageType}
-use Rattle.dhcp_wire.specs.declared.dhcpv4.tables.MessageType.TheVariants as message
 use Rattle.dhcp_wire.specs.Dhcpv4Options.{OptionValue, option, option_text, value_of_option, Options}
 use Rattle.dhcp_wire.specs.Dhcpv4Packet.{op_field, htype_field, hlen_field, xid_field, secs_field, flags_field}
 use Rattle.dhcp_wire.specs.Dhcpv4Packet.{ciaddr_field, yiaddr_field, siaddr_field, giaddr_field, chaddr_field}
 use Rattle.dhcp_wire.specs.Dhcpv4Packet.{magic_field, options_in}
-use Rattle.dhcp_wire.specs.Dhcpv4Tables.{opcode_number, operation_of, message_number, message_of, message_rows}
+use Rattle.dhcp_wire.specs.Dhcpv4Tables.{opcode_number, operation_of, message_number, message_of}
 
 -- ---- the value by its content
 

@@ -1,7 +1,7 @@
 ghost use Rattle.std.specs.Prelude.{◌≡◌, [], None, length};
 
 use super::Repr;
-use crate::dhcpv4::{MessageType, Packet};
+use crate::dhcpv4::{DhcpOption, MAX_DNS_SERVER_COUNT, MessageType, Packet};
 use arrayvec::ArrayVec;
 use std::alloc::Global;
 use std::test::Fail;
@@ -218,6 +218,22 @@ fn bare(message_type: MessageType) -> Repr<'static>
     ensures numbers { (result.max_size ≡ None) × (result.lease_duration ≡ None)
         × (result.renew_duration ≡ None) × (result.rebind_duration ≡ None) }
 {
+    with_options(message_type, &[])
+}
+
+// A message of this type with these additional options, that says nothing else.
+fn with_options(
+    message_type: MessageType,
+    additional_options: &'static [DhcpOption<'static>],
+) -> Repr<'static>
+    ensures addresses { (result.router ≡ None) × (result.subnet_mask ≡ None)
+        × (result.requested_ip ≡ None) × (result.client_identifier ≡ None)
+        × (result.server_identifier ≡ None) }
+    ensures lists { (result.parameter_request_list ≡ None) × (result.dns_servers ≡ None)
+        × (result.additional_options.now ≡ additional_options.now) }
+    ensures numbers { (result.max_size ≡ None) × (result.lease_duration ≡ None)
+        × (result.renew_duration ≡ None) × (result.rebind_duration ≡ None) }
+{
     Repr {
         message_type,
         transaction_id: 0,
@@ -239,7 +255,7 @@ fn bare(message_type: MessageType) -> Repr<'static>
         lease_duration: None,
         renew_duration: None,
         rebind_duration: None,
-        additional_options: &[],
+        additional_options,
     }
 }
 
@@ -328,7 +344,7 @@ fn bytes_that_a_value_takes(rt: HostRuntime) -> Result<(), Fail> {
 }
 
 // The servers 10.0.0.1 to 10.0.0.5.
-fn five_servers() -> ArrayVec<Ipv4Address, 5>
+fn five_servers() -> ArrayVec<Ipv4Address, MAX_DNS_SERVER_COUNT>
     ensures { length result.items ≡ 5 }
 {
     let mut servers = ArrayVec::new();
@@ -479,5 +495,55 @@ fn a_bare_discover_into_buffers_of_every_length(rt: HostRuntime) -> Result<(), F
             }
         }
     }
+    Ok(())
+}
+
+// An option of more data than one byte counts.
+const LONG_DATA: [u8; 256] = [0; 256];
+
+const LONG_OPTION: &[DhcpOption<'static>] = &[DhcpOption {
+    kind: 12,
+    data: &LONG_DATA,
+}];
+
+// The name of a host.
+const HOST_NAME: &[DhcpOption<'static>] = &[DhcpOption {
+    kind: 12,
+    data: b"ab",
+}];
+
+#[test]
+fn an_additional_option_of_256_bytes(rt: HostRuntime) -> Result<(), Fail> {
+    let repr = with_options(MessageType::Discover, LONG_OPTION);
+    let mut octets = [0x2a; 600];
+    assert_eq!(rt; repr.emit_into(&mut octets), Err(Error));
+    assert_eq!(rt; octets[240..243], [0x35, 1, 1][..]);
+    assert!(rt; octets[243..600].iter().all(|byte| *byte == 0x2a));
+    Ok(())
+}
+
+#[test]
+fn an_additional_option_stands_last(rt: HostRuntime) -> Result<(), Fail> {
+    let repr = with_options(MessageType::Discover, HOST_NAME);
+    let mut octets = [0x2a; 249];
+    assert_eq!(rt; repr.emit_into(&mut octets), Ok(()));
+    assert_eq!(rt;
+        octets[240..249],
+        [0x35, 1, 1, 12, 2, 0x61, 0x62, 0xff, 0x2a][..]
+    );
+    Ok(())
+}
+
+#[test]
+fn a_value_written_into_a_view(rt: HostRuntime) -> Result<(), Fail> {
+    let repr = bare(MessageType::Inform);
+    let mut octets = [0xff; 244];
+    let mut view = Packet::new_unchecked(&mut octets[..]);
+    assert_eq!(rt; repr.emit(&mut view), Ok(()));
+    let mut wanted = [0; 244];
+    wanted[0..3].copy_from_slice(&[1, 1, 6]);
+    wanted[236..244].copy_from_slice(&[0x63, 0x82, 0x53, 0x63, 0x35, 1, 8, 0xff]);
+    assert_eq!(rt; octets, wanted);
+    Repr::same_text(&repr, &bare(MessageType::Inform));
     Ok(())
 }

@@ -1,4 +1,4 @@
-use Rattle.std.proofs.Common.{◌≡◌, ℕ, List, ◌∷◌, refl, sym, ap, subst, ◌∙◌}
+use Rattle.std.proofs.Common.{◌≡◌, ℕ, List, sym, ap, subst, ◌∙◌}
 use Rattle.wirebase.specs.Bytes.{byte_of}
 use Rattle.dhcp_wire.specs.Dhcpv4.{AreOfEthernet}
 use Rattle.dhcp_wire.specs.Dhcpv4Found.{Kept, kept_of, nothing, keep, keep_all}
