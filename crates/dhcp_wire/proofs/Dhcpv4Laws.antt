@@ -1,5 +1,6 @@
 -- The format of DHCP packets: their bytes have one value, which is canonical, and what was written is read back.
-use Rattle.std.proofs.Common.{◌≡◌, ◌≢◌, ◌↔◌, IsOk, ℕ, ◌-◌, ◌≤◌, List, [], ◌∷◌, ◌++◌, length, take, drop, Result, Ok, Err}
+use Rattle.std.proofs.Common.{◌≡◌, ◌≢◌, ◌↔◌, IsOk, ℕ, ◌-◌, ◌≤◌, List, [], ◌∷◌, ◌++◌, length, take, drop}
+use Rattle.std.proofs.Common.{Result, Ok, Err}
 use Rattle.std.proofs.Common.{OnOk, is_ok, true}
 use Rattle.std.proofs.Common.{refl, sym, ap, subst, ◌∙◌, arith, length-append}
 use Rattle.std.proofs.lemmas.List.{append_assoc}
@@ -120,7 +121,8 @@ emits v old mid mine result room is w =
     record {
       accepts = counted v (length old) result all.accepts;
       text_ = all.ok;
-      exact = λ whole. on_ok_weaker result (λ same. same ∙ over-exact old (text v) (whole ∙ sym (text_len-whole v))) all.ok;
+      exact = λ whole.
+          on_ok_weaker result (λ same. same ∙ over-exact old (text v) (whole ∙ sym (text_len-whole v))) all.ok;
       refused = all.refused;
       reads_back = λ c. on_ok-read v old new result fits_ c all.ok;
       round_trips = round_trips format dhcp_format v;
