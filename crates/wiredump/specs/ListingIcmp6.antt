@@ -6,12 +6,13 @@ use Rattle.wirebase.specs.declared.capabilities.Checksum.TheVariants.{Both}
 use Rattle.wirebase.specs.declared.ipv6.address.Ipv6Address.{Ipv6Address}
 use Rattle.wirebase.specs.declared.ipv6.Ipv6Repr.{Ipv6Repr}
 use Rattle.icmp6_wire.specs.Icmpv6.{IsMessage, MessageValue, unreachable, too_big, time_exceeded, param_problem}
-use Rattle.icmp6_wire.specs.Icmpv6.{echo_request, echo_reply, mld}
+use Rattle.icmp6_wire.specs.Icmpv6.{echo_request, echo_reply, mld, ndisc}
 use Rattle.icmp6_wire.specs.Icmpv6Tables.{unreachable_number, param_problem_number, time_exceeded_number}
 use Rattle.wiredump.specs.Layout.{line, field, octets_text, IsListingOrRefused}
 use Rattle.wiredump.specs.ListingIcmp4.{echo_listing}
 use Rattle.wiredump.specs.ListingIpv6.{header_listing}
 use Rattle.wiredump.specs.ListingMld.{mld_listing}
+use Rattle.wiredump.specs.ListingNdisc.{ndisc_listing}
 
 -- the packet that an error speaks of
 abbrev pub quote_listing : Ipv6Repr → List ℕ → List ℕ
@@ -38,6 +39,7 @@ icmp6_listing (param_problem reason pointer quoted d) =
 icmp6_listing (echo_request ident seq_no d) = echo_listing (codes "EchoRequest") ident seq_no d
 icmp6_listing (echo_reply ident seq_no d) = echo_listing (codes "EchoReply") ident seq_no d
 icmp6_listing (mld message) = mld_listing message
+icmp6_listing (ndisc message) = ndisc_listing message
 
 -- a message between the addresses of these octets
 abbrev pub Icmp6Prints : List ℕ → List ℕ → List ℕ → List ℕ → Type 0

@@ -12,8 +12,8 @@ ghost use Rattle.wiredump.specs.Output.{Gains, GainsSome};
 
 use crate::icmp4::show_echo;
 use crate::ipv6::show_header;
-use crate::mld;
 use crate::printer::{field, line};
+use crate::{mld, ndisc};
 use icmp6_wire::icmpv6::{Packet, Repr};
 use std::io;
 use std::io::Write;
@@ -102,6 +102,7 @@ fn show_message<W: Write>(output: &mut W, message: &Repr<'_>) -> io::Result<()>
             data,
         } => show_echo(output, "EchoReply", ident, seq_no, data),
         Repr::Mld(message) => mld::show_message(output, &message),
+        Repr::Ndisc(message) => ndisc::show_message(output, &message),
     }
 }
 

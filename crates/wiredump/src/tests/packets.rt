@@ -289,6 +289,73 @@ fn listener_messages_inside_icmpv6(rt: HostRuntime) -> Result<(), Fail> {
     )
 }
 
+#[test]
+fn neighbor_messages_inside_icmpv6(rt: HostRuntime) -> Result<(), Fail> {
+    check(
+        &rt,
+        rt.alloc(),
+        &[
+            (
+                "icmp6 fe800000000000000000000000000001 fe800000000000000000000000000002 8600a9d\
+                 e4080038400000384000003840101525400123456",
+                "RouterAdvert\nhop_limit=64\nflags=128\nrouter_lifetime=900000\n\
+                 reachable_time=900\nretrans_time=900\nlladdr=525400123456\nmtu=none\n\
+                 prefix_info=none\n",
+            ),
+            (
+                "icmp6 fe800000000000000000000000000001 fe800000000000000000000000000002 8600273\
+                 300c00001000000020000000305010000000005dc030440c000000384000003e800000000fe8000\
+                 00000000000000000000000001",
+                "RouterAdvert\nhop_limit=0\nflags=192\nrouter_lifetime=1000\nreachable_time=2\n\
+                 retrans_time=3\nlladdr=none\nmtu=1500\nprefix_info.prefix_len=64\n\
+                 prefix_info.flags=192\nprefix_info.valid_lifetime=900000\n\
+                 prefix_info.preferred_lifetime=1000000\nprefix_info.prefix=fe800000000000000000\
+                 000000000001\n",
+            ),
+            (
+                "icmp6 fe800000000000000000000000000001 fe800000000000000000000000000002 85007db\
+                 800000000",
+                "RouterSolicit\nlladdr=none\n",
+            ),
+            (
+                "icmp6 fe800000000000000000000000000001 fe800000000000000000000000000002 8700f55\
+                 f00000000fe8000000000000000000000000000020101525400123456",
+                "NeighborSolicit\ntarget_addr=fe800000000000000000000000000002\n\
+                 lladdr=525400123456\n",
+            ),
+            (
+                "icmp6 fe800000000000000000000000000001 fe800000000000000000000000000002 8800535\
+                 fa0000000fe8000000000000000000000000000020201525400123456",
+                "NeighborAdvert\nflags=160\ntarget_addr=fe800000000000000000000000000002\n\
+                 lladdr=525400123456\n",
+            ),
+            (
+                "icmp6 fe800000000000000000000000000001 fe800000000000000000000000000002 89007c9\
+                 300000000fe800000000000000000000000000002fe800000000000000000000000000001",
+                "Redirect\ntarget_addr=fe800000000000000000000000000002\n\
+                 dest_addr=fe800000000000000000000000000001\nlladdr=none\nredirected_hdr=none\n",
+            ),
+            (
+                "icmp6 fe800000000000000000000000000001 fe800000000000000000000000000002 890009a\
+                 c00000000fe800000000000000000000000000002fe800000000000000000000000000001020152\
+                 540012345604070000000000006000000000041140fe800000000000000000000000000001fe800\
+                 000000000000000000000000002aabbccdd00000000",
+                "Redirect\ntarget_addr=fe800000000000000000000000000002\n\
+                 dest_addr=fe800000000000000000000000000001\nlladdr=525400123456\n\
+                 redirected_hdr.header.src_addr=fe800000000000000000000000000001\n\
+                 redirected_hdr.header.dst_addr=fe800000000000000000000000000002\n\
+                 redirected_hdr.header.next_header=17\nredirected_hdr.header.payload_len=4\n\
+                 redirected_hdr.header.hop_limit=64\nredirected_hdr.data=aabbccdd\n",
+            ),
+            (
+                "icmp6 fe800000000000000000000000000001 fe800000000000000000000000000002 85007db\
+                 10000000000000000000000",
+                "refused\n",
+            ),
+        ],
+    )
+}
+
 // What stands in a packet between the client's hardware address and the cookie.
 const ZEROS: &str =
     "000000000000000000000000000000000000000000000000000000000000000000000000000000000000000000\
