@@ -1,2 +1,3 @@
+pub mod Alerts
 pub mod Cuts
 pub mod ResolverSearch
