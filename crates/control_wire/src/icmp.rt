@@ -16,7 +16,7 @@ pub enum Repr<'a> {
 impl<'a> From<icmpv4::Repr<'a>> for Repr<'a> {
     /// The same message.
     fn from(message: icmpv4::Repr<'a>) -> Repr<'a>
-        ensures { result ≡ Repr.Ipv4 message }
+        ensures { result ≡ Repr.Ipv4 message.entry }
     {
         Repr::Ipv4(message)
     }

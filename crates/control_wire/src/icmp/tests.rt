@@ -4,25 +4,24 @@ use crate::{icmpv4, icmpv6};
 const DATA: [u8; 4] = [0xaa, 0x00, 0x00, 0xff];
 
 #[test]
-fn messages_over_ipv4(rt: HostRuntime) {
-    let message = icmpv4::Repr::EchoRequest {
+fn messages_of_both_kinds(rt: HostRuntime) {
+    let over_ipv4 = icmpv4::Repr::EchoRequest {
         ident: 0x1234,
         seq_no: 0xabcd,
         data: &DATA,
     };
-    assert!(rt; Repr::from(message) == Repr::Ipv4(message));
-}
-
-#[test]
-fn messages_over_ipv6(rt: HostRuntime) {
-    let message = icmpv6::Repr::EchoRequest {
+    match Repr::from(over_ipv4) {
+        Repr::Ipv4(message) => assert!(rt; message == over_ipv4),
+        Repr::Ipv6(_) => assert!(rt; false),
+    }
+    let over_ipv6 = icmpv6::Repr::EchoReply {
         ident: 0x1234,
         seq_no: 0xabcd,
         data: &DATA,
     };
-    match Repr::from(&message) {
+    match Repr::from(&over_ipv6) {
         Repr::Ipv6(
-            icmpv6::Repr::EchoRequest {
+            icmpv6::Repr::EchoReply {
                 ident,
                 seq_no,
                 data,

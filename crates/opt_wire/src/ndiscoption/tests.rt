@@ -463,7 +463,7 @@ fn views_in_words(rt: HostRuntime) -> Result<(), Fail> {
 
 #[test]
 fn printing_fails_only_with_its_writer(rt: HostRuntime) {
-    let rows: [&[u8]; 3] = [&[0x05, 0x01, 0, 0, 0, 0, 0x05, 0xdc], &PREFIX, &[]];
+    let rows: [&[u8]; 3] = [&MTU, &PREFIX, &[]];
     for bytes in rows {
         let view = NdiscOption::new_unchecked(bytes);
         let mut none = FailingWriter { left: 0 };
@@ -471,13 +471,12 @@ fn printing_fails_only_with_its_writer(rt: HostRuntime) {
         let mut many = FailingWriter { left: 100 };
         assert!(rt; write!(many, "{view}").is_ok(), "of {bytes:?}");
     }
-    let mut one = FailingWriter { left: 1 };
-    assert!(rt; write!(one, "{}", Repr::Mtu(1_500)).is_err());
-    assert!(rt; write!(one, "{}", Type::Mtu).is_err());
+    let mut none = FailingWriter { left: 0 };
+    assert!(rt; write!(none, "{}", Type::Mtu).is_err());
 }
 
 #[test]
-fn equal_texts_of_options(rt: HostRuntime) -> Result<(), Fail> {
+fn equal_texts_of_options(rt: HostRuntime) {
     let short = Repr::SourceLinkLayerAddr(RawHardwareAddress::from_bytes(&[1, 2, 3, 4, 5]));
     let filled = Repr::SourceLinkLayerAddr(RawHardwareAddress::from_bytes(&[1, 2, 3, 4, 5, 0]));
     Repr::same_text(&short, &filled);
@@ -487,8 +486,7 @@ fn equal_texts_of_options(rt: HostRuntime) -> Result<(), Fail> {
     filled.emit_into(&mut second);
     assert_eq!(rt; first, second);
     assert_eq!(rt;
-        Repr::parse(&NdiscOption::new_checked(first.as_slice())?)?,
-        filled
+        read(&first),
+        Ok(Repr::SourceLinkLayerAddr(RawHardwareAddress::from_bytes(&[1, 2, 3, 4, 5, 0])))
     );
-    Ok(())
 }
