@@ -129,7 +129,7 @@ pub label_before : (old new : Walk) (result : Option (Result (Bor (List ℕ)) Er
 label_before old new result bytes more gives e g =
     let s = stands old.ahead new.ahead (record { answer = answer_of result; steps = new.steps }) gives.first gives.rest in
     let after : new.ahead ≡ s.rest = s.after ∙ ap (λ a. if is_ending a
-        then record { answer = answer_of result; steps = new.steps } ∷ s.rest else s.rest) e in
+    then record { answer = answer_of result; steps = new.steps } ∷ s.rest else s.rest) e in
     rw s.is (e, subst (λ coming. Gives coming more) after g)
 
 pub label_first : (old new : Walk) (result : Option (Result (Bor (List ℕ)) Error)) (bytes : List ℕ)
@@ -139,7 +139,7 @@ label_first old new result bytes more gives g =
     let s = stands old.ahead new.ahead (record { answer = answer_of result; steps = new.steps }) gives.first gives.rest in
     let at = subst (λ coming. Gives coming (bytes ∷ more)) s.is g in
     let after : new.ahead ≡ s.rest = s.after ∙ ap (λ a. if is_ending a
-        then record { answer = answer_of result; steps = new.steps } ∷ s.rest else s.rest) at.0 in
+    then record { answer = answer_of result; steps = new.steps } ∷ s.rest else s.rest) at.0 in
     (at.0, subst (λ coming. Gives coming more) (sym after) at.1)
 
 -- ---- two walks side by side

@@ -166,10 +166,10 @@ found_by (pointer p) text reach e go =
     let at = Points-front text p e in
     elim (cases_lt p (length reach)) [
       | inl l ↦ elim
-        (go (drop p reach) (take p reach) (omega (arith, parts_length p reach l, Points-length text p at))) [
-        | inl h ↦ inl (p ∷ h.0, [] ∷ h.1, (l, pointer_part text p at, h.2))
-        | inr h ↦ inr (p ∷ h.0, [] ∷ h.1, (l, pointer_part text p at, h.2))
-      ]
+          (go (drop p reach) (take p reach) (omega (arith, parts_length p reach l, Points-length text p at))) [
+            | inl h ↦ inl (p ∷ h.0, [] ∷ h.1, (l, pointer_part text p at, h.2))
+            | inr h ↦ inr (p ∷ h.0, [] ∷ h.1, (l, pointer_part text p at, h.2))
+          ]
       | inr l ↦ break_here text reach (inr (p, e, l))
     ]
 found_by stop text reach e go =

@@ -117,7 +117,7 @@ known-option : (t n : ℕ) (d : List ℕ) (v : OptionValue) → known_at t n d �
     → IsOption (t ∷ n ∷ d) v
 known-option t n d v e l ne =
     elim
-      (chosen (eqb t 1) (Some (pad_n n)) (cond (eqb t 5) (alert_at n d) (Some (unknown (type_of t) n d))) (Some v) e) [
+    (chosen (eqb t 1) (Some (pad_n n)) (cond (eqb t 5) (alert_at n d) (Some (unknown (type_of t) n d))) (Some v) e) [
       | inl a ↦
           let is : pad_n n ≡ v = same_value _ _ a.1 in
           subst (λ (x : OptionValue). IsOption (t ∷ n ∷ d) x) is (d, ap (λ (k : ℕ). k ∷ n ∷ d) (eqb-true t 1 a.0), l)

@@ -56,20 +56,20 @@ fn show_message<W: Write>(output: &mut W, message: &Repr<'_>) -> io::Result<()>
     ensures { OnOk result (Gains (W.contents output.old) (W.contents output.new)
         (icmp6_listing (value_of message.now))) }
 {
-    match *message {
+    match message {
         Repr::DstUnreachable {
             reason,
             header,
             data,
         } => {
             line(output, "DstUnreachable")?;
-            field(output, "reason", u8::from(reason))?;
-            show_quote(output, &header, data)
+            field(output, "reason", u8::from(*reason))?;
+            show_quote(output, header, data)
         }
         Repr::PktTooBig { mtu, header, data } => {
             line(output, "PktTooBig")?;
-            field(output, "mtu", mtu)?;
-            show_quote(output, &header, data)
+            field(output, "mtu", *mtu)?;
+            show_quote(output, header, data)
         }
         Repr::TimeExceeded {
             reason,
@@ -77,8 +77,8 @@ fn show_message<W: Write>(output: &mut W, message: &Repr<'_>) -> io::Result<()>
             data,
         } => {
             line(output, "TimeExceeded")?;
-            field(output, "reason", u8::from(reason))?;
-            show_quote(output, &header, data)
+            field(output, "reason", u8::from(*reason))?;
+            show_quote(output, header, data)
         }
         Repr::ParamProblem {
             reason,
@@ -87,22 +87,22 @@ fn show_message<W: Write>(output: &mut W, message: &Repr<'_>) -> io::Result<()>
             data,
         } => {
             line(output, "ParamProblem")?;
-            field(output, "reason", u8::from(reason))?;
-            field(output, "pointer", pointer)?;
-            show_quote(output, &header, data)
+            field(output, "reason", u8::from(*reason))?;
+            field(output, "pointer", *pointer)?;
+            show_quote(output, header, data)
         }
         Repr::EchoRequest {
             ident,
             seq_no,
             data,
-        } => show_echo(output, "EchoRequest", ident, seq_no, data),
+        } => show_echo(output, "EchoRequest", *ident, *seq_no, data),
         Repr::EchoReply {
             ident,
             seq_no,
             data,
-        } => show_echo(output, "EchoReply", ident, seq_no, data),
-        Repr::Mld(message) => mld::show_message(output, &message),
-        Repr::Ndisc(message) => ndisc::show_message(output, &message),
+        } => show_echo(output, "EchoReply", *ident, *seq_no, data),
+        Repr::Mld(message) => mld::show_message(output, message),
+        Repr::Ndisc(message) => ndisc::show_message(output, message),
     }
 }
 
