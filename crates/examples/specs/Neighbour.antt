@@ -1,12 +1,14 @@
--- What a host of an Ethernet answers to who looks for its address on the link.
+-- What a host of an Ethernet answers to who looks for its address on the link, and what it takes from the advertisements
+-- of neighbors and routers.
 use Rattle.std.specs.Prelude.{◌≡◌, ℕ, List, Option, Some}
 use Rattle.control_wire.specs.Capabilities.{all_of}
 use Rattle.control_wire.specs.ChecksumType.TheVariants.{Both}
 use Rattle.control_wire.specs.Ipv6AddressType.{Ipv6Address}
 use Rattle.control_wire.specs.Icmpv6.{ndisc, packet_text}
-use Rattle.control_wire.specs.Ndisc.{NdiscValue, neighbor_solicit, neighbor_advert}
+use Rattle.control_wire.specs.Ndisc.{NdiscValue, router_advert, neighbor_solicit, neighbor_advert}
 use Rattle.control_wire.specs.NdiscTables.{neighbor_bits}
 use Rattle.examples.specs.Ping.{IsGoodMessageV6}
+use Rattle.examples.specs.declared.neighbour.RouterInformation.{RouterInformation}
 
 -- a message of neighbor discovery with a good checksum, between addresses
 abbrev pub IsGoodMessage : Ipv6Address → Ipv6Address → List ℕ → NdiscValue → Type 0
@@ -23,3 +25,15 @@ abbrev pub IsAnswer : Ipv6Address → Ipv6Address → List ℕ → List ℕ → 
 IsAnswer own peer address bytes =
     (flags : _) × (neighbor_bits flags ≡ 0x60)
     × (bytes ≡ packet_text (all_of Both) own peer (ndisc (neighbor_advert flags own (Some address))))
+
+-- an advertisement of a neighbor tells this address of it on the link
+abbrev pub TellsLinkAddress : Ipv6Address → Ipv6Address → List ℕ → Ipv6Address → List ℕ → Type 0
+TellsLinkAddress source destination bytes neighbor address =
+    (flags : _) × IsGoodMessage source destination bytes (neighbor_advert flags neighbor (Some address))
+
+-- an advertisement of a router tells this of it
+abbrev pub TellsRouter : Ipv6Address → Ipv6Address → List ℕ → RouterInformation → Type 0
+TellsRouter source destination bytes router =
+    (hops : ℕ) × (flags : _) × (reachable : ℕ) × (retrans : ℕ) × (l : Option (List ℕ))
+    × IsGoodMessage source destination bytes
+    (router_advert hops flags router.lifetime reachable retrans l router.mtu router.prefix_info)

@@ -1,17 +1,20 @@
-//! A host on an Ethernet that its neighbors look for (RFC 4861 section 7.2.4). That a solicitation came with hop limit
-//! 255, and not from ::, is the caller's to see.
+//! A host on an Ethernet that its neighbors look for, and what it takes from the advertisements of neighbors and routers
+//! (RFC 4861 sections 6.3.4, 7.2.4 and 7.2.5). That a message came with hop limit 255, and that a solicitation did not
+//! come from ::, is the caller's to see.
 
-ghost use Rattle.std.specs.Prelude.{◌≡◌, ◌≤◌, ◌↔◌, length, take, IfSome, IsOkAnd, IsTrue, None, Some};
+ghost use Rattle.std.specs.Prelude.{◌≡◌, ◌≤◌, ◌↔◌, ℕ, List, length, take, IfSome, IsOkAnd, IsTrue, None, Some};
 ghost use Rattle.control_wire.specs.Ethernet.{octets_of};
 ghost use Rattle.control_wire.specs.Icmpv6.{value_of, ndisc as neighbor_message};
 ghost use Rattle.control_wire.specs.Ndisc.{neighbor_advert};
 ghost use Rattle.control_wire.specs.NdiscTables.{neighbor_bits};
-ghost use Rattle.examples.specs.Neighbour.{Solicits, IsAnswer};
+ghost use Rattle.examples.specs.Neighbour.{Solicits, IsAnswer, TellsLinkAddress, TellsRouter};
+ghost use Rattle.examples.specs.declared.neighbour.RouterInformation.{RouterInformation as RouterInfoValue};
 
 use control_wire::icmpv6::{Packet, Repr};
 use control_wire::ndisc::{self, NeighborFlags};
+use control_wire::ndiscoption::PrefixInformation;
 use control_wire::{
-    ChecksumCapabilities, EthernetAddress, Ipv6Address, RawHardwareAddress, Result,
+    ChecksumCapabilities, Duration, EthernetAddress, Ipv6Address, RawHardwareAddress, Result,
 };
 
 /// The bytes of an answer.
@@ -79,6 +82,79 @@ fn answer_of(own: &Ipv6Address, lladdr: EthernetAddress) -> Result<Repr<'static>
         target_addr: *own,
         lladdr: Some(RawHardwareAddress::from(lladdr)),
     }))
+}
+
+/// The address on the link that an advertisement tells of a neighbor, which came from `source` to `destination`. None
+/// exactly where the octets are no advertisement of this neighbor with a good checksum, or tell no address on the link.
+pub fn link_address(
+    source: &Ipv6Address,
+    destination: &Ipv6Address,
+    neighbor: &Ipv6Address,
+    octets: &[u8],
+) -> Option<RawHardwareAddress>
+    ensures told { IfSome result (λ address.
+        TellsLinkAddress source.now destination.now octets.now neighbor.now address) }
+    ensures all { (address : List ℕ)
+        → TellsLinkAddress source.now destination.now octets.now neighbor.now address
+        → result ≡ Some address }
+{
+    let caps = ChecksumCapabilities::default();
+    let Ok(message) = Repr::parse(source, destination, &Packet::new_unchecked(octets), &caps) else {
+        return None;
+    };
+    match &message {
+        Repr::Ndisc(
+            ndisc::Repr::NeighborAdvert {
+                target_addr,
+                lladdr,
+                ..
+            },
+        ) if *target_addr == *neighbor => *lladdr,
+        _ => None,
+    }
+}
+
+/// What a router tells of itself and of the link.
+#[derive(Debug, PartialEq, Eq, Clone, Copy)]
+pub struct RouterInformation {
+    /// For how long it is a default router, in whole seconds; zero where it is none.
+    pub lifetime: Duration,
+    /// The greatest packet of the link, in bytes.
+    pub mtu: Option<u32>,
+    pub prefix_info: Option<PrefixInformation>,
+}
+
+/// What a router's advertisement tells, which came from `source` to `destination`. None exactly where the octets are no
+/// advertisement of a router with a good checksum.
+pub fn router(
+    source: &Ipv6Address,
+    destination: &Ipv6Address,
+    octets: &[u8],
+) -> Option<RouterInformation>
+    ensures told { IfSome result (λ router.
+        TellsRouter source.now destination.now octets.now router) }
+    ensures all { (router : RouterInfoValue) → TellsRouter source.now destination.now octets.now router
+        → result ≡ Some router }
+{
+    let caps = ChecksumCapabilities::default();
+    let Ok(message) = Repr::parse(source, destination, &Packet::new_unchecked(octets), &caps) else {
+        return None;
+    };
+    match &message {
+        Repr::Ndisc(
+            ndisc::Repr::RouterAdvert {
+                router_lifetime,
+                mtu,
+                prefix_info,
+                ..
+            },
+        ) => Some(RouterInformation {
+            lifetime: *router_lifetime,
+            mtu: *mtu,
+            prefix_info: *prefix_info,
+        }),
+        _ => None,
+    }
 }
 
 #[cfg(test)]

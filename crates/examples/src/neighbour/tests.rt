@@ -1,5 +1,8 @@
-use super::answer;
-use control_wire::{EthernetAddress, Ipv6Address};
+use super::{answer, link_address, router};
+use control_wire::ndiscoption::PrefixInfoFlags;
+use control_wire::{
+    Duration, EthernetAddress, IPV6_LINK_LOCAL_ALL_NODES, Ipv6Address, RawHardwareAddress,
+};
 
 const OWN_LINK_ADDRESS: EthernetAddress = EthernetAddress([0x02, 0x00, 0x00, 0x00, 0x00, 0x02]);
 
@@ -13,6 +16,25 @@ const SOLICITATION: [u8; 32] = [
 const ADVERTISEMENT: [u8; 32] = [
     0x88, 0x00, 0x18, 0x1a, 0x60, 0x00, 0x00, 0x00, 0xfe, 0x80, 0x00, 0x00, 0x00, 0x00, 0x00, 0x00,
     0x00, 0x00, 0x00, 0x00, 0x00, 0x00, 0x00, 0x02, 0x02, 0x01, 0x02, 0x00, 0x00, 0x00, 0x00, 0x02,
+];
+
+// The same with no option, and with the option of a sender's address.
+const BARE: [u8; 24] = [
+    0x88, 0x00, 0x1c, 0x25, 0x60, 0x00, 0x00, 0x00, 0xfe, 0x80, 0x00, 0x00, 0x00, 0x00, 0x00, 0x00,
+    0x00, 0x00, 0x00, 0x00, 0x00, 0x00, 0x00, 0x02,
+];
+
+const OF_SENDER: [u8; 32] = [
+    0x88, 0x00, 0x19, 0x13, 0x60, 0x00, 0x00, 0x00, 0xfe, 0x80, 0x00, 0x00, 0x00, 0x00, 0x00, 0x00,
+    0x00, 0x00, 0x00, 0x00, 0x00, 0x00, 0x00, 0x02, 0x01, 0x01, 0x02, 0x00, 0x00, 0x00, 0x00, 0x09,
+];
+
+// fe80::1 tells ff02::1 a lifetime of 1,800 s, an MTU of 1,500 bytes and the prefix 2001:db8::/64.
+const ROUTER: [u8; 64] = [
+    0x86, 0x00, 0xed, 0xe9, 0x40, 0x00, 0x07, 0x08, 0x00, 0x00, 0x00, 0x00, 0x00, 0x00, 0x00, 0x00,
+    0x01, 0x01, 0x02, 0x00, 0x00, 0x00, 0x00, 0x01, 0x05, 0x01, 0x00, 0x00, 0x00, 0x00, 0x05, 0xdc,
+    0x03, 0x04, 0x40, 0xc0, 0x00, 0x27, 0x8d, 0x00, 0x00, 0x09, 0x3a, 0x80, 0x00, 0x00, 0x00, 0x00,
+    0x20, 0x01, 0x0d, 0xb8, 0x00, 0x00, 0x00, 0x00, 0x00, 0x00, 0x00, 0x00, 0x00, 0x00, 0x00, 0x00,
 ];
 
 fn peer() -> Ipv6Address {
@@ -66,4 +88,45 @@ fn what_is_no_solicitation_for_this_host_or_has_no_room_is_not_answered(rt: Host
     let none = answer(&peer(), &asked(), &own(), lladdr, &SOLICITATION, &mut short);
     assert_eq!(rt; none, None);
     assert_eq!(rt; short, [0x2a; 31]);
+}
+
+#[test]
+fn the_address_on_the_link_is_read_from_an_advertisement(rt: HostRuntime) {
+    let told = link_address(&own(), &peer(), &own(), &ADVERTISEMENT);
+    assert_eq!(rt; told, Some(RawHardwareAddress::from(OWN_LINK_ADDRESS)));
+    // Of another neighbor, of another checksum, and with no address of the target.
+    assert_eq!(rt;
+        link_address(&own(), &peer(), &peer(), &ADVERTISEMENT),
+        None
+    );
+    assert_eq!(rt;
+        link_address(&own(), &asked(), &own(), &ADVERTISEMENT),
+        None
+    );
+    assert_eq!(rt; link_address(&own(), &peer(), &own(), &BARE), None);
+    assert_eq!(rt; link_address(&own(), &peer(), &own(), &OF_SENDER), None);
+}
+
+#[test]
+fn lifetime_mtu_and_prefix_are_read_from_a_router(rt: HostRuntime) {
+    let told = router(&peer(), &IPV6_LINK_LOCAL_ALL_NODES, &ROUTER);
+    let Some(told) = told else {
+        panic!(rt; "not read");
+    };
+    assert_eq!(rt; told.lifetime, Duration::from_secs(1_800));
+    assert_eq!(rt; told.mtu, Some(1_500));
+    let Some(info) = told.prefix_info else {
+        panic!(rt; "no prefix");
+    };
+    assert_eq!(rt; info.prefix_len, 64);
+    assert!(rt; info.flags == PrefixInfoFlags::ON_LINK | PrefixInfoFlags::ADDRCONF);
+    assert_eq!(rt; info.valid_lifetime, Duration::from_secs(2_592_000));
+    assert_eq!(rt; info.preferred_lifetime, Duration::from_secs(604_800));
+    assert_eq!(rt;
+        info.prefix,
+        Ipv6Address::new(0x2001, 0xdb8, 0, 0, 0, 0, 0, 0)
+    );
+    // To another address the checksum is not good; and no advertisement of a router.
+    assert!(rt; router(&peer(), &own(), &ROUTER).is_none());
+    assert!(rt; router(&own(), &peer(), &ADVERTISEMENT).is_none());
 }
