@@ -88,7 +88,7 @@ fn write(
         ≤ length out.old → IsSome result }
     ensures unwritten { result ≡ None → out.new ≡ out.old }
 {
-    let none = Ipv4Address::from_octets([0, 0, 0, 0]);
+    let none = Ipv4Address::UNSPECIFIED;
     let repr = Repr {
         message_type,
         transaction_id,
