@@ -35,6 +35,7 @@ const ASKED: [u8; 3] = [1, 3, 6];
 /// where they have no room; then they are as they were.
 pub fn discover(transaction_id: u32, client: EthernetAddress, out: &mut [u8]) -> Option<usize>
     ensures written { IfSome result (λ n. take n out.new ≡ text (discovery transaction_id client)) }
+    ensures len { IfSome result (λ n. n ≡ text_len (discovery transaction_id client)) }
     ensures room { text_len (discovery transaction_id client) ≤ length out.old → IsSome result }
     ensures unwritten { result ≡ None → out.new ≡ out.old }
 {
@@ -58,6 +59,8 @@ pub fn request(
 ) -> Option<usize>
     ensures written { IfSome result (λ n. take n out.new
         ≡ text (asking_for transaction_id client server address)) }
+    ensures len { IfSome result (λ n. n
+        ≡ text_len (asking_for transaction_id client server address)) }
     ensures room { text_len (asking_for transaction_id client server address) ≤ length out.old
         → IsSome result }
     ensures unwritten { result ≡ None → out.new ≡ out.old }
@@ -84,6 +87,8 @@ fn write(
 ) -> Option<usize>
     ensures written { IfSome result (λ n. take n out.new
         ≡ text (asking message_type transaction_id client server address)) }
+    ensures len { IfSome result (λ n. n
+        ≡ text_len (asking message_type transaction_id client server address)) }
     ensures room { text_len (asking message_type transaction_id client server address)
         ≤ length out.old → IsSome result }
     ensures unwritten { result ≡ None → out.new ≡ out.old }
