@@ -1,0 +1,25 @@
+-- What a host of an Ethernet answers to who looks for its address on the link.
+use Rattle.std.specs.Prelude.{◌≡◌, ℕ, List, Option, Some}
+use Rattle.control_wire.specs.Capabilities.{all_of}
+use Rattle.control_wire.specs.ChecksumType.TheVariants.{Both}
+use Rattle.control_wire.specs.Ipv6AddressType.{Ipv6Address}
+use Rattle.control_wire.specs.Icmpv6.{ndisc, packet_text}
+use Rattle.control_wire.specs.Ndisc.{NdiscValue, neighbor_solicit, neighbor_advert}
+use Rattle.control_wire.specs.NdiscTables.{neighbor_bits}
+use Rattle.examples.specs.Ping.{IsGoodMessageV6}
+
+-- a message of neighbor discovery with a good checksum, between addresses
+abbrev pub IsGoodMessage : Ipv6Address → Ipv6Address → List ℕ → NdiscValue → Type 0
+IsGoodMessage source destination bytes v = IsGoodMessageV6 source destination bytes (ndisc v)
+
+-- a solicitation of the neighbor that has this address
+abbrev pub Solicits : Ipv6Address → Ipv6Address → Ipv6Address → List ℕ → Type 0
+Solicits peer asked own bytes =
+    (sender : Option (List ℕ)) × IsGoodMessage peer asked bytes (neighbor_solicit own sender)
+
+-- The advertisement that answers it, with its checksum: from this address to the one that asked, solicited, and to take
+-- the place of what is known of the address.
+abbrev pub IsAnswer : Ipv6Address → Ipv6Address → List ℕ → List ℕ → Type 0
+IsAnswer own peer address bytes =
+    (flags : _) × (neighbor_bits flags ≡ 0x60)
+    × (bytes ≡ packet_text (all_of Both) own peer (ndisc (neighbor_advert flags own (Some address))))
