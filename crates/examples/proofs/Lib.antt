@@ -1,3 +1,4 @@
 pub mod Alerts
+pub mod Asking
 pub mod Cuts
 pub mod ResolverSearch

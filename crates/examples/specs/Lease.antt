@@ -1,12 +1,55 @@
 -- What a client of DHCP takes from a server's message (RFC 2131 section 4.4).
-use Rattle.std.specs.Prelude.{◌≡◌, ℕ, List, Option, Some}
+use Rattle.std.specs.Prelude.{◌≡◌, ℕ, false, List, [], ◌∷◌, Option, None, Some}
 use Rattle.std.specs.Option.{option_map}
 use Rattle.control_wire.specs.Ethernet.{Ethernet}
 use Rattle.control_wire.specs.Ipv4AddressType.{Ipv4Address}
 use Rattle.control_wire.specs.Dhcpv4.{Value, IsPacket}
 use Rattle.control_wire.specs.Dhcpv4ReprType.{Repr}
 use Rattle.control_wire.specs.Dhcpv4MessageTypeType.{MessageType}
+use Rattle.control_wire.specs.Dhcpv4MessageTypeType.TheVariants as message
 use Rattle.examples.specs.declared.lease.Lease.{Lease}
+
+-- ---- what a client asks
+
+-- no address, 0.0.0.0
+abbrev pub nowhere : Ipv4Address
+nowhere = record { a = 0; b = 0; c = 0; d = 0 }
+
+-- A client's message of this type, to this server and of this address, where there are such. It asks for the mask of
+-- its network, a router, and DNS servers (RFC 2132 section 9.8).
+abbrev pub asking : MessageType → ℕ → Ethernet → Option Ipv4Address → Option Ipv4Address → Value
+asking kind id client server address = record {
+  message_type = kind;
+  transaction_id = id;
+  secs = 0;
+  client_hardware_address = client;
+  client_ip = nowhere;
+  your_ip = nowhere;
+  server_ip = nowhere;
+  router = None;
+  subnet_mask = None;
+  relay_agent_ip = nowhere;
+  broadcast = false;
+  requested_ip = address;
+  client_identifier = Some client;
+  server_identifier = server;
+  parameter_request_list = Some (1 ∷ 3 ∷ 6 ∷ []);
+  dns_servers = None;
+  max_size = None;
+  lease_duration = None;
+  renew_duration = None;
+  rebind_duration = None;
+  additional_options = [];
+}
+
+-- the message that looks for servers, and the one that asks a server for an address that it offered
+abbrev pub discovery : ℕ → Ethernet → Value
+discovery id client = asking message.Discover id client None None
+
+abbrev pub asking_for : ℕ → Ethernet → Ipv4Address → Ipv4Address → Value
+asking_for id client server address = asking message.Request id client (Some server) (Some address)
+
+-- ---- what it is given
 
 -- what a client is given; times are in seconds
 pub record LeaseValue : Type 0 where

@@ -1,8 +1,10 @@
-//! A host that leases its address: what a client of DHCP takes from a server's offer and its acknowledgement (RFC 2131
-//! section 4.4).
+//! A host that leases its address: what a client of DHCP asks, and what it takes from a server's offer and its
+//! acknowledgement (RFC 2131 section 4.4).
 
-ghost use Rattle.std.specs.Prelude.{◌≡◌, ◌↔◌, ℕ, IsTrue, IfSome, IsSomeAnd};
-ghost use Rattle.examples.specs.Lease.{LeaseValue, value_of, IsFor, Gives};
+ghost use Rattle.std.specs.Prelude.{◌≡◌, ◌≤◌, ◌↔◌, ℕ, length, take, IsTrue, IfSome, IsSome, IsSomeAnd, None, Some};
+ghost use Rattle.control_wire.specs.Dhcpv4.{text};
+ghost use Rattle.control_wire.specs.Dhcpv4Format.{text_len};
+ghost use Rattle.examples.specs.Lease.{LeaseValue, value_of, IsFor, Gives, asking, discovery, asking_for};
 
 use arrayvec::ArrayVec;
 use control_wire::dhcpv4::{MAX_DNS_SERVER_COUNT, MessageType, Packet, Repr};
@@ -24,6 +26,105 @@ pub struct Lease {
     pub renew_duration: Option<u32>,
     /// When it is to ask any server.
     pub rebind_duration: Option<u32>,
+}
+
+// What a client asks to be told.
+const ASKED: [u8; 3] = [1, 3, 6];
+
+/// Writes the message that looks for servers over the front of the octets, and says how many bytes it takes. None exactly
+/// where they have no room; then they are as they were.
+pub fn discover(transaction_id: u32, client: EthernetAddress, out: &mut [u8]) -> Option<usize>
+    ensures written { IfSome result (λ n. take n out.new ≡ text (discovery transaction_id client)) }
+    ensures len { IfSome result (λ n. n ≡ text_len (discovery transaction_id client)) }
+    ensures room { text_len (discovery transaction_id client) ≤ length out.old → IsSome result }
+    ensures unwritten { result ≡ None → out.new ≡ out.old }
+{
+    write(
+        MessageType::Discover,
+        transaction_id,
+        client,
+        None,
+        None,
+        out,
+    )
+}
+
+/// The same of the message that asks a server for the address that it offered.
+pub fn request(
+    transaction_id: u32,
+    client: EthernetAddress,
+    server: Ipv4Address,
+    address: Ipv4Address,
+    out: &mut [u8],
+) -> Option<usize>
+    ensures written { IfSome result (λ n. take n out.new
+        ≡ text (asking_for transaction_id client server address)) }
+    ensures len { IfSome result (λ n. n
+        ≡ text_len (asking_for transaction_id client server address)) }
+    ensures room { text_len (asking_for transaction_id client server address) ≤ length out.old
+        → IsSome result }
+    ensures unwritten { result ≡ None → out.new ≡ out.old }
+{
+    let kind = MessageType::Request;
+    write(
+        kind,
+        transaction_id,
+        client,
+        Some(server),
+        Some(address),
+        out,
+    )
+}
+
+// Writes a client's message of this type, to this server and of this address.
+fn write(
+    message_type: MessageType,
+    transaction_id: u32,
+    client: EthernetAddress,
+    server: Option<Ipv4Address>,
+    address: Option<Ipv4Address>,
+    out: &mut [u8],
+) -> Option<usize>
+    ensures written { IfSome result (λ n. take n out.new
+        ≡ text (asking message_type transaction_id client server address)) }
+    ensures len { IfSome result (λ n. n
+        ≡ text_len (asking message_type transaction_id client server address)) }
+    ensures room { text_len (asking message_type transaction_id client server address)
+        ≤ length out.old → IsSome result }
+    ensures unwritten { result ≡ None → out.new ≡ out.old }
+{
+    let none = Ipv4Address::UNSPECIFIED;
+    let repr = Repr {
+        message_type,
+        transaction_id,
+        secs: 0,
+        client_hardware_address: client,
+        client_ip: none,
+        your_ip: none,
+        server_ip: none,
+        router: None,
+        subnet_mask: None,
+        relay_agent_ip: none,
+        broadcast: false,
+        requested_ip: address,
+        client_identifier: Some(client),
+        server_identifier: server,
+        parameter_request_list: Some(&ASKED),
+        dns_servers: None,
+        max_size: None,
+        lease_duration: None,
+        renew_duration: None,
+        rebind_duration: None,
+        additional_options: &[],
+    };
+    let len = repr.buffer_len();
+    if out.len() < len {
+        return None;
+    }
+    match repr.emit_into(&mut out[..len]) {
+        Ok(()) => Some(len),
+        Err(_) => unreachable!(),
+    }
 }
 
 /// What a message of this type, an offer or an acknowledgement, gives the client. None exactly where the octets are no

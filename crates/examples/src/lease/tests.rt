@@ -1,4 +1,4 @@
-use super::read_lease;
+use super::{discover, read_lease, request};
 use control_wire::dhcpv4::MessageType;
 use control_wire::{EthernetAddress, Ipv4Address};
 use std::test::Fail;
@@ -59,4 +59,47 @@ fn what_is_of_another_exchange_gives_nothing(rt: HostRuntime) {
     let mut octets = octets;
     octets[267] = 0x37;
     assert!(rt; read_lease(&octets, MessageType::Offer, 0x3d1d, client).is_none());
+}
+
+// From the client's address on, and from the cookie on.
+const ASKING: [u8; 34] = [
+    0x01, 0x01, 0x06, 0x00, 0x00, 0x00, 0x3d, 0x1d, 0x00, 0x00, 0x00, 0x00, 0x00, 0x00, 0x00, 0x00,
+    0x00, 0x00, 0x00, 0x00, 0x00, 0x00, 0x00, 0x00, 0x00, 0x00, 0x00, 0x00, 0x00, 0x0b, 0x82, 0x01,
+    0xfc, 0x42,
+];
+
+const DISCOVER: [u8; 22] = [
+    0x63, 0x82, 0x53, 0x63, 0x35, 0x01, 0x01, 0x3d, 0x07, 0x01, 0x00, 0x0b, 0x82, 0x01, 0xfc, 0x42,
+    0x37, 0x03, 0x01, 0x03, 0x06, 0xff,
+];
+
+const REQUEST: [u8; 34] = [
+    0x63, 0x82, 0x53, 0x63, 0x35, 0x01, 0x03, 0x3d, 0x07, 0x01, 0x00, 0x0b, 0x82, 0x01, 0xfc, 0x42,
+    0x36, 0x04, 0xc0, 0xa8, 0x00, 0x01, 0x32, 0x04, 0xc0, 0xa8, 0x00, 0x0a, 0x37, 0x03, 0x01, 0x03,
+    0x06, 0xff,
+];
+
+#[test]
+fn a_client_asks(rt: HostRuntime) {
+    let client = EthernetAddress::from_bytes(&CLIENT);
+    let mut discovers = [0; 258];
+    discovers[..34].copy_from_slice(&ASKING);
+    discovers[236..].copy_from_slice(&DISCOVER);
+    let mut out = [0xa5; 258];
+    assert_eq!(rt; discover(0x3d1d, client, &mut out), Some(258));
+    assert_eq!(rt; out, discovers);
+    let mut requests = [0; 270];
+    requests[..34].copy_from_slice(&ASKING);
+    requests[236..].copy_from_slice(&REQUEST);
+    let server = Ipv4Address::new(192, 168, 0, 1);
+    let address = Ipv4Address::new(192, 168, 0, 10);
+    let mut out = [0xa5; 270];
+    assert_eq!(rt;
+        request(0x3d1d, client, server, address, &mut out),
+        Some(270)
+    );
+    assert_eq!(rt; out, requests);
+    let mut short = [0xa5; 257];
+    assert_eq!(rt; discover(0x3d1d, client, &mut short), None);
+    assert_eq!(rt; short, [0xa5; 257]);
 }
