@@ -3,6 +3,7 @@
 use Rattle.std.specs.Prelude.{◌≡◌, ℕ, List, Option, Some}
 use Rattle.control_wire.specs.Capabilities.{all_of}
 use Rattle.control_wire.specs.ChecksumType.TheVariants.{Both}
+use Rattle.control_wire.specs.Ipv6Address.{octets_of}
 use Rattle.control_wire.specs.Ipv6AddressType.{Ipv6Address}
 use Rattle.control_wire.specs.Icmpv6.{ndisc, packet_text}
 use Rattle.control_wire.specs.Ndisc.{NdiscValue, router_advert, neighbor_solicit, neighbor_advert}
@@ -26,14 +27,23 @@ IsAnswer own peer address bytes =
     (flags : _) × (neighbor_bits flags ≡ 0x60)
     × (bytes ≡ packet_text (all_of Both) own peer (ndisc (neighbor_advert flags own (Some address))))
 
+-- a message is the advertisement of a neighbor, with this address of it on the link
+abbrev pub LinkAddressIn : Ipv6Address → List ℕ → NdiscValue → Type 0
+LinkAddressIn neighbor address (neighbor_advert flags t l) = (octets_of t ≡ octets_of neighbor) × (l ≡ Some address)
+LinkAddressIn neighbor address v = ⊥
+
 -- an advertisement of a neighbor tells this address of it on the link
 abbrev pub TellsLinkAddress : Ipv6Address → Ipv6Address → List ℕ → Ipv6Address → List ℕ → Type 0
 TellsLinkAddress source destination bytes neighbor address =
-    (flags : _) × IsGoodMessage source destination bytes (neighbor_advert flags neighbor (Some address))
+    (v : NdiscValue) × IsGoodMessage source destination bytes v × LinkAddressIn neighbor address v
+
+-- a message is the advertisement of a router, which tells this of it
+abbrev pub RouterIn : RouterInformation → NdiscValue → Type 0
+RouterIn router (router_advert hops flags lifetime reachable retrans l m p) =
+    (lifetime ≡ router.lifetime) × (m ≡ router.mtu) × (p ≡ router.prefix_info)
+RouterIn router v = ⊥
 
 -- an advertisement of a router tells this of it
 abbrev pub TellsRouter : Ipv6Address → Ipv6Address → List ℕ → RouterInformation → Type 0
 TellsRouter source destination bytes router =
-    (hops : ℕ) × (flags : _) × (reachable : ℕ) × (retrans : ℕ) × (l : Option (List ℕ))
-    × IsGoodMessage source destination bytes
-    (router_advert hops flags router.lifetime reachable retrans l router.mtu router.prefix_info)
+    (v : NdiscValue) × IsGoodMessage source destination bytes v × RouterIn router v

@@ -4,10 +4,12 @@
 
 ghost use Rattle.std.specs.Prelude.{◌≡◌, ◌≤◌, ◌↔◌, ℕ, List, length, take, IfSome, IsOkAnd, IsTrue, None, Some};
 ghost use Rattle.control_wire.specs.Ethernet.{octets_of};
+ghost use Rattle.control_wire.specs.Ipv6Address.{octets_of as octets_in};
 ghost use Rattle.control_wire.specs.Icmpv6.{value_of, ndisc as neighbor_message};
-ghost use Rattle.control_wire.specs.Ndisc.{neighbor_advert};
+ghost use Rattle.control_wire.specs.Ndisc.{neighbor_advert, value_of as content_of};
 ghost use Rattle.control_wire.specs.NdiscTables.{neighbor_bits};
 ghost use Rattle.examples.specs.Neighbour.{Solicits, IsAnswer, TellsLinkAddress, TellsRouter};
+ghost use Rattle.examples.specs.Neighbour.{LinkAddressIn, RouterIn};
 ghost use Rattle.examples.specs.declared.neighbour.RouterInformation.{RouterInformation as RouterInfoValue};
 
 use control_wire::icmpv6::{Packet, Repr};
@@ -103,15 +105,42 @@ pub fn link_address(
         return None;
     };
     match &message {
-        Repr::Ndisc(
-            ndisc::Repr::NeighborAdvert {
-                target_addr,
-                lladdr,
-                ..
-            },
-        ) if *target_addr == *neighbor => *lladdr,
+        Repr::Ndisc(message) => link_address_in(message, neighbor),
         _ => None,
     }
+}
+
+// The address on the link that a message tells of this neighbor.
+fn link_address_in(message: &ndisc::Repr<'_>, neighbor: &Ipv6Address) -> Option<RawHardwareAddress>
+    ensures sound { IfSome result (λ address. LinkAddressIn neighbor.now address
+        (content_of message.now)) }
+    ensures complete { (address : List ℕ) → LinkAddressIn neighbor.now address
+        (content_of message.now) → result ≡ Some address }
+{
+    match message {
+        ndisc::Repr::NeighborAdvert {
+            target_addr,
+            lladdr,
+            ..
+        } => {
+            if is_same(target_addr, neighbor) {
+                match lladdr {
+                    Some(address) => Some(*address),
+                    None => None,
+                }
+            } else {
+                None
+            }
+        }
+        _ => None,
+    }
+}
+
+// Whether two addresses are the same.
+fn is_same(a: &Ipv6Address, b: &Ipv6Address) -> bool
+    ensures { IsTrue result ↔ (octets_in a.now ≡ octets_in b.now) }
+{
+    a.octets() == b.octets()
 }
 
 /// What a router tells of itself and of the link.
@@ -141,14 +170,24 @@ pub fn router(
         return None;
     };
     match &message {
-        Repr::Ndisc(
-            ndisc::Repr::RouterAdvert {
-                router_lifetime,
-                mtu,
-                prefix_info,
-                ..
-            },
-        ) => Some(RouterInformation {
+        Repr::Ndisc(message) => router_in(message),
+        _ => None,
+    }
+}
+
+// What a message tells of a router.
+fn router_in(message: &ndisc::Repr<'_>) -> Option<RouterInformation>
+    ensures sound { IfSome result (λ router. RouterIn router (content_of message.now)) }
+    ensures complete { (router : RouterInfoValue) → RouterIn router (content_of message.now)
+        → result ≡ Some router }
+{
+    match message {
+        ndisc::Repr::RouterAdvert {
+            router_lifetime,
+            mtu,
+            prefix_info,
+            ..
+        } => Some(RouterInformation {
             lifetime: *router_lifetime,
             mtu: *mtu,
             prefix_info: *prefix_info,
