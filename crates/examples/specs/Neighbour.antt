@@ -1,5 +1,5 @@
--- What a host of an Ethernet answers to who looks for its address on the link, and what it takes from the advertisements
--- of neighbors and routers.
+-- What a host of an Ethernet answers to who looks for its address on the link, and what it takes from the
+-- advertisements of neighbors and routers.
 use Rattle.std.specs.Prelude.{◌≡◌, ℕ, List, Option, Some}
 use Rattle.control_wire.specs.Capabilities.{all_of}
 use Rattle.control_wire.specs.ChecksumType.TheVariants.{Both}

@@ -3,7 +3,8 @@ use Rattle.std.specs.Prelude.{◌≡◌, ℕ, ◌+◌, ◌==◌, Bool, true, fal
 use Rattle.std.specs.Int.Bits.{bit_and}
 use Rattle.control_wire.specs.Bytes.{Reaches, number_of}
 use Rattle.control_wire.specs.DnsTables.{opcode_of, rcode_of}
-use Rattle.control_wire.specs.DnsPacket.{id_field, flags_field, question_count_field, answer_count_field, header, payload_in}
+use Rattle.control_wire.specs.DnsPacket.{id_field, flags_field, question_count_field, answer_count_field, header}
+use Rattle.control_wire.specs.DnsPacket.{payload_in}
 use Rattle.control_wire.specs.DnsPacket.{flags_in, opcode_in, rcode_in}
 use Rattle.control_wire.specs.DnsName.{HaveSameLabels}
 use Rattle.control_wire.specs.DnsQuestion.{IsQuestion}

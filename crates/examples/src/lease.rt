@@ -31,8 +31,8 @@ pub struct Lease {
 // What a client asks to be told.
 const ASKED: [u8; 3] = [1, 3, 6];
 
-/// Writes the message that looks for servers over the front of the octets, and says how many bytes it takes. None exactly
-/// where they have no room; then they are as they were.
+/// Writes the message that looks for servers over the front of the octets, and says how many bytes it takes. None
+/// exactly where they have no room; then they are as they were.
 pub fn discover(transaction_id: u32, client: EthernetAddress, out: &mut [u8]) -> Option<usize>
     ensures written { IfSome result (λ n. take n out.new ≡ text (discovery transaction_id client)) }
     ensures len { IfSome result (λ n. n ≡ text_len (discovery transaction_id client)) }

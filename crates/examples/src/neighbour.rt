@@ -1,6 +1,6 @@
-//! A host on an Ethernet that its neighbors look for, and what it takes from the advertisements of neighbors and routers
-//! (RFC 4861 sections 6.3.4, 7.2.4 and 7.2.5). That a message came with hop limit 255, and that a solicitation did not
-//! come from ::, is the caller's to see.
+//! A host on an Ethernet that its neighbors look for, and what it takes from the advertisements of neighbors and
+//! routers (RFC 4861 sections 6.3.4, 7.2.4 and 7.2.5). That a message came with hop limit 255, and that a
+//! solicitation did not come from ::, is the caller's to see.
 
 ghost use Rattle.std.specs.Prelude.{◌≡◌, ◌≤◌, ◌↔◌, ℕ, List, length, take, IfSome, IsOkAnd, IsTrue, None, Some};
 ghost use Rattle.control_wire.specs.Ethernet.{octets_of};

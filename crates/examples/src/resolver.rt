@@ -11,7 +11,8 @@ ghost use Rattle.control_wire.specs.DnsPacket.{view_octets, header};
 ghost use Rattle.control_wire.specs.DnsRecord.{value_of};
 ghost use Rattle.control_wire.specs.DnsRepr.{text, text_len, IsCanonical, IsQuery};
 ghost use Rattle.examples.specs.declared.resolver.Address.{Address};
-ghost use Rattle.examples.specs.Resolver.{query_for, TellsOfSuccess, Asks, IsSuccess, IsResponse, Search, search_of, turn_of};
+ghost use Rattle.examples.specs.Resolver.{query_for, TellsOfSuccess, Asks, IsSuccess, IsResponse, Search, search_of};
+ghost use Rattle.examples.specs.Resolver.{turn_of};
 ghost use Rattle.examples.specs.Resolver.{Says, Finds};
 
 use bitflags::Flags as _;

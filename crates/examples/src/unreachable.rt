@@ -98,9 +98,9 @@ fn write_error(header: Ipv4Repr, data: &[u8], out: &mut [u8]) -> Option<usize>
     Some(len)
 }
 
-/// The same over IPv6, from the address of this host to the datagram's source: 48 bytes, and as many as it quotes of the
-/// datagram's payload, at most 1,192. None exactly where the datagram is no whole packet of IPv6, or where the octets
-/// have no room; then they are as they were.
+/// The same over IPv6, from the address of this host to the datagram's source: 48 bytes, and as many as it quotes of
+/// the datagram's payload, at most 1,192. None exactly where the datagram is no whole packet of IPv6, or where the
+/// octets have no room; then they are as they were.
 pub fn port_unreachable_v6(own: &Ipv6Address, datagram: &[u8], out: &mut [u8]) -> Option<usize>
     ensures tells { IfSome result (λ n. TellsV6 own.now datagram.now (take n out.new)) }
     ensures bound { IfSome result (λ n. n ≤ 1240) }
