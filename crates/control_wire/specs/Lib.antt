@@ -17,6 +17,7 @@ pub use Rattle.wirebase.specs.Ip
 pub use Rattle.wirebase.specs.Ipv4
 pub use Rattle.wirebase.specs.Ipv6
 pub use Rattle.wirebase.specs.Ipv6Address
+pub use Rattle.wirebase.specs.LastOf
 pub use Rattle.wirebase.specs.Numbered
 pub use Rattle.opt_wire.specs.Ipv6ExtHeader
 pub use Rattle.opt_wire.specs.Ipv6Hbh

@@ -15,10 +15,11 @@ use Rattle.wirebase.specs.Numbered.{IsProper}
 use Rattle.wirebase.specs.declared.ipv4.Ipv4Address.{Ipv4Address}
 use Rattle.wirebase.proofs.ByteParts.{IsBytes-drop, IsBytes-front, IsBytes-rest}
 use Rattle.wirebase.proofs.Numbered.{case_in-proper}
+use Rattle.wirebase.specs.LastOf.{last_of}
 use Rattle.dhcp_wire.specs.declared.dhcpv4.tables.MessageType.{MessageType}
 use Rattle.dhcp_wire.specs.declared.dhcpv4.tables.MessageType.TheVariants as message
 use Rattle.dhcp_wire.specs.Dhcpv4.{Value, of_slot, of_slots, slots_of, options_of, options_text, text}
-use Rattle.dhcp_wire.specs.Dhcpv4.{last_of, said, number_in, whole_addresses, addresses_in, type_in, IsPacket}
+use Rattle.dhcp_wire.specs.Dhcpv4.{said, number_in, whole_addresses, addresses_in, type_in, IsPacket}
 use Rattle.dhcp_wire.specs.Dhcpv4Format.{AllShort, AreAdditional, IsBelow, IsFew, IsCanonical, text_len}
 use Rattle.dhcp_wire.specs.Dhcpv4Options.{OptionValue, option, option_text, Options, none, ended, padded, lone, torn}
 use Rattle.dhcp_wire.specs.Dhcpv4Options.{goes_on}

@@ -7,12 +7,14 @@ use Rattle.wirebase.specs.Bytes.{byte_of}
 use Rattle.wirebase.specs.Ethernet.{Ethernet}
 use Rattle.wirebase.specs.Ethernet.{octets_of as ethernet_octets}
 use Rattle.wirebase.specs.Ipv4.{octets_of}
+use Rattle.wirebase.specs.LastOf.{last_of, keep_all}
 use Rattle.wirebase.specs.declared.ipv4.Ipv4Address.{Ipv4Address}
 use Rattle.wirebase.proofs.Ipv4Header.{same_address}
+use Rattle.wirebase.proofs.LastOf.{kept}
 use Rattle.dhcp_wire.specs.declared.dhcpv4.tables.MessageType.{MessageType}
-use Rattle.dhcp_wire.specs.Dhcpv4.{Value, HasHeader, IsPacket, AreOfEthernet, last_of, said, of_len, number_in}
+use Rattle.dhcp_wire.specs.Dhcpv4.{Value, HasHeader, IsPacket, AreOfEthernet, said, of_len, number_in}
 use Rattle.dhcp_wire.specs.Dhcpv4.{identifier_in, addresses_in, type_in}
-use Rattle.dhcp_wire.specs.Dhcpv4Found.{Kept, nothing, keep, keep_all, IsMadeOf}
+use Rattle.dhcp_wire.specs.Dhcpv4Found.{Kept, nothing, keep, IsMadeOf}
 use Rattle.dhcp_wire.specs.Dhcpv4Options.{OptionValue}
 use Rattle.dhcp_wire.specs.Dhcpv4OptionsAhead.{list_of}
 use Rattle.dhcp_wire.specs.Dhcpv4Packet.{op_field, options_in}
@@ -23,38 +25,15 @@ use Rattle.dhcp_wire.proofs.Dhcpv4Lists.{list-options, options-unique}
 
 -- ---- the last word of each
 
-pub or-assoc : {A : Type 0} (a b c : Option A) → option_or a (option_or b c) ≡ option_or (option_or a b) c
-or-assoc None b c = refl
-or-assoc (Some x) b c = refl
-
-pub or-none : {A : Type 0} (a : Option A) → option_or a None ≡ a
-or-none None = refl
-or-none (Some x) = refl
-
-kept_from : {A : Type 0} (field : Kept → Option A) (says : OptionValue → Option A) (op : ℕ)
-    → ((k : Kept) (o : OptionValue) → field (keep op k o) ≡ option_or (says o) (field k))
-    → (os : List OptionValue) (k : Kept) → field (keep_all op k os) ≡ option_or (last_of says os) (field k)
-unfolding keep_all
-kept_from field says op h [] k = refl
-kept_from field says op h (o ∷ os) k =
-    kept_from field says op h os (keep op k o) ∙ ap (λ x. option_or (last_of says os) x) (h k o)
-    ∙ or-assoc (last_of says os) (says o) (field k)
-
-kept : {A : Type 0} (field : Kept → Option A) (says : OptionValue → Option A) (op : ℕ)
-    → ((k : Kept) (o : OptionValue) → field (keep op k o) ≡ option_or (says o) (field k)) → field nothing ≡ None
-    → (os : List OptionValue) → field (keep_all op nothing os) ≡ last_of says os
-kept field says op h none os =
-    kept_from field says op h os nothing ∙ ap (λ x. option_or (last_of says os) x) none ∙ or-none (last_of says os)
-
-pub kept-type : (op : ℕ) (os : List OptionValue) → (keep_all op nothing os).message_type
+pub kept-type : (op : ℕ) (os : List OptionValue) → (keep_all (keep op) nothing os).message_type
     ≡ last_of (said 53 (type_in op)) os
-kept-type op os = kept (λ k. k.message_type) (said 53 (type_in op)) op (λ k o. refl) refl os
+kept-type op os = kept (keep op) (λ k. k.message_type) (said 53 (type_in op)) (λ k o. refl) nothing refl os
 
 -- a packet is what was made of it
 pub packet-made : (bytes : List ℕ) (t : MessageType) (v : Value) → HasHeader bytes
     → AreOfEthernet (list_of (options_in bytes))
-    → (keep_all (byte_of op_field bytes) nothing (list_of (options_in bytes))).message_type ≡ Some t
-    → IsMadeOf bytes t (keep_all (byte_of op_field bytes) nothing (list_of (options_in bytes))) v → IsPacket bytes v
+    → (keep_all (keep (byte_of op_field bytes)) nothing (list_of (options_in bytes))).message_type ≡ Some t
+    → IsMadeOf bytes t (keep_all (keep (byte_of op_field bytes)) nothing (list_of (options_in bytes))) v → IsPacket bytes v
 packet-made bytes t v header good typed made =
     let op : ℕ = byte_of op_field bytes in
     let os : List OptionValue = list_of (options_in bytes) in
@@ -72,23 +51,23 @@ packet-made bytes t v header good typed made =
       server_ip = made.server_ip;
       relay_agent_ip = made.relay_agent_ip;
       broadcast = made.broadcast;
-      router = made.router ∙ kept (λ k. k.router) (said 3 (of_len 4)) op (λ k o. refl) refl os;
-      subnet_mask = made.subnet_mask ∙ kept (λ k. k.subnet_mask) (said 1 (of_len 4)) op (λ k o. refl) refl os;
-      requested_ip = made.requested_ip ∙ kept (λ k. k.requested_ip) (said 50 (of_len 4)) op (λ k o. refl) refl os;
+      router = made.router ∙ kept (keep op) (λ k. k.router) (said 3 (of_len 4)) (λ k o. refl) nothing refl os;
+      subnet_mask = made.subnet_mask ∙ kept (keep op) (λ k. k.subnet_mask) (said 1 (of_len 4)) (λ k o. refl) nothing refl os;
+      requested_ip = made.requested_ip ∙ kept (keep op) (λ k. k.requested_ip) (said 50 (of_len 4)) (λ k o. refl) nothing refl os;
       server_identifier =
-          made.server_identifier ∙ kept (λ k. k.server_identifier) (said 54 (of_len 4)) op (λ k o. refl) refl os;
+          made.server_identifier ∙ kept (keep op) (λ k. k.server_identifier) (said 54 (of_len 4)) (λ k o. refl) nothing refl os;
       client_identifier =
-          made.client_identifier ∙ kept (λ k. k.client_identifier) (said 61 identifier_in) op (λ k o. refl) refl os;
+          made.client_identifier ∙ kept (keep op) (λ k. k.client_identifier) (said 61 identifier_in) (λ k o. refl) nothing refl os;
       parameter_request_list =
-          made.parameter_request_list ∙ kept (λ k. k.parameter_request_list) (said 55 Some) op (λ k o. refl) refl os;
-      dns_servers = made.dns_servers ∙ kept (λ k. k.dns_servers) (said 6 addresses_in) op (λ k o. refl) refl os;
-      max_size = made.max_size ∙ kept (λ k. k.max_size) (said 57 (number_in 2)) op (λ k o. refl) refl os;
+          made.parameter_request_list ∙ kept (keep op) (λ k. k.parameter_request_list) (said 55 Some) (λ k o. refl) nothing refl os;
+      dns_servers = made.dns_servers ∙ kept (keep op) (λ k. k.dns_servers) (said 6 addresses_in) (λ k o. refl) nothing refl os;
+      max_size = made.max_size ∙ kept (keep op) (λ k. k.max_size) (said 57 (number_in 2)) (λ k o. refl) nothing refl os;
       lease_duration =
-          made.lease_duration ∙ kept (λ k. k.lease_duration) (said 51 (number_in 4)) op (λ k o. refl) refl os;
+          made.lease_duration ∙ kept (keep op) (λ k. k.lease_duration) (said 51 (number_in 4)) (λ k o. refl) nothing refl os;
       renew_duration =
-          made.renew_duration ∙ kept (λ k. k.renew_duration) (said 58 (number_in 4)) op (λ k o. refl) refl os;
+          made.renew_duration ∙ kept (keep op) (λ k. k.renew_duration) (said 58 (number_in 4)) (λ k o. refl) nothing refl os;
       rebind_duration =
-          made.rebind_duration ∙ kept (λ k. k.rebind_duration) (said 59 (number_in 4)) op (λ k o. refl) refl os;
+          made.rebind_duration ∙ kept (keep op) (λ k. k.rebind_duration) (said 59 (number_in 4)) (λ k o. refl) nothing refl os;
       additional_options = made.additional_options;
     }
 
@@ -101,7 +80,7 @@ pub good_options : (bytes : List ℕ) (v : Value) → IsPacket bytes v → AreOf
 good_options bytes v p = subst (λ (os : List OptionValue). AreOfEthernet os) (same_options bytes v p) p.identifiers
 
 pub packet-typed : (bytes : List ℕ) (v : Value) → IsPacket bytes v
-    → (keep_all (byte_of op_field bytes) nothing (list_of (options_in bytes))).message_type ≡ Some v.message_type
+    → (keep_all (keep (byte_of op_field bytes)) nothing (list_of (options_in bytes))).message_type ≡ Some v.message_type
 packet-typed bytes v p =
     kept-type (byte_of op_field bytes) (list_of (options_in bytes))
     ∙ ap (λ (os : List OptionValue). last_of (said 53 (type_in (byte_of op_field bytes))) os)
@@ -235,16 +214,7 @@ packet-unique bytes v w p q =
     (p.rebind_duration ∙ ap (λ (l : List OptionValue). last_of (said 59 (number_in 4)) l) os ∙ sym q.rebind_duration)
     (p.additional_options ∙ sym q.additional_options)
 
--- ---- a turn of the pass
-
-pub keep_all-none : (op : ℕ) (k : Kept) → keep_all op k [] ≡ k
-unfolding keep_all
-keep_all-none op k = refl
-
-pub keep_all-more : (op : ℕ) (k : Kept) (o : OptionValue) (os : List OptionValue)
-    → keep_all op k (o ∷ os) ≡ keep_all op (keep op k o) os
-unfolding keep_all
-keep_all-more op k o os = refl
+-- ---- the operation of a packet
 
 pub opcode_back : (n : ℕ) → opcode_number (opcode_of n) ≡ n
 opcode_back n = number-case_in opcode_number opcode.Unknown (λ k. refl) (opcode.Request ∷ opcode.Reply ∷ []) n

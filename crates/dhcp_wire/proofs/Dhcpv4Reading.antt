@@ -17,10 +17,11 @@ use Rattle.wirebase.specs.Ipv4.{octets_of}
 use Rattle.wirebase.specs.Numbered.{IsProper}
 use Rattle.wirebase.specs.declared.ipv4.Ipv4Address.{Ipv4Address}
 use Rattle.wirebase.proofs.Numbered.{case_in-unnamed}
+use Rattle.wirebase.specs.LastOf.{last_of}
 use Rattle.dhcp_wire.specs.declared.dhcpv4.tables.MessageType.{MessageType}
 use Rattle.dhcp_wire.specs.declared.dhcpv4.tables.MessageType.TheVariants as message
 use Rattle.dhcp_wire.specs.Dhcpv4.{Value, Slot, of_slot, of_slots, slots_of, options_of, options_text, header_text}
-use Rattle.dhcp_wire.specs.Dhcpv4.{flags_of, last_of, said, of_len, number_in, identifier_in, whole_addresses}
+use Rattle.dhcp_wire.specs.Dhcpv4.{flags_of, said, of_len, number_in, identifier_in, whole_addresses}
 use Rattle.dhcp_wire.specs.Dhcpv4.{addresses_in, type_in, IsOfEthernet, AreOfEthernet, has_broadcast, IsPacket}
 use Rattle.dhcp_wire.specs.Dhcpv4Format.{IsOther, AreAdditional, IsBelow, IsFew, IsCanonical, norm}
 use Rattle.dhcp_wire.specs.Dhcpv4Options.{OptionValue, option, option_text, IsKind, Options, ended, goes_on}
@@ -30,7 +31,7 @@ use Rattle.dhcp_wire.specs.Dhcpv4Packet.{magic_field}
 use Rattle.dhcp_wire.specs.Dhcpv4Tables.{opcode_number, operation_of, message_number, message_rows}
 use Rattle.dhcp_wire.proofs.Dhcpv4Addresses.{whole-short}
 use Rattle.dhcp_wire.proofs.Dhcpv4Emission.{header_len-240}
-use Rattle.dhcp_wire.proofs.Dhcpv4Kept.{or-assoc, or-none}
+use Rattle.wirebase.proofs.LastOf.{or-assoc, or-none}
 
 -- ---- the options of a text
 

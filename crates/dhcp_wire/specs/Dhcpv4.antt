@@ -2,7 +2,7 @@
 use Rattle.std.specs.Prelude.{◌≡◌, ℕ, zero, suc, ◌==◌, ◌&&◌, Bool}
 use Rattle.std.specs.Prelude.{true, false, List, [], ◌∷◌, ◌++◌, length, drop, map, flat_map, replicate}
 use Rattle.std.specs.Prelude.{slice_index, if◌then◌else◌, Option, None, Some}
-use Rattle.std.specs.Option.{option_map, option_or}
+use Rattle.std.specs.Option.{option_map}
 use Rattle.std.specs.Int.RustNames.{bit_and}
 use Rattle.byteorder.specs.Endian.{big_number}
 use Rattle.wirebase.specs.Bytes.{Reaches, byte_of, bytes_of, number_of}
@@ -10,6 +10,7 @@ use Rattle.wirebase.specs.ByteWriter.{be8, be16, be32, fields}
 use Rattle.wirebase.specs.Ethernet.{Ethernet}
 use Rattle.wirebase.specs.Ethernet.{octets_of as ethernet_octets}
 use Rattle.wirebase.specs.Ipv4.{octets_of}
+use Rattle.wirebase.specs.LastOf.{last_of}
 use Rattle.wirebase.specs.declared.ipv4.Ipv4Address.{Ipv4Address}
 use Rattle.dhcp_wire.specs.declared.dhcpv4.repr.Repr.{Repr}
 use Rattle.dhcp_wire.specs.declared.dhcpv4.tables.MessageType.{MessageType}
@@ -136,11 +137,6 @@ abbrev pub text : Value → List ℕ
 text v = header_text v ++ (options_text (options_of v) ++ 255 ∷ [])
 
 -- ---- the grammar
-
--- what the last of the options says that says anything
-abbrev pub last_of : {A : Type 0} → (OptionValue → Option A) → List OptionValue → Option A
-last_of says [] = None
-last_of says (o ∷ os) = option_or (last_of says os) (says o)
 
 -- data of so many bytes, and nothing of other data
 abbrev pub of_len : ℕ → List ℕ → Option (List ℕ)

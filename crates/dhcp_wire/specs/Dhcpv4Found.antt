@@ -76,11 +76,6 @@ keep op k o = record {
   rebind_duration = option_or (said 59 (number_in 4) o) k.rebind_duration;
 }
 
--- all of them in turn
-unfoldable pub keep_all : ℕ → Kept → List OptionValue → Kept
-keep_all op k [] = k
-keep_all op k (o ∷ os) = keep_all op (keep op k o) os
-
 -- the value of a packet with this type of message, whose options were kept
 pub record IsMadeOf (bytes : List ℕ) (t : MessageType) (k : Kept) (v : Value) : Type 0 where
   pub message_type : v.message_type ≡ t

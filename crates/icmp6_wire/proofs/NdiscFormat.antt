@@ -17,12 +17,13 @@ use Rattle.wirebase.proofs.Format.{IsFormat, round_trips, same_text}
 use Rattle.wirebase.proofs.Ipv6Header.{same_address}
 use Rattle.wirebase.proofs.Pieces.{over-exact}
 use Rattle.wirebase.proofs.WideParts.{number_of-small4}
+use Rattle.wirebase.specs.LastOf.{last_of}
 use Rattle.opt_wire.specs.NdiscOptionRepr as option
 use Rattle.opt_wire.specs.NdiscOptionRepr.{OptionValue, source, target, prefix_, redirected, mtu, filled}
 use Rattle.opt_wire.specs.declared.ndiscoption.repr.PrefixInformation.{PrefixInformation}
 use Rattle.opt_wire.proofs.NdiscOptionFormat.{ndisc_option_format}
 use Rattle.icmp6_wire.specs.Icmpv6Packet.{header_len_in, payload_in}
-use Rattle.icmp6_wire.specs.NdiscBlocks.{AreBlocks, ends, goes_on, skips, last_of, source_in, target_in, mtu_in}
+use Rattle.icmp6_wire.specs.NdiscBlocks.{AreBlocks, ends, goes_on, skips, source_in, target_in, mtu_in}
 use Rattle.icmp6_wire.specs.NdiscBlocks.{prefix_in, redirected_in}
 use Rattle.icmp6_wire.specs.NdiscPacket.{router_flags_field, neighbor_flags_field, router_lifetime_field}
 use Rattle.icmp6_wire.specs.NdiscPacket.{reachable_time_field, retrans_time_field, seconds, millis}

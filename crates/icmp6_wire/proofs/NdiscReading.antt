@@ -18,7 +18,8 @@ use Rattle.opt_wire.specs.declared.ndiscoption.repr.PrefixInformation.{PrefixInf
 use Rattle.opt_wire.proofs.NdiscOptionReading.{option_read}
 use Rattle.opt_wire.proofs.NdiscOptionTexts.{link_text, prefix_text, redirected_text, mtu_text, unknown_text}
 use Rattle.opt_wire.proofs.NdiscOptionTexts.{length-text as length-option}
-use Rattle.icmp6_wire.specs.NdiscBlocks.{IsBlock, AreBlocks, ends, goes_on, last_of, source_in, target_in, mtu_in}
+use Rattle.wirebase.specs.LastOf.{last_of}
+use Rattle.icmp6_wire.specs.NdiscBlocks.{IsBlock, AreBlocks, ends, goes_on, source_in, target_in, mtu_in}
 use Rattle.icmp6_wire.specs.NdiscBlocks.{prefix_in, redirected_in}
 use Rattle.icmp6_wire.specs.NdiscPacket.{seconds, millis}
 use Rattle.icmp6_wire.specs.NdiscTables.{router_bits, neighbor_bits}

@@ -7,15 +7,17 @@ use Rattle.std.proofs.Math.ListN.{get_or-append}
 use Rattle.std.proofs.lemmas.List.{take_at, drop_at}
 use Rattle.wirebase.specs.Bytes.{byte_of}
 use Rattle.wirebase.specs.Icmp.{type_field}
+use Rattle.wirebase.specs.LastOf.{last_of, keep_all}
+use Rattle.wirebase.proofs.LastOf.{kept}
 use Rattle.wirebase.proofs.Numbered.{number-case_in}
 use Rattle.opt_wire.specs.NdiscOption.{units_in}
 use Rattle.opt_wire.specs.NdiscOptionRepr.{OptionValue, BeginsWith}
 use Rattle.opt_wire.proofs.NdiscOptionGrammar.{one_option}
 use Rattle.icmp6_wire.specs.Icmpv6Packet.{message_in}
 use Rattle.icmp6_wire.specs.Icmpv6Tables.{message_number, messages}
-use Rattle.icmp6_wire.specs.NdiscBlocks.{IsBlock, AreBlocks, ends, goes_on, skips, last_of, source_in, target_in}
+use Rattle.icmp6_wire.specs.NdiscBlocks.{IsBlock, AreBlocks, ends, goes_on, skips, source_in, target_in}
 use Rattle.icmp6_wire.specs.NdiscBlocks.{mtu_in, prefix_in, redirected_in}
-use Rattle.icmp6_wire.specs.NdiscFound.{Kept, nothing, keep, keep_all, Says, HasBlocks, Notes, noted, passed}
+use Rattle.icmp6_wire.specs.NdiscFound.{Kept, nothing, keep, Says, HasBlocks, Notes, noted, passed}
 use Rattle.icmp6_wire.specs.declared.icmpv6.tables.Message.{Message}
 use Rattle.icmp6_wire.specs.declared.icmpv6.tables.Message.TheVariants as message
 
@@ -92,46 +94,27 @@ front_lacks bytes options some none (skips b r h k t e) = none b r h e
 -- one more block is noted
 pub says_more : (bytes text block rest : List ℕ) (old new : Kept) → IsBlock block → text ≡ block ++ rest
     → Notes block old new
-    → ((more : List OptionValue) → AreBlocks text more → Says bytes (keep_all old more))
-    → (more : List OptionValue) → AreBlocks rest more → Says bytes (keep_all new more)
+    → ((more : List OptionValue) → AreBlocks text more → Says bytes (keep_all keep old more))
+    → (more : List OptionValue) → AreBlocks rest more → Says bytes (keep_all keep new more)
 unfolding keep_all
 says_more bytes text block rest old new b e (noted v reads is) so_far more blocks =
-    subst (λ (k : Kept). Says bytes (keep_all k more)) (sym is)
+    subst (λ (k : Kept). Says bytes (keep_all keep k more)) (sym is)
     (so_far (v ∷ more) (goes_on block rest v b reads blocks e))
 says_more bytes text block rest old new b e (passed none is) so_far more blocks =
-    subst (λ (k : Kept). Says bytes (keep_all k more)) (sym is) (so_far more (skips block rest b none blocks e))
+    subst (λ (k : Kept). Says bytes (keep_all keep k more)) (sym is) (so_far more (skips block rest b none blocks e))
 
 -- at the end
 pub says_all : (bytes : List ℕ) (k : Kept)
-    → ((more : List OptionValue) → AreBlocks [] more → Says bytes (keep_all k more)) → Says bytes k
+    → ((more : List OptionValue) → AreBlocks [] more → Says bytes (keep_all keep k more)) → Says bytes k
 unfolding keep_all
 says_all bytes k so_far = so_far [] ends
 
 -- ---- what is kept is what the last option of each kind says
 
-or-assoc : {A : Type 0} (a b c : Option A) → option_or a (option_or b c) ≡ option_or (option_or a b) c
-or-assoc None b c = refl
-or-assoc (Some x) b c = refl
-
-or-none : {A : Type 0} (a : Option A) → option_or a None ≡ a
-or-none None = refl
-or-none (Some x) = refl
-
-kept_from : {A : Type 0} (field : Kept → Option A) (says : OptionValue → Option A)
-    → ((k : Kept) (o : OptionValue) → field (keep k o) ≡ option_or (says o) (field k))
-    → (os : List OptionValue) (k : Kept) → field (keep_all k os) ≡ option_or (last_of says os) (field k)
-unfolding keep_all
-kept_from field says h [] k = refl
-kept_from field says h (o ∷ os) k =
-    kept_from field says h os (keep k o) ∙ ap (λ x. option_or (last_of says os) x) (h k o)
-    ∙ or-assoc (last_of says os) (says o) (field k)
-
 said : {A : Type 0} (field : Kept → Option A) (says : OptionValue → Option A)
     → ((k : Kept) (o : OptionValue) → field (keep k o) ≡ option_or (says o) (field k)) → field nothing ≡ None
     → (bytes : List ℕ) (k : Kept) (s : Says bytes k) → field k ≡ last_of says s.options
-said field says h none bytes k s =
-    ap field (sym s.kept) ∙ kept_from field says h s.options nothing
-    ∙ ap (λ x. option_or (last_of says s.options) x) none ∙ or-none (last_of says s.options)
+said field says h none bytes k s = ap field (sym s.kept) ∙ kept keep field says h nothing none s.options
 
 pub said_source : (bytes : List ℕ) (k : Kept) (s : Says bytes k) → k.source ≡ last_of source_in s.options
 said_source bytes k s = said (λ j. j.source) source_in (λ j o. refl) refl bytes k s

@@ -12,7 +12,8 @@ use Rattle.opt_wire.specs.NdiscOptionRepr as option
 use Rattle.opt_wire.specs.NdiscOptionRepr.{OptionValue, source, target, prefix_, redirected, mtu, filled}
 use Rattle.opt_wire.specs.declared.ndiscoption.repr.PrefixInformation.{PrefixInformation}
 use Rattle.icmp6_wire.specs.Icmpv6Packet.{BeginsWhole, payload_in}
-use Rattle.icmp6_wire.specs.NdiscBlocks.{AreBlocks, last_of, source_in, target_in, mtu_in, prefix_in, redirected_in}
+use Rattle.wirebase.specs.LastOf.{last_of}
+use Rattle.icmp6_wire.specs.NdiscBlocks.{AreBlocks, source_in, target_in, mtu_in, prefix_in, redirected_in}
 use Rattle.icmp6_wire.specs.NdiscFound.{packet_of}
 use Rattle.icmp6_wire.specs.NdiscPacket.{hop_limit_field, router_flags_field, router_lifetime_field}
 use Rattle.icmp6_wire.specs.NdiscPacket.{reachable_time_field, retrans_time_field, neighbor_flags_field}

@@ -1,7 +1,6 @@
 -- The options of a message of neighbor discovery: its payload is blocks one after another (RFC 4861 section 4.6), and a
 -- field is what the last option of its kind says.
 use Rattle.std.specs.Prelude.{◌≡◌, ℕ, ◌*◌, List, [], ◌∷◌, ◌++◌, length, Option, None, Some}
-use Rattle.std.specs.Option.{option_or}
 use Rattle.wirebase.specs.declared.ipv6.Ipv6Repr.{Ipv6Repr}
 use Rattle.opt_wire.specs.NdiscOption.{units_in, BeginsWithBlock}
 use Rattle.opt_wire.specs.NdiscOptionRepr.{OptionValue, source, target, prefix_, redirected, mtu, BeginsWith}
@@ -44,8 +43,3 @@ prefix_in _ = None
 abbrev pub redirected_in : OptionValue → Option (Ipv6Repr × List ℕ)
 redirected_in (redirected h d) = Some (h, d)
 redirected_in _ = None
-
--- what the last of the options says that says anything
-abbrev pub last_of : {A : Type 0} → (OptionValue → Option A) → List OptionValue → Option A
-last_of says [] = None
-last_of says (o ∷ os) = option_or (last_of says os) (says o)

@@ -1,6 +1,7 @@
 -- What a pass over the options of a message keeps: of each kind what the last option says.
 use Rattle.std.specs.Prelude.{◌≡◌, ℕ, List, [], ◌∷◌, Option, None}
 use Rattle.std.specs.Option.{option_map, option_or}
+use Rattle.wirebase.specs.LastOf.{keep_all}
 use Rattle.wirebase.specs.declared.ipv6.Ipv6Repr.{Ipv6Repr}
 use Rattle.opt_wire.specs.NdiscOptionRepr.{OptionValue, BeginsWith}
 use Rattle.opt_wire.specs.declared.ndiscoption.repr.PrefixInformation.{PrefixInformation}
@@ -41,16 +42,11 @@ keep k o = record {
   redirected_hdr = option_or (redirected_in o) k.redirected_hdr;
 }
 
--- all of them in turn
-unfoldable pub keep_all : Kept → List OptionValue → Kept
-keep_all k [] = k
-keep_all k (o ∷ os) = keep_all (keep k o) os
-
 -- the bytes are blocks, of whose options this is kept
 pub record Says (bytes : List ℕ) (k : Kept) : Type 0 where
   pub options : List OptionValue
   pub tiling : AreBlocks bytes options
-  pub kept : keep_all nothing options ≡ k
+  pub kept : keep_all keep nothing options ≡ k
 
 -- the bytes are blocks
 pub record HasBlocks (bytes : List ℕ) : Type 0 where

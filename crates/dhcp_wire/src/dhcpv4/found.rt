@@ -6,9 +6,10 @@ ghost use Rattle.std.specs.Option.{option_map};
 ghost use Rattle.wirebase.specs.Bytes.{Reaches, byte_of};
 ghost use Rattle.wirebase.specs.Ethernet.{octets_of as ethernet_octets};
 ghost use Rattle.wirebase.specs.Ipv4.{octets_of};
+ghost use Rattle.wirebase.specs.LastOf.{keep_all};
 ghost use Rattle.dhcp_wire.specs.Dhcpv4.{of_len, number_in, identifier_in, whole_addresses, type_in, IsOfEthernet};
 ghost use Rattle.dhcp_wire.specs.Dhcpv4.{AreOfEthernet};
-ghost use Rattle.dhcp_wire.specs.Dhcpv4Found.{kept_of, nothing, keep, keep_all};
+ghost use Rattle.dhcp_wire.specs.Dhcpv4Found.{kept_of, nothing, keep};
 ghost use Rattle.dhcp_wire.specs.Dhcpv4Options.{value_of_option};
 ghost use Rattle.dhcp_wire.specs.Dhcpv4OptionsAhead.{list_of};
 ghost use Rattle.dhcp_wire.specs.Dhcpv4Packet.{inner, op_field, magic_field, options_in};
@@ -48,7 +49,7 @@ impl<'a> Found<'a> {
     pub(super) fn read(packet: &Packet<&'a [u8]>) -> Result<Found<'a>>
         requires { Reaches magic_field (inner packet.now).now }
         ensures found { IfOk result (λ found. kept_of found
-            ≡ keep_all (byte_of op_field (inner packet.now).now) nothing
+            ≡ keep_all (keep (byte_of op_field (inner packet.now).now)) nothing
             (list_of (options_in (inner packet.now).now))) }
         ensures accepted { IfOk result
             (λ found. AreOfEthernet (list_of (options_in (inner packet.now).now))) }

@@ -1,12 +1,14 @@
 use Rattle.std.proofs.Common.{◌≡◌, ℕ, List, sym, ap, subst, ◌∙◌}
 use Rattle.wirebase.specs.Bytes.{byte_of}
+use Rattle.wirebase.specs.LastOf.{keep_all}
+use Rattle.wirebase.proofs.LastOf.{keep_all-none, keep_all-more}
 use Rattle.dhcp_wire.specs.Dhcpv4.{AreOfEthernet}
-use Rattle.dhcp_wire.specs.Dhcpv4Found.{Kept, kept_of, nothing, keep, keep_all}
+use Rattle.dhcp_wire.specs.Dhcpv4Found.{Kept, kept_of, nothing, keep}
 use Rattle.dhcp_wire.specs.Dhcpv4Options.{OptionValue, value_of_option}
 use Rattle.dhcp_wire.specs.Dhcpv4OptionsAhead.{list_of}
 use Rattle.dhcp_wire.specs.Dhcpv4Packet.{inner, op_field, options_in}
 use Rattle.dhcp_wire.specs.Dhcpv4Tables.{opcode_number}
-use Rattle.dhcp_wire.proofs.Dhcpv4Kept.{keep_all-none, keep_all-more, opcode_back}
+use Rattle.dhcp_wire.proofs.Dhcpv4Kept.{opcode_back}
 use Rattle.dhcp_wire.proofs.Dhcpv4Lists.{list-options}
 use Rattle.dhcp_wire.proofs.dhcpv4.found.Found.read.Goals as goal
 
@@ -19,8 +21,8 @@ loop-option-init c =
     c.options-option-items.ensures.unique whole (list-options (options_in bytes))
     ∙ sym c.into_iter-option-iterator.ensures.into_iter_gives in
     record {
-      kept = ap (λ (k : Kept). keep_all op k c.into_iter-option-iterator.result) c.nothing-found.ensures
-          ∙ ap (λ (os : List OptionValue). keep_all op nothing os) (sym same);
+      kept = ap (λ (k : Kept). keep_all (keep op) k c.into_iter-option-iterator.result) c.nothing-found.ensures
+          ∙ ap (λ (os : List OptionValue). keep_all (keep op) nothing os) (sym same);
       good = λ h. subst (λ (os : List OptionValue). AreOfEthernet os) (sym same) h;
       all_good = λ h. subst (λ (os : List OptionValue). AreOfEthernet os) same h;
     }
@@ -34,8 +36,8 @@ loop-option-preserved c =
     let steps = c.in-Some.ensures.steps in
     let same : c.into-op.result ≡ op = c.into-op.ensures ∙ ap opcode_number c.opcode.ensures ∙ opcode_back op in
     record {
-      kept = ap (λ (l : Kept). keep_all op l rest) (c.note.ensures ∙ ap (λ (n : ℕ). keep n k o) same)
-          ∙ sym (keep_all-more op k o rest) ∙ ap (λ (os : List OptionValue). keep_all op k os) (sym steps)
+      kept = ap (λ (l : Kept). keep_all (keep op) l rest) (c.note.ensures ∙ ap (λ (n : ℕ). keep n k o) same)
+          ∙ sym (keep_all-more (keep op) k o rest) ∙ ap (λ (os : List OptionValue). keep_all (keep op) k os) (sym steps)
           ∙ c.loop-option.invariant.kept;
       good = λ h. c.loop-option.invariant.good
           (subst (λ (os : List OptionValue). AreOfEthernet os) (sym steps)
@@ -48,5 +50,5 @@ pub returns-clause-found : goal.returns-clause-found
 returns-clause-found c =
     let op = byte_of op_field (inner c.args.packet.now).now in
     let k = kept_of c.loop-option.found in
-    sym (keep_all-none op k) ∙ ap (λ (os : List OptionValue). keep_all op k os) (sym c.in-None.ensures.steps.0)
+    sym (keep_all-none (keep op) k) ∙ ap (λ (os : List OptionValue). keep_all (keep op) k os) (sym c.in-None.ensures.steps.0)
     ∙ c.loop-option.invariant.kept

@@ -1,7 +1,8 @@
 use Rattle.std.proofs.Common.{◌≡◌}
 use Rattle.wirebase.specs.Bytes.{byte_of}
+use Rattle.wirebase.specs.LastOf.{keep_all}
 use Rattle.dhcp_wire.specs.Dhcpv4.{AreOfEthernet}
-use Rattle.dhcp_wire.specs.Dhcpv4Found.{kept_of, nothing, keep_all}
+use Rattle.dhcp_wire.specs.Dhcpv4Found.{kept_of, nothing, keep}
 use Rattle.dhcp_wire.specs.Dhcpv4OptionsAhead.{list_of}
 use Rattle.dhcp_wire.specs.Dhcpv4Packet.{inner, op_field, options_in}
 use Rattle.dhcp_wire.proofs.dhcpv4.found.Found.read.Given as goal
@@ -9,8 +10,8 @@ use Rattle.dhcp_wire.proofs.dhcpv4.found.Found.read.Given as goal
 -- what is left to do gives what the whole gives
 abbrev pub invariant-loop-option : goal.invariant-loop-option
 invariant-loop-option l = record {
-  kept : keep_all (byte_of op_field (inner l.packet).now) (kept_of l.found) l.option-iterator
-      ≡ keep_all (byte_of op_field (inner l.packet).now) nothing (list_of (options_in (inner l.packet).now));
+  kept : keep_all (keep (byte_of op_field (inner l.packet).now)) (kept_of l.found) l.option-iterator
+      ≡ keep_all (keep (byte_of op_field (inner l.packet).now)) nothing (list_of (options_in (inner l.packet).now));
   good : AreOfEthernet l.option-iterator → AreOfEthernet (list_of (options_in (inner l.packet).now));
   all_good : AreOfEthernet (list_of (options_in (inner l.packet).now)) → AreOfEthernet l.option-iterator;
 }
