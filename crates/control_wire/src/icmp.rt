@@ -9,7 +9,9 @@ use icmp6_wire::{icmpv6, ndisc};
 /// A message of ICMP over IPv4 (RFC 792) or over IPv6 (RFC 4443).
 #[derive(Debug, PartialEq, Eq, Clone, Copy)]
 pub enum Repr<'a> {
+    /// A message of ICMP over IPv4.
     Ipv4(icmpv4::Repr<'a>),
+    /// A message of ICMP over IPv6.
     Ipv6(icmpv6::Repr<'a>),
 }
 

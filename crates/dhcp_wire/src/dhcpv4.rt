@@ -38,7 +38,7 @@ pub use tables::{Flags, MessageType, OpCode};
 /// The UDP port of servers (RFC 2131 section 4.1).
 pub const SERVER_PORT: u16 = 67;
 
-/// The UDP port of clients.
+/// The UDP port of clients (RFC 2131 section 4.1).
 pub const CLIENT_PORT: u16 = 68;
 
 /// The greatest number of DNS servers that a value holds.

@@ -17,8 +17,11 @@ pub struct Lease {
     pub address: Ipv4Address,
     /// The server that gives it.
     pub server: Ipv4Address,
+    /// The mask of the subnet.
     pub subnet_mask: Option<Ipv4Address>,
+    /// A router of the subnet.
     pub router: Option<Ipv4Address>,
+    /// The DNS servers, the first ones.
     pub dns_servers: Option<ArrayVec<Ipv4Address, MAX_DNS_SERVER_COUNT>>,
     /// How long the address may be used.
     pub lease_duration: Option<u32>,

@@ -150,6 +150,7 @@ pub struct RouterInformation {
     pub lifetime: Duration,
     /// The greatest packet of the link, in bytes.
     pub mtu: Option<u32>,
+    /// A prefix of the link: the last one that the advertisement has.
     pub prefix_info: Option<PrefixInformation>,
 }
 

@@ -22,7 +22,9 @@ use control_wire::{Ipv4Address, Ipv6Address, Result};
 /// An address of a name.
 #[derive(Debug, PartialEq, Eq, Clone, Copy)]
 pub enum Address {
+    /// An IPv4 address, of a record of type A.
     V4(Ipv4Address),
+    /// An IPv6 address, of a record of type AAAA.
     V6(Ipv6Address),
 }
 
@@ -55,9 +57,13 @@ pub fn query(transaction_id: u16, name: &[u8], type_: Type, out: &mut [u8]) -> O
 /// What is left to read of a response's answers, and the name whose addresses are sought in it.
 #[derive(Clone, Copy)]
 pub struct Answers<'a> {
+    /// The whole response, into which its names' pointers lead.
     pub message: &'a [u8],
+    /// The name, as it is written where it stands.
     pub name: &'a [u8],
+    /// The number of records that are left.
     pub left: u16,
+    /// The bytes that they begin in.
     pub bytes: &'a [u8],
 }
 

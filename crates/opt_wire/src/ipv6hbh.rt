@@ -87,6 +87,7 @@ impl<T: OctetsMut> Header<T> {
 /// The options of a hop-by-hop header, at most `IPV6_HBH_MAX_OPTIONS`.
 #[derive(Debug, PartialEq, Eq, Clone, Drop)]
 pub struct Repr<'a> {
+    /// The options, in the order of the header.
     pub options: ArrayVec<ipv6option::Repr<'a>, IPV6_HBH_MAX_OPTIONS>,
 }
 

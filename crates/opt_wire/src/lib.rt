@@ -1,4 +1,4 @@
-//! Options of IPv6 extension headers, and the hop-by-hop header that carries them.
+//! Options of IPv6 extension headers with the headers that carry them, and options of neighbour discovery.
 #![tactic(auto)]
 
 pub mod ipv6ext_header;

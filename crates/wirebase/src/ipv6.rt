@@ -206,7 +206,9 @@ impl<T: Octets> Eq for Ipv6Packet<T> {
 /// An IPv6 header (RFC 8200 section 3).
 #[derive(Debug, PartialEq, Eq, Clone, Copy)]
 pub struct Ipv6Repr {
+    /// The address that the packet comes from.
     pub src_addr: Ipv6Address,
+    /// The address that the packet goes to.
     pub dst_addr: Ipv6Address,
     /// The protocol of the payload.
     pub next_header: IpProtocol,

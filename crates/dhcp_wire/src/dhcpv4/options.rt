@@ -15,7 +15,9 @@ const MAX_DATA_LEN: usize = 255;
 /// An option: a kind, and at most 255 bytes of data where it is to be written.
 #[derive(Debug, PartialEq, Eq, Clone, Copy)]
 pub struct DhcpOption<'a> {
+    /// The kind: one of the `OPT_` constants, or any other number.
     pub kind: u8,
+    /// The data, without the kind and the length before them.
     pub data: &'a [u8],
 }
 

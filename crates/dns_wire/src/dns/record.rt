@@ -30,6 +30,7 @@ pub struct Record<'a> {
     pub name: &'a [u8],
     /// How long the record may be kept, in seconds.
     pub ttl: u32,
+    /// What the record says of the name.
     pub data: RecordData<'a>,
 }
 

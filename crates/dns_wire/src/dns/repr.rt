@@ -21,7 +21,9 @@ pub struct Repr<'a> {
     pub transaction_id: u16,
     /// The kind of query.
     pub opcode: Opcode,
+    /// The flags of the header.
     pub flags: Flags,
+    /// What is asked.
     pub question: Question<'a>,
 }
 

@@ -192,6 +192,7 @@ impl<T: Octets> Eq for AddressRecord<T> {
 /// A record of a report (RFC 3810 section 5.2).
 #[derive(Debug, PartialEq, Eq, Clone, Copy)]
 pub struct AddressRecordRepr<'a> {
+    /// What the record says of the group.
     pub record_type: RecordType,
     /// The words of 4 bytes that the auxiliary data has.
     pub aux_data_len: u8,

@@ -28,11 +28,13 @@ use wirebase::{
 pub struct PrefixInformation {
     /// The bits of the prefix that count.
     pub prefix_len: u8,
+    /// What the prefix is for.
     pub flags: PrefixInfoFlags,
     /// How long the prefix is on the link.
     pub valid_lifetime: Duration,
     /// How long addresses made of it are preferred.
     pub preferred_lifetime: Duration,
+    /// The prefix, as the address that begins with it.
     pub prefix: Ipv6Address,
 }
 
@@ -51,6 +53,7 @@ impl PrefixInformation {
 /// The packet that a redirect speaks of (RFC 4861 section 4.6.3).
 #[derive(Debug, PartialEq, Eq, Clone, Copy)]
 pub struct RedirectedHeader<'a> {
+    /// The header of that packet.
     pub header: Ipv6Repr,
     /// The payload, as much of it as the option has.
     pub data: &'a [u8],
@@ -63,7 +66,9 @@ pub enum Repr<'a> {
     SourceLinkLayerAddr(RawHardwareAddress),
     /// The link-layer address of the target.
     TargetLinkLayerAddr(RawHardwareAddress),
+    /// A prefix of the link.
     PrefixInformation(PrefixInformation),
+    /// The packet that a redirect speaks of.
     RedirectedHeader(RedirectedHeader<'a>),
     /// The greatest packet of the link, in bytes.
     Mtu(u32),
