@@ -224,9 +224,11 @@ pub enum Repr<'a> {
     RouterAlert(RouterAlert),
     /// An option of any other type.
     Unknown {
+        /// The type: `Rpl`, or one without a name.
         type_: Type,
         /// The bytes of data that the option counts.
         length: u8,
+        /// The data; what is past `length` is not written.
         data: &'a [u8],
     },
 }

@@ -94,7 +94,7 @@ fn run<F: Fn(&[u8]) -> u16>(bytes: &[u8], len: usize, sum: &F) -> u64
     total
 }
 
-// The sum as a plain loop has it: a word of 16 bits at a time.
+/// The sum as a plain loop has it: a word of 16 bits at a time.
 pub fn plain(data: &[u8]) -> u16 {
     let mut rest = data;
     let mut sum: u32 = 0;

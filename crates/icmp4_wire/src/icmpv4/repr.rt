@@ -31,26 +31,36 @@ const MIN_QUOTED_DATA: usize = 8;
 pub enum Repr<'a> {
     /// An echo request.
     EchoRequest {
+        /// The identifier, which the reply has too.
         ident: u16,
+        /// The sequence number, which the reply has too.
         seq_no: u16,
+        /// The data, which the reply has too.
         data: &'a [u8],
     },
     /// An echo reply.
     EchoReply {
+        /// The identifier of the request.
         ident: u16,
+        /// The sequence number of the request.
         seq_no: u16,
+        /// The data of the request.
         data: &'a [u8],
     },
     /// An error: the destination of the quoted packet is unreachable.
     DstUnreachable {
+        /// Why, by the code.
         reason: DstUnreachable,
+        /// The header of the packet that the error speaks of.
         header: Ipv4Repr,
         /// What stands behind the quoted header.
         data: &'a [u8],
     },
     /// An error: a time of the quoted packet was exceeded.
     TimeExceeded {
+        /// Why, by the code.
         reason: TimeExceeded,
+        /// The header of the packet that the error speaks of.
         header: Ipv4Repr,
         /// What stands behind the quoted header.
         data: &'a [u8],

@@ -38,6 +38,7 @@ pub enum Repr<'a> {
     RouterAdvert {
         /// The hop limit that hosts are to set, 0 for none.
         hop_limit: u8,
+        /// The flags.
         flags: RouterFlags,
         /// How long the sender is a default router, sent in whole seconds.
         router_lifetime: Duration,
@@ -49,17 +50,21 @@ pub enum Repr<'a> {
         lladdr: Option<RawHardwareAddress>,
         /// The greatest packet of the link, in bytes.
         mtu: Option<u32>,
+        /// A prefix of the link, of an option: the last one.
         prefix_info: Option<PrefixInformation>,
     },
     /// A host asks for the link-layer address of the neighbor that has an address.
     NeighborSolicit {
+        /// The address that is looked for.
         target_addr: Ipv6Address,
         /// The link-layer address of the sender.
         lladdr: Option<RawHardwareAddress>,
     },
     /// A neighbor tells its link-layer address.
     NeighborAdvert {
+        /// The flags.
         flags: NeighborFlags,
+        /// The address that is told of.
         target_addr: Ipv6Address,
         /// The link-layer address of the target.
         lladdr: Option<RawHardwareAddress>,

@@ -74,9 +74,11 @@ pub enum Repr<'a> {
     Mtu(u32),
     /// An option of any other type.
     Unknown {
+        /// The type, a number without a name.
         type_: u8,
         /// The units of 8 bytes that the option counts.
         length: u8,
+        /// The data behind type and length: 8 * `length` - 2 bytes.
         data: &'a [u8],
     },
 }

@@ -9,10 +9,12 @@ use icmp6_wire::icmpv6;
 use opt_wire::{ipv6hbh, ndiscoption};
 use wirebase::{ChecksumCapabilities, Ipv6Address};
 
+/// The fixed loop: a sum of the packet.
 pub fn sum(packet: &[u8], _room: &mut [u8]) -> u64 {
     plain(packet) as u64
 }
 
+/// Reads a message of ICMPv4.
 pub fn read_icmpv4(packet: &[u8], _room: &mut [u8]) -> u64 {
     let caps = ChecksumCapabilities::default();
     match icmpv4::Repr::parse(&icmpv4::Packet::new_unchecked(packet), &caps) {
@@ -24,6 +26,7 @@ pub fn read_icmpv4(packet: &[u8], _room: &mut [u8]) -> u64 {
     }
 }
 
+/// Reads a message of ICMPv4; answers an echo request, and writes an error again.
 pub fn write_icmpv4(packet: &[u8], room: &mut [u8]) -> u64 {
     let caps = ChecksumCapabilities::default();
     match icmpv4::Repr::parse(&icmpv4::Packet::new_unchecked(packet), &caps) {
@@ -67,6 +70,7 @@ pub fn write_icmpv4(packet: &[u8], room: &mut [u8]) -> u64 {
     }
 }
 
+/// Reads a message of IGMP.
 pub fn read_igmp(packet: &[u8], _room: &mut [u8]) -> u64 {
     match igmp::Repr::parse(&igmp::Packet::new_unchecked(packet)) {
         Ok(message) => millis(&message),
@@ -81,6 +85,7 @@ fn millis(message: &igmp::Repr) -> u64 {
     }
 }
 
+/// Reads a message of IGMP, and writes it again.
 pub fn write_igmp(packet: &[u8], room: &mut [u8]) -> u64 {
     let message = match igmp::Repr::parse(&igmp::Packet::new_unchecked(packet)) {
         Ok(message) => message,
@@ -93,6 +98,7 @@ pub fn write_igmp(packet: &[u8], room: &mut [u8]) -> u64 {
     millis(&message)
 }
 
+/// Reads the options of a hop-by-hop header.
 pub fn read_hop_by_hop(packet: &[u8], _room: &mut [u8]) -> u64 {
     match ipv6hbh::Repr::parse(&ipv6hbh::Header::new_unchecked(packet)) {
         Ok(header) => header.options.len() as u64,
@@ -100,7 +106,7 @@ pub fn read_hop_by_hop(packet: &[u8], _room: &mut [u8]) -> u64 {
     }
 }
 
-// Writes a router alert and padding, as long as the first byte has it.
+/// Writes a router alert and padding, as long as the first byte has it.
 pub fn write_hop_by_hop(packet: &[u8], room: &mut [u8]) -> u64 {
     let mut header = ipv6hbh::Repr::mldv2_router_alert();
     if let Some(first) = packet.first() {
@@ -118,6 +124,7 @@ fn link_local(host: u16) -> Ipv6Address {
     Ipv6Address::new(0xfe80, 0, 0, 0, 0, 0, 0, host)
 }
 
+/// Reads a message of ICMPv6.
 pub fn read_icmpv6(packet: &[u8], _room: &mut [u8]) -> u64 {
     let caps = ChecksumCapabilities::default();
     let packet = icmpv6::Packet::new_unchecked(packet);
@@ -127,6 +134,7 @@ pub fn read_icmpv6(packet: &[u8], _room: &mut [u8]) -> u64 {
     }
 }
 
+/// Reads a message of ICMPv6, and answers an echo request.
 pub fn write_icmpv6(packet: &[u8], room: &mut [u8]) -> u64 {
     let caps = ChecksumCapabilities::default();
     let packet = icmpv6::Packet::new_unchecked(packet);
@@ -153,6 +161,7 @@ pub fn write_icmpv6(packet: &[u8], room: &mut [u8]) -> u64 {
     }
 }
 
+/// Reads an option of neighbour discovery.
 pub fn read_ndisc_option(packet: &[u8], _room: &mut [u8]) -> u64 {
     match ndiscoption::Repr::parse(&ndiscoption::NdiscOption::new_unchecked(packet)) {
         Ok(ndiscoption::Repr::Mtu(mtu)) => mtu as u64,
@@ -160,6 +169,7 @@ pub fn read_ndisc_option(packet: &[u8], _room: &mut [u8]) -> u64 {
     }
 }
 
+/// Reads an option of neighbour discovery, and writes it again.
 pub fn write_ndisc_option(packet: &[u8], room: &mut [u8]) -> u64 {
     match ndiscoption::Repr::parse(&ndiscoption::NdiscOption::new_unchecked(packet)) {
         Ok(ndiscoption::Repr::Mtu(mtu)) => {
@@ -174,6 +184,7 @@ pub fn write_ndisc_option(packet: &[u8], room: &mut [u8]) -> u64 {
     }
 }
 
+/// Reads a packet of DHCP.
 pub fn read_dhcp(packet: &[u8], _room: &mut [u8]) -> u64 {
     match dhcpv4::Repr::parse(&dhcpv4::Packet::new_unchecked(packet)) {
         Ok(message) => message.transaction_id as u64,
@@ -181,6 +192,7 @@ pub fn read_dhcp(packet: &[u8], _room: &mut [u8]) -> u64 {
     }
 }
 
+/// Reads a packet of DHCP, and writes it again.
 pub fn write_dhcp(packet: &[u8], room: &mut [u8]) -> u64 {
     match dhcpv4::Repr::parse(&dhcpv4::Packet::new_unchecked(packet)) {
         Ok(message) if room.len() >= 240 => match message.emit_into(room) {
@@ -191,6 +203,7 @@ pub fn write_dhcp(packet: &[u8], room: &mut [u8]) -> u64 {
     }
 }
 
+/// Reads a question of DNS.
 pub fn read_dns_question(packet: &[u8], _room: &mut [u8]) -> u64 {
     match dns::Question::parse(packet) {
         Ok((_, question)) => question.name.len() as u64,
@@ -198,6 +211,7 @@ pub fn read_dns_question(packet: &[u8], _room: &mut [u8]) -> u64 {
     }
 }
 
+/// Reads a question of DNS, and writes it again.
 pub fn write_dns_question(packet: &[u8], room: &mut [u8]) -> u64 {
     match dns::Question::parse(packet) {
         Ok((_, question)) => {
@@ -211,7 +225,7 @@ pub fn write_dns_question(packet: &[u8], room: &mut [u8]) -> u64 {
     }
 }
 
-// Walks the name that stands behind the question's.
+/// Walks the name that stands behind the question's.
 pub fn read_dns_name(packet: &[u8], _room: &mut [u8]) -> u64 {
     let mut bytes: u64 = 0;
     if let Some(name) = packet.get(21..) {
