@@ -33,7 +33,8 @@ kept-type op os = kept (keep op) (λ k. k.message_type) (said 53 (type_in op)) (
 pub packet-made : (bytes : List ℕ) (t : MessageType) (v : Value) → HasHeader bytes
     → AreOfEthernet (list_of (options_in bytes))
     → (keep_all (keep (byte_of op_field bytes)) nothing (list_of (options_in bytes))).message_type ≡ Some t
-    → IsMadeOf bytes t (keep_all (keep (byte_of op_field bytes)) nothing (list_of (options_in bytes))) v → IsPacket bytes v
+    → IsMadeOf bytes t (keep_all (keep (byte_of op_field bytes)) nothing (list_of (options_in bytes))) v
+    → IsPacket bytes v
 packet-made bytes t v header good typed made =
     let op : ℕ = byte_of op_field bytes in
     let os : List OptionValue = list_of (options_in bytes) in
@@ -51,23 +52,28 @@ packet-made bytes t v header good typed made =
       server_ip = made.server_ip;
       relay_agent_ip = made.relay_agent_ip;
       broadcast = made.broadcast;
-      router = made.router ∙ kept (keep op) (λ k. k.router) (said 3 (of_len 4)) (λ k o. refl) nothing refl os;
-      subnet_mask = made.subnet_mask ∙ kept (keep op) (λ k. k.subnet_mask) (said 1 (of_len 4)) (λ k o. refl) nothing refl os;
-      requested_ip = made.requested_ip ∙ kept (keep op) (λ k. k.requested_ip) (said 50 (of_len 4)) (λ k o. refl) nothing refl os;
-      server_identifier =
-          made.server_identifier ∙ kept (keep op) (λ k. k.server_identifier) (said 54 (of_len 4)) (λ k o. refl) nothing refl os;
-      client_identifier =
-          made.client_identifier ∙ kept (keep op) (λ k. k.client_identifier) (said 61 identifier_in) (λ k o. refl) nothing refl os;
-      parameter_request_list =
-          made.parameter_request_list ∙ kept (keep op) (λ k. k.parameter_request_list) (said 55 Some) (λ k o. refl) nothing refl os;
-      dns_servers = made.dns_servers ∙ kept (keep op) (λ k. k.dns_servers) (said 6 addresses_in) (λ k o. refl) nothing refl os;
-      max_size = made.max_size ∙ kept (keep op) (λ k. k.max_size) (said 57 (number_in 2)) (λ k o. refl) nothing refl os;
-      lease_duration =
-          made.lease_duration ∙ kept (keep op) (λ k. k.lease_duration) (said 51 (number_in 4)) (λ k o. refl) nothing refl os;
-      renew_duration =
-          made.renew_duration ∙ kept (keep op) (λ k. k.renew_duration) (said 58 (number_in 4)) (λ k o. refl) nothing refl os;
-      rebind_duration =
-          made.rebind_duration ∙ kept (keep op) (λ k. k.rebind_duration) (said 59 (number_in 4)) (λ k o. refl) nothing refl os;
+      router = made.router
+          ∙ kept (keep op) (λ k. k.router) (said 3 (of_len 4)) (λ k o. refl) nothing refl os;
+      subnet_mask = made.subnet_mask
+          ∙ kept (keep op) (λ k. k.subnet_mask) (said 1 (of_len 4)) (λ k o. refl) nothing refl os;
+      requested_ip = made.requested_ip
+          ∙ kept (keep op) (λ k. k.requested_ip) (said 50 (of_len 4)) (λ k o. refl) nothing refl os;
+      server_identifier = made.server_identifier
+          ∙ kept (keep op) (λ k. k.server_identifier) (said 54 (of_len 4)) (λ k o. refl) nothing refl os;
+      client_identifier = made.client_identifier
+          ∙ kept (keep op) (λ k. k.client_identifier) (said 61 identifier_in) (λ k o. refl) nothing refl os;
+      parameter_request_list = made.parameter_request_list
+          ∙ kept (keep op) (λ k. k.parameter_request_list) (said 55 Some) (λ k o. refl) nothing refl os;
+      dns_servers = made.dns_servers
+          ∙ kept (keep op) (λ k. k.dns_servers) (said 6 addresses_in) (λ k o. refl) nothing refl os;
+      max_size = made.max_size
+          ∙ kept (keep op) (λ k. k.max_size) (said 57 (number_in 2)) (λ k o. refl) nothing refl os;
+      lease_duration = made.lease_duration
+          ∙ kept (keep op) (λ k. k.lease_duration) (said 51 (number_in 4)) (λ k o. refl) nothing refl os;
+      renew_duration = made.renew_duration
+          ∙ kept (keep op) (λ k. k.renew_duration) (said 58 (number_in 4)) (λ k o. refl) nothing refl os;
+      rebind_duration = made.rebind_duration
+          ∙ kept (keep op) (λ k. k.rebind_duration) (said 59 (number_in 4)) (λ k o. refl) nothing refl os;
       additional_options = made.additional_options;
     }
 

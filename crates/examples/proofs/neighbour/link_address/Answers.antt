@@ -6,7 +6,8 @@ use Rattle.examples.proofs.neighbour.link_address.Goals as goal
 
 pub returns-in_default-clause-all : goal.returns-in_default-clause-all
 returns-in_default-clause-all c = λ address tells.
-    absurd (c.in_default.ensures.complete (ndisc tells.0) (rw (c.default-caps.ensures, c.new_unchecked.ensures) tells.1))
+    absurd (c.in_default.ensures.complete (ndisc tells.0)
+    (rw (c.default-caps.ensures, c.new_unchecked.ensures) tells.1))
 
 pub returns-in-Ndisc-clause-all : goal.returns-in-Ndisc-clause-all
 returns-in-Ndisc-clause-all c = λ address tells.

@@ -50,5 +50,6 @@ pub returns-clause-found : goal.returns-clause-found
 returns-clause-found c =
     let op = byte_of op_field (inner c.args.packet.now).now in
     let k = kept_of c.loop-option.found in
-    sym (keep_all-none (keep op) k) ∙ ap (λ (os : List OptionValue). keep_all (keep op) k os) (sym c.in-None.ensures.steps.0)
+    sym (keep_all-none (keep op) k)
+    ∙ ap (λ (os : List OptionValue). keep_all (keep op) k os) (sym c.in-None.ensures.steps.0)
     ∙ c.loop-option.invariant.kept
