@@ -75,8 +75,8 @@ pub use Rattle.wirebase.specs.declared.ipv6.Ipv6Repr as Ipv6ReprType
 pub use Rattle.icmp4_wire.specs.declared.icmpv4.repr.Repr as Icmpv4ReprType
 pub use Rattle.icmp4_wire.specs.declared.icmpv4.tables.DstUnreachable as Icmpv4DstUnreachableType
 pub use Rattle.icmp4_wire.specs.declared.icmpv4.tables.TimeExceeded as Icmpv4TimeExceededType
-pub use Rattle.icmp4_wire.specs.declared.igmp.IgmpVersion as IgmpVersionType
-pub use Rattle.icmp4_wire.specs.declared.igmp.Repr as IgmpReprType
+pub use Rattle.icmp4_wire.specs.declared.igmp.repr.IgmpVersion as IgmpVersionType
+pub use Rattle.icmp4_wire.specs.declared.igmp.repr.Repr as IgmpReprType
 pub use Rattle.icmp6_wire.specs.declared.icmpv6.repr.Repr as Icmpv6ReprType
 pub use Rattle.icmp6_wire.specs.declared.icmpv6.tables.DstUnreachable as Icmpv6DstUnreachableType
 pub use Rattle.icmp6_wire.specs.declared.icmpv6.tables.ParamProblem as Icmpv6ParamProblemType

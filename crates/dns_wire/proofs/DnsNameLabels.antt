@@ -110,24 +110,30 @@ stands (c ∷ cs) new first e after =
       after = after ∙ ap (λ c. if is_ending c.answer then c ∷ cs else cs) same;
     }
 
+-- the same of the answer of a call
+stands_after : (old new : Walk) (result : Option (Result (Bor (List ℕ)) Error)) → GivesFirst old result new
+    → Stands old.ahead new.ahead (record { answer = answer_of result; steps = new.steps })
+stands_after old new result gives =
+    stands old.ahead new.ahead (record { answer = answer_of result; steps = new.steps }) gives.first gives.rest
+
 -- the labels to come are none at the end; else they begin with the label that the call gave
 pub none_at_end : (old new : Walk) (result : Option (Result (Bor (List ℕ)) Error)) → GivesFirst old result new
     → answer_of result ≡ ending → Gives old.ahead []
 none_at_end old new result gives e =
-    let s = stands old.ahead new.ahead (record { answer = answer_of result; steps = new.steps }) gives.first gives.rest in
+    let s = stands_after old new result gives in
     rw s.is e
 
 pub end_at_none : (old new : Walk) (result : Option (Result (Bor (List ℕ)) Error)) → GivesFirst old result new
     → Gives old.ahead [] → answer_of result ≡ ending
 end_at_none old new result gives g =
-    let s = stands old.ahead new.ahead (record { answer = answer_of result; steps = new.steps }) gives.first gives.rest in
+    let s = stands_after old new result gives in
     subst (λ coming. Gives coming []) s.is g
 
 pub label_before : (old new : Walk) (result : Option (Result (Bor (List ℕ)) Error)) (bytes : List ℕ)
     (more : List (List ℕ)) → GivesFirst old result new → answer_of result ≡ label bytes → Gives new.ahead more
     → Gives old.ahead (bytes ∷ more)
 label_before old new result bytes more gives e g =
-    let s = stands old.ahead new.ahead (record { answer = answer_of result; steps = new.steps }) gives.first gives.rest in
+    let s = stands_after old new result gives in
     let after : new.ahead ≡ s.rest = s.after ∙ ap (λ a. if is_ending a
     then record { answer = answer_of result; steps = new.steps } ∷ s.rest else s.rest) e in
     rw s.is (e, subst (λ coming. Gives coming more) after g)
@@ -136,7 +142,7 @@ pub label_first : (old new : Walk) (result : Option (Result (Bor (List ℕ)) Err
     (more : List (List ℕ)) → GivesFirst old result new → Gives old.ahead (bytes ∷ more)
     → (answer_of result ≡ label bytes) × Gives new.ahead more
 label_first old new result bytes more gives g =
-    let s = stands old.ahead new.ahead (record { answer = answer_of result; steps = new.steps }) gives.first gives.rest in
+    let s = stands_after old new result gives in
     let at = subst (λ coming. Gives coming (bytes ∷ more)) s.is g in
     let after : new.ahead ≡ s.rest = s.after ∙ ap (λ a. if is_ending a
     then record { answer = answer_of result; steps = new.steps } ∷ s.rest else s.rest) at.0 in

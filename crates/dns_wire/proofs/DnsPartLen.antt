@@ -151,29 +151,6 @@ split_begins text name rest h =
       count = sym (ap length h.whole ∙ length-append name rest);
     }
 
-pub begins_split : (text : List ℕ) (len : ℕ) → BeginsWithPart text len
-    → (len ≤ length text) × IsSplit text (take len text) (drop len text)
-begins_split text len h =
-    let p = h.part in
-    let name : List ℕ = flat_map written h.labels ++ p.mark in
-    let is : text ≡ name ++ p.rest = p.whole ∙ sym (append_assoc (flat_map written h.labels) p.mark p.rest) in
-    let long : length name ≡ len = omega (arith, h.count, ap length is, length-append name p.rest) in
-    let front : take len text ≡ name = ap (λ t. take len t) is ∙ take_at name p.rest len long in
-    let back : drop len text ≡ p.rest = ap (λ t. drop len t) is ∙ drop_at name p.rest len long in (
-      omega (arith, h.count),
-      record {
-        name_ = record {
-          labels = h.labels;
-          stop = h.stop;
-          mark = p.mark;
-          each = p.each;
-          stops = p.stops;
-          whole = front;
-        };
-        whole = rw (front, back) is;
-      },
-    )
-
 -- the two parts of a text, where the first is known to be so long
 pub split_at : (text name rest : List ℕ) (len : ℕ) → IsSplit text name rest → len ≡ length name
     → (take len text ≡ name) × (take (length text - len) (drop len text) ≡ rest)

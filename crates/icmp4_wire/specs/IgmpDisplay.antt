@@ -3,12 +3,12 @@ use Rattle.std.specs.Prelude.{ℕ, List, [], ◌∷◌, codes, decimal}
 use Rattle.wirebase.specs.Display.{pieces}
 use Rattle.wirebase.specs.Duration.{duration_text}
 use Rattle.wirebase.specs.Ipv4.{address_text}
-use Rattle.icmp4_wire.specs.declared.igmp.IgmpVersion.{IgmpVersion}
-use Rattle.icmp4_wire.specs.declared.igmp.IgmpVersion.TheVariants.{Version1, Version2}
+use Rattle.icmp4_wire.specs.declared.igmp.repr.IgmpVersion.{IgmpVersion}
+use Rattle.icmp4_wire.specs.declared.igmp.repr.IgmpVersion.TheVariants.{Version1, Version2}
 use Rattle.icmp4_wire.specs.declared.igmp.tables.Message.{Message}
 use Rattle.icmp4_wire.specs.declared.igmp.tables.Message.TheVariants as message
-use Rattle.icmp4_wire.specs.declared.igmp.Repr.{Repr}
-use Rattle.icmp4_wire.specs.declared.igmp.Repr.TheVariants.{MembershipQuery, MembershipReport, LeaveGroup}
+use Rattle.icmp4_wire.specs.declared.igmp.repr.Repr.{Repr}
+use Rattle.icmp4_wire.specs.declared.igmp.repr.Repr.TheVariants.{MembershipQuery, MembershipReport, LeaveGroup}
 
 -- the type of a message
 abbrev pub message_display : Message → List ℕ

@@ -2,10 +2,10 @@
 use Rattle.std.specs.Prelude.{ℕ, List, ◌++◌, codes}
 use Rattle.wirebase.specs.Ipv4.{address_text}
 use Rattle.icmp4_wire.specs.Igmp.{IsMessage}
-use Rattle.icmp4_wire.specs.declared.igmp.IgmpVersion.{IgmpVersion}
-use Rattle.icmp4_wire.specs.declared.igmp.IgmpVersion.TheVariants.{Version1, Version2}
-use Rattle.icmp4_wire.specs.declared.igmp.Repr.{Repr}
-use Rattle.icmp4_wire.specs.declared.igmp.Repr.TheVariants.{MembershipQuery, MembershipReport, LeaveGroup}
+use Rattle.icmp4_wire.specs.declared.igmp.repr.IgmpVersion.{IgmpVersion}
+use Rattle.icmp4_wire.specs.declared.igmp.repr.IgmpVersion.TheVariants.{Version1, Version2}
+use Rattle.icmp4_wire.specs.declared.igmp.repr.Repr.{Repr}
+use Rattle.icmp4_wire.specs.declared.igmp.repr.Repr.TheVariants.{MembershipQuery, MembershipReport, LeaveGroup}
 use Rattle.wiredump.specs.Layout.{line, field, millis_text, IsListingOrRefused}
 
 -- the version of IGMP: its number

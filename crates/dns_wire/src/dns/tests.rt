@@ -6,6 +6,8 @@ use bitflags::Flags as _;
 use std::test::Fail;
 use wirebase::{Error, Ipv4Address, Ipv6Address};
 
+mod damaged;
+
 #[test]
 fn numbers_of_messages(rt: HostRuntime) {
     for (number, opcode) in [

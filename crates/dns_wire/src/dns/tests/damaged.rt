@@ -1,0 +1,227 @@
+//! Damaged and cut headers, questions and records, against a second reader by RFC 1035 section 4.1 and RFC 3596 section
+//! 2.2 alone.
+
+use crate::dns::{Flags, Opcode, Packet, Question, Rcode, Record, RecordData, Type};
+use bitflags::Flags as _;
+use std::alloc::Global;
+use std::process::Abort;
+use std::test::Fail;
+use wirebase::{Error, Ipv4Address, Ipv6Address};
+
+// What stands behind the part of a name at the front of the octets: labels after their lengths, and byte 0 or a
+// pointer of two bytes.
+fn behind_name(octets: &[u8]) -> Option<&[u8]> {
+    let mut rest = octets;
+    for _ in 0..octets.len() {
+        let (first, after) = rest.split_first()?;
+        match *first {
+            0 => return Some(after),
+            1..=63 => rest = after.get(*first as usize..)?,
+            0xc0..=0xff => return after.get(1..),
+            _ => return None,
+        }
+    }
+    None
+}
+
+// The name at the front of the octets, and what stands behind it.
+fn read_name(octets: &[u8]) -> Option<(&[u8], &[u8])> {
+    let behind = behind_name(octets)?;
+    let name = octets.get(..octets.len().checked_sub(behind.len())?)?;
+    Some((name, behind))
+}
+
+// What stands behind the question at the front of the octets, and the question.
+fn read_question(octets: &[u8]) -> Option<(&[u8], Question<'_>)> {
+    let (name, behind) = read_name(octets)?;
+    let [t0, t1, 0, 1, rest @ ..] = behind else {
+        return None;
+    };
+    let type_ = Type::from(u16::from_be_bytes([*t0, *t1]));
+    Some((rest, Question { name, type_ }))
+}
+
+// The data of a record of this type.
+fn read_data(kind: u16, data: &[u8]) -> Option<RecordData<'_>> {
+    match kind {
+        1 => match data {
+            [a, b, c, d] => Some(RecordData::A(Ipv4Address::new(*a, *b, *c, *d))),
+            _ => None,
+        },
+        28 => match data.try_into() {
+            Ok(octets) => Some(RecordData::Aaaa(Ipv6Address::from_octets(octets))),
+            Err(_) => None,
+        },
+        5 => Some(RecordData::Cname(data)),
+        _ => Some(RecordData::Other(Type::from(kind), data)),
+    }
+}
+
+// What stands behind the record at the front of the octets, and the record.
+fn read_record(octets: &[u8]) -> Option<(&[u8], Record<'_>)> {
+    let (name, behind) = read_name(octets)?;
+    let [k0, k1, 0, 1, t0, t1, t2, t3, n0, n1, behind @ ..] = behind else {
+        return None;
+    };
+    let len = u16::from_be_bytes([*n0, *n1]) as usize;
+    let data = read_data(u16::from_be_bytes([*k0, *k1]), behind.get(..len)?)?;
+    let ttl = u32::from_be_bytes([*t0, *t1, *t2, *t3]);
+    Some((behind.get(len..)?, Record { name, ttl, data }))
+}
+
+// Compares the readers of questions and of records with the plain ones over these octets.
+fn compare(rt: &impl Abort, octets: &[u8]) {
+    let question = read_question(octets).ok_or(Error);
+    assert_eq!(rt; Question::parse(octets), question, "of {octets:?}");
+    let record = read_record(octets).ok_or(Error);
+    assert_eq!(rt; Record::parse(octets), record, "of {octets:?}");
+}
+
+// Compares the fields of a header with the octets at their places.
+fn compare_header(rt: &impl Abort, octets: &[u8]) {
+    let checked = Packet::new_checked(octets);
+    let [i0, i1, f0, f1, counts @ ..] = octets else {
+        assert!(rt; checked.is_err(), "of {octets:?}");
+        return;
+    };
+    let [q0, q1, a0, a1, s0, s1, m0, m1, payload @ ..] = counts else {
+        assert!(rt; checked.is_err(), "of {octets:?}");
+        return;
+    };
+    assert!(rt; checked.is_ok(), "of {octets:?}");
+    let packet = Packet::new_unchecked(octets);
+    assert_eq!(rt;
+        packet.transaction_id().to_be_bytes(),
+        [*i0, *i1],
+        "of {octets:?}"
+    );
+    let flags = u16::from_be_bytes([*f0, *f1]);
+    assert_eq!(rt; packet.flags().bits(), flags & 0x87b0, "of {octets:?}");
+    assert_eq!(rt;
+        packet.opcode(),
+        Opcode::from(*f0 / 8 % 16),
+        "of {octets:?}"
+    );
+    assert_eq!(rt; packet.rcode(), Rcode::from(*f1 % 16), "of {octets:?}");
+    assert_eq!(rt;
+        packet.question_count().to_be_bytes(),
+        [*q0, *q1],
+        "of {octets:?}"
+    );
+    assert_eq!(rt;
+        packet.answer_record_count().to_be_bytes(),
+        [*a0, *a1],
+        "of {octets:?}"
+    );
+    assert_eq!(rt;
+        packet.authority_record_count().to_be_bytes(),
+        [*s0, *s1],
+        "of {octets:?}"
+    );
+    assert_eq!(rt;
+        packet.additional_record_count().to_be_bytes(),
+        [*m0, *m1],
+        "of {octets:?}"
+    );
+    assert_eq!(rt; packet.payload(), payload, "of {octets:?}");
+}
+
+// A copy of the packet whose byte at this place is the value.
+fn damaged(alloc: Global, packet: &[u8], at: usize, value: u8) -> Result<Vec<u8>, Fail> {
+    let mut octets = Vec::new(alloc);
+    octets.extend_from_slice(packet)?;
+    if let Some(octet) = octets.as_mut_slice().get_mut(at) {
+        *octet = value;
+    }
+    Ok(octets)
+}
+
+// Compares them over each shorter part of the octets, and over each copy of them in which one byte is another.
+fn compare_damaged(rt: &impl Abort, alloc: Global, octets: &[u8]) -> Result<(), Fail> {
+    for len in 0..=octets.len() {
+        compare_header(rt, &octets[..len]);
+        compare(rt, &octets[..len]);
+    }
+    for at in 0..octets.len() {
+        for value in 0..=255u8 {
+            let damaged = damaged(alloc, octets, at, value)?;
+            compare_header(rt, damaged.as_slice());
+            compare(rt, damaged.as_slice());
+        }
+    }
+    Ok(())
+}
+
+#[test]
+fn damaged_questions_are_read_as_by_a_plain_reader(rt: HostRuntime) -> Result<(), Fail> {
+    // A label of 63 bytes, and behind it what would be a question behind a label of 64.
+    let mut long_label = [0x61; 71];
+    long_label[0] = 0x3f;
+    long_label[64..].copy_from_slice(&[0x00, 0xc0, 0x00, 0x00, 0x01, 0x00, 0x01]);
+    let rows: [&[u8]; 5] = [
+        &[
+            0x06, 0x67, 0x6f, 0x6f, 0x67, 0x6c, 0x65, 0x03, 0x63, 0x6f, 0x6d, 0x00, 0x00, 0x01,
+            0x00, 0x01,
+        ],
+        &[0x01, 0x61, 0x00, 0x00, 0x1c, 0x00, 0x01, 0xff],
+        &[0x01, 0x61, 0xc0, 0x0c, 0x00, 0x05, 0x00, 0x01],
+        &[0xc0, 0x0c, 0x00, 0x06, 0x00, 0x01, 0xff],
+        &long_label,
+    ];
+    for octets in rows {
+        assert!(rt; Question::parse(octets).is_ok(), "of {octets:?}");
+        compare_damaged(&rt, rt.alloc(), octets)?;
+    }
+    Ok(())
+}
+
+#[test]
+fn damaged_records_are_read_as_by_a_plain_reader(rt: HostRuntime) -> Result<(), Fail> {
+    let rows: [&[u8]; 5] = [
+        &[
+            0xc0, 0x0c, 0x00, 0x01, 0x00, 0x01, 0x00, 0x00, 0x00, 0xca, 0x00, 0x04, 0xac, 0xd9,
+            0xa8, 0xae,
+        ],
+        &[
+            0x01, 0x61, 0x00, 0x00, 0x1c, 0x00, 0x01, 0x00, 0x00, 0x00, 0xca, 0x00, 0x10, 0x20,
+            0x01, 0, 0, 0, 0, 0, 0, 0, 0, 0, 0, 0, 0, 0, 1,
+        ],
+        &[
+            0xc0, 0x0c, 0x00, 0x05, 0x00, 0x01, 0x00, 0x00, 0x05, 0xf3, 0x00, 0x02, 0xc0, 0x10,
+            0xff,
+        ],
+        &[
+            0x01, 0x61, 0xc0, 0x20, 0x00, 0x06, 0x00, 0x01, 0x00, 0x00, 0x03, 0x83, 0x00, 0x01,
+            0xaa,
+        ],
+        &[
+            0x00, 0x00, 0xff, 0x00, 0x01, 0xff, 0xff, 0xff, 0xff, 0x00, 0x00,
+        ],
+    ];
+    for octets in rows {
+        assert!(rt; Record::parse(octets).is_ok(), "of {octets:?}");
+        compare_damaged(&rt, rt.alloc(), octets)?;
+    }
+    Ok(())
+}
+
+#[test]
+fn damaged_messages_are_read_as_by_a_plain_reader(rt: HostRuntime) -> Result<(), Fail> {
+    let rows: [&[u8]; 3] = [
+        &[
+            0x51, 0x84, 0x01, 0x20, 0x00, 0x01, 0x00, 0x00, 0x00, 0x00, 0x00, 0x00, 0x06, 0x67,
+            0x6f, 0x6f, 0x67, 0x6c, 0x65, 0x03, 0x63, 0x6f, 0x6d, 0x00, 0x00, 0x01, 0x00, 0x01,
+        ],
+        &[
+            0x51, 0x84, 0x81, 0x80, 0x00, 0x01, 0x00, 0x01, 0x00, 0x00, 0x00, 0x00,
+        ],
+        &[
+            0x63, 0xc4, 0x81, 0x83, 0x00, 0x01, 0x00, 0x00, 0x00, 0x01, 0x00, 0x00,
+        ],
+    ];
+    for octets in rows {
+        assert!(rt; Packet::new_checked(octets).is_ok(), "of {octets:?}");
+        compare_damaged(&rt, rt.alloc(), octets)?;
+    }
+    Ok(())
+}

@@ -1,0 +1,135 @@
+//! What is printed.
+
+use super::{ECHO_REQUEST, PORT_UNREACHABLE, QUOTED_DATA, quoted};
+use crate::icmpv4::{DstUnreachable, Message, Packet, Repr, TimeExceeded};
+use std::fmt::Write;
+use std::test::Fail;
+use wirebase::failing_writer::FailingWriter;
+
+#[test]
+fn types_and_reasons_print_their_words(rt: HostRuntime) -> Result<(), Fail> {
+    let messages = [
+        (0, "echo reply"),
+        (3, "destination unreachable"),
+        (5, "message redirect"),
+        (8, "echo request"),
+        (9, "router advertisement"),
+        (10, "router solicitation"),
+        (11, "time exceeded"),
+        (12, "parameter problem"),
+        (13, "timestamp"),
+        (14, "timestamp reply"),
+        (255, "255"),
+    ];
+    for (number, text) in messages {
+        let message = Message::from(number);
+        assert_eq!(rt; message.to_string(rt.alloc())?.as_str(), text);
+    }
+    let unreachables = [
+        (0, "destination network unreachable"),
+        (1, "destination host unreachable"),
+        (2, "destination protocol unreachable"),
+        (3, "destination port unreachable"),
+        (4, "fragmentation required, and DF flag set"),
+        (5, "source route failed"),
+        (6, "destination network unknown"),
+        (7, "destination host unknown"),
+        (8, "source host isolated"),
+        (9, "network administratively prohibited"),
+        (10, "host administratively prohibited"),
+        (11, "network unreachable for ToS"),
+        (12, "host unreachable for ToS"),
+        (13, "communication administratively prohibited"),
+        (14, "host precedence violation"),
+        (15, "precedence cutoff in effect"),
+        (16, "16"),
+    ];
+    for (number, text) in unreachables {
+        let reason = DstUnreachable::from(number);
+        assert_eq!(rt; reason.to_string(rt.alloc())?.as_str(), text);
+    }
+    let times = [
+        (0, "time-to-live exceeded in transit"),
+        (1, "fragment reassembly time exceeded"),
+        (2, "2"),
+    ];
+    for (number, text) in times {
+        let reason = TimeExceeded::from(number);
+        assert_eq!(rt; reason.to_string(rt.alloc())?.as_str(), text);
+    }
+    Ok(())
+}
+
+#[test]
+fn packets_print_their_message_or_why_not(rt: HostRuntime) -> Result<(), Fail> {
+    let rows: [(&[u8], &str); 10] = [
+        (&ECHO_REQUEST, "ICMPv4 echo request id=4660 seq=43981 len=4"),
+        (
+            &[0x00, 0x00, 0xff, 0xff, 0x00, 0x00, 0x00, 0x00],
+            "ICMPv4 echo reply id=0 seq=0 len=0",
+        ),
+        (
+            &PORT_UNREACHABLE,
+            "ICMPv4 destination unreachable (destination port unreachable)",
+        ),
+        (
+            &[0x0b, 0, 0, 0, 0, 0, 0, 0],
+            "ICMPv4 (wire::Error) type=TimeExceeded code=TtlExpired",
+        ),
+        (
+            &[0x03, 15],
+            "ICMPv4 (wire::Error) type=DstUnreachable code=PrecedCutoff",
+        ),
+        (
+            &[0x03, 16],
+            "ICMPv4 (wire::Error) type=DstUnreachable code=Unknown(16)",
+        ),
+        (
+            &[0x08, 1, 0],
+            "ICMPv4 (wire::Error) type=EchoRequest code=1",
+        ),
+        (
+            &[0x2a, 0xff],
+            "ICMPv4 (wire::Error) type=Unknown(42) code=255",
+        ),
+        (&[0x08], "ICMPv4 (wire::Error)"),
+        (&[], "ICMPv4 (wire::Error)"),
+    ];
+    for (octets, text) in rows {
+        let packet = Packet::new_unchecked(octets);
+        assert_eq!(rt; packet.to_string(rt.alloc())?.as_str(), text);
+    }
+    let time_exceeded = Repr::TimeExceeded {
+        reason: TimeExceeded::FragExpired,
+        header: quoted(8),
+        data: &QUOTED_DATA,
+    };
+    let text = "ICMPv4 time exceeded (fragment reassembly time exceeded)";
+    assert_eq!(rt; time_exceeded.to_string(rt.alloc())?.as_str(), text);
+    // A wrong checksum refuses the octets.
+    let mut octets = ECHO_REQUEST;
+    octets[3] ^= 1;
+    let packet = Packet::new_unchecked(&mut octets[..]);
+    let text = "ICMPv4 (wire::Error) type=EchoRequest code=0";
+    assert_eq!(rt; packet.to_string(rt.alloc())?.as_str(), text);
+    Ok(())
+}
+
+#[test]
+fn printing_fails_only_with_its_writer(rt: HostRuntime) {
+    let rows: [(&[u8], u32); 4] = [
+        (&ECHO_REQUEST, 6),
+        (&PORT_UNREACHABLE, 3),
+        (&[0x2a, 0xff], 6),
+        (&[0x08], 1),
+    ];
+    for (octets, calls) in rows {
+        let packet = Packet::new_unchecked(octets);
+        for left in 0..calls {
+            let mut writer = FailingWriter { left };
+            assert!(rt; write!(writer, "{packet}").is_err(), "after {left} writes");
+        }
+        let mut writer = FailingWriter { left: calls };
+        assert!(rt; write!(writer, "{packet}").is_ok());
+    }
+}

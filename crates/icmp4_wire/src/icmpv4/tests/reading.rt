@@ -1,0 +1,207 @@
+//! What is read, and what is refused.
+
+use super::{ALL, PORT_UNREACHABLE, QUOTED_DATA, all, quoted, write_unreachable};
+use crate::icmpv4::{DstUnreachable, Message, Packet, ParamProblem, Redirect, Repr, TimeExceeded};
+use std::test::Fail;
+use wirebase::ChecksumCapabilities;
+use wirebase::capabilities::Checksum;
+
+#[test]
+fn a_quoted_length_is_read_as_that_of_the_data(rt: HostRuntime) -> Result<(), Fail> {
+    let mut octets = [0; 36];
+    write_unreachable(&mut octets, 4, &ALL);
+    let read = Repr::parse(&Packet::new_unchecked(&octets[..]), &ALL)?;
+    let Repr::DstUnreachable {
+        reason,
+        header,
+        data,
+    } = read
+    else {
+        return Err(Fail::from("no unreachable"));
+    };
+    assert_eq!(rt; reason, DstUnreachable::PortUnreachable);
+    assert_eq!(rt; header, quoted(8));
+    assert_eq!(rt; data, QUOTED_DATA.as_slice());
+    let mut octets = [0; 36];
+    write_unreachable(&mut octets, 16, &ALL);
+    assert!(rt; Repr::parse(&Packet::new_unchecked(&octets[..]), &ALL).is_err());
+    Ok(())
+}
+
+// The packet of an error whose quote has this first byte and total length, and 40 bytes behind it.
+fn quoting(first: u8, total_len: u16) -> [u8; 68] {
+    let mut octets = [0; 68];
+    octets[0] = 3;
+    octets[8] = first;
+    let [high, low] = total_len.to_be_bytes();
+    octets[10] = high;
+    octets[11] = low;
+    octets
+}
+
+#[test]
+fn quotes_are_read_by_their_own_lengths(rt: HostRuntime) -> Result<(), Fail> {
+    let ignored = ChecksumCapabilities::ignored();
+    // The first byte and the total length of a quote of 60 bytes, and the bytes of its data where it is read.
+    for (first, total_len, data_len) in [
+        (0x45, 60, Some(40)),
+        (0x45, 28, Some(40)),
+        (0x45, 20, Some(40)),
+        (0x45, 19, None),
+        (0x45, 61, None),
+        (0x40, 0, Some(60)),
+        (0x40, 60, Some(60)),
+        (0x40, 61, None),
+        (0x04, 16, Some(44)),
+        (0x44, 15, None),
+        (0x4d, 60, Some(8)),
+        (0x4e, 60, None),
+        (0x4f, 60, None),
+    ] {
+        let octets = quoting(first, total_len);
+        let read = Repr::parse(&Packet::new_unchecked(&octets[..]), &ignored);
+        let read_len = match read {
+            Ok(Repr::DstUnreachable { header, data, .. }) => {
+                assert_eq!(rt; header.payload_len, data.len());
+                Some(data.len())
+            }
+            _ => None,
+        };
+        assert_eq!(rt;
+            read_len,
+            data_len,
+            "first byte {first}, total length {total_len}"
+        );
+    }
+    Ok(())
+}
+
+#[test]
+fn a_checksum_that_is_wrong_by_a_bit_is_refused(rt: HostRuntime) -> Result<(), Fail> {
+    let ignored = ChecksumCapabilities::ignored();
+    for place in 0..36usize {
+        for bit in 0..8u32 {
+            let mut octets = PORT_UNREACHABLE;
+            octets[place] ^= 1 << bit;
+            let packet = Packet::new_unchecked(&octets[..]);
+            assert!(rt; !packet.verify_checksum(), "byte {place}, bit {bit}");
+            assert!(rt;
+                Repr::parse(&packet, &ALL).is_err(),
+                "byte {place}, bit {bit}"
+            );
+            assert!(rt;
+                Repr::parse(&packet, &all(Checksum::Rx)).is_err(),
+                "byte {place}, bit {bit}"
+            );
+        }
+    }
+    let mut octets = PORT_UNREACHABLE;
+    octets[3] ^= 1;
+    let packet = Packet::new_unchecked(&octets[..]);
+    assert!(rt; Repr::parse(&packet, &ignored).is_ok());
+    assert!(rt; Repr::parse(&packet, &all(Checksum::Tx)).is_ok());
+    Ok(())
+}
+
+#[test]
+fn other_messages_are_refused(rt: HostRuntime) -> Result<(), Fail> {
+    let ignored = ChecksumCapabilities::ignored();
+    for (kind, code, accepted) in [
+        (8, 0, true),
+        (8, 1, false),
+        (0, 0, true),
+        (0, 255, false),
+        (3, 0, false),
+        (5, 0, false),
+        (9, 0, false),
+        (13, 0, false),
+        (255, 0, false),
+    ] {
+        let octets = [kind, code, 0, 0, 0, 0, 0, 0];
+        let read = Repr::parse(&Packet::new_unchecked(&octets[..]), &ignored);
+        assert_eq!(rt; read.is_ok(), accepted, "type {kind}, code {code}");
+    }
+    // A sum of zero does not verify.
+    assert!(rt; Repr::parse(&Packet::new_unchecked(&[0u8; 8][..]), &ALL).is_err());
+    for len in 0..8usize {
+        let octets = [0u8; 8];
+        assert!(rt; Packet::new_checked(&octets[..len]).is_err());
+        assert!(rt; Repr::parse(&Packet::new_unchecked(&octets[..len]), &ignored).is_err());
+    }
+    Ok(())
+}
+
+#[test]
+fn packets_are_read_at_each_shorter_length(rt: HostRuntime) -> Result<(), Fail> {
+    let ignored = ChecksumCapabilities::ignored();
+    for len in 0..36usize {
+        let packet = Packet::new_unchecked(&PORT_UNREACHABLE[..len]);
+        assert!(rt; Repr::parse(&packet, &ignored).is_err(), "{len} bytes");
+    }
+    Ok(())
+}
+
+#[test]
+fn accessors(rt: HostRuntime) -> Result<(), Fail> {
+    let mut octets = [0x2a; 10];
+    let mut packet = Packet::new_checked(&mut octets[..])?;
+    packet.set_msg_type(Message::Timestamp);
+    packet.set_msg_code(7);
+    packet.set_checksum(0x1234);
+    packet.set_echo_ident(0x5678);
+    packet.set_echo_seq_no(0x9abc);
+    packet.data_mut().fill(0xff);
+    assert_eq!(rt;
+        packet.as_ref(),
+        [0x0d, 0x07, 0x12, 0x34, 0x56, 0x78, 0x9a, 0xbc, 0xff, 0xff].as_slice()
+    );
+    packet.fill_checksum();
+    assert!(rt; packet.verify_checksum());
+    let octets = packet.into_inner();
+    let packet = Packet::new_checked(&*octets)?;
+    assert_eq!(rt; packet.msg_type(), Message::Timestamp);
+    assert_eq!(rt; packet.msg_code(), 7);
+    assert_eq!(rt; packet.echo_ident(), 0x5678);
+    assert_eq!(rt; packet.echo_seq_no(), 0x9abc);
+    assert_eq!(rt; packet.header_len(), 8);
+    assert_eq!(rt; packet.data(), [0xff, 0xff].as_slice());
+    assert!(rt; packet.check_len().is_ok());
+    let copy = packet.clone()?;
+    assert!(rt; packet == copy);
+    Ok(())
+}
+
+#[test]
+fn numbers_of_the_enums(rt: HostRuntime) -> Result<(), Fail> {
+    for number in 0..=255u8 {
+        assert_eq!(rt; u8::from(Message::from(number)), number);
+        assert_eq!(rt; u8::from(DstUnreachable::from(number)), number);
+        assert_eq!(rt; u8::from(Redirect::from(number)), number);
+        assert_eq!(rt; u8::from(TimeExceeded::from(number)), number);
+        assert_eq!(rt; u8::from(ParamProblem::from(number)), number);
+    }
+    assert_eq!(rt; Message::from(14), Message::TimestampReply);
+    assert_eq!(rt; DstUnreachable::from(15), DstUnreachable::PrecedCutoff);
+    assert_eq!(rt; Redirect::from(3), Redirect::HostToS);
+    assert_eq!(rt; TimeExceeded::from(1), TimeExceeded::FragExpired);
+    assert_eq!(rt; ParamProblem::from(2), ParamProblem::BadLength);
+    assert_eq!(rt; ParamProblem::from(3), ParamProblem::Unknown(3));
+    assert!(rt; Message::Redirect < Message::EchoRequest);
+    assert!(rt; Message::TimestampReply < Message::Unknown(0));
+    Ok(())
+}
+
+#[test]
+fn a_quoted_length_below_its_data_has_the_normal_form_of_the_whole(rt: HostRuntime) {
+    let mut whole = [0; 36];
+    write_unreachable(&mut whole, 8, &ALL);
+    let mut part = [0; 36];
+    write_unreachable(&mut part, 4, &ALL);
+    assert!(rt; whole != part);
+    let one = Repr::parse(&Packet::new_unchecked(&whole[..]), &ALL);
+    let other = Repr::parse(&Packet::new_unchecked(&part[..]), &ALL);
+    assert_eq!(rt; one, other);
+    if let (Ok(one), Ok(other)) = (one, other) {
+        Repr::same_text(&one, &other, &ALL);
+    }
+}

@@ -1,0 +1,242 @@
+//! Messages as values (RFC 1112 appendix I, RFC 2236 section 2).
+#![tactic(auto, using(wirebase::proofs::Pieces::pieces))]
+
+ghost use Rattle.std.specs.Prelude.{◌≡◌, ◌≤◌, ◌↔◌, length, IsTrue, IfOk, Some};
+ghost use Rattle.wirebase.specs.Bytes.{Reaches, over};
+ghost use Rattle.wirebase.specs.ByteWriter.{free, Puts, the_slice};
+ghost use Rattle.wirebase.specs.Format.{Rewrites, SameText};
+ghost use Rattle.icmp4_wire.specs.Igmp.{message_number, inner, view_octets, group_field, IsGroup, query_of};
+ghost use Rattle.icmp4_wire.specs.Igmp.{message_fields, text, format, IsMessage, Emits};
+ghost use Rattle.icmp4_wire.specs.IgmpDisplay.{version_display, repr_display};
+
+use super::code::{code_of_duration, duration_of_code};
+use super::field;
+use super::packet::Packet;
+use super::tables::Message;
+use std::fmt;
+use wirebase::{ByteWriter, Duration, Error, Ipv4Address, OctetsMut, Result, are_bytes, checksum};
+
+/// The version of the protocol that a query or a report speaks.
+#[derive(Debug, PartialEq, Eq, Clone, Copy)]
+pub enum IgmpVersion {
+    /// RFC 1112 appendix I.
+    Version1,
+    /// RFC 2236.
+    Version2,
+}
+
+/// A message (RFC 1112 appendix I, RFC 2236).
+#[derive(Debug, PartialEq, Eq, Clone, Copy)]
+pub enum Repr {
+    /// A router asks which groups have members, or whether this one has.
+    MembershipQuery {
+        /// The longest time to answer in.
+        max_resp_time: Duration,
+        /// The group, or 0.0.0.0 for all.
+        group_addr: Ipv4Address,
+        version: IgmpVersion,
+    },
+    /// A host is a member of a group.
+    MembershipReport {
+        group_addr: Ipv4Address,
+        version: IgmpVersion,
+    },
+    /// A host leaves a group.
+    LeaveGroup {
+        group_addr: Ipv4Address,
+    },
+}
+
+impl Repr {
+    ghost use Rattle.std.specs.Prelude.{Ok};
+    ghost use Rattle.icmp4_wire.specs.declared.igmp.repr.Repr.{Repr};
+
+    /// The message at the front of the octets. Refused where they are fewer than 8, where the group is neither
+    /// 0.0.0.0 nor multicast, and where the type has no name. The checksum is not verified; the code of a report
+    /// or of a leave message is not looked at.
+    pub fn parse(packet: &Packet<&[u8]>) -> Result<Repr>
+        ensures sound { IfOk result (IsMessage (view_octets packet.now)) }
+        ensures complete { (repr : Repr) → IsMessage (view_octets packet.now) repr
+            → result ≡ Ok repr }
+        ensures rewrites { length (view_octets packet.now) ≤ 65515 → IfOk result (Rewrites format) }
+    {
+        are_bytes(packet.buffer);
+        Repr::read(packet)
+    }
+
+    // The message at the front of the octets.
+    fn read(packet: &Packet<&[u8]>) -> Result<Repr>
+        ensures sound { IfOk result (IsMessage (view_octets packet.now)) }
+        ensures complete { (repr : Repr) → IsMessage (view_octets packet.now) repr
+            → result ≡ Ok repr }
+    {
+        packet.check_len()?;
+        let group_addr = packet.group_addr();
+        let allowed = is_group(group_addr);
+        if !allowed {
+            return Err(Error);
+        }
+        match packet.msg_type() {
+            Message::MembershipQuery => Ok(query_of_code(packet.max_resp_code(), group_addr)),
+            Message::MembershipReportV1 => Ok(Repr::MembershipReport {
+                group_addr,
+                version: IgmpVersion::Version1,
+            }),
+            Message::MembershipReportV2 => Ok(Repr::MembershipReport {
+                group_addr,
+                version: IgmpVersion::Version2,
+            }),
+            Message::LeaveGroup => Ok(Repr::LeaveGroup { group_addr }),
+            Message::Unknown(_) => Err(Error),
+        }
+    }
+
+    /// The bytes that the message takes: 8.
+    #[tactic(auto, using(crate::proofs::IgmpText::texts))]
+    pub const fn buffer_len(&self) -> usize
+        ensures value { result ≡ 8 }
+        ensures exact { result ≡ length (text self.now) }
+    {
+        field::GROUP_ADDRESS.end
+    }
+
+    /// Writes the message over the front of the octets, with the checksum of all of them; the others stay. Asks 8
+    /// bytes.
+    pub fn emit<T: OctetsMut>(&self, packet: &mut Packet<T>)
+        requires { Reaches group_field (T.bytes (inner packet.old)) }
+        ensures place { inner packet.new ≡ T.put (inner packet.old) (T.bytes (inner packet.new)) }
+        ensures emits { Emits self.now (T.bytes (inner packet.old)) (T.bytes (inner packet.new)) }
+    {
+        self.emit_into(packet.buffer.octets_mut());
+    }
+
+    /// The same into octets that stand by themselves.
+    #[tactic(auto, using(wirebase::proofs::Chains::chain))]
+    pub fn emit_into(&self, octets: &mut [u8])
+        requires { Reaches group_field octets.old }
+        ensures { Emits self.now octets.old octets.new }
+    {
+        self.write(octets);
+        checksum::fill(octets, field::CHECKSUM, 0);
+    }
+
+    /// Does nothing. Of two messages that a packet can hold, equal texts mean equal normal forms, and conversely.
+    #[tactic(auto, using(crate::proofs::IgmpFormat::formats))]
+    pub fn same_text(a: &Self, b: &Self)
+        ensures { SameText format a.now b.now }
+    {}
+
+    // Writes the fields of the message, with a checksum of zero.
+    #[tactic(auto, using(wirebase::proofs::Chains::chain))]
+    fn write(&self, octets: &mut [u8])
+        requires { 8 ≤ length octets.old }
+        ensures { octets.new ≡ over octets.old (text self.now) }
+    {
+        let mut w = ByteWriter::new(octets);
+        match *self {
+            Repr::MembershipQuery {
+                max_resp_time,
+                group_addr,
+                version,
+            } => {
+                let code = match version {
+                    IgmpVersion::Version1 => 0,
+                    IgmpVersion::Version2 => code_of_duration(max_resp_time),
+                };
+                put_message(&mut w, Message::MembershipQuery, code, group_addr);
+            }
+            Repr::MembershipReport {
+                group_addr,
+                version,
+            } => {
+                let message = match version {
+                    IgmpVersion::Version1 => Message::MembershipReportV1,
+                    IgmpVersion::Version2 => Message::MembershipReportV2,
+                };
+                put_message(&mut w, message, 0, group_addr);
+            }
+            Repr::LeaveGroup { group_addr } => {
+                put_message(&mut w, Message::LeaveGroup, 0, group_addr);
+            }
+        }
+    }
+}
+
+/// The message and its fields. That of a leave message ends in a bracket which nothing opens.
+impl fmt::Display for Repr {
+    ghost output = { λ repr. Some (repr_display repr) };
+
+    fn fmt<W: fmt::Write>(&self, f: &mut fmt::Formatter<W>) -> fmt::Result {
+        match self {
+            Repr::MembershipQuery {
+                max_resp_time,
+                group_addr,
+                version,
+            } => {
+                let version = version_name(*version);
+                write!(
+                    f,
+                    "IGMP membership query max_resp_time={max_resp_time} group_addr={group_addr} version={version}"
+                )
+            }
+            Repr::MembershipReport {
+                group_addr,
+                version,
+            } => {
+                let version = version_name(*version);
+                write!(
+                    f,
+                    "IGMP membership report group_addr={group_addr} version={version}"
+                )
+            }
+            Repr::LeaveGroup { group_addr } => {
+                write!(f, "IGMP leave group group_addr={group_addr})")
+            }
+        }
+    }
+}
+
+// The name of a version.
+fn version_name(version: IgmpVersion) -> &'static str
+    ensures { result.now ≡ version_display version }
+{
+    match version {
+        IgmpVersion::Version1 => "Version1",
+        IgmpVersion::Version2 => "Version2",
+    }
+}
+
+// Writes each field of a message, with a checksum of zero.
+fn put_message(w: &mut ByteWriter<'_>, message: Message, code: u8, group: Ipv4Address)
+    requires { 8 ≤ length (free w.old) }
+    ensures puts { Puts w.old w.new (message_fields (message_number message) code group) }
+    ensures same_slice { the_slice w.new ≡ the_slice w.old }
+{
+    w.put_u8(message.into());
+    w.put_u8(code);
+    w.put_u16(0);
+    w.put_bytes(&group.octets());
+}
+
+// Whether a message may speak of this group: of none, 0.0.0.0, or of a multicast address.
+fn is_group(address: Ipv4Address) -> bool
+    ensures { IsTrue result ↔ IsGroup address }
+{
+    address.is_unspecified() || address.is_multicast()
+}
+
+// The query with this code. One of code 0 is of version 1 (RFC 3376 section 7.1).
+fn query_of_code(code: u8, group_addr: Ipv4Address) -> Repr
+    ensures { result ≡ query_of code group_addr }
+{
+    let version = if code == 0 {
+        IgmpVersion::Version1
+    } else {
+        IgmpVersion::Version2
+    };
+    Repr::MembershipQuery {
+        max_resp_time: duration_of_code(code),
+        group_addr,
+        version,
+    }
+}
