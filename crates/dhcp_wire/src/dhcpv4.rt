@@ -3,6 +3,7 @@
 mod emission;
 mod found;
 mod kinds;
+mod names;
 mod options;
 mod packet;
 mod repr;

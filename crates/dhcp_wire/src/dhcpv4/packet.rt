@@ -1,8 +1,7 @@
 //! A view of the octets of a packet.
 #![tactic(auto, using(wirebase::proofs::Pieces::pieces))]
 
-ghost use Rattle.std.specs.Prelude.{◌≡◌, ◌≤◌, ◌<◌, ◌↔◌, [], ◌∷◌, List, ℕ, length, take, slice_index, IsTrue, IsOk};
-ghost use Rattle.std.specs.Prelude.{IfOk, OnErr, IsOkAnd, replicate};
+ghost use Rattle.std.specs.Prelude.{◌≡◌, ◌≤◌, ◌↔◌, [], ◌∷◌, List, length, IsTrue, IsOk, IfOk, replicate};
 ghost use Rattle.std.specs.Borrow.{sem, follows, Array, u8 as byte};
 ghost use Rattle.std.specs.Int.RustNames.{bit_and};
 ghost use Rattle.byteorder.specs.Endian.{big_bytes};
@@ -13,8 +12,8 @@ ghost use Rattle.wirebase.specs.Ipv4.{octets_of};
 ghost use Rattle.dhcp_wire.specs.Dhcpv4Packet.{inner, with_inner, Sets, KeepsLen, op_field, htype_field, hlen_field};
 ghost use Rattle.dhcp_wire.specs.Dhcpv4Packet.{hops_field};
 ghost use Rattle.dhcp_wire.specs.Dhcpv4Packet.{xid_field, secs_field, flags_field, ciaddr_field, yiaddr_field};
-ghost use Rattle.dhcp_wire.specs.Dhcpv4Packet.{siaddr_field, giaddr_field, chaddr_field, sname_field, file_field};
-ghost use Rattle.dhcp_wire.specs.Dhcpv4Packet.{names_field, magic_field, options_in, HasNoZero, IsTextIn};
+ghost use Rattle.dhcp_wire.specs.Dhcpv4Packet.{siaddr_field, giaddr_field, chaddr_field, names_field, magic_field};
+ghost use Rattle.dhcp_wire.specs.Dhcpv4Packet.{options_in};
 ghost use Rattle.dhcp_wire.specs.Dhcpv4Tables.{opcode_number, opcode_of, flag_bits};
 
 use super::options::{DhcpOptionWriter, OptionsIter};
@@ -251,36 +250,6 @@ impl<'a> Packet<&'a [u8]> {
         let octets: &'a [u8] = self.buffer;
         OptionsIter::new(&octets[field::OPTIONS..])
     }
-
-    /// The name of a server, for as long as the octets live: the bytes before the first zero. Refused where there is
-    /// no zero byte, or nothing before it, or no UTF-8. Asks 108 bytes.
-    #[tactic(auto, unfolding(wirebase::specs::Bytes::part))]
-    pub fn get_sname(&self) -> Result<&'a str>
-        requires { Reaches sname_field (inner self.now).now }
-        ensures sound { IfOk result
-            (λ text. IsTextIn (bytes_of sname_field (inner self.now).now) text.now) }
-        ensures complete { (text : List ℕ) → IsTextIn (bytes_of sname_field (inner self.now).now)
-            text
-            → IsOkAnd result (λ read. read.now ≡ text) }
-    {
-        let octets: &'a [u8] = self.buffer;
-        text_in(&octets[field::SNAME])
-    }
-
-    /// The name of a file to start from, for as long as the octets live: the bytes before the first zero. Refused
-    /// where there is no zero byte, or nothing before it, or no UTF-8. Asks 236 bytes.
-    #[tactic(auto, unfolding(wirebase::specs::Bytes::part))]
-    pub fn get_boot_file(&self) -> Result<&'a str>
-        requires { Reaches file_field (inner self.now).now }
-        ensures sound { IfOk result
-            (λ text. IsTextIn (bytes_of file_field (inner self.now).now) text.now) }
-        ensures complete { (text : List ℕ) → IsTextIn (bytes_of file_field (inner self.now).now)
-            text
-            → IsOkAnd result (λ read. read.now ≡ text) }
-    {
-        let octets: &'a [u8] = self.buffer;
-        text_in(&octets[field::FILE])
-    }
 }
 
 impl<T: OctetsMut> Packet<T> {
@@ -437,35 +406,4 @@ fn ipv4_address(octets: &[u8]) -> Ipv4Address
     ensures { octets_of result ≡ octets.now }
 {
     Ipv4Address::from_octets(octets.try_into().unwrap())
-}
-
-// The text that a field of fixed size holds.
-fn text_in(octets: &[u8]) -> Result<&str>
-    ensures sound { IfOk result (λ text. IsTextIn octets.now text.now) }
-    ensures complete { (text : List ℕ) → IsTextIn octets.now text
-        → IsOkAnd result (λ read. read.now ≡ text) }
-{
-    let count = before_zero(octets)?;
-    if count == 0 {
-        return Err(Error);
-    }
-    match str::from_utf8(&octets[..count]) {
-        Ok(text) => Ok(text),
-        Err(_) => Err(Error),
-    }
-}
-
-// How many bytes stand before the first zero; refused where there is none.
-fn before_zero(octets: &[u8]) -> Result<usize>
-    ensures zero { IfOk result (λ count. slice_index octets.now count ≡ 0) }
-    ensures inside { IfOk result (λ count. count < length octets.now) }
-    ensures before { IfOk result (λ count. HasNoZero (take count octets.now)) }
-    ensures refused { OnErr result (HasNoZero octets.now) }
-{
-    for (i, byte) in octets.iter().enumerate() {
-        if *byte == 0 {
-            return Ok(i);
-        }
-    }
-    Err(Error)
 }

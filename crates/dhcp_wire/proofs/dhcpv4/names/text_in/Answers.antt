@@ -2,7 +2,7 @@ use Rattle.std.proofs.Common.{List, ℕ, sym, subst, ◌∙◌}
 use Rattle.std.specs.Str.{IsUtf8}
 use Rattle.dhcp_wire.specs.Dhcpv4Packet.{IsTextIn}
 use Rattle.dhcp_wire.proofs.Dhcpv4Text.{no_text, text-is, text-in}
-use Rattle.dhcp_wire.proofs.dhcpv4.packet.text_in.Goals as goal
+use Rattle.dhcp_wire.proofs.dhcpv4.names.text_in.Goals as goal
 
 pub returns-in_err-count-clause-complete : goal.returns-in_err-count-clause-complete
 returns-in_err-count-clause-complete c text t = absurd (no_text c.args.octets.now text c.in_err-count.ensures.refused t)

@@ -1,0 +1,72 @@
+//! The names of a server and of a file to start from: texts in fields of fixed size.
+#![tactic(auto, using(wirebase::proofs::Pieces::pieces))]
+
+ghost use Rattle.std.specs.Prelude.{◌≡◌, ◌<◌, List, ℕ, length, take, slice_index, IfOk, OnErr, IsOkAnd};
+ghost use Rattle.wirebase.specs.Bytes.{Reaches, bytes_of};
+ghost use Rattle.dhcp_wire.specs.Dhcpv4Packet.{inner, sname_field, file_field, HasNoZero, IsTextIn};
+
+use super::packet::{Packet, field};
+use wirebase::{Error, Result};
+
+impl<'a> Packet<&'a [u8]> {
+    /// The name of a server, for as long as the octets live: the bytes before the first zero. Refused where there is
+    /// no zero byte, or nothing before it, or no UTF-8. Asks 108 bytes.
+    #[tactic(auto, unfolding(wirebase::specs::Bytes::part))]
+    pub fn get_sname(&self) -> Result<&'a str>
+        requires { Reaches sname_field (inner self.now).now }
+        ensures sound { IfOk result
+            (λ text. IsTextIn (bytes_of sname_field (inner self.now).now) text.now) }
+        ensures complete { (text : List ℕ) → IsTextIn (bytes_of sname_field (inner self.now).now)
+            text
+            → IsOkAnd result (λ read. read.now ≡ text) }
+    {
+        let octets: &'a [u8] = self.buffer;
+        text_in(&octets[field::SNAME])
+    }
+
+    /// The name of a file to start from, for as long as the octets live: the bytes before the first zero. Refused
+    /// where there is no zero byte, or nothing before it, or no UTF-8. Asks 236 bytes.
+    #[tactic(auto, unfolding(wirebase::specs::Bytes::part))]
+    pub fn get_boot_file(&self) -> Result<&'a str>
+        requires { Reaches file_field (inner self.now).now }
+        ensures sound { IfOk result
+            (λ text. IsTextIn (bytes_of file_field (inner self.now).now) text.now) }
+        ensures complete { (text : List ℕ) → IsTextIn (bytes_of file_field (inner self.now).now)
+            text
+            → IsOkAnd result (λ read. read.now ≡ text) }
+    {
+        let octets: &'a [u8] = self.buffer;
+        text_in(&octets[field::FILE])
+    }
+}
+
+// The text that a field of fixed size holds.
+fn text_in(octets: &[u8]) -> Result<&str>
+    ensures sound { IfOk result (λ text. IsTextIn octets.now text.now) }
+    ensures complete { (text : List ℕ) → IsTextIn octets.now text
+        → IsOkAnd result (λ read. read.now ≡ text) }
+{
+    let count = before_zero(octets)?;
+    if count == 0 {
+        return Err(Error);
+    }
+    match str::from_utf8(&octets[..count]) {
+        Ok(text) => Ok(text),
+        Err(_) => Err(Error),
+    }
+}
+
+// How many bytes stand before the first zero; refused where there is none.
+fn before_zero(octets: &[u8]) -> Result<usize>
+    ensures zero { IfOk result (λ count. slice_index octets.now count ≡ 0) }
+    ensures inside { IfOk result (λ count. count < length octets.now) }
+    ensures before { IfOk result (λ count. HasNoZero (take count octets.now)) }
+    ensures refused { OnErr result (HasNoZero octets.now) }
+{
+    for (i, byte) in octets.iter().enumerate() {
+        if *byte == 0 {
+            return Ok(i);
+        }
+    }
+    Err(Error)
+}
