@@ -7,24 +7,15 @@ use Rattle.wirebase.specs.Ipv6.{header_text}
 use Rattle.wirebase.specs.Ipv6Address.{octets_of}
 use Rattle.wirebase.specs.declared.ipv6.Ipv6Repr.{Ipv6Repr}
 use Rattle.wirebase.proofs.Ipv6Header.{length-header_text}
-use Rattle.opt_wire.specs.NdiscOptionRepr.{units, padding, link_fields}
+use Rattle.opt_wire.specs.NdiscOptionRepr.{units, padding}
 use Rattle.opt_wire.specs.declared.ndiscoption.repr.PrefixInformation.{PrefixInformation}
-use Rattle.opt_wire.proofs.NdiscOptionTexts.{link_text, prefix_text, redirected_text, mtu_text}
+use Rattle.opt_wire.proofs.NdiscOptionTexts.{prefix_text, redirected_text, mtu_text, length-link}
 use Rattle.icmp6_wire.specs.Ndisc.{NdiscValue, router_solicit, router_advert, neighbor_solicit, neighbor_advert}
 use Rattle.icmp6_wire.specs.Ndisc.{redirect}
 use Rattle.icmp6_wire.specs.Ndisc.{sources, targets, mtus, prefixes, packets, option_text, option_texts, option_len}
 use Rattle.icmp6_wire.specs.Ndisc.{header_fields, header_len, text, text_len, options_of}
 
 -- ---- options
-
-length-link : (t : ℕ) (address : List ℕ) → length (fields (link_fields t address)) ≡ 8 * units (2 + length address)
-length-link t address =
-    omega (
-      arith,
-      ap length (link_text t address),
-      length-append address (padding (2 + length address)),
-      length-replicate {A = ℕ} (8 * units (2 + length address) - (2 + length address)) 0,
-    )
 
 length-source : (l : Option (List ℕ)) → length (option_text (sources l)) ≡ option_len (sources l)
 length-source None = refl

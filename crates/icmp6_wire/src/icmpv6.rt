@@ -1,6 +1,7 @@
 //! The Internet Control Message Protocol of IPv6 (RFC 4443).
 
 mod packet;
+mod quote;
 mod repr;
 mod tables;
 

@@ -4,3 +4,5 @@
 pub mod icmpv6;
 pub mod mld;
 pub mod ndisc;
+#[cfg(test)]
+mod plain_reader;

@@ -41,7 +41,7 @@ unknown_text t n d = simp append-nil
 
 -- ---- lengths
 
-length-link : (t : ℕ) (address : List ℕ) → length (fields (link_fields t address)) ≡ 8 * units (2 + length address)
+pub length-link : (t : ℕ) (address : List ℕ) → length (fields (link_fields t address)) ≡ 8 * units (2 + length address)
 length-link t address =
     omega (
       arith,

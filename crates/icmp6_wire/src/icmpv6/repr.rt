@@ -1,29 +1,29 @@
 //! Messages as values (RFC 4443).
 #![tactic(auto, using(wirebase::proofs::Pieces::pieces))]
 
-ghost use Rattle.std.specs.Prelude.{true, ◌≡◌, ◌≤◌, ◌<◌, ◌+◌, ◌^◌, min, List, ℕ, length, drop, IsOk, IfOk, IsOkAnd};
+ghost use Rattle.std.specs.Prelude.{true, ◌≡◌, ◌≤◌, ◌<◌, ◌+◌, ◌^◌, length, IsOk, IfOk, IsOkAnd};
 ghost use Rattle.wirebase.specs.Bytes.{Reaches, byte_of, over};
 ghost use Rattle.wirebase.specs.ByteWriter.{free, Puts, the_slice};
 ghost use Rattle.wirebase.specs.Format.{Rewrites, SameText};
 ghost use Rattle.wirebase.specs.Icmp.{header, code_field, checksum_field, echo_fields};
-ghost use Rattle.wirebase.specs.Ipv6.{IsHeader, header_text};
 ghost use Rattle.wirebase.specs.declared.capabilities.ChecksumCapabilities.{ChecksumCapabilities};
 ghost use Rattle.wirebase.specs.declared.ipv6.address.Ipv6Address.{Ipv6Address};
 ghost use Rattle.wirebase.specs.declared.ipv6.Ipv6Repr.{Ipv6Repr};
 ghost use Rattle.icmp6_wire.specs.Icmpv6Tables.{message_number, is_ndisc};
 ghost use Rattle.icmp6_wire.specs.Icmpv6Packet.{inner, view_octets, message_in, BeginsWhole};
-ghost use Rattle.icmp6_wire.specs.Icmpv6.{MessageValue, value_of, quoted_data, error_fields, text, error_len};
+ghost use Rattle.icmp6_wire.specs.Icmpv6.{MessageValue, value_of, text};
 ghost use Rattle.icmp6_wire.specs.Icmpv6.{text_len, told_len};
 ghost use Rattle.icmp6_wire.specs.Icmpv6.{IsErrorValue, seal, packet_text, CanEmit, IsContent, IsMessage, format};
 ghost use Rattle.icmp6_wire.specs.Icmpv6.{Emits};
 
+use super::field;
 use super::packet::{Packet, fill};
+use super::quote::{error_len, put_error, read_quote};
 use super::tables::{DstUnreachable, Message, ParamProblem, TimeExceeded};
-use super::{MAX_QUOTED_DATA, field};
 use crate::{mld, ndisc};
 use wirebase::{
-    ByteWriter, ChecksumCapabilities, Error, IPV6_HEADER_LEN, Ipv6Address, Ipv6Packet, Ipv6Repr,
-    Octets, OctetsMut, Result, are_bytes,
+    ByteWriter, ChecksumCapabilities, Error, IPV6_HEADER_LEN, Ipv6Address, Ipv6Repr, Octets,
+    OctetsMut, Result, are_bytes,
 };
 
 /// A message (RFC 4443).
@@ -375,13 +375,6 @@ fn read_neighbor<'a>(packet: &Packet<&'a [u8]>) -> Result<Repr<'a>>
     }
 }
 
-// The bytes of an error that quotes this header and as much of this data as it may.
-fn error_len(quoted: &Ipv6Repr, data: &[u8]) -> usize
-    ensures { result ≡ error_len «data».now }
-{
-    field::HEADER_END + quoted.buffer_len() + quotable(data).len()
-}
-
 // Writes an echo of this type, as much of its data as there is room for.
 fn put_echo(w: &mut ByteWriter<'_>, kind: Message, ident: u16, seq_no: u16, data: &[u8])
     requires { 8 ≤ length (free w.old) }
@@ -394,49 +387,6 @@ fn put_echo(w: &mut ByteWriter<'_>, kind: Message, ident: u16, seq_no: u16, data
     w.put_u16(ident);
     w.put_u16(seq_no);
     w.put_front(data);
-}
-
-// Writes an error of this type, with as much of its data as it may quote.
-#[tactic(auto, using(wirebase::proofs::Chains::parts, wirebase::proofs::Ipv6Header::header_texts))]
-fn put_error(
-    w: &mut ByteWriter<'_>,
-    kind: Message,
-    code: u8,
-    word: u32,
-    quoted: &Ipv6Repr,
-    data: &[u8],
-)
-    requires room { error_len «data».now ≤ length (free w.old) }
-    requires count { quoted.now.payload_len ≤ 65535 }
-    ensures puts { Puts w.old w.new
-        (error_fields (message_number kind) code word quoted.now «data».now) }
-    ensures same_slice { the_slice w.new ≡ the_slice w.old }
-{
-    w.put_u8(kind.into());
-    w.put_u8(code);
-    w.put_u16(0);
-    w.put_u32(word);
-    write_header(quoted, w.part(quoted.buffer_len()));
-    w.put_bytes(quotable(data));
-}
-
-// Writes a header into octets of just its length.
-#[tactic(auto, using(wirebase::proofs::Ipv6Header::header_texts))]
-fn write_header(header: &Ipv6Repr, octets: &mut [u8])
-    requires room { length octets.old ≡ 40 }
-    requires count { header.now.payload_len ≤ 65535 }
-    ensures { octets.new ≡ header_text header.now }
-{
-    header.emit_into(octets);
-}
-
-// The data that an error may quote.
-#[tactic(auto, using(crate::proofs::Icmpv6Texts::cuts))]
-fn quotable(data: &[u8]) -> &[u8]
-    ensures value { result.now ≡ quoted_data «data».now }
-    ensures len { length result.now ≡ min (length «data».now) 1192 }
-{
-    &data[..data.len().min(MAX_QUOTED_DATA)]
 }
 
 // Writes the checksum, where it is computed.
@@ -452,21 +402,4 @@ fn seal(
     if checksum_caps.icmpv6.tx() {
         fill(octets, src_addr, dst_addr);
     }
-}
-
-// The header that an error quotes, and all that stands behind it (RFC 4443 section 3).
-fn read_quote(octets: &[u8]) -> (Ipv6Repr, &[u8])
-    requires { 40 ≤ length octets.now }
-    ensures header { IsHeader octets.now result.0 }
-    ensures behind { result.1.now ≡ drop 40 octets.now }
-{
-    let packet = Ipv6Packet::new_unchecked(octets);
-    let header = Ipv6Repr {
-        src_addr: packet.src_addr(),
-        dst_addr: packet.dst_addr(),
-        next_header: packet.next_header(),
-        payload_len: packet.payload_len() as usize,
-        hop_limit: packet.hop_limit(),
-    };
-    (header, &octets[IPV6_HEADER_LEN..])
 }

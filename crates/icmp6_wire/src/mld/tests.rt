@@ -2,6 +2,7 @@ ghost use Rattle.std.specs.Prelude.{◌≡◌};
 
 use super::{AddressRecord, AddressRecordRepr, RecordType, Repr};
 use crate::icmpv6::{self, Packet};
+use crate::plain_reader::compare_damaged;
 use std::test::Fail;
 use wirebase::{
     ChecksumCapabilities, IPV6_LINK_LOCAL_ALL_NODES, IPV6_LINK_LOCAL_ALL_ROUTERS, Ipv6Address,
@@ -396,4 +397,11 @@ fn equal_texts_have_equal_normal_forms(rt: HostRuntime) {
     with_payload.emit_into(&mut two);
     assert_eq!(rt; one, two);
     AddressRecordRepr::same_text(&records[0], &with_payload);
+}
+
+#[test]
+fn damaged_queries_and_reports(rt: HostRuntime) -> Result<(), Fail> {
+    compare_damaged(&rt, rt.alloc(), &QUERY)?;
+    compare_damaged(&rt, rt.alloc(), &REPORT)?;
+    compare_damaged(&rt, rt.alloc(), &SOURCE_REPORT)
 }

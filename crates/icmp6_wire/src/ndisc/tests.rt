@@ -3,12 +3,17 @@ ghost use Rattle.icmp6_wire.specs.Ndisc.{value_of, text_len, CanEmit};
 
 use super::{NeighborFlags, Repr, RouterFlags};
 use crate::icmpv6::Packet;
+use crate::plain_reader::compare_damaged;
 use crate::{icmpv6, mld};
 use bitflags::Flags as _;
 use opt_wire::ndiscoption::{PrefixInfoFlags, PrefixInformation, RedirectedHeader};
+use std::test::Fail;
 use wirebase::{
     ChecksumCapabilities, Duration, Error, IpProtocol, Ipv6Address, Ipv6Repr, RawHardwareAddress,
 };
+
+mod fields;
+mod options;
 
 fn here() -> Ipv6Address {
     Ipv6Address::new(0xfe80, 0, 0, 0, 0, 0, 0, 1)
@@ -16,89 +21,6 @@ fn here() -> Ipv6Address {
 
 fn there() -> Ipv6Address {
     Ipv6Address::new(0xfe80, 0, 0, 0, 0, 0, 0, 2)
-}
-
-#[test]
-fn fields_of_a_router_advertisement(rt: HostRuntime) {
-    let bytes = [
-        0x86, 0x00, 0xa9, 0xde, 0x40, 0xbf, 0x03, 0x84, 0x00, 0x00, 0x03, 0x84, 0x00, 0x00, 0x03,
-        0x85,
-    ];
-    let packet = Packet::new_unchecked(&bytes[..]);
-    assert_eq!(rt; packet.current_hop_limit(), 64);
-    assert_eq!(rt; packet.router_flags(), RouterFlags::MANAGED);
-    assert_eq!(rt; packet.router_lifetime(), Duration::from_secs(900));
-    assert_eq!(rt; packet.reachable_time(), Duration::from_millis(900));
-    assert_eq!(rt; packet.retrans_time(), Duration::from_millis(901));
-
-    let mut buffer = [0x2a; 16];
-    let mut packet = Packet::new_unchecked(&mut buffer[..]);
-    packet.set_current_hop_limit(64);
-    packet.set_router_flags(RouterFlags::all());
-    packet.set_router_lifetime(Duration::from_micros(900_999_999));
-    packet.set_reachable_time(Duration::from_micros(900_999));
-    packet.set_retrans_time(Duration::from_millis(901));
-    assert_eq!(rt; &buffer[..4], &[0x2a; 4][..]);
-    assert_eq!(rt; buffer[5], 0xc0);
-    buffer[5] = bytes[5];
-    assert_eq!(rt; &buffer[4..], &bytes[4..]);
-}
-
-#[test]
-fn fields_of_neighbor_messages(rt: HostRuntime) {
-    let mut bytes = [0x2a; 40];
-    let mut packet = Packet::new_unchecked(&mut bytes[..]);
-    packet.set_neighbor_flags(NeighborFlags::SOLICITED | NeighborFlags::OVERRIDE);
-    packet.set_target_addr(here());
-    packet.set_dest_addr(there());
-    assert_eq!(rt;
-        packet.neighbor_flags(),
-        NeighborFlags::SOLICITED | NeighborFlags::OVERRIDE
-    );
-    assert_eq!(rt; packet.target_addr(), here());
-    assert_eq!(rt; packet.dest_addr(), there());
-    assert_eq!(rt; bytes[4], 0x60);
-    assert_eq!(rt; &bytes[..4], &[0x2a; 4][..]);
-    assert_eq!(rt; &bytes[5..8], &[0x2a; 3][..]);
-    assert_eq!(rt; &bytes[8..24], here().octets().as_slice());
-    assert_eq!(rt; &bytes[24..], there().octets().as_slice());
-    bytes[4] = 0xff;
-    let packet = Packet::new_unchecked(&bytes[..]);
-    assert_eq!(rt; packet.neighbor_flags(), NeighborFlags::all());
-}
-
-#[test]
-fn sets_of_flags(rt: HostRuntime) {
-    assert_eq!(rt; RouterFlags::all().bits(), 0xc0);
-    assert_eq!(rt; NeighborFlags::all().bits(), 0xe0);
-    assert_eq!(rt; RouterFlags::from_bits(0x20), None);
-    assert_eq!(rt;
-        NeighborFlags::from_bits_truncate(0x3f),
-        NeighborFlags::OVERRIDE
-    );
-    assert_eq!(rt; (!RouterFlags::MANAGED), RouterFlags::OTHER);
-    assert_eq!(rt; (!NeighborFlags::ROUTER).bits(), 0x60);
-    assert_eq!(rt;
-        (RouterFlags::all() - RouterFlags::MANAGED),
-        RouterFlags::OTHER
-    );
-    assert_eq!(rt;
-        (NeighborFlags::all() & NeighborFlags::ROUTER),
-        NeighborFlags::ROUTER
-    );
-    assert_eq!(rt; (NeighborFlags::all() ^ NeighborFlags::ROUTER).bits(), 0x60);
-    assert_eq!(rt;
-        (RouterFlags::MANAGED ^ RouterFlags::OTHER),
-        RouterFlags::all()
-    );
-    assert_eq!(rt;
-        (RouterFlags::MANAGED & RouterFlags::OTHER),
-        RouterFlags::empty()
-    );
-    assert_eq!(rt;
-        (NeighborFlags::all() - NeighborFlags::all()),
-        NeighborFlags::empty()
-    );
 }
 
 // The octets that stand in a buffer before it is written into.
@@ -365,88 +287,44 @@ fn redirects_are_written_and_read(rt: HostRuntime) {
     assert!(rt; read(&REDIRECT[..39]).is_err());
 }
 
-// The MTU that a router advertisement with these options tells; nothing where it is refused.
-fn mtu_of(bytes: &[u8]) -> Option<Option<u32>> {
-    let Ok(repr) = read(bytes) else {
-        return None;
-    };
-    match repr {
-        Repr::RouterAdvert { mtu, .. } => Some(mtu),
-        _ => None,
-    }
-}
+// A host asks the routers, and tells its link-layer address.
+const ROUTER_SOLICIT: [u8; 16] = [
+    0x85, 0x00, 0x00, 0x00, 0, 0, 0, 0, 0x01, 0x01, 0x52, 0x54, 0x00, 0x12, 0x34, 0x56,
+];
 
-// A router advertisement without options.
-const BARE: [u8; 16] = [
+// A host asks for fe80::1, and tells an address of 8 bytes; then comes an option of an unknown type.
+const NEIGHBOR_SOLICIT: [u8; 48] = [
+    0x87, 0x00, 0x00, 0x00, 0, 0, 0, 0, 0xfe, 0x80, 0, 0, 0, 0, 0, 0, 0, 0, 0, 0, 0, 0, 0, 0x01,
+    0x01, 0x02, 1, 2, 3, 4, 5, 6, 7, 8, 0, 0, 0, 0, 0, 0, 0x0e, 0x01, 1, 2, 3, 4, 5, 6,
+];
+
+// fe80::1 tells its link-layer address twice, with that of a source between.
+const NEIGHBOR_ADVERT: [u8; 48] = [
+    0x88, 0x00, 0x00, 0x00, 0x60, 0, 0, 0, 0xfe, 0x80, 0, 0, 0, 0, 0, 0, 0, 0, 0, 0, 0, 0, 0, 0x01,
+    0x02, 0x01, 0x52, 0x54, 0x00, 0x12, 0x34, 0x56, 0x01, 0x01, 1, 2, 3, 4, 5, 6, 0x02, 0x01, 6, 5,
+    4, 3, 2, 1,
+];
+
+// MTUs of 1,500 and 1,280, and one of two units, which is skipped.
+const THREE_MTUS: [u8; 48] = [
     0x86, 0x00, 0x00, 0x00, 0x40, 0x80, 0x03, 0x84, 0x00, 0x00, 0x03, 0x84, 0x00, 0x00, 0x03, 0x84,
+    0x05, 0x01, 0x00, 0x00, 0x00, 0x00, 0x05, 0xdc, 0x05, 0x01, 0x00, 0x00, 0x00, 0x00, 0x05, 0x00,
+    0x05, 0x02, 0, 0, 0, 0, 0, 0, 0, 0, 0, 0, 0, 0, 0, 0,
 ];
 
 #[test]
-fn of_two_options_the_last_that_can_be_read_counts(rt: HostRuntime) {
-    let mut octets = [0; 48];
-    octets[..16].copy_from_slice(&BARE);
-    // An MTU of 1,500, one of 1,280, and one of two units, which is skipped.
-    octets[16..24].copy_from_slice(&[0x05, 0x01, 0x00, 0x00, 0x00, 0x00, 0x05, 0xdc]);
-    octets[24..32].copy_from_slice(&[0x05, 0x01, 0x00, 0x00, 0x00, 0x00, 0x05, 0x00]);
-    octets[32..34].copy_from_slice(&[0x05, 0x02]);
-    assert_eq!(rt; mtu_of(&octets), Some(Some(1_280)));
-    assert_eq!(rt; mtu_of(&octets[..24]), Some(Some(1_500)));
-    assert_eq!(rt; mtu_of(&octets[..16]), Some(None));
-    // The skipped one comes first.
-    let mut octets = [0; 40];
-    octets[..16].copy_from_slice(&BARE);
-    octets[16..18].copy_from_slice(&[0x05, 0x02]);
-    octets[32..].copy_from_slice(&[0x05, 0x01, 0x00, 0x00, 0x00, 0x00, 0x05, 0xdc]);
-    assert_eq!(rt; mtu_of(&octets), Some(Some(1_500)));
-    assert_eq!(rt; mtu_of(&octets[..32]), Some(None));
-}
-
-#[test]
-fn options_that_refuse_a_message(rt: HostRuntime) {
-    // No units at all.
-    let mut octets = [0; 24];
-    octets[..16].copy_from_slice(&BARE);
-    octets[16] = 0x05;
-    assert_eq!(rt; mtu_of(&octets), None);
-    // A prefix of 3 units, and a redirected packet of 5; of 4 and 6 the message is read.
-    let mut octets = [0; 64];
-    octets[..16].copy_from_slice(&BARE);
-    octets[16..18].copy_from_slice(&[0x03, 0x03]);
-    assert_eq!(rt; mtu_of(&octets[..40]), None);
-    octets[17] = 0x04;
-    assert_eq!(rt; mtu_of(&octets[..48]), Some(None));
-    octets[16..18].copy_from_slice(&[0x04, 0x05]);
-    assert_eq!(rt; mtu_of(&octets[..56]), None);
-    octets[17] = 0x06;
-    assert_eq!(rt; mtu_of(&octets), Some(None));
-    // More units than there are bytes.
-    assert_eq!(rt; mtu_of(&octets[..63]), None);
-}
-
-#[test]
-fn solicitations_with_odd_payloads(rt: HostRuntime) {
-    let mut octets = [0; 16];
-    octets[0] = 0x85;
-    assert!(rt; read(&octets[..15]).is_err());
-    octets[8..10].copy_from_slice(&[0x0e, 0x01]);
-    assert!(rt; reads(&octets, &Repr::RouterSolicit { lladdr: None }));
-    // No message of neighbor discovery.
-    octets[0] = 0x80;
-    assert!(rt; read(&octets).is_err());
-}
-
-#[test]
-fn a_redirected_packet_that_is_not_whole_is_left_out(rt: HostRuntime) {
-    let mut octets = [0; 88];
-    octets[..40].copy_from_slice(&REDIRECT[..40]);
-    octets[40..42].copy_from_slice(&[0x04, 0x06]);
-    octets[48] = 0x45;
-    let repr = Repr::Redirect {
-        target_addr: here(),
-        dest_addr: there(),
-        lladdr: None,
-        redirected_hdr: None,
-    };
-    assert!(rt; reads(&octets, &repr));
-    assert!(rt; read(&octets[..39]).is_err());
+fn damaged_messages(rt: HostRuntime) -> Result<(), Fail> {
+    let rows: [&[u8]; 7] = [
+        &ROUTER_SOLICIT,
+        &ROUTER_ADVERT,
+        &FULL_ROUTER_ADVERT,
+        &THREE_MTUS,
+        &NEIGHBOR_SOLICIT,
+        &NEIGHBOR_ADVERT,
+        &REDIRECT,
+    ];
+    for octets in rows {
+        compare_damaged(&rt, rt.alloc(), octets)?;
+    }
+    Ok(())
 }

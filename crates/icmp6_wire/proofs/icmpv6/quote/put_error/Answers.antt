@@ -2,7 +2,7 @@ use Rattle.std.proofs.Common.{List, ℕ, ◌≤◌, length, take, ap, ◌∙◌,
 use Rattle.std.proofs.lemmas.List.{length-take-le}
 use Rattle.wirebase.specs.ByteWriter.{free}
 use Rattle.wirebase.proofs.Chains.{part-free}
-use Rattle.icmp6_wire.proofs.icmpv6.repr.put_error.Goals as goal
+use Rattle.icmp6_wire.proofs.icmpv6.quote.put_error.Goals as goal
 
 pub write_header-requires-clause-room : goal.write_header-requires-clause-room
 write_header-requires-clause-room c =

@@ -1,0 +1,80 @@
+//! What an error quotes: a packet that was sent, from its header on, as much of it as the error may carry (RFC 4443
+//! section 2.4).
+#![tactic(auto, using(wirebase::proofs::Pieces::pieces))]
+
+ghost use Rattle.std.specs.Prelude.{◌≡◌, ◌≤◌, min, length, drop};
+ghost use Rattle.wirebase.specs.ByteWriter.{free, Puts, the_slice};
+ghost use Rattle.wirebase.specs.Ipv6.{IsHeader, header_text};
+ghost use Rattle.icmp6_wire.specs.Icmpv6.{quoted_data, error_fields, error_len};
+ghost use Rattle.icmp6_wire.specs.Icmpv6Tables.{message_number};
+
+use super::tables::Message;
+use super::{MAX_QUOTED_DATA, field};
+use wirebase::{ByteWriter, IPV6_HEADER_LEN, Ipv6Packet, Ipv6Repr};
+
+// The bytes of an error that quotes this header and as much of this data as it may.
+pub(super) fn error_len(quoted: &Ipv6Repr, data: &[u8]) -> usize
+    ensures { result ≡ error_len «data».now }
+{
+    field::HEADER_END + quoted.buffer_len() + quotable(data).len()
+}
+
+// Writes an error of this type, with as much of its data as it may quote.
+#[tactic(auto, using(wirebase::proofs::Chains::parts, wirebase::proofs::Ipv6Header::header_texts))]
+pub(super) fn put_error(
+    w: &mut ByteWriter<'_>,
+    kind: Message,
+    code: u8,
+    word: u32,
+    quoted: &Ipv6Repr,
+    data: &[u8],
+)
+    requires room { error_len «data».now ≤ length (free w.old) }
+    requires count { quoted.now.payload_len ≤ 65535 }
+    ensures puts { Puts w.old w.new
+        (error_fields (message_number kind) code word quoted.now «data».now) }
+    ensures same_slice { the_slice w.new ≡ the_slice w.old }
+{
+    w.put_u8(kind.into());
+    w.put_u8(code);
+    w.put_u16(0);
+    w.put_u32(word);
+    write_header(quoted, w.part(quoted.buffer_len()));
+    w.put_bytes(quotable(data));
+}
+
+// Writes a header into octets of just its length.
+#[tactic(auto, using(wirebase::proofs::Ipv6Header::header_texts))]
+fn write_header(header: &Ipv6Repr, octets: &mut [u8])
+    requires room { length octets.old ≡ 40 }
+    requires count { header.now.payload_len ≤ 65535 }
+    ensures { octets.new ≡ header_text header.now }
+{
+    header.emit_into(octets);
+}
+
+// The data that an error may quote.
+#[tactic(auto, using(crate::proofs::Icmpv6Texts::cuts))]
+fn quotable(data: &[u8]) -> &[u8]
+    ensures value { result.now ≡ quoted_data «data».now }
+    ensures len { length result.now ≡ min (length «data».now) 1192 }
+{
+    &data[..data.len().min(MAX_QUOTED_DATA)]
+}
+
+// The header that an error quotes, and all that stands behind it (RFC 4443 section 3).
+pub(super) fn read_quote(octets: &[u8]) -> (Ipv6Repr, &[u8])
+    requires { 40 ≤ length octets.now }
+    ensures header { IsHeader octets.now result.0 }
+    ensures behind { result.1.now ≡ drop 40 octets.now }
+{
+    let packet = Ipv6Packet::new_unchecked(octets);
+    let header = Ipv6Repr {
+        src_addr: packet.src_addr(),
+        dst_addr: packet.dst_addr(),
+        next_header: packet.next_header(),
+        payload_len: packet.payload_len() as usize,
+        hop_limit: packet.hop_limit(),
+    };
+    (header, &octets[IPV6_HEADER_LEN..])
+}

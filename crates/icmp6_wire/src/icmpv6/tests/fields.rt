@@ -1,0 +1,94 @@
+use super::{ECHO, destination, source};
+use crate::icmpv6::{Message, Packet};
+use std::test::Fail;
+
+#[test]
+fn what_is_reserved_is_cleared(rt: HostRuntime) {
+    let mut octets = [0xff; 8];
+    octets[0] = 0x85;
+    Packet::new_unchecked(octets.as_mut_slice()).clear_reserved();
+    assert_eq!(rt; octets, [0x85, 0xff, 0xff, 0xff, 0, 0, 0, 0]);
+    let mut octets = [0xff; 9];
+    octets[0] = 0x87;
+    Packet::new_unchecked(octets.as_mut_slice()).clear_reserved();
+    assert_eq!(rt; octets, [0x87, 0xff, 0xff, 0xff, 0, 0, 0, 0, 0xff]);
+    let mut octets = [0xff; 9];
+    octets[0] = 0x88;
+    Packet::new_unchecked(octets.as_mut_slice()).clear_reserved();
+    assert_eq!(rt; octets, [0x88, 0xff, 0xff, 0xff, 0, 0, 0, 0, 0xff]);
+    let mut octets = [0xff; 9];
+    octets[0] = 0x89;
+    Packet::new_unchecked(octets.as_mut_slice()).clear_reserved();
+    assert_eq!(rt; octets, [0x89, 0xff, 0xff, 0xff, 0, 0, 0, 0, 0xff]);
+    let mut octets = [0xff; 6];
+    octets[0] = 0x8f;
+    Packet::new_unchecked(octets.as_mut_slice()).clear_reserved();
+    assert_eq!(rt; octets, [0x8f, 0xff, 0xff, 0xff, 0, 0]);
+}
+
+#[test]
+fn what_a_query_has_reserved_is_cleared(rt: HostRuntime) {
+    for byte in 0..=255 {
+        let mut octets = [0xff; 26];
+        octets[0] = 0x82;
+        octets[24] = byte;
+        Packet::new_unchecked(octets.as_mut_slice()).clear_reserved();
+        let mut wanted = [0xff; 26];
+        wanted[0] = 0x82;
+        wanted[6] = 0;
+        wanted[7] = 0;
+        wanted[24] = byte & 0x0f;
+        assert_eq!(rt; octets, wanted, "byte {byte}");
+    }
+}
+
+#[test]
+fn fields_are_set_and_read(rt: HostRuntime) {
+    let mut octets = [0x2a; 9];
+    let mut packet = Packet::new_unchecked(octets.as_mut_slice());
+    packet.set_msg_type(Message::EchoReply);
+    packet.set_msg_code(0x01);
+    packet.set_checksum(0x1234);
+    packet.set_echo_ident(0x5678);
+    packet.set_echo_seq_no(0x9abc);
+    assert_eq!(rt; packet.msg_type(), Message::EchoReply);
+    assert_eq!(rt; packet.msg_code(), 0x01);
+    assert_eq!(rt; packet.checksum(), 0x1234);
+    assert_eq!(rt; packet.echo_ident(), 0x5678);
+    assert_eq!(rt; packet.echo_seq_no(), 0x9abc);
+    assert_eq!(rt;
+        packet.as_ref(),
+        [0x81, 0x01, 0x12, 0x34, 0x56, 0x78, 0x9a, 0xbc, 0x2a].as_slice()
+    );
+    packet.set_pkt_too_big_mtu(0x0102_0304);
+    assert_eq!(rt; packet.pkt_too_big_mtu(), 0x0102_0304);
+    packet.set_param_problem_ptr(0x0506_0708);
+    assert_eq!(rt; packet.param_problem_ptr(), 0x0506_0708);
+    assert_eq!(rt;
+        &*packet.into_inner(),
+        [0x81, 0x01, 0x12, 0x34, 0x05, 0x06, 0x07, 0x08, 0x2a].as_slice()
+    );
+}
+
+#[test]
+fn checksums_and_what_stands_behind_the_header(rt: HostRuntime) -> Result<(), Fail> {
+    let mut octets = ECHO;
+    let mut packet = Packet::new_unchecked(octets.as_mut_slice());
+    packet.payload_mut().fill(0xff);
+    let written = [
+        0x80, 0x00, 0x19, 0xb3, 0x12, 0x34, 0xab, 0xcd, 0xff, 0xff, 0xff, 0xff,
+    ];
+    assert_eq!(rt; &*packet.into_inner(), written.as_slice());
+    let mut octets = ECHO;
+    octets[2] = 0;
+    let mut packet = Packet::new_unchecked(octets.as_mut_slice());
+    assert!(rt; !packet.verify_checksum(&source(), &destination()));
+    packet.fill_checksum(&source(), &destination());
+    assert!(rt; packet.verify_checksum(&source(), &destination()));
+    assert_eq!(rt; &*packet.into_inner(), ECHO.as_slice());
+    let octets = ECHO;
+    let packet = Packet::new_checked(octets.as_slice())?;
+    assert!(rt; packet == Packet::new_unchecked(octets.as_slice()));
+    assert!(rt; packet != Packet::new_unchecked(&octets[..11]));
+    Ok(())
+}

@@ -1,0 +1,96 @@
+// A second reader of messages, by the rules of RFC 4443, RFC 3810 and RFC 4861 alone. The tests compare the crate with
+// it.
+
+use crate::icmpv6::Packet;
+use crate::{icmpv6, mld, ndisc};
+use std::alloc::Global;
+use std::process::Abort;
+use std::test::Fail;
+use wirebase::{ChecksumCapabilities, Ipv6Address};
+
+mod control;
+mod listener;
+mod neighbor;
+
+// The header of a message, by its type, and what stands behind it.
+fn split_header(octets: &[u8]) -> Option<(&[u8], &[u8])> {
+    let len = match *octets.first()? {
+        // RFC 4443 sections 3 and 4.
+        1 | 2 | 3 | 4 | 128 | 129 => 8,
+        // RFC 3810 sections 5.1 and 5.2.
+        130 => 28,
+        143 => 8,
+        // RFC 4861 sections 4.1 to 4.5.
+        133 => 8,
+        134 => 16,
+        135 | 136 => 24,
+        137 => 40,
+        _ => return None,
+    };
+    if octets.len() < len {
+        return None;
+    }
+    Some(octets.split_at(len))
+}
+
+// What a byte of a message is set to, one byte at a time.
+const DAMAGE: [u8; 6] = [0x00, 0x40, 0x7f, 0x80, 0xc0, 0xff];
+
+// Compares the crate with the plain reader over these octets, over each shorter part of them from their start on, and
+// over each copy of them in which one byte is damaged.
+pub(crate) fn compare_damaged(rt: &impl Abort, alloc: Global, message: &[u8]) -> Result<(), Fail> {
+    for len in 0..=message.len() {
+        compare(rt, &message[..len]);
+    }
+    for at in 0..message.len() {
+        for value in DAMAGE {
+            let mut damaged = Vec::new(alloc);
+            damaged.extend_from_slice(message)?;
+            if let Some(octet) = damaged.as_mut_slice().get_mut(at) {
+                *octet = value;
+            }
+            compare(rt, damaged.as_slice());
+        }
+    }
+    Ok(())
+}
+
+// Compares the check of a header and the three readers.
+fn compare(rt: &impl Abort, octets: &[u8]) {
+    let checked = Packet::new_checked(octets).is_ok();
+    assert_eq!(rt; checked, split_header(octets).is_some(), "of {octets:?}");
+    let packet = Packet::new_unchecked(octets);
+    compare_neighbor(rt, octets, &packet);
+    compare_listener(rt, octets, &packet);
+    compare_control(rt, octets, &packet);
+}
+
+fn compare_neighbor(rt: &impl Abort, octets: &[u8], packet: &Packet<&[u8]>) {
+    let plain = neighbor::message(octets);
+    let Ok(read) = ndisc::Repr::parse(packet) else {
+        assert!(rt; plain.is_none(), "refused {octets:?}");
+        return;
+    };
+    assert_eq!(rt; Some(read), plain, "of {octets:?}");
+}
+
+fn compare_listener(rt: &impl Abort, octets: &[u8], packet: &Packet<&[u8]>) {
+    let plain = listener::message(octets);
+    let Ok(read) = mld::Repr::parse(packet) else {
+        assert!(rt; plain.is_none(), "refused {octets:?}");
+        return;
+    };
+    assert_eq!(rt; Some(read), plain, "of {octets:?}");
+}
+
+// The checksum is not looked at.
+fn compare_control(rt: &impl Abort, octets: &[u8], packet: &Packet<&[u8]>) {
+    let plain = control::message(octets);
+    let nobody = Ipv6Address::UNSPECIFIED;
+    let caps = ChecksumCapabilities::ignored();
+    let Ok(read) = icmpv6::Repr::parse(&nobody, &nobody, packet, &caps) else {
+        assert!(rt; plain.is_none(), "refused {octets:?}");
+        return;
+    };
+    assert_eq!(rt; Some(read), plain, "of {octets:?}");
+}
