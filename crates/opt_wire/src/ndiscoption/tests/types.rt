@@ -1,0 +1,54 @@
+use crate::ndiscoption::{PrefixInfoFlags, Type};
+use bitflags::Flags as _;
+use std::test::Fail;
+
+#[test]
+fn types_and_their_numbers(rt: HostRuntime) -> Result<(), Fail> {
+    let rows = [
+        (1, Type::SourceLinkLayerAddr, "source link-layer address"),
+        (2, Type::TargetLinkLayerAddr, "target link-layer address"),
+        (3, Type::PrefixInformation, "prefix information"),
+        (4, Type::RedirectedHeader, "redirected header"),
+        (5, Type::Mtu, "mtu"),
+        (0, Type::Unknown(0), "0"),
+        (14, Type::Unknown(14), "14"),
+    ];
+    for (number, kind, text) in rows {
+        assert_eq!(rt; Type::from(number), kind);
+        assert_eq!(rt; u8::from(kind), number);
+        assert_eq!(rt; kind.to_string(rt.alloc())?.as_str(), text);
+    }
+    assert!(rt; Type::SourceLinkLayerAddr < Type::TargetLinkLayerAddr);
+    assert!(rt; Type::Mtu < Type::Unknown(0));
+    assert!(rt; Type::Unknown(0) < Type::Unknown(14));
+    Ok(())
+}
+
+#[test]
+fn sets_of_flags(rt: HostRuntime) {
+    let both = PrefixInfoFlags::ON_LINK | PrefixInfoFlags::ADDRCONF;
+    assert_eq!(rt; both.bits(), 0xc0);
+    assert_eq!(rt; PrefixInfoFlags::all(), both);
+    assert_eq!(rt; PrefixInfoFlags::empty().bits(), 0);
+    assert_eq!(rt; PrefixInfoFlags::from_bits(0xc1), None);
+    assert_eq!(rt; PrefixInfoFlags::from_bits_truncate(0xc1), both);
+    assert_eq!(rt; PrefixInfoFlags::from_bits_retain(0xc1).bits(), 0xc1);
+    assert_eq!(rt; (!PrefixInfoFlags::ON_LINK), PrefixInfoFlags::ADDRCONF);
+    assert_eq!(rt;
+        (both - PrefixInfoFlags::ON_LINK),
+        PrefixInfoFlags::ADDRCONF
+    );
+    assert_eq!(rt; (both & PrefixInfoFlags::ON_LINK), PrefixInfoFlags::ON_LINK);
+    assert_eq!(rt;
+        (both ^ PrefixInfoFlags::ON_LINK),
+        PrefixInfoFlags::ADDRCONF
+    );
+    assert!(rt; both.contains(PrefixInfoFlags::ON_LINK));
+    assert!(rt; !PrefixInfoFlags::ON_LINK.intersects(PrefixInfoFlags::ADDRCONF));
+    let mut flags = PrefixInfoFlags::empty();
+    flags.insert(PrefixInfoFlags::ON_LINK);
+    flags.toggle(both);
+    assert_eq!(rt; flags, PrefixInfoFlags::ADDRCONF);
+    flags.remove(both);
+    assert!(rt; flags.is_empty());
+}

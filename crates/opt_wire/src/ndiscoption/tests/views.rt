@@ -1,0 +1,89 @@
+use super::{MTU, PREFIX, here};
+use crate::ndiscoption::{NdiscOption, PrefixInfoFlags, Type};
+use bitflags::Flags as _;
+use std::fmt::Write;
+use std::test::Fail;
+use wirebase::failing_writer::FailingWriter;
+use wirebase::{Duration, RawHardwareAddress};
+
+#[test]
+fn fields_by_their_places(rt: HostRuntime) {
+    let mut bytes = [0xff; 32];
+    let mut view = NdiscOption::new_unchecked(&mut bytes[..]);
+    view.set_option_type(Type::PrefixInformation);
+    view.set_data_len(4);
+    view.set_prefix_len(64);
+    view.set_prefix_flags(PrefixInfoFlags::all());
+    view.set_valid_lifetime(Duration::from_secs(900));
+    view.set_preferred_lifetime(Duration::from_secs(1_000));
+    view.clear_prefix_reserved();
+    view.set_prefix(here());
+    assert_eq!(rt; bytes, PREFIX);
+
+    let view = NdiscOption::new_unchecked(&bytes[..]);
+    assert_eq!(rt; view.option_type(), Type::PrefixInformation);
+    assert_eq!(rt; view.data_len(), 4);
+    assert_eq!(rt; view.prefix_len(), 64);
+    assert_eq!(rt; view.prefix_flags(), PrefixInfoFlags::all());
+    assert_eq!(rt; view.valid_lifetime(), Duration::from_secs(900));
+    assert_eq!(rt; view.preferred_lifetime(), Duration::from_secs(1_000));
+    assert_eq!(rt; view.prefix(), here());
+    assert_eq!(rt; view.data(), &PREFIX[2..]);
+    assert_eq!(rt; view.mtu(), 900);
+    assert_eq!(rt; view.link_layer_addr().as_bytes(), &PREFIX[2..10]);
+
+    let mut bytes = [0xff; 8];
+    let mut view = NdiscOption::new_unchecked(&mut bytes[..]);
+    view.clear_redirected_reserved();
+    view.set_mtu(1_500);
+    assert_eq!(rt;
+        view,
+        NdiscOption::new_unchecked(&mut [0xff, 0xff, 0, 0, 0, 0, 0x05, 0xdc][..])
+    );
+    view.set_data_len(1);
+    view.set_link_layer_addr(RawHardwareAddress::from_bytes(&[1, 2, 3]));
+    assert_eq!(rt; view.into_inner().len(), 8);
+    assert_eq!(rt;
+        bytes.as_slice(),
+        [0xff, 0x01, 1, 2, 3, 0, 0x05, 0xdc].as_slice()
+    );
+
+    let mut octets = MTU;
+    let mut view = NdiscOption::new_unchecked(octets.as_mut_slice());
+    assert_eq!(rt; &*view.data_mut(), &MTU[2..]);
+}
+
+#[test]
+fn views_in_words(rt: HostRuntime) -> Result<(), Fail> {
+    let rows: [(&[u8], &str); 4] = [
+        (
+            &[0x05, 0x01, 0, 0, 0, 0, 0x05, 0xdc],
+            "NDISC Option: MTU mtu=1500",
+        ),
+        (&PREFIX, "NDISC Option: PrefixInformation prefix=fe80::1/64"),
+        (
+            &[0x05, 0x02, 0, 0, 0, 0, 0x05, 0xdc],
+            "NDISC Option (wire::Error)",
+        ),
+        (&[], "NDISC Option (wire::Error)"),
+    ];
+    for (bytes, text) in rows {
+        let view = NdiscOption::new_unchecked(bytes);
+        assert_eq!(rt; view.to_string(rt.alloc())?.as_str(), text);
+    }
+    Ok(())
+}
+
+#[test]
+fn printing_fails_only_with_its_writer(rt: HostRuntime) {
+    let rows: [&[u8]; 3] = [&MTU, &PREFIX, &[]];
+    for bytes in rows {
+        let view = NdiscOption::new_unchecked(bytes);
+        let mut none = FailingWriter { left: 0 };
+        assert!(rt; write!(none, "{view}").is_err(), "of {bytes:?}");
+        let mut many = FailingWriter { left: 100 };
+        assert!(rt; write!(many, "{view}").is_ok(), "of {bytes:?}");
+    }
+    let mut none = FailingWriter { left: 0 };
+    assert!(rt; write!(none, "{}", Type::Mtu).is_err());
+}
