@@ -102,6 +102,33 @@ fn values_written_are_read_back(rt: HostRuntime) -> Result<(), Fail> {
 }
 
 #[test]
+fn an_offer_with_every_field_has_its_options_in_order(rt: HostRuntime) -> Result<(), Fail> {
+    let repr = offer();
+    let mut octets = [0x2a; 600];
+    assert_eq!(rt; repr.emit_into(&mut octets), Ok(()));
+    let kinds: [(usize, u8); 12] = [
+        (240, 53),
+        (243, 61),
+        (252, 54),
+        (258, 3),
+        (264, 1),
+        (270, 50),
+        (276, 57),
+        (280, 51),
+        (286, 58),
+        (292, 59),
+        (298, 55),
+        (303, 6),
+    ];
+    for (place, kind) in kinds {
+        assert_eq!(rt; octets.get(place), Some(&kind), "{place}");
+    }
+    assert_eq!(rt; octets[325], 0xff);
+    assert_eq!(rt; octets[326], 0x2a);
+    Ok(())
+}
+
+#[test]
 fn request_lists_of_255_and_of_256_bytes(rt: HostRuntime) -> Result<(), Fail> {
     let mut repr = bare(MessageType::Discover);
     repr.parameter_request_list = Some(&[42; 255]);
