@@ -2,3 +2,5 @@
 #![tactic(auto)]
 
 pub mod dhcpv4;
+#[cfg(test)]
+mod plain_reader;

@@ -3,13 +3,14 @@ use super::{
     OPT_HOST_NAME, OPT_PAD, OPT_REBINDING_TIME_VALUE, OPT_RENEWAL_TIME_VALUE, OpCode, Packet,
     SERVER_PORT,
 };
+use crate::plain_reader::compare_damaged;
 use bitflags::Flags as _;
 use std::alloc::Global;
 use std::test::Fail;
 use wirebase::{Error, EthernetAddress, Hardware, Ipv4Address};
 
 // A packet of this operation, of Ethernet and with the cookie of DHCP, and these options behind it.
-fn packet(alloc: Global, op: u8, options: &[u8]) -> Result<Vec<u8>, Fail> {
+pub(super) fn packet(alloc: Global, op: u8, options: &[u8]) -> Result<Vec<u8>, Fail> {
     let mut octets = Vec::from_slice(alloc, &[op, 1, 6, 0])?;
     octets.extend_from_slice(&[0; 232])?;
     octets.extend_from_slice(&[0x63, 0x82, 0x53, 0x63])?;
@@ -17,11 +18,10 @@ fn packet(alloc: Global, op: u8, options: &[u8]) -> Result<Vec<u8>, Fail> {
     Ok(octets)
 }
 
-// The options of a packet with these bytes: the kind, the data and ee of each.
-fn listed(alloc: Global, bytes: &[u8]) -> Result<Vec<u8>, Fail> {
-    let octets = packet(alloc, 1, bytes)?;
+// The options of a packet: the kind, the data and ee of each.
+fn listed(alloc: Global, packet: &[u8]) -> Result<Vec<u8>, Fail> {
     let mut listed = Vec::new(alloc);
-    let Ok(view) = Packet::new_checked(octets.as_slice()) else {
+    let Ok(view) = Packet::new_checked(packet) else {
         return Ok(listed);
     };
     for option in view.options() {
@@ -49,8 +49,10 @@ fn options_in_turn(rt: HostRuntime) -> Result<(), Fail> {
         (&[0, 0xff], &[]),
     ];
     for (bytes, wanted) in rows {
-        let options = listed(rt.alloc(), bytes)?;
+        let octets = packet(rt.alloc(), 1, bytes)?;
+        let options = listed(rt.alloc(), octets.as_slice())?;
         assert_eq!(rt; options.as_slice(), wanted, "{bytes:?}");
+        compare_damaged(&rt, rt.alloc(), octets.as_slice())?;
     }
     Ok(())
 }
@@ -94,7 +96,7 @@ fn a_thousand_bytes_of_padding_before_an_option(rt: HostRuntime) -> Result<(), F
         })
     );
     assert!(rt; options.next().is_none());
-    Ok(())
+    compare_damaged(&rt, rt.alloc(), octets.as_slice())
 }
 
 #[test]

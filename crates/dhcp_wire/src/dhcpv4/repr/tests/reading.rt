@@ -1,0 +1,267 @@
+use crate::dhcpv4::tests::packet;
+use crate::dhcpv4::{MessageType, Packet, Repr};
+use crate::plain_reader::compare_damaged;
+use std::test::Fail;
+use wirebase::{EthernetAddress, Ipv4Address};
+
+// Writes a byte of a packet.
+fn set(octets: &mut Vec<u8>, place: usize, byte: u8) {
+    if let Some(place) = octets.get_mut(place) {
+        *place = byte;
+    }
+}
+
+// The type of message of a packet, where it is read.
+fn type_in(packet: &[u8]) -> Option<MessageType> {
+    match Repr::parse(&Packet::new_unchecked(packet)) {
+        Ok(read) => Some(read.message_type),
+        Err(_) => None,
+    }
+}
+
+#[test]
+fn types_of_message_with_the_operation_of_the_packet(rt: HostRuntime) -> Result<(), Fail> {
+    let rows: [(u8, &[u8], Option<MessageType>); 10] = [
+        (
+            1,
+            &[0x35, 1, 1, 0x35, 1, 2, 0xff],
+            Some(MessageType::Discover),
+        ),
+        (
+            1,
+            &[0x35, 1, 1, 0x35, 1, 3, 0xff],
+            Some(MessageType::Request),
+        ),
+        (1, &[0x35, 1, 2, 0xff], None),
+        (1, &[0x35, 0, 0xff], None),
+        (1, &[0x35, 2, 1, 1, 0xff], None),
+        (1, &[0xff], None),
+        (1, &[0xff, 0x35, 1, 1], None),
+        (0, &[0x35, 1, 9, 0xff], Some(MessageType::Unknown(9))),
+        (1, &[0x35, 1, 1, 0x3d, 7, 2, 0, 0, 0, 0, 0, 0, 0xff], None),
+        (
+            1,
+            &[
+                0x35, 1, 1, 0x3d, 7, 2, 0, 0, 0, 0, 0, 0, 0x3d, 7, 1, 0, 0, 0, 0, 0, 0, 0xff,
+            ],
+            None,
+        ),
+    ];
+    for (op, options, wanted) in rows {
+        let octets = packet(rt.alloc(), op, options)?;
+        assert_eq!(rt; type_in(octets.as_slice()), wanted, "{op} {options:?}");
+        compare_damaged(&rt, rt.alloc(), octets.as_slice())?;
+    }
+    Ok(())
+}
+
+#[test]
+fn packets_that_are_not_of_ethernet_or_of_dhcp(rt: HostRuntime) -> Result<(), Fail> {
+    for (place, byte) in [
+        (1, 0),
+        (1, 2),
+        (2, 5),
+        (2, 7),
+        (236, 0x62),
+        (239, 0x64),
+        (0, 2),
+    ] {
+        let mut octets = packet(rt.alloc(), 1, &[0x35, 1, 1, 0xff])?;
+        assert!(rt; Repr::parse(&Packet::new_unchecked(octets.as_slice())).is_ok());
+        set(&mut octets, place, byte);
+        assert!(rt;
+            Repr::parse(&Packet::new_unchecked(octets.as_slice())).is_err(),
+            "{place}"
+        );
+    }
+    assert!(rt; Repr::parse(&Packet::new_unchecked(&[1; 239][..])).is_err());
+    Ok(())
+}
+
+#[test]
+fn the_last_option_of_a_kind_and_of_its_length(rt: HostRuntime) -> Result<(), Fail> {
+    let octets = packet(
+        rt.alloc(),
+        1,
+        &[
+            0x35, 1, 1, 1, 4, 255, 255, 255, 0, 1, 4, 255, 255, 0, 0, 0xff,
+        ],
+    )?;
+    let read = Repr::parse(&Packet::new_unchecked(octets.as_slice()));
+    let Ok(read) = read else {
+        assert!(rt; false, "the packet is read");
+        return Ok(());
+    };
+    assert_eq!(rt; read.subnet_mask, Some(Ipv4Address::new(255, 255, 0, 0)));
+    compare_damaged(&rt, rt.alloc(), octets.as_slice())?;
+
+    let octets = packet(
+        rt.alloc(),
+        1,
+        &[
+            0x35, 1, 1, 1, 4, 255, 255, 255, 0, 1, 3, 0, 0, 0, 0x36, 4, 10,
+        ],
+    )?;
+    let read = Repr::parse(&Packet::new_unchecked(octets.as_slice()));
+    let Ok(read) = read else {
+        assert!(rt; false, "the packet is read");
+        return Ok(());
+    };
+    assert_eq!(rt; read.subnet_mask, Some(Ipv4Address::new(255, 255, 255, 0)));
+    assert_eq!(rt; read.server_identifier, None);
+    compare_damaged(&rt, rt.alloc(), octets.as_slice())
+}
+
+#[test]
+fn lists_of_servers(rt: HostRuntime) -> Result<(), Fail> {
+    let eight = Ipv4Address::new(8, 8, 8, 8);
+    let ten = |n| Ipv4Address::new(10, 0, 0, n);
+    let rows: [(&[u8], &[Ipv4Address]); 4] = [
+        (&[6, 6, 8, 8, 8, 8, 1, 2], &[eight]),
+        (&[6, 4, 8, 8, 8, 8, 6, 0], &[]),
+        (&[6, 4, 8, 8, 8, 8, 6, 3, 1, 2, 3], &[]),
+        (
+            &[
+                6, 24, 10, 0, 0, 1, 10, 0, 0, 2, 10, 0, 0, 3, 10, 0, 0, 4, 10, 0, 0, 5, 10, 0, 0, 6,
+            ],
+            &[ten(1), ten(2), ten(3), ten(4), ten(5)],
+        ),
+    ];
+    for (options, wanted) in rows {
+        let mut octets = packet(rt.alloc(), 1, &[0x35, 1, 1])?;
+        octets.extend_from_slice(options)?;
+        octets.push(0xff)?;
+        let read = Repr::parse(&Packet::new_unchecked(octets.as_slice()));
+        let Ok(read) = read else {
+            assert!(rt; false, "the packet is read");
+            return Ok(());
+        };
+        let Some(servers) = read.dns_servers else {
+            assert!(rt; false, "the list is present");
+            return Ok(());
+        };
+        assert_eq!(rt; servers.as_slice(), wanted, "{options:?}");
+        compare_damaged(&rt, rt.alloc(), octets.as_slice())?;
+    }
+    Ok(())
+}
+
+#[test]
+fn an_offer_with_all_that_a_client_takes(rt: HostRuntime) -> Result<(), Fail> {
+    let mut octets = packet(
+        rt.alloc(),
+        2,
+        &[
+            0x35, 1, 2, 0x36, 4, 10, 0, 0, 1, 3, 4, 10, 0, 0, 2, 1, 4, 255, 0, 0, 0, 0x33, 4, 0, 0,
+            0x0e, 0x10, 0x3a, 4, 0, 0, 0x07, 0x08, 0x3b, 4, 0, 0, 0x0c, 0x4e, 0x37, 2, 1, 3, 0x39,
+            2, 0x05, 0xdc, 0x32, 4, 10, 0, 0, 9, 0x3d, 7, 1, 2, 3, 4, 5, 6, 7, 0xff,
+        ],
+    )?;
+    set(&mut octets, 4, 0x12);
+    set(&mut octets, 9, 5);
+    set(&mut octets, 10, 0x80);
+    set(&mut octets, 19, 7);
+    set(&mut octets, 28, 2);
+    let read = Repr::parse(&Packet::new_unchecked(octets.as_slice()));
+    let Ok(read) = read else {
+        assert!(rt; false, "the packet is read");
+        return Ok(());
+    };
+    assert_eq!(rt; read.message_type, MessageType::Offer);
+    assert_eq!(rt; read.transaction_id, 0x1200_0000);
+    assert_eq!(rt; read.secs, 5);
+    assert!(rt; read.broadcast);
+    assert_eq!(rt; read.client_ip, Ipv4Address::UNSPECIFIED);
+    assert_eq!(rt; read.your_ip, Ipv4Address::new(0, 0, 0, 7));
+    assert_eq!(rt; read.server_ip, Ipv4Address::UNSPECIFIED);
+    assert_eq!(rt; read.relay_agent_ip, Ipv4Address::UNSPECIFIED);
+    assert_eq!(rt;
+        read.client_hardware_address,
+        EthernetAddress([2, 0, 0, 0, 0, 0])
+    );
+    assert_eq!(rt; read.server_identifier, Some(Ipv4Address::new(10, 0, 0, 1)));
+    assert_eq!(rt; read.router, Some(Ipv4Address::new(10, 0, 0, 2)));
+    assert_eq!(rt; read.subnet_mask, Some(Ipv4Address::new(255, 0, 0, 0)));
+    assert_eq!(rt; read.requested_ip, Some(Ipv4Address::new(10, 0, 0, 9)));
+    assert_eq!(rt;
+        read.client_identifier,
+        Some(EthernetAddress([2, 3, 4, 5, 6, 7]))
+    );
+    assert_eq!(rt; read.parameter_request_list, Some(&[1, 3][..]));
+    assert_eq!(rt; read.max_size, Some(1500));
+    assert_eq!(rt; read.lease_duration, Some(3600));
+    assert_eq!(rt; read.renew_duration, Some(1800));
+    assert_eq!(rt; read.rebind_duration, Some(3150));
+    assert!(rt; read.dns_servers.is_none());
+    assert!(rt; read.additional_options.is_empty());
+    compare_damaged(&rt, rt.alloc(), octets.as_slice())
+}
+
+#[test]
+fn a_mask_behind_a_thousand_bytes_of_padding(rt: HostRuntime) -> Result<(), Fail> {
+    let mut octets = packet(rt.alloc(), 1, &[0x35, 1, 1])?;
+    octets.extend_from_slice(&[0; 1000])?;
+    octets.extend_from_slice(&[1, 4, 255, 255, 255, 0])?;
+    let read = Repr::parse(&Packet::new_unchecked(octets.as_slice()));
+    let Ok(read) = read else {
+        assert!(rt; false, "the packet is read");
+        return Ok(());
+    };
+    assert_eq!(rt; read.subnet_mask, Some(Ipv4Address::new(255, 255, 255, 0)));
+    Ok(())
+}
+
+#[test]
+fn lists_that_are_present_and_empty(rt: HostRuntime) -> Result<(), Fail> {
+    let octets = packet(
+        rt.alloc(),
+        1,
+        &[0x35, 1, 1, 6, 0, 0x37, 0, 0x3d, 2, 0, 1, 0xff],
+    )?;
+    let read = Repr::parse(&Packet::new_unchecked(octets.as_slice()));
+    let Ok(read) = read else {
+        assert!(rt; false, "the packet is read");
+        return Ok(());
+    };
+    assert_eq!(rt; read.client_identifier, None);
+    assert_eq!(rt; read.parameter_request_list, Some(&[][..]));
+    assert!(rt; read.dns_servers.is_some_and(|servers| servers.is_empty()));
+    compare_damaged(&rt, rt.alloc(), octets.as_slice())
+}
+
+#[test]
+fn every_option_twice_and_last_of_another_length(rt: HostRuntime) -> Result<(), Fail> {
+    let octets = packet(
+        rt.alloc(),
+        2,
+        &[
+            0x35, 1, 2, 0x35, 1, 5, 0x35, 2, 2, 2, 0x3d, 7, 1, 2, 0, 0, 0, 0, 1, 0x3d, 7, 1, 2, 0,
+            0, 0, 0, 2, 0x3d, 6, 1, 2, 0, 0, 0, 0, 0x36, 4, 10, 0, 0, 1, 0x36, 4, 10, 0, 0, 2,
+            0x36, 5, 10, 0, 0, 3, 0, 3, 4, 10, 0, 0, 3, 3, 4, 10, 0, 0, 4, 3, 8, 10, 0, 0, 5, 10,
+            0, 0, 6, 1, 4, 255, 0, 0, 0, 1, 4, 255, 255, 0, 0, 1, 3, 0, 0, 0, 0x32, 4, 10, 0, 0, 7,
+            0x32, 4, 10, 0, 0, 8, 0x32, 0, 0x39, 2, 0, 1, 0x39, 2, 0, 2, 0x39, 3, 0, 0, 3, 0x33, 4,
+            0, 0, 0, 1, 0x33, 4, 0, 0, 0, 2, 0x33, 3, 0, 0, 3, 0x3a, 4, 0, 0, 0, 3, 0x3a, 4, 0, 0,
+            0, 4, 0x3a, 5, 0, 0, 0, 5, 0, 0x3b, 4, 0, 0, 0, 5, 0x3b, 4, 0, 0, 0, 6, 0x3b, 2, 0, 7,
+            0xff,
+        ],
+    )?;
+    let read = Repr::parse(&Packet::new_unchecked(octets.as_slice()));
+    let Ok(read) = read else {
+        assert!(rt; false, "the packet is read");
+        return Ok(());
+    };
+    assert_eq!(rt; read.message_type, MessageType::Ack);
+    assert_eq!(rt;
+        read.client_identifier,
+        Some(EthernetAddress([2, 0, 0, 0, 0, 2]))
+    );
+    assert_eq!(rt; read.server_identifier, Some(Ipv4Address::new(10, 0, 0, 2)));
+    assert_eq!(rt; read.router, Some(Ipv4Address::new(10, 0, 0, 4)));
+    assert_eq!(rt; read.subnet_mask, Some(Ipv4Address::new(255, 255, 0, 0)));
+    assert_eq!(rt; read.requested_ip, Some(Ipv4Address::new(10, 0, 0, 8)));
+    assert_eq!(rt; read.max_size, Some(2));
+    assert_eq!(rt; read.lease_duration, Some(2));
+    assert_eq!(rt; read.renew_duration, Some(4));
+    assert_eq!(rt; read.rebind_duration, Some(6));
+    compare_damaged(&rt, rt.alloc(), octets.as_slice())
+}
