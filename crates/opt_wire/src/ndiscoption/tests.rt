@@ -253,6 +253,16 @@ fn options_of_each_type_and_number_of_units(rt: HostRuntime) {
 }
 
 #[test]
+fn an_option_of_the_most_units(rt: HostRuntime) {
+    let mut octets = [0; 2041];
+    octets[..2].copy_from_slice(&[0x0e, 0xff]);
+    for (len, is_whole) in [(2039, false), (2040, true), (2041, true)] {
+        let checked = NdiscOption::new_checked(&octets[..len]);
+        assert_eq!(rt; checked.is_ok(), is_whole, "{len} bytes");
+    }
+}
+
+#[test]
 fn redirected_packets_that_are_not_whole(rt: HostRuntime) {
     // A byte of the option that is another, and whether the option is still read.
     let rows = [

@@ -191,6 +191,27 @@ fn errors_quote_1192_bytes_at_the_most(rt: HostRuntime) -> Result<(), Fail> {
 }
 
 #[test]
+fn an_error_in_a_longer_buffer_has_the_checksum_of_the_whole(rt: HostRuntime) {
+    let data = [0x11; 1193];
+    let caps = all(Checksum::Both);
+    let repr = Repr::PktTooBig {
+        mtu: 1280,
+        header: quoted(),
+        data: &data,
+    };
+    let mut octets = [0xff; 1300];
+    repr.emit_into(&source(), &destination(), &mut octets, &caps);
+    assert!(rt; octets[1240..].iter().all(|octet| *octet == 0xff));
+    // The checksum is verified over the whole, and all behind the quoted header is read as its data.
+    let packet = Packet::new_unchecked(octets.as_slice());
+    let data_len = match Repr::parse(&source(), &destination(), &packet, &caps) {
+        Ok(Repr::PktTooBig { data, .. }) => data.len(),
+        _ => 0,
+    };
+    assert_eq!(rt; data_len, 1252);
+}
+
+#[test]
 fn a_quote_is_not_looked_into(rt: HostRuntime) -> Result<(), Fail> {
     let mut octets = TOO_BIG;
     // Version 4, and a payload that is longer than what is there.
