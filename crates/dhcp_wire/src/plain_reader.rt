@@ -29,7 +29,7 @@ fn first_option(octets: &[u8]) -> Option<(Option<DhcpOption<'_>>, &[u8])> {
 }
 
 // The options up to the end.
-fn options_in(alloc: Global, octets: &[u8]) -> Result<Vec<DhcpOption<'_>>, Fail> {
+pub(crate) fn options_in(alloc: Global, octets: &[u8]) -> Result<Vec<DhcpOption<'_>>, Fail> {
     let mut options = Vec::new(alloc);
     let mut rest = octets;
     for _ in 0..octets.len() {
