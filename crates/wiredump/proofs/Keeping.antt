@@ -123,7 +123,3 @@ module _ (front : List ℕ) (n : ℕ) (is : IsFront front n) where
   long_bad word rest free long =
       let found = long_word word rest free long in
       ap shape_of found.2 ∙ shape_of-long is.words found.0 found.1 (le-leb-false (length found.0) 131070 found.3)
-
--- nothing is a front
-pub front_empty : IsFront [] 0
-front_empty = record { words = []; count = refl; followed = λ rest. refl; no_end = refl }

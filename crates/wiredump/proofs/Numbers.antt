@@ -8,7 +8,7 @@ use Rattle.std.specs.Result.{result_ok}
 use Rattle.hex.specs.Hex.{decode_pairs, decode_sized}
 use Rattle.hex.specs.declared.error.FromHexError.{FromHexError}
 use Rattle.hex.specs.declared.error.FromHexError.TheVariants.{OddLength, InvalidStringLength}
-use Rattle.wiredump.specs.Words.{address_of, spelled_by, number_behind, packet_offset, offset_of}
+use Rattle.wiredump.specs.Words.{address_of, spelled_by, number_behind, packet_offset}
 use Rattle.wiredump.proofs.Keeping.{le-leb-false}
 use Rattle.wiredump.proofs.Spelling.{decode_pairs-spelled_by}
 
@@ -48,11 +48,6 @@ module _ (n i : ℕ) (text : List ℕ) (within : i < length text) where
           (if b && false then number_behind (10 * n + (get_or text i 0 - 48)) (drop (i + 1) text) else None) ≡ None
       at true = refl
       at false = refl
-
-pub offset_of-some : (text : List ℕ) → (length text == 0) ≡ false
-    → offset_of text ≡ packet_offset (number_behind 0 text)
-offset_of-some [] some = absurd (cc some)
-offset_of-some (digit ∷ text) some = refl
 
 -- ---- addresses
 

@@ -43,7 +43,10 @@ impl Shape {
         if count == 0 {
             return Ok(Shape::Blank);
         }
-        if count < 2 || count > MOST_WORDS || !are_short(words) {
+        if count < 2 || count > MOST_WORDS {
+            return Ok(Shape::Bad);
+        }
+        if !are_short(words) {
             return Ok(Shape::Bad);
         }
         let last = count - 1;

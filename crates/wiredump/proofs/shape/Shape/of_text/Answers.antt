@@ -3,7 +3,6 @@ use Rattle.std.proofs.Common.{[], ◌∙◌, sym}
 use Rattle.wiredump.proofs.Shaping.{shape_of-one, shape_of-many, shape_of-long_words, shape_of-command}
 use Rattle.wiredump.proofs.shape.Shape.of_text.Goals.{then-count-lt2-via-then-count-lt2}
 use Rattle.wiredump.proofs.shape.Shape.of_text.Goals.{then-count-lt2-via-else-count-lt2+then-count-gt-MOST_WORDS}
-use Rattle.wiredump.proofs.shape.Shape.of_text.Goals.{then-count-lt2-via-else-count-lt2+else-count-gt-MOST_WORDS+then-not-are_short}
 use Rattle.wiredump.proofs.shape.Shape.of_text.Goals as goal
 
 pub returns-then-count-lt2-clause-shape : goal.returns-then-count-lt2-clause-shape
@@ -14,9 +13,12 @@ returns-then-count-lt2-clause-shape c =
           sym (shape_of-one (λ word. word.now) _ _ words c.if-count-eq0.false w.if-count-lt2.true)
       | then-count-lt2-via-else-count-lt2+then-count-gt-MOST_WORDS w ↦
           sym (shape_of-many (λ word. word.now) _ _ words w.if-count-gt-MOST_WORDS.true)
-      | then-count-lt2-via-else-count-lt2+else-count-gt-MOST_WORDS+then-not-are_short w ↦
-          sym (shape_of-long_words (λ word. word.now) _ _ words (sym w.are_short.ensures ∙ w.if-not-are_short.true))
     ]
+
+pub returns-then-not-are_short-clause-shape : goal.returns-then-not-are_short-clause-shape
+returns-then-not-are_short-clause-shape c =
+    let words = rw (← c.as_slice-words.ensures.value) at c.words_of-words.ensures in
+    sym (shape_of-long_words (λ word. word.now) _ _ words (sym c.are_short.ensures ∙ c.if-not-are_short.true))
 
 pub returns-clause-shape : goal.returns-clause-shape
 returns-clause-shape c =
