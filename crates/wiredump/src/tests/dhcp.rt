@@ -50,16 +50,21 @@ const FIELDS: [(&str, &str); 20] = [
     ("rebind_duration=", "none"),
 ];
 
+// What stands behind this name.
+fn said_of<'a>(said: &'a str, name: &str) -> Option<&'a str> {
+    for field in said.split(' ') {
+        if let Some(value) = field.strip_prefix(name) {
+            return Some(value);
+        }
+    }
+    None
+}
+
 // The fields with these in the place of what is printed of none.
 fn listing(alloc: Global, said: &str) -> Result<String, Fail> {
     let mut text = String::new(alloc);
     for (name, default) in FIELDS {
-        let mut value = default;
-        for field in said.split(' ') {
-            if let Some(other) = field.strip_prefix(name) {
-                value = other;
-            }
-        }
+        let value = said_of(said, name).unwrap_or(default);
         text.push_str(format!(in alloc; "{name}{value}\n")?.as_str())?;
     }
     Ok(text)
