@@ -1,0 +1,97 @@
+//! Questions and names of DNS.
+
+use super::{check, check_changed, check_line, compare_changed};
+use std::test::Fail;
+
+#[test]
+fn questions(rt: HostRuntime) -> Result<(), Fail> {
+    let rows = [
+        ("01610000010001", "name=016100\ntype_=1\nrest=0\n"),
+        ("0000020001", "name=00\ntype_=2\nrest=0\n"),
+        ("0000050001aa", "name=00\ntype_=5\nrest=1\n"),
+        ("0000060001aabb", "name=00\ntype_=6\nrest=2\n"),
+        ("00001c0001", "name=00\ntype_=28\nrest=0\n"),
+        ("c00c00010001ff", "name=c00c\ntype_=1\nrest=1\n"),
+        (
+            "06676f6f676c6503636f6d0000ff0001",
+            "name=06676f6f676c6503636f6d00\ntype_=255\nrest=0\n",
+        ),
+        (
+            "03726663036f72670000010001",
+            "name=03726663036f726700\ntype_=1\nrest=0\n",
+        ),
+        ("016100000100ff", "refused\n"),
+        ("40", "refused\n"),
+        ("0361", "refused\n"),
+        ("-", "refused\n"),
+    ];
+    check_changed(&rt, rt.alloc(), "question", &rows)
+}
+
+#[test]
+fn names(rt: HostRuntime) -> Result<(), Fail> {
+    for (line, want) in [
+        (
+            "name 12 0000000000000000000000000161c0100162c00c",
+            "61\n62\n61\nerror steps=5\n",
+        ),
+        (
+            "name 0000000000000012 0000000000000000000000000161c0100162c00c",
+            "61\n62\n61\nerror steps=5\n",
+        ),
+        ("name 12 000000000000000000000000c00c", "error steps=1\n"),
+        ("name 12 000000000000000000000000c00d", "error steps=1\n"),
+        (
+            "name 12 000000000000000000000000026100c011c00e",
+            "6100\nend steps=3\n",
+        ),
+        (
+            "name 16 0000000000000000000000000361c00cc00e",
+            "error steps=2\n",
+        ),
+        ("name 2 0000", "error steps=0\n"),
+        ("name 1 0000", "end steps=0\n"),
+        ("name 0 -", "error steps=0\n"),
+        ("name 0 40", "error steps=0\n"),
+        ("name 0 c0", "error steps=0\n"),
+        ("name 5 00c000c001c003", "end steps=3\n"),
+    ] {
+        check_line(&rt, rt.alloc(), line, want)?;
+    }
+    Ok(())
+}
+
+#[test]
+fn names_of_changed_messages(rt: HostRuntime) -> Result<(), Fail> {
+    for words in ["name 5", "name 12", "name 16"] {
+        let line = format!(in rt.alloc();
+            "{words} 000000000000000000000000026100c011c00e0161c00c"
+        )?;
+        compare_changed(&rt, rt.alloc(), line.as_bytes(), words.len())?;
+    }
+    Ok(())
+}
+
+// A response about www.facebook.com.
+const RESPONSE: &str =
+    "786c81800001000200000000037777770866616365626f6f6b03636f6d0000010001c00c000500\
+    01000005f3001109737461722d6d696e690463313072c010c02e000100010000000500041f0d5324";
+
+#[test]
+fn names_of_a_response(rt: HostRuntime) -> Result<(), Fail> {
+    for (words, want) in [
+        ("name 12", "777777\n66616365626f6f6b\n636f6d\nend steps=3\n"),
+        ("name 34", "777777\n66616365626f6f6b\n636f6d\nend steps=4\n"),
+        (
+            "name 46",
+            "737461722d6d696e69\n63313072\n66616365626f6f6b\n636f6d\nend steps=5\n",
+        ),
+        (
+            "name 63",
+            "737461722d6d696e69\n63313072\n66616365626f6f6b\n636f6d\nend steps=6\n",
+        ),
+    ] {
+        check(&rt, rt.alloc(), words, &[(RESPONSE, want)])?;
+    }
+    Ok(())
+}

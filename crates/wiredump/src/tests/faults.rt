@@ -1,0 +1,246 @@
+//! Readers and writers that fail.
+
+use crate::line::show_line;
+use crate::reading::{Line, read_line};
+use crate::{Fault, run, status};
+use std::alloc::Global;
+use std::io;
+use std::io::{BufReader, ErrorKind, Read, Write};
+use std::test::Fail;
+
+// A line of each word, and a bad one.
+fn lines_of_each_word() -> [&'static [u8]; 10] {
+    [
+        b"hbh 010400000000\n".as_slice(),
+        b"icmp4 08008efe1234abcdaa0000ff\n".as_slice(),
+        b"icmp6 fe800000000000000000000000000001 fe800000000000000000000000000002 800019b31234ab\
+            cdaa0000ff\n"
+            .as_slice(),
+        b"mld 8f0000000000000104000000ff020000000000000000000000000002\n".as_slice(),
+        b"igmp 1180ee7f00000000\n".as_slice(),
+        b"dhcp 010106000000000000000000000000000000000000000000000000000000000000000000000000000\
+            00000000000000000000000000000000000000000000000000000000000000000000000000000000000000\
+            00000000000000000000000000000000000000000000000000000000000000000000000000000000000000\
+            00000000000000000000000000000000000000000000000000000000000000000000000000000000000000\
+            00000000000000000000000000000000000000000000000000000000000000000000000000000000000000\
+            0000000000000000000000000000000000000000000000063825363350101ff\n"
+            .as_slice(),
+        b"ndopt 05010000000005dc\n".as_slice(),
+        b"question 01610000010001\n".as_slice(),
+        b"name 12 0000000000000000000000000161c0100162c00c\n".as_slice(),
+        b"foo -\n".as_slice(),
+    ]
+}
+
+fn whole_input(alloc: Global) -> Result<Vec<u8>, Fail> {
+    let mut input = Vec::new(alloc);
+    for line in lines_of_each_word() {
+        input.extend_from_slice(line)?;
+    }
+    Ok(input)
+}
+
+#[test]
+fn statuses(rt: HostRuntime) -> Result<(), Fail> {
+    for (answer, code) in [
+        (Ok(true), 0),
+        (Ok(false), 2),
+        (Err(Fault::Read), 3),
+        (Err(Fault::Write), 3),
+        (Err(Fault::Memory), 3),
+    ] {
+        assert_eq!(rt; status(&answer), code);
+    }
+    Ok(())
+}
+
+// How many octets are given at a call.
+const GIVEN: usize = 8;
+
+// Gives octets, and fails at one call.
+#[derive(Drop)]
+struct Source<'a> {
+    octets: &'a [u8],
+    calls: usize,
+    fails_at: usize,
+    kind: ErrorKind,
+}
+
+impl Read for Source<'_> {
+    fn read(&mut self, buffer: &mut [u8]) -> io::Result<usize> {
+        let call = self.calls;
+        self.calls = call.wrapping_add(1);
+        if call == self.fails_at {
+            return Err(io::Error::from(self.kind));
+        }
+        let length = buffer.len().min(self.octets.len()).min(GIVEN);
+        let (given, left) = self.octets.split_at(length);
+        buffer[..length].copy_from_slice(given);
+        self.octets = left;
+        Ok(length)
+    }
+}
+
+#[test]
+fn reads_that_fail(rt: HostRuntime) -> Result<(), Fail> {
+    let input = whole_input(rt.alloc())?;
+    let mut undisturbed = Vec::new(rt.alloc());
+    let answer = run(rt.alloc(), input.as_slice(), &mut undisturbed);
+    assert_eq!(rt; answer, Ok(false));
+    // Calls for all octets, and one more at the end.
+    let calls = input.len() / GIVEN + 1;
+    for (kind, fails) in [
+        (ErrorKind::ConnectionReset, true),
+        (ErrorKind::OutOfMemory, true),
+        // It is tried again.
+        (ErrorKind::Interrupted, false),
+    ] {
+        for fails_at in 0..calls + 1 {
+            let source = Source {
+                octets: input.as_slice(),
+                calls: 0,
+                fails_at,
+                kind,
+            };
+            let mut output = Vec::new(rt.alloc());
+            let answer = run(rt.alloc(), source, &mut output);
+            if fails && fails_at < calls {
+                assert_eq!(rt; answer, Err(Fault::Read), "at call {fails_at}");
+                assert!(rt;
+                    undisturbed.starts_with(output.as_slice()),
+                    "at call {fails_at}"
+                );
+            } else {
+                assert_eq!(rt; answer, Ok(false), "at call {fails_at}");
+                assert_eq!(rt;
+                    output.as_slice(),
+                    undisturbed.as_slice(),
+                    "at call {fails_at}"
+                );
+            }
+        }
+    }
+    Ok(())
+}
+
+// Takes some octets a call, and fails at one call, or from it on.
+#[derive(Drop)]
+struct Sink<'a> {
+    output: &'a mut Vec<u8>,
+    calls: usize,
+    fails_at: usize,
+    for_good: bool,
+    kind: ErrorKind,
+}
+
+impl Sink<'_> {
+    fn fail(&mut self) -> io::Result<()> {
+        let call = self.calls;
+        self.calls = call.wrapping_add(1);
+        if call == self.fails_at || self.for_good && call > self.fails_at {
+            return Err(io::Error::from(self.kind));
+        }
+        Ok(())
+    }
+}
+
+impl Write for Sink<'_> {
+    fn write(&mut self, buffer: &[u8]) -> io::Result<usize> {
+        self.fail()?;
+        let length = buffer.len().min(5_000);
+        self.output.extend_from_slice(&buffer[..length])?;
+        Ok(length)
+    }
+
+    fn flush(&mut self) -> io::Result<()> {
+        self.fail()
+    }
+}
+
+#[test]
+fn writes_that_fail(rt: HostRuntime) -> Result<(), Fail> {
+    // A line of each word, and then lines of 255 octets that print about 540 each.
+    let mut input = whole_input(rt.alloc())?;
+    for _ in 0..60 {
+        input.extend_from_slice(b"hbh 11ff")?;
+        input.extend_from_slice(&[b'a'; 510])?;
+        input.extend_from_slice(b"\nfoo\n")?;
+    }
+    let mut undisturbed = Vec::new(rt.alloc());
+    assert_eq!(rt;
+        run(rt.alloc(), input.as_slice(), &mut undisturbed),
+        Ok(false)
+    );
+    for (kind, fault, for_good) in [
+        (ErrorKind::BrokenPipe, Fault::Write, false),
+        (ErrorKind::BrokenPipe, Fault::Write, true),
+        (ErrorKind::OutOfMemory, Fault::Write, true),
+    ] {
+        let mut succeeded = false;
+        for fails_at in 0..16 {
+            let mut output = Vec::new(rt.alloc());
+            let sink = Sink {
+                output: &mut output,
+                calls: 0,
+                fails_at,
+                for_good,
+                kind,
+            };
+            let answer = run(rt.alloc(), input.as_slice(), sink);
+            assert!(rt;
+                undisturbed.starts_with(output.as_slice()),
+                "at call {fails_at}"
+            );
+            if answer.is_ok() {
+                assert_eq!(rt;
+                    output.as_slice(),
+                    undisturbed.as_slice(),
+                    "at call {fails_at}"
+                );
+                succeeded = true;
+            } else {
+                assert_eq!(rt; answer, Err(fault), "at call {fails_at}");
+                assert!(rt; !succeeded, "at call {fails_at}");
+            }
+        }
+        assert!(rt; succeeded, "16 calls were too few");
+    }
+    Ok(())
+}
+
+// Each write of what a line prints fails in turn, with no buffer between.
+#[test]
+fn writes_of_each_word_that_fail(rt: HostRuntime) -> Result<(), Fail> {
+    for octets in lines_of_each_word() {
+        let mut input = BufReader::new(rt.alloc(), octets)?;
+        let mut line = Line::new(rt.alloc());
+        assert_eq!(rt; read_line(&mut input, &mut line), Ok(true));
+        let mut undisturbed = Vec::new(rt.alloc());
+        let known = show_line(rt.alloc(), &mut undisturbed, &line);
+        assert!(rt; known.is_ok(), "of {octets:?}");
+        let mut faults = 0;
+        for fails_at in 0..500 {
+            let mut output = Vec::new(rt.alloc());
+            let mut sink = Sink {
+                output: &mut output,
+                calls: 0,
+                fails_at,
+                for_good: false,
+                kind: ErrorKind::BrokenPipe,
+            };
+            let answer = show_line(rt.alloc(), &mut sink, &line);
+            assert!(rt;
+                undisturbed.starts_with(output.as_slice()),
+                "at call {fails_at}"
+            );
+            if answer == known {
+                assert_eq!(rt; output.as_slice(), undisturbed.as_slice());
+                break;
+            }
+            assert_eq!(rt; answer, Err(Fault::Write), "at call {fails_at}");
+            faults = fails_at;
+        }
+        assert!(rt; faults > 0 && faults < 499, "of {octets:?}");
+    }
+    Ok(())
+}

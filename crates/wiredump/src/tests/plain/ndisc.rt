@@ -1,0 +1,100 @@
+//! Messages of neighbour discovery (RFC 4861 sections 4.1 to 4.5).
+
+use super::options::{block, is_option, show_prefix, show_redirected};
+use super::text::{be16, be32, behind, line, none, number, octet, octets, part};
+use std::test::Fail;
+
+/// Writes a message; false where it is none.
+pub fn show_neighbor_message(text: &mut Vec<u8>, packet: &[u8]) -> Result<bool, Fail> {
+    let kind = octet(packet, 0);
+    let header = match kind {
+        0x85 => 8,
+        0x86 => 16,
+        0x89 => 40,
+        _ => 24,
+    };
+    let options = behind(packet, header);
+    if packet.len() < header || !are_blocks(options) {
+        return Ok(false);
+    }
+    match kind {
+        0x85 => line(text, "RouterSolicit")?,
+        0x86 => show_router(text, packet)?,
+        0x87 => {
+            line(text, "NeighborSolicit")?;
+            octets(text, "target_addr", part(packet, 8, 16))?;
+        }
+        0x88 => {
+            line(text, "NeighborAdvert")?;
+            number(text, "flags", u64::from(octet(packet, 4) & 0xe0))?;
+            octets(text, "target_addr", part(packet, 8, 16))?;
+        }
+        _ => {
+            line(text, "Redirect")?;
+            octets(text, "target_addr", part(packet, 8, 16))?;
+            octets(text, "dest_addr", part(packet, 24, 16))?;
+        }
+    }
+    // A router and one who asks tell their own address, and the others that of whom they speak of.
+    match last(options, if kind >= 0x88 { 2 } else { 1 }) {
+        Some(block) => octets(text, "lladdr", part(block, 2, 8))?,
+        None => none(text, "lladdr")?,
+    }
+    match kind {
+        0x86 => show_router_options(text, options)?,
+        0x89 => match last(options, 4) {
+            Some(block) => show_redirected(text, "redirected_hdr.", block)?,
+            None => none(text, "redirected_hdr")?,
+        },
+        _ => {}
+    }
+    Ok(true)
+}
+
+fn show_router(text: &mut Vec<u8>, packet: &[u8]) -> Result<(), Fail> {
+    line(text, "RouterAdvert")?;
+    number(text, "hop_limit", u64::from(octet(packet, 4)))?;
+    number(text, "flags", u64::from(octet(packet, 5) & 0xc0))?;
+    number(text, "router_lifetime", u64::from(be16(packet, 6)) * 1_000)?;
+    number(text, "reachable_time", u64::from(be32(packet, 8)))?;
+    number(text, "retrans_time", u64::from(be32(packet, 12)))
+}
+
+fn show_router_options(text: &mut Vec<u8>, options: &[u8]) -> Result<(), Fail> {
+    match last(options, 5) {
+        Some(block) => number(text, "mtu", u64::from(be32(block, 4)))?,
+        None => none(text, "mtu")?,
+    }
+    match last(options, 3) {
+        Some(block) => show_prefix(text, "prefix_info.", block),
+        None => none(text, "prefix_info"),
+    }
+}
+
+// Whether the octets are blocks one after another.
+fn are_blocks(options: &[u8]) -> bool {
+    let mut rest = options;
+    for _ in 0..options.len() {
+        match block(rest) {
+            Some(block) => rest = behind(rest, block.len()),
+            None => return rest.is_empty(),
+        }
+    }
+    true
+}
+
+// The last block that is an option of this type.
+fn last(options: &[u8], kind: u8) -> Option<&[u8]> {
+    let mut rest = options;
+    let mut last = None;
+    for _ in 0..options.len() {
+        let Some(block) = block(rest) else {
+            break;
+        };
+        if octet(block, 0) == kind && is_option(block) {
+            last = Some(block);
+        }
+        rest = behind(rest, block.len());
+    }
+    last
+}

@@ -1,0 +1,119 @@
+//! The parts of a packet, and the lines of a listing.
+
+use std::io::Write;
+use std::test::Fail;
+
+/// The octet there, or 0 past the end.
+pub fn octet(octets: &[u8], at: usize) -> u8 {
+    match octets.get(at) {
+        Some(octet) => *octet,
+        None => 0,
+    }
+}
+
+/// The octets from there on.
+pub fn behind(octets: &[u8], at: usize) -> &[u8] {
+    if at < octets.len() {
+        &octets[at..]
+    } else {
+        &[]
+    }
+}
+
+/// So many octets from there on, or those that there are.
+pub fn part(octets: &[u8], at: usize, len: usize) -> &[u8] {
+    let rest = behind(octets, at);
+    if len < rest.len() { &rest[..len] } else { rest }
+}
+
+/// The number of two octets.
+pub fn be16(octets: &[u8], at: usize) -> u16 {
+    let rest = behind(octets, at);
+    u16::from_be_bytes([octet(rest, 0), octet(rest, 1)])
+}
+
+/// The number of four octets.
+pub fn be32(octets: &[u8], at: usize) -> u32 {
+    let rest = behind(octets, at);
+    u32::from_be_bytes([
+        octet(rest, 0),
+        octet(rest, 1),
+        octet(rest, 2),
+        octet(rest, 3),
+    ])
+}
+
+/// The sum of the words of two octets, the last of them filled up.
+pub fn sum(octets: &[u8]) -> u64 {
+    let mut sum = 0u64;
+    for pair in octets.chunks(2) {
+        sum = sum.wrapping_add(u64::from(be16(pair, 0)));
+    }
+    sum
+}
+
+/// Whether a sum is that of octets with a good checksum (RFC 1071).
+pub fn is_good(sum: u64) -> bool {
+    sum != 0 && sum % 65_535 == 0
+}
+
+/// Writes a line of its own.
+pub fn line(text: &mut Vec<u8>, name: &str) -> Result<(), Fail> {
+    word(text, name)?;
+    word(text, "\n")
+}
+
+/// Writes a name, or that of a part in front of a field's.
+pub fn word(text: &mut Vec<u8>, name: &str) -> Result<(), Fail> {
+    text.extend_from_slice(name.as_bytes())?;
+    Ok(())
+}
+
+/// Writes a field that is a number.
+pub fn number(text: &mut Vec<u8>, name: &str, value: u64) -> Result<(), Fail> {
+    writeln!(text, "{name}={value}")?;
+    Ok(())
+}
+
+/// Writes a field that is true or false.
+pub fn truth(text: &mut Vec<u8>, name: &str, value: bool) -> Result<(), Fail> {
+    word(text, name)?;
+    line(text, if value { "=true" } else { "=false" })
+}
+
+/// Writes a field that there is none of.
+pub fn none(text: &mut Vec<u8>, name: &str) -> Result<(), Fail> {
+    word(text, name)?;
+    line(text, "=none")
+}
+
+/// Writes a field that is octets.
+pub fn octets(text: &mut Vec<u8>, name: &str, octets: &[u8]) -> Result<(), Fail> {
+    word(text, name)?;
+    word(text, "=")?;
+    digits(text, octets)
+}
+
+/// Writes the digits of octets, and the end of the line.
+pub fn digits(text: &mut Vec<u8>, octets: &[u8]) -> Result<(), Fail> {
+    if octets.is_empty() {
+        word(text, "-")?;
+    }
+    for octet in octets {
+        write!(text, "{octet:02x}")?;
+    }
+    word(text, "\n")
+}
+
+/// Writes a field that is addresses of IPv4.
+pub fn dotted(text: &mut Vec<u8>, name: &str, octets: &[u8]) -> Result<(), Fail> {
+    word(text, name)?;
+    word(text, if octets.is_empty() { "=-" } else { "=" })?;
+    for (i, octet) in octets.iter().enumerate() {
+        if i > 0 {
+            word(text, if i % 4 == 0 { "," } else { "." })?;
+        }
+        write!(text, "{octet}")?;
+    }
+    word(text, "\n")
+}

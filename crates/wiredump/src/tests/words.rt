@@ -1,0 +1,82 @@
+//! Words, and what they spell.
+
+use crate::read_word;
+use crate::words::{read_address, read_offset};
+use std::test::Fail;
+
+#[test]
+fn words_and_the_octets_they_spell(rt: HostRuntime) -> Result<(), Fail> {
+    for (text, octets) in [
+        ("-", Some(b"".as_slice())),
+        ("00", Some(b"\0".as_slice())),
+        ("0f", Some(b"\x0f".as_slice())),
+        ("f0", Some(b"\xf0".as_slice())),
+        ("09afAF", Some(b"\x09\xaf\xaf".as_slice())),
+        ("", None),
+        ("0", None),
+        ("012", None),
+        ("--", None),
+        ("0-", None),
+        ("/0", None),
+        ("0:", None),
+        ("@0", None),
+        ("0G", None),
+        ("`0", None),
+        ("0g", None),
+        (" 00", None),
+    ] {
+        let word = read_word(rt.alloc(), text.as_bytes())?;
+        assert_eq!(rt;
+            word.as_ref().map(|word| word.as_slice()),
+            octets,
+            "at {text:?}"
+        );
+    }
+    Ok(())
+}
+
+#[test]
+fn words_that_are_addresses(rt: HostRuntime) -> Result<(), Fail> {
+    for (text, octets) in [
+        (
+            "FE80000000000000000000000000abCD",
+            Some(*b"\xfe\x80\0\0\0\0\0\0\0\0\0\0\0\0\xab\xcd"),
+        ),
+        ("00000000000000000000000000000000", Some([0; 16])),
+        ("0000000000000000000000000000000", None),
+        ("000000000000000000000000000000", None),
+        ("0000000000000000000000000000000000", None),
+        ("000000000000000g0000000000000000", None),
+        ("-", None),
+        ("", None),
+    ] {
+        assert_eq!(rt; read_address(text.as_bytes()), octets, "at {text:?}");
+    }
+    Ok(())
+}
+
+#[test]
+fn words_that_are_offsets(rt: HostRuntime) -> Result<(), Fail> {
+    for (text, offset) in [
+        ("0", Some(0)),
+        ("9", Some(9)),
+        ("10", Some(10)),
+        ("0000000000000000000000000012", Some(12)),
+        ("65535", Some(65_535)),
+        ("65536", None),
+        ("18446744073709551616", None),
+        ("99999999999999999999999999999999999999", None),
+        ("", None),
+        ("-", None),
+        ("+1", None),
+        ("-1", None),
+        ("1 ", None),
+        ("1/", None),
+        ("1:", None),
+        ("0x1", None),
+        ("a", None),
+    ] {
+        assert_eq!(rt; read_offset(text.as_bytes()), offset, "at {text:?}");
+    }
+    Ok(())
+}
