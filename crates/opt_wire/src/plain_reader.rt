@@ -53,7 +53,17 @@ fn answers(alloc: Global, octets: &[u8]) -> Result<Vec<wirebase::Result<Repr<'_>
 }
 
 // What a byte of a packet is set to, one byte at a time.
-const DAMAGE: [u8; 6] = [0x00, 0x40, 0x7f, 0x80, 0xc0, 0xff];
+pub(crate) const DAMAGE: [u8; 6] = [0x00, 0x40, 0x7f, 0x80, 0xc0, 0xff];
+
+// A copy of a packet in which one byte is this one.
+pub(crate) fn damaged(alloc: Global, packet: &[u8], at: usize, value: u8) -> Result<Vec<u8>, Fail> {
+    let mut damaged = Vec::new(alloc);
+    damaged.extend_from_slice(packet)?;
+    if let Some(octet) = damaged.as_mut_slice().get_mut(at) {
+        *octet = value;
+    }
+    Ok(damaged)
+}
 
 // Compares the crate with the plain reader over these octets, over each shorter part of them from their start on, and
 // over each copy of them in which one byte is damaged.
@@ -63,12 +73,7 @@ pub(crate) fn compare_damaged(rt: &impl Abort, alloc: Global, packet: &[u8]) -> 
     }
     for at in 0..packet.len() {
         for value in DAMAGE {
-            let mut damaged = Vec::new(alloc);
-            damaged.extend_from_slice(packet)?;
-            if let Some(octet) = damaged.as_mut_slice().get_mut(at) {
-                *octet = value;
-            }
-            compare(rt, alloc, damaged.as_slice())?;
+            compare(rt, alloc, damaged(alloc, packet, at, value)?.as_slice())?;
         }
     }
     Ok(())

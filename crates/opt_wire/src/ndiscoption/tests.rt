@@ -6,8 +6,11 @@ use bitflags::Flags as _;
 use std::test::Fail;
 use wirebase::{Duration, Error, IpProtocol, Ipv6Address, Ipv6Repr, RawHardwareAddress};
 
+mod plain_reader;
 mod types;
 mod views;
+
+use plain_reader::compare_damaged;
 
 fn here() -> Ipv6Address {
     Ipv6Address::new(0xfe80, 0, 0, 0, 0, 0, 0, 1)
@@ -88,6 +91,26 @@ fn unknown() -> Repr<'static>
         length: 1,
         data: &[1, 2, 3, 4, 5, 6],
     }
+}
+
+// A source's address of 7 bytes, in two units.
+const LONG_SOURCE: [u8; 16] = [0x01, 0x02, 1, 2, 3, 4, 5, 6, 7, 0, 0, 0, 0, 0, 0, 0];
+
+#[test]
+fn damaged_options(rt: HostRuntime) -> Result<(), Fail> {
+    let rows: [&[u8]; 7] = [
+        &[0x01, 0x01, 0x52, 0x54, 0x00, 0x12, 0x34, 0x56],
+        &[0x02, 0x01, 0x52, 0x54, 0x00, 0x12, 0x34, 0x56],
+        &LONG_SOURCE,
+        &PREFIX,
+        &REDIRECTED,
+        &MTU,
+        &UNKNOWN,
+    ];
+    for octets in rows {
+        compare_damaged(&rt, rt.alloc(), octets)?;
+    }
+    Ok(())
 }
 
 #[test]

@@ -1,0 +1,136 @@
+// A second reader of options, by the rules of RFC 4861 section 4.6 alone: a type, a length in units of 8 bytes that is
+// not 0, and the bytes up to that length; a prefix has 4 units and an MTU 1. The tests compare the crate with it.
+
+use crate::ndiscoption::{NdiscOption, PrefixInfoFlags, PrefixInformation, RedirectedHeader, Repr};
+use crate::plain_reader::{DAMAGE, damaged};
+use bitflags::Flags as _;
+use std::alloc::Global;
+use std::process::Abort;
+use std::test::Fail;
+use wirebase::{Duration, IpProtocol, Ipv6Address, Ipv6Repr, RawHardwareAddress};
+
+// The octets of the option at the front, where they are all there. A prefix has 4 units or more, a redirected header 6.
+fn front(octets: &[u8]) -> Option<&[u8]> {
+    let [kind, units, ..] = octets else {
+        return None;
+    };
+    let least = match *kind {
+        3 => 4,
+        4 => 6,
+        _ => 1,
+    };
+    if *units < least {
+        return None;
+    }
+    octets.get(..8 * *units as usize)
+}
+
+// The option at the front, where it can be read.
+fn option(octets: &[u8]) -> Option<Repr<'_>> {
+    let whole = front(octets)?;
+    let [kind, units, data @ ..] = whole else {
+        return None;
+    };
+    match (*kind, *units) {
+        (1, _) => Some(Repr::SourceLinkLayerAddr(link_address(data)?)),
+        (2, _) => Some(Repr::TargetLinkLayerAddr(link_address(data)?)),
+        (3, 4) => prefix(data),
+        (4, _) => redirected(data),
+        (5, 1) => mtu(data),
+        (3 | 5, _) => None,
+        (type_, length) => Some(Repr::Unknown {
+            type_,
+            length,
+            data,
+        }),
+    }
+}
+
+// The 8 bytes of an address, or the 6 that one unit has.
+fn link_address(data: &[u8]) -> Option<RawHardwareAddress> {
+    if let Some((address, _)) = data.split_first_chunk::<8>() {
+        return Some(RawHardwareAddress::from_bytes(address));
+    }
+    let (address, _) = data.split_first_chunk::<6>()?;
+    Some(RawHardwareAddress::from_bytes(address))
+}
+
+fn prefix(data: &[u8]) -> Option<Repr<'_>> {
+    let [prefix_len, flags, times @ ..] = data else {
+        return None;
+    };
+    let (valid, rest) = times.split_first_chunk::<4>()?;
+    let (preferred, rest) = rest.split_first_chunk::<4>()?;
+    let (_, rest) = rest.split_first_chunk::<4>()?;
+    let (prefix, _) = rest.split_first_chunk::<16>()?;
+    Some(Repr::PrefixInformation(PrefixInformation {
+        prefix_len: *prefix_len,
+        flags: PrefixInfoFlags::from_bits_retain(*flags & 0xc0),
+        valid_lifetime: Duration::from_secs(u32::from_be_bytes(*valid) as u64),
+        preferred_lifetime: Duration::from_secs(u32::from_be_bytes(*preferred) as u64),
+        prefix: Ipv6Address::from_octets(*prefix),
+    }))
+}
+
+// The packet behind 6 reserved bytes (RFC 8200 section 3).
+fn redirected(data: &[u8]) -> Option<Repr<'_>> {
+    let (_, packet) = data.split_first_chunk::<6>()?;
+    let [
+        0x60..=0x6f,
+        _,
+        _,
+        _,
+        high,
+        low,
+        next_header,
+        hop_limit,
+        rest @ ..,
+    ] = packet
+    else {
+        return None;
+    };
+    let payload_len = u16::from_be_bytes([*high, *low]) as usize;
+    let (src_addr, rest) = rest.split_first_chunk::<16>()?;
+    let (dst_addr, rest) = rest.split_first_chunk::<16>()?;
+    let header = Ipv6Repr {
+        src_addr: Ipv6Address::from_octets(*src_addr),
+        dst_addr: Ipv6Address::from_octets(*dst_addr),
+        next_header: IpProtocol::from(*next_header),
+        payload_len,
+        hop_limit: *hop_limit,
+    };
+    let data = rest.get(..payload_len)?;
+    Some(Repr::RedirectedHeader(RedirectedHeader { header, data }))
+}
+
+fn mtu(data: &[u8]) -> Option<Repr<'_>> {
+    let (_, rest) = data.split_first_chunk::<2>()?;
+    let (mtu, _) = rest.split_first_chunk::<4>()?;
+    Some(Repr::Mtu(u32::from_be_bytes(*mtu)))
+}
+
+// Compares the crate with the plain reader over these octets, over each shorter part of them from their start on, and
+// over each copy of them in which one byte is damaged.
+pub(super) fn compare_damaged(rt: &impl Abort, alloc: Global, packet: &[u8]) -> Result<(), Fail> {
+    for len in 0..=packet.len() {
+        compare(rt, &packet[..len]);
+    }
+    for at in 0..packet.len() {
+        for value in DAMAGE {
+            compare(rt, damaged(alloc, packet, at, value)?.as_slice());
+        }
+    }
+    Ok(())
+}
+
+// Compares what is taken for an option, and what is read in it.
+fn compare(rt: &impl Abort, octets: &[u8]) {
+    let checked = NdiscOption::new_checked(octets).is_ok();
+    assert_eq!(rt; checked, front(octets).is_some(), "of {octets:?}");
+    let plain = option(octets);
+    let Ok(read) = Repr::parse(&NdiscOption::new_unchecked(octets)) else {
+        assert!(rt; plain.is_none(), "refused {octets:?}");
+        return;
+    };
+    assert_eq!(rt; Some(read), plain, "of {octets:?}");
+}
