@@ -6,6 +6,7 @@ use super::{
 use crate::plain_reader::compare_damaged;
 use bitflags::Flags as _;
 use std::alloc::Global;
+use std::process::Abort;
 use std::test::Fail;
 use wirebase::{Error, EthernetAddress, Hardware, Ipv4Address};
 
@@ -178,6 +179,36 @@ fn a_writer_takes_255_bytes_of_data_and_no_more(rt: HostRuntime) -> Result<(), F
     Ok(())
 }
 
+fn check_numbers(rt: &impl Abort, octets: &[u8]) {
+    let Ok(read) = Packet::new_checked(octets) else {
+        assert!(rt; false, "240 bytes are enough");
+        return;
+    };
+    assert_eq!(rt; read.opcode(), OpCode::Reply);
+    assert_eq!(rt; read.hardware_type(), Hardware::Ethernet);
+    assert_eq!(rt; read.hardware_len(), 6);
+    assert_eq!(rt; read.hops(), 3);
+    assert_eq!(rt; read.transaction_id(), 0x0102_0304);
+    assert_eq!(rt; read.secs(), 0x0506);
+    assert_eq!(rt; read.flags(), Flags::BROADCAST);
+}
+
+fn check_addresses(rt: &impl Abort, octets: &[u8]) {
+    let Ok(read) = Packet::new_checked(octets) else {
+        assert!(rt; false, "240 bytes are enough");
+        return;
+    };
+    assert_eq!(rt; read.client_ip(), Ipv4Address::new(10, 0, 0, 1));
+    assert_eq!(rt; read.your_ip(), Ipv4Address::new(10, 0, 0, 2));
+    assert_eq!(rt; read.server_ip(), Ipv4Address::new(10, 0, 0, 3));
+    assert_eq!(rt; read.relay_agent_ip(), Ipv4Address::new(10, 0, 0, 4));
+    assert_eq!(rt;
+        read.client_hardware_address(),
+        EthernetAddress([2, 3, 4, 5, 6, 7])
+    );
+    assert_eq!(rt; read.magic_number(), 0x6382_5363);
+}
+
 #[test]
 fn fields_of_a_packet(rt: HostRuntime) -> Result<(), Fail> {
     let mut octets = [0x2a; 250];
@@ -207,27 +238,9 @@ fn fields_of_a_packet(rt: HostRuntime) -> Result<(), Fail> {
     wanted[236..240].copy_from_slice(&[0x63, 0x82, 0x53, 0x63]);
     assert_eq!(rt; octets, wanted);
 
-    let read = Packet::new_checked(&octets[..]);
-    let Ok(read) = read else {
-        assert!(rt; false, "240 bytes are enough");
-        return Ok(());
-    };
-    assert_eq!(rt; read.opcode(), OpCode::Reply);
-    assert_eq!(rt; read.hardware_type(), Hardware::Ethernet);
-    assert_eq!(rt; read.hardware_len(), 6);
-    assert_eq!(rt; read.hops(), 3);
-    assert_eq!(rt; read.transaction_id(), 0x0102_0304);
-    assert_eq!(rt; read.secs(), 0x0506);
-    assert_eq!(rt; read.flags(), Flags::BROADCAST);
-    assert_eq!(rt; read.client_ip(), Ipv4Address::new(10, 0, 0, 1));
-    assert_eq!(rt; read.your_ip(), Ipv4Address::new(10, 0, 0, 2));
-    assert_eq!(rt; read.server_ip(), Ipv4Address::new(10, 0, 0, 3));
-    assert_eq!(rt; read.relay_agent_ip(), Ipv4Address::new(10, 0, 0, 4));
-    assert_eq!(rt;
-        read.client_hardware_address(),
-        EthernetAddress([2, 3, 4, 5, 6, 7])
-    );
-    assert_eq!(rt; read.magic_number(), 0x6382_5363);
+    check_numbers(&rt, &octets);
+    check_addresses(&rt, &octets);
+    let read = Packet::new_unchecked(&octets[..]);
     assert!(rt; read == read);
     assert_eq!(rt; read.into_inner().len(), 250);
     assert!(rt; Packet::new_checked(&[0; 239][..]).is_err());

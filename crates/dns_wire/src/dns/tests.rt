@@ -3,6 +3,7 @@ ghost use Rattle.dns_wire.specs.DnsTables.{flag_bits, IsKnown};
 
 use super::{Flags, Opcode, Packet, Question, Rcode, Record, RecordData, Repr, Type};
 use bitflags::Flags as _;
+use std::process::Abort;
 use std::test::Fail;
 use wirebase::{Error, Ipv4Address, Ipv6Address};
 
@@ -76,51 +77,62 @@ fn bits_of_flags(rt: HostRuntime) {
     assert_eq!(rt; (!both).bits(), 0x05b0);
 }
 
-#[test]
-fn headers_of_messages(rt: HostRuntime) -> Result<(), Fail> {
-    let query = [
-        0x51, 0x84, 0x01, 0x20, 0x00, 0x01, 0x00, 0x00, 0x00, 0x00, 0x00, 0x00, 0x06, 0x67, 0x6f,
-        0x6f, 0x67, 0x6c, 0x65, 0x03, 0x63, 0x6f, 0x6d, 0x00, 0x00, 0x01, 0x00, 0x01,
-    ];
-    let packet = Packet::new_checked(query.as_slice())
-        .ok()
-        .ok_or("too short")?;
-    assert_eq!(rt; packet.transaction_id(), 0x5184);
-    assert_eq!(rt; packet.flags().bits(), 0x0120);
-    assert_eq!(rt; packet.opcode(), Opcode::Query);
-    assert_eq!(rt; packet.rcode(), Rcode::NoError);
-    assert_eq!(rt; packet.question_count(), 1);
-    assert_eq!(rt; packet.answer_record_count(), 0);
-    assert_eq!(rt; packet.authority_record_count(), 0);
-    assert_eq!(rt; packet.additional_record_count(), 0);
-    let (rest, question) = Question::parse(packet.payload()).ok().ok_or("no question")?;
-    assert_eq!(rt; rest.len(), 0);
-    assert_eq!(rt; question.name, b"\x06google\x03com\x00".as_slice());
-    assert_eq!(rt; question.type_, Type::A);
+// A query for a name's address.
+const QUERY: [u8; 28] = [
+    0x51, 0x84, 0x01, 0x20, 0x00, 0x01, 0x00, 0x00, 0x00, 0x00, 0x00, 0x00, 0x06, 0x67, 0x6f, 0x6f,
+    0x67, 0x6c, 0x65, 0x03, 0x63, 0x6f, 0x6d, 0x00, 0x00, 0x01, 0x00, 0x01,
+];
 
+// Reads a header of these flags, this outcome and these numbers of questions and of each kind of record.
+fn check_header(
+    rt: &impl Abort,
+    octets: &[u8],
+    transaction_id: u16,
+    flags: u16,
+    outcome: Rcode,
+    counts: [u16; 4],
+) {
+    let Ok(packet) = Packet::new_checked(octets) else {
+        assert!(rt; false, "too short");
+        return;
+    };
+    assert_eq!(rt; packet.transaction_id(), transaction_id);
+    assert_eq!(rt; packet.flags().bits(), flags);
+    assert_eq!(rt; packet.opcode(), Opcode::Query);
+    assert_eq!(rt; packet.rcode(), outcome);
+    let read = [
+        packet.question_count(),
+        packet.answer_record_count(),
+        packet.authority_record_count(),
+        packet.additional_record_count(),
+    ];
+    assert_eq!(rt; read, counts);
+}
+
+#[test]
+fn headers_of_messages(rt: HostRuntime) {
     let response = [
         0x51, 0x84, 0x81, 0x80, 0x00, 0x01, 0x00, 0x01, 0x00, 0x00, 0x00, 0x00,
     ];
-    let packet = Packet::new_checked(response.as_slice())
-        .ok()
-        .ok_or("too short")?;
-    assert_eq!(rt; packet.flags().bits(), 0x8180);
-    assert_eq!(rt; packet.rcode(), Rcode::NoError);
-    assert_eq!(rt; packet.answer_record_count(), 1);
-
     let none = [
         0x63, 0xc4, 0x81, 0x83, 0x00, 0x01, 0x00, 0x00, 0x00, 0x01, 0x00, 0x00,
     ];
-    let packet = Packet::new_checked(none.as_slice())
-        .ok()
-        .ok_or("too short")?;
-    assert_eq!(rt; packet.rcode(), Rcode::NXDomain);
-    assert_eq!(rt; packet.question_count(), 1);
-    assert_eq!(rt; packet.answer_record_count(), 0);
-    assert_eq!(rt; packet.authority_record_count(), 1);
-    assert_eq!(rt; packet.additional_record_count(), 0);
+    check_header(&rt, &QUERY, 0x5184, 0x0120, Rcode::NoError, [1, 0, 0, 0]);
+    check_header(&rt, &response, 0x5184, 0x8180, Rcode::NoError, [1, 1, 0, 0]);
+    check_header(&rt, &none, 0x63c4, 0x8180, Rcode::NXDomain, [1, 0, 1, 0]);
     assert!(rt; Packet::new_checked(&none[..11]).is_err());
-    Ok(())
+}
+
+#[test]
+fn the_question_behind_a_header(rt: HostRuntime) {
+    let packet = Packet::new_unchecked(QUERY.as_slice());
+    let Ok((rest, question)) = Question::parse(packet.payload()) else {
+        assert!(rt; false, "no question");
+        return;
+    };
+    assert_eq!(rt; rest.len(), 0);
+    assert_eq!(rt; question.name, b"\x06google\x03com\x00".as_slice());
+    assert_eq!(rt; question.type_, Type::A);
 }
 
 #[test]

@@ -103,26 +103,19 @@ fn compare_header(rt: &impl Abort, octets: &[u8]) {
         "of {octets:?}"
     );
     assert_eq!(rt; packet.rcode(), Rcode::from(*f1 % 16), "of {octets:?}");
-    assert_eq!(rt;
-        packet.question_count().to_be_bytes(),
-        [*q0, *q1],
-        "of {octets:?}"
-    );
-    assert_eq!(rt;
-        packet.answer_record_count().to_be_bytes(),
-        [*a0, *a1],
-        "of {octets:?}"
-    );
-    assert_eq!(rt;
-        packet.authority_record_count().to_be_bytes(),
-        [*s0, *s1],
-        "of {octets:?}"
-    );
-    assert_eq!(rt;
-        packet.additional_record_count().to_be_bytes(),
-        [*m0, *m1],
-        "of {octets:?}"
-    );
+    let read = [
+        packet.question_count(),
+        packet.answer_record_count(),
+        packet.authority_record_count(),
+        packet.additional_record_count(),
+    ];
+    let wanted = [
+        u16::from_be_bytes([*q0, *q1]),
+        u16::from_be_bytes([*a0, *a1]),
+        u16::from_be_bytes([*s0, *s1]),
+        u16::from_be_bytes([*m0, *m1]),
+    ];
+    assert_eq!(rt; read, wanted, "of {octets:?}");
     assert_eq!(rt; packet.payload(), payload, "of {octets:?}");
 }
 

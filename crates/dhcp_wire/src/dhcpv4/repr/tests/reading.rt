@@ -1,6 +1,7 @@
 use crate::dhcpv4::tests::packet;
 use crate::dhcpv4::{MessageType, Packet, Repr};
 use crate::plain_reader::compare_damaged;
+use std::process::Abort;
 use std::test::Fail;
 use wirebase::{EthernetAddress, Ipv4Address};
 
@@ -146,6 +147,39 @@ fn lists_of_servers(rt: HostRuntime) -> Result<(), Fail> {
     Ok(())
 }
 
+fn check_offered_fields(rt: &impl Abort, read: &Repr<'_>) {
+    assert_eq!(rt; read.message_type, MessageType::Offer);
+    assert_eq!(rt; read.transaction_id, 0x1200_0000);
+    assert_eq!(rt; read.secs, 5);
+    assert!(rt; read.broadcast);
+    assert_eq!(rt; read.client_ip, Ipv4Address::UNSPECIFIED);
+    assert_eq!(rt; read.your_ip, Ipv4Address::new(0, 0, 0, 7));
+    assert_eq!(rt; read.server_ip, Ipv4Address::UNSPECIFIED);
+    assert_eq!(rt; read.relay_agent_ip, Ipv4Address::UNSPECIFIED);
+    assert_eq!(rt;
+        read.client_hardware_address,
+        EthernetAddress([2, 0, 0, 0, 0, 0])
+    );
+}
+
+fn check_offered_options(rt: &impl Abort, read: &Repr<'_>) {
+    assert_eq!(rt; read.server_identifier, Some(Ipv4Address::new(10, 0, 0, 1)));
+    assert_eq!(rt; read.router, Some(Ipv4Address::new(10, 0, 0, 2)));
+    assert_eq!(rt; read.subnet_mask, Some(Ipv4Address::new(255, 0, 0, 0)));
+    assert_eq!(rt; read.requested_ip, Some(Ipv4Address::new(10, 0, 0, 9)));
+    assert_eq!(rt;
+        read.client_identifier,
+        Some(EthernetAddress([2, 3, 4, 5, 6, 7]))
+    );
+    assert_eq!(rt; read.parameter_request_list, Some(&[1, 3][..]));
+    assert_eq!(rt; read.max_size, Some(1500));
+    assert_eq!(rt; read.lease_duration, Some(3600));
+    assert_eq!(rt; read.renew_duration, Some(1800));
+    assert_eq!(rt; read.rebind_duration, Some(3150));
+    assert!(rt; read.dns_servers.is_none());
+    assert!(rt; read.additional_options.is_empty());
+}
+
 #[test]
 fn an_offer_with_all_that_a_client_takes(rt: HostRuntime) -> Result<(), Fail> {
     let mut octets = packet(
@@ -167,33 +201,8 @@ fn an_offer_with_all_that_a_client_takes(rt: HostRuntime) -> Result<(), Fail> {
         assert!(rt; false, "the packet is read");
         return Ok(());
     };
-    assert_eq!(rt; read.message_type, MessageType::Offer);
-    assert_eq!(rt; read.transaction_id, 0x1200_0000);
-    assert_eq!(rt; read.secs, 5);
-    assert!(rt; read.broadcast);
-    assert_eq!(rt; read.client_ip, Ipv4Address::UNSPECIFIED);
-    assert_eq!(rt; read.your_ip, Ipv4Address::new(0, 0, 0, 7));
-    assert_eq!(rt; read.server_ip, Ipv4Address::UNSPECIFIED);
-    assert_eq!(rt; read.relay_agent_ip, Ipv4Address::UNSPECIFIED);
-    assert_eq!(rt;
-        read.client_hardware_address,
-        EthernetAddress([2, 0, 0, 0, 0, 0])
-    );
-    assert_eq!(rt; read.server_identifier, Some(Ipv4Address::new(10, 0, 0, 1)));
-    assert_eq!(rt; read.router, Some(Ipv4Address::new(10, 0, 0, 2)));
-    assert_eq!(rt; read.subnet_mask, Some(Ipv4Address::new(255, 0, 0, 0)));
-    assert_eq!(rt; read.requested_ip, Some(Ipv4Address::new(10, 0, 0, 9)));
-    assert_eq!(rt;
-        read.client_identifier,
-        Some(EthernetAddress([2, 3, 4, 5, 6, 7]))
-    );
-    assert_eq!(rt; read.parameter_request_list, Some(&[1, 3][..]));
-    assert_eq!(rt; read.max_size, Some(1500));
-    assert_eq!(rt; read.lease_duration, Some(3600));
-    assert_eq!(rt; read.renew_duration, Some(1800));
-    assert_eq!(rt; read.rebind_duration, Some(3150));
-    assert!(rt; read.dns_servers.is_none());
-    assert!(rt; read.additional_options.is_empty());
+    check_offered_fields(&rt, &read);
+    check_offered_options(&rt, &read);
     compare_damaged(&rt, rt.alloc(), octets.as_slice())
 }
 
