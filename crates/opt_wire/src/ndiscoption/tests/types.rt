@@ -33,6 +33,11 @@ fn sets_of_flags(rt: HostRuntime) {
     assert_eq!(rt; PrefixInfoFlags::from_bits(0xc1), None);
     assert_eq!(rt; PrefixInfoFlags::from_bits_truncate(0xc1), both);
     assert_eq!(rt; PrefixInfoFlags::from_bits_retain(0xc1).bits(), 0xc1);
+}
+
+#[test]
+fn flags_are_joined_and_parted(rt: HostRuntime) {
+    let both = PrefixInfoFlags::all();
     assert_eq!(rt; (!PrefixInfoFlags::ON_LINK), PrefixInfoFlags::ADDRCONF);
     assert_eq!(rt;
         (both - PrefixInfoFlags::ON_LINK),
@@ -45,6 +50,11 @@ fn sets_of_flags(rt: HostRuntime) {
     );
     assert!(rt; both.contains(PrefixInfoFlags::ON_LINK));
     assert!(rt; !PrefixInfoFlags::ON_LINK.intersects(PrefixInfoFlags::ADDRCONF));
+}
+
+#[test]
+fn flags_are_put_in_and_taken_out(rt: HostRuntime) {
+    let both = PrefixInfoFlags::all();
     let mut flags = PrefixInfoFlags::empty();
     flags.insert(PrefixInfoFlags::ON_LINK);
     flags.toggle(both);

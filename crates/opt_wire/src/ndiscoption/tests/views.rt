@@ -7,7 +7,7 @@ use wirebase::failing_writer::FailingWriter;
 use wirebase::{Duration, RawHardwareAddress};
 
 #[test]
-fn fields_by_their_places(rt: HostRuntime) {
+fn fields_of_a_prefix_are_written(rt: HostRuntime) {
     let mut bytes = [0xff; 32];
     let mut view = NdiscOption::new_unchecked(&mut bytes[..]);
     view.set_option_type(Type::PrefixInformation);
@@ -19,8 +19,11 @@ fn fields_by_their_places(rt: HostRuntime) {
     view.clear_prefix_reserved();
     view.set_prefix(here());
     assert_eq!(rt; bytes, PREFIX);
+}
 
-    let view = NdiscOption::new_unchecked(&bytes[..]);
+#[test]
+fn fields_of_a_prefix_are_read(rt: HostRuntime) {
+    let view = NdiscOption::new_unchecked(PREFIX.as_slice());
     assert_eq!(rt; view.option_type(), Type::PrefixInformation);
     assert_eq!(rt; view.data_len(), 4);
     assert_eq!(rt; view.prefix_len(), 64);
@@ -28,10 +31,18 @@ fn fields_by_their_places(rt: HostRuntime) {
     assert_eq!(rt; view.valid_lifetime(), Duration::from_secs(900));
     assert_eq!(rt; view.preferred_lifetime(), Duration::from_secs(1_000));
     assert_eq!(rt; view.prefix(), here());
+}
+
+#[test]
+fn fields_are_read_by_their_places_in_any_option(rt: HostRuntime) {
+    let view = NdiscOption::new_unchecked(PREFIX.as_slice());
     assert_eq!(rt; view.data(), &PREFIX[2..]);
     assert_eq!(rt; view.mtu(), 900);
     assert_eq!(rt; view.link_layer_addr().as_bytes(), &PREFIX[2..10]);
+}
 
+#[test]
+fn an_mtu_and_an_address_are_written(rt: HostRuntime) {
     let mut bytes = [0xff; 8];
     let mut view = NdiscOption::new_unchecked(&mut bytes[..]);
     view.clear_redirected_reserved();
@@ -47,7 +58,10 @@ fn fields_by_their_places(rt: HostRuntime) {
         bytes.as_slice(),
         [0xff, 0x01, 1, 2, 3, 0, 0x05, 0xdc].as_slice()
     );
+}
 
+#[test]
+fn data_is_lent_for_writing(rt: HostRuntime) {
     let mut octets = MTU;
     let mut view = NdiscOption::new_unchecked(octets.as_mut_slice());
     assert_eq!(rt; &*view.data_mut(), &MTU[2..]);
