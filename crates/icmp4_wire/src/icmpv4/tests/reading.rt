@@ -172,7 +172,7 @@ fn accessors(rt: HostRuntime) -> Result<(), Fail> {
 }
 
 #[test]
-fn numbers_of_the_enums(rt: HostRuntime) -> Result<(), Fail> {
+fn every_number_of_an_enum_comes_back(rt: HostRuntime) {
     for number in 0..=255u8 {
         assert_eq!(rt; u8::from(Message::from(number)), number);
         assert_eq!(rt; u8::from(DstUnreachable::from(number)), number);
@@ -180,6 +180,10 @@ fn numbers_of_the_enums(rt: HostRuntime) -> Result<(), Fail> {
         assert_eq!(rt; u8::from(TimeExceeded::from(number)), number);
         assert_eq!(rt; u8::from(ParamProblem::from(number)), number);
     }
+}
+
+#[test]
+fn numbers_of_the_enums(rt: HostRuntime) {
     assert_eq!(rt; Message::from(14), Message::TimestampReply);
     assert_eq!(rt; DstUnreachable::from(15), DstUnreachable::PrecedCutoff);
     assert_eq!(rt; Redirect::from(3), Redirect::HostToS);
@@ -188,7 +192,6 @@ fn numbers_of_the_enums(rt: HostRuntime) -> Result<(), Fail> {
     assert_eq!(rt; ParamProblem::from(3), ParamProblem::Unknown(3));
     assert!(rt; Message::Redirect < Message::EchoRequest);
     assert!(rt; Message::TimestampReply < Message::Unknown(0));
-    Ok(())
 }
 
 #[test]
