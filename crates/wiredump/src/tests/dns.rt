@@ -1,6 +1,7 @@
 //! Questions and names of DNS.
 
 use super::{check, check_changed, check_line, compare_changed};
+use std::fmt::Write;
 use std::test::Fail;
 
 #[test]
@@ -94,4 +95,16 @@ fn names_of_a_response(rt: HostRuntime) -> Result<(), Fail> {
         check(&rt, rt.alloc(), words, &[(RESPONSE, want)])?;
     }
     Ok(())
+}
+
+// The end of a name, and behind it 5,000 pointers: the first to that end, and each other to the one before it.
+#[test]
+fn a_name_of_5000_pointers(rt: HostRuntime) -> Result<(), Fail> {
+    let mut line = String::new(rt.alloc());
+    line.push_str("name 9999 00c000")?;
+    for at in (1..9_999u16).step_by(2) {
+        let pointer = 0xc000 | at;
+        write!(line, "{pointer:04x}")?;
+    }
+    check_line(&rt, rt.alloc(), line.as_str(), "end steps=5000\n")
 }

@@ -105,6 +105,26 @@ fn errors_of_icmpv6_by_their_quote(rt: HostRuntime) -> Result<(), Fail> {
     check(&rt, rt.alloc(), BETWEEN, &rows)
 }
 
+// As much of a datagram of 9,999 bytes as an error has room for.
+#[test]
+fn a_packet_too_big_of_1240_bytes(rt: HostRuntime) -> Result<(), Fail> {
+    let mut data = String::new(rt.alloc());
+    for _ in 0..1_192 {
+        data.push_str("aa")?;
+    }
+    let data = data.as_str();
+    let line = format!(in rt.alloc();
+        "{BETWEEN} 02000c3f00000500\
+         60000000270f1140fe800000000000000000000000000001fe800000000000000000000000000002{data}"
+    )?;
+    let want = format!(in rt.alloc();
+        "PktTooBig\nmtu=1280\nheader.src_addr=fe800000000000000000000000000001\n\
+         header.dst_addr=fe800000000000000000000000000002\nheader.next_header=17\n\
+         header.payload_len=9999\nheader.hop_limit=64\ndata={data}\n"
+    )?;
+    check_line(&rt, rt.alloc(), line.as_str(), want.as_str())
+}
+
 #[test]
 fn messages_of_mld(rt: HostRuntime) -> Result<(), Fail> {
     let rows = [
