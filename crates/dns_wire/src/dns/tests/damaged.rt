@@ -27,8 +27,8 @@ fn behind_name(octets: &[u8]) -> Option<&[u8]> {
 // The name at the front of the octets, and what stands behind it.
 fn read_name(octets: &[u8]) -> Option<(&[u8], &[u8])> {
     let behind = behind_name(octets)?;
-    let name = octets.get(..octets.len().checked_sub(behind.len())?)?;
-    Some((name, behind))
+    let len = octets.len().checked_sub(behind.len())?;
+    octets.split_at_checked(len)
 }
 
 // What stands behind the question at the front of the octets, and the question.
@@ -41,17 +41,27 @@ fn read_question(octets: &[u8]) -> Option<(&[u8], Question<'_>)> {
     Some((rest, Question { name, type_ }))
 }
 
+// The address of four bytes.
+fn read_ipv4(data: &[u8]) -> Option<RecordData<'_>> {
+    let [a, b, c, d] = data else {
+        return None;
+    };
+    Some(RecordData::A(Ipv4Address::new(*a, *b, *c, *d)))
+}
+
+// The address of 16 bytes.
+fn read_ipv6(data: &[u8]) -> Option<RecordData<'_>> {
+    let Ok(octets) = data.try_into() else {
+        return None;
+    };
+    Some(RecordData::Aaaa(Ipv6Address::from_octets(octets)))
+}
+
 // The data of a record of this type.
 fn read_data(kind: u16, data: &[u8]) -> Option<RecordData<'_>> {
     match kind {
-        1 => match data {
-            [a, b, c, d] => Some(RecordData::A(Ipv4Address::new(*a, *b, *c, *d))),
-            _ => None,
-        },
-        28 => match data.try_into() {
-            Ok(octets) => Some(RecordData::Aaaa(Ipv6Address::from_octets(octets))),
-            Err(_) => None,
-        },
+        1 => read_ipv4(data),
+        28 => read_ipv6(data),
         5 => Some(RecordData::Cname(data)),
         _ => Some(RecordData::Other(Type::from(kind), data)),
     }
@@ -69,10 +79,14 @@ fn read_record(octets: &[u8]) -> Option<(&[u8], Record<'_>)> {
     Some((behind.get(len..)?, Record { name, ttl, data }))
 }
 
-// Compares the readers of questions and of records with the plain ones over these octets.
-fn compare(rt: &impl Abort, octets: &[u8]) {
+// Compares the reader of questions with the plain one over these octets.
+fn compare_question(rt: &impl Abort, octets: &[u8]) {
     let question = read_question(octets).ok_or(Error);
     assert_eq!(rt; Question::parse(octets), question, "of {octets:?}");
+}
+
+// Compares the reader of records with the plain one over these octets.
+fn compare_record(rt: &impl Abort, octets: &[u8]) {
     let record = read_record(octets).ok_or(Error);
     assert_eq!(rt; Record::parse(octets), record, "of {octets:?}");
 }
@@ -133,13 +147,15 @@ fn damaged(alloc: Global, packet: &[u8], at: usize, value: u8) -> Result<Vec<u8>
 fn compare_damaged(rt: &impl Abort, alloc: Global, octets: &[u8]) -> Result<(), Fail> {
     for len in 0..=octets.len() {
         compare_header(rt, &octets[..len]);
-        compare(rt, &octets[..len]);
+        compare_question(rt, &octets[..len]);
+        compare_record(rt, &octets[..len]);
     }
     for at in 0..octets.len() {
         for value in 0..=255u8 {
             let damaged = damaged(alloc, octets, at, value)?;
             compare_header(rt, damaged.as_slice());
-            compare(rt, damaged.as_slice());
+            compare_question(rt, damaged.as_slice());
+            compare_record(rt, damaged.as_slice());
         }
     }
     Ok(())
