@@ -91,15 +91,14 @@ fn compare_record(rt: &impl Abort, octets: &[u8]) {
     assert_eq!(rt; Record::parse(octets), record, "of {octets:?}");
 }
 
-// The number in the two octets from this place on.
-fn number_at(octets: &[u8], place: usize) -> Option<u16> {
+// Compares a number of a header with the two octets from this place on.
+fn compare_number(rt: &impl Abort, octets: &[u8], place: usize, number: u16) {
     let Some(rest) = octets.get(place..) else {
-        return None;
+        assert!(rt; false, "too short");
+        return;
     };
-    match rest {
-        [high, low, ..] => Some(u16::from_be_bytes([*high, *low])),
-        _ => None,
-    }
+    let is_there = rest.starts_with(&number.to_be_bytes());
+    assert!(rt; is_there, "at {place} of {octets:?}");
 }
 
 // Compares the numbers of a header, and what is behind it, with the octets at their places.
@@ -108,21 +107,11 @@ fn compare_numbers(rt: &impl Abort, octets: &[u8]) {
         assert!(rt; false, "too short");
         return;
     };
-    let read = [
-        Some(packet.transaction_id()),
-        Some(packet.question_count()),
-        Some(packet.answer_record_count()),
-        Some(packet.authority_record_count()),
-        Some(packet.additional_record_count()),
-    ];
-    let wanted = [
-        number_at(octets, 0),
-        number_at(octets, 4),
-        number_at(octets, 6),
-        number_at(octets, 8),
-        number_at(octets, 10),
-    ];
-    assert_eq!(rt; read, wanted, "of {octets:?}");
+    compare_number(rt, octets, 0, packet.transaction_id());
+    compare_number(rt, octets, 4, packet.question_count());
+    compare_number(rt, octets, 6, packet.answer_record_count());
+    compare_number(rt, octets, 8, packet.authority_record_count());
+    compare_number(rt, octets, 10, packet.additional_record_count());
     assert_eq!(rt; Some(packet.payload()), octets.get(12..), "of {octets:?}");
 }
 
