@@ -13,19 +13,22 @@ const HEADER_LEN: usize = 240;
 
 // What stands at the front of the octets, an option or else padding, and the octets after it.
 fn first_option(octets: &[u8]) -> Option<(Option<DhcpOption<'_>>, &[u8])> {
-    let (kind, rest) = octets.split_first()?;
-    if *kind == 255 {
+    match octets {
+        [] | [255, ..] => None,
+        [0, rest @ ..] => Some((None, rest)),
+        [kind, rest @ ..] => option_of(*kind, rest),
+    }
+}
+
+// The option of this kind whose length stands at the front of the octets, and the octets after it.
+fn option_of(kind: u8, octets: &[u8]) -> Option<(Option<DhcpOption<'_>>, &[u8])> {
+    let [length, rest @ ..] = octets else {
         return None;
-    }
-    if *kind == 0 {
-        return Some((None, rest));
-    }
-    let (length, rest) = rest.split_first()?;
-    if rest.len() < *length as usize {
+    };
+    let Some((data, rest)) = rest.split_at_checked(*length as usize) else {
         return None;
-    }
-    let (data, rest) = rest.split_at(*length as usize);
-    Some((Some(DhcpOption { kind: *kind, data }), rest))
+    };
+    Some((Some(DhcpOption { kind, data }), rest))
 }
 
 // The options up to the end.
@@ -44,11 +47,16 @@ pub(crate) fn options_in(alloc: Global, octets: &[u8]) -> Result<Vec<DhcpOption<
     Ok(options)
 }
 
+// Whether the option is of this kind and of this length.
+fn is_of_len(option: &DhcpOption<'_>, kind: u8, len: usize) -> bool {
+    option.kind == kind && option.data.len() == len
+}
+
 // The data of the last option of this kind and of this length.
 fn last_of_len<'a>(options: &[DhcpOption<'a>], kind: u8, len: usize) -> Option<&'a [u8]> {
     let mut last = None;
     for option in options {
-        if option.kind == kind && option.data.len() == len {
+        if is_of_len(option, kind, len) {
             last = Some(option.data);
         }
     }

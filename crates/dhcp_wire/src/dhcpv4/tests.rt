@@ -122,26 +122,29 @@ fn names_before_the_first_zero(rt: HostRuntime) -> Result<(), Fail> {
     Ok(())
 }
 
-#[test]
-fn a_writer_and_its_refusals(rt: HostRuntime) -> Result<(), Fail> {
+// Writes an option of four bytes over these octets, and the end mark. Of an option and a mark behind it none is taken.
+fn check_writer(rt: &impl Abort, octets: &mut [u8]) {
+    let room = octets.len();
     let name = DhcpOption {
         kind: OPT_HOST_NAME,
         data: b"ab",
     };
+    let empty = DhcpOption {
+        kind: OPT_HOST_NAME,
+        data: b"",
+    };
+    let mut writer = DhcpOptionWriter::new(octets);
+    let taken = [writer.emit(name).is_ok(), writer.end().is_ok()];
+    assert_eq!(rt; taken, [4 <= room, room != 0 && room != 4], "{room}");
+    let behind_the_end = [writer.end(), writer.emit(empty)];
+    assert_eq!(rt; behind_the_end, [Err(Error), Err(Error)], "{room}");
+}
+
+#[test]
+fn a_writer_and_its_refusals(rt: HostRuntime) {
     for room in 0..=5 {
         let mut octets = [0x2a; 5];
-        let mut writer = DhcpOptionWriter::new(&mut octets[..room]);
-        assert_eq!(rt; writer.emit(name).is_ok(), 4 <= room, "{room}");
-        assert_eq!(rt; writer.end().is_ok(), room != 0 && room != 4, "{room}");
-        assert_eq!(rt; writer.end(), Err(Error), "{room}");
-        assert_eq!(rt;
-            writer.emit(DhcpOption {
-                kind: 12,
-                data: b""
-            }),
-            Err(Error),
-            "{room}"
-        );
+        check_writer(&rt, &mut octets[..room]);
         let wanted: [u8; 5] = match room {
             0 => [0x2a; 5],
             1 | 2 | 3 => [0xff, 0x2a, 0x2a, 0x2a, 0x2a],
@@ -150,33 +153,24 @@ fn a_writer_and_its_refusals(rt: HostRuntime) -> Result<(), Fail> {
         };
         assert_eq!(rt; octets, wanted, "{room}");
     }
-    Ok(())
 }
 
 #[test]
-fn a_writer_takes_255_bytes_of_data_and_no_more(rt: HostRuntime) -> Result<(), Fail> {
+fn a_writer_takes_255_bytes_of_data_and_no_more(rt: HostRuntime) {
     let data = [0x2a; 256];
+    let too_long = DhcpOption {
+        kind: 12,
+        data: &data,
+    };
+    let longest = DhcpOption {
+        kind: 12,
+        data: &data[..255],
+    };
     let mut octets = [0; 600];
     let mut writer = DhcpOptionWriter::new(&mut octets);
-    assert_eq!(rt;
-        writer.emit(DhcpOption {
-            kind: 12,
-            data: &data
-        }),
-        Err(Error)
-    );
-    assert_eq!(rt;
-        writer.emit(DhcpOption {
-            kind: 12,
-            data: &data[..255]
-        }),
-        Ok(())
-    );
-    assert_eq!(rt; writer.end(), Ok(()));
-    assert_eq!(rt; octets[1], 255);
-    assert_eq!(rt; octets[257], 0xff);
-    assert_eq!(rt; octets[258], 0);
-    Ok(())
+    let answers = [writer.emit(too_long), writer.emit(longest), writer.end()];
+    assert_eq!(rt; answers, [Err(Error), Ok(()), Ok(())]);
+    assert_eq!(rt; [octets[1], octets[257], octets[258]], [255, 0xff, 0]);
 }
 
 fn check_numbers(rt: &impl Abort, octets: &[u8]) {
@@ -248,18 +242,21 @@ fn fields_of_a_packet(rt: HostRuntime) -> Result<(), Fail> {
 }
 
 #[test]
-fn numbers_of_operations_and_of_types_of_message(rt: HostRuntime) -> Result<(), Fail> {
-    let opcodes = [
+fn numbers_of_operations(rt: HostRuntime) {
+    for (number, opcode) in [
         (0, OpCode::Unknown(0)),
         (1, OpCode::Request),
         (2, OpCode::Reply),
         (3, OpCode::Unknown(3)),
-    ];
-    for (number, opcode) in opcodes {
+    ] {
         assert_eq!(rt; OpCode::from(number), opcode);
         assert_eq!(rt; u8::from(opcode), number);
     }
-    let types = [
+}
+
+#[test]
+fn numbers_of_types_of_message(rt: HostRuntime) {
+    for (number, message) in [
         (1, MessageType::Discover),
         (2, MessageType::Offer),
         (3, MessageType::Request),
@@ -270,26 +267,32 @@ fn numbers_of_operations_and_of_types_of_message(rt: HostRuntime) -> Result<(), 
         (8, MessageType::Inform),
         (9, MessageType::Unknown(9)),
         (0, MessageType::Unknown(0)),
-    ];
-    for (number, message) in types {
+    ] {
         assert_eq!(rt; MessageType::from(number), message);
         assert_eq!(rt; u8::from(message), number);
     }
     assert!(rt; MessageType::Inform < MessageType::Unknown(0));
-    assert_eq!(rt; Flags::all().bits(), 0x8000);
+}
+
+#[test]
+fn bits_of_flags(rt: HostRuntime) {
+    let none = !Flags::BROADCAST;
+    assert_eq!(rt; [Flags::all().bits(), none.bits()], [0x8000, 0]);
     assert_eq!(rt; Flags::from_bits_truncate(0xffff), Flags::BROADCAST);
-    assert_eq!(rt; (!Flags::BROADCAST).bits(), 0);
+}
+
+#[test]
+fn numbers_of_ports_and_of_kinds(rt: HostRuntime) {
     assert_eq!(rt; [SERVER_PORT, CLIENT_PORT], [67, 68]);
     assert_eq!(rt;
         [OPT_PAD, OPT_DHCP_MESSAGE_TYPE, OPT_RENEWAL_TIME_VALUE],
         [0, 53, 58]
     );
     assert_eq!(rt; [OPT_REBINDING_TIME_VALUE, OPT_END], [59, 255]);
-    Ok(())
 }
 
 #[test]
-fn options_written_into_a_view(rt: HostRuntime) -> Result<(), Fail> {
+fn options_written_into_a_view(rt: HostRuntime) {
     let mut octets = [0x2a; 245];
     let mut view = Packet::new_unchecked(&mut octets[..]);
     let mut options = view.options_mut();
@@ -297,11 +300,13 @@ fn options_written_into_a_view(rt: HostRuntime) -> Result<(), Fail> {
         kind: OPT_DHCP_MESSAGE_TYPE,
         data: &[1],
     };
-    assert_eq!(rt; options.emit(message_type), Ok(()));
-    assert_eq!(rt; options.emit(message_type), Err(Error));
-    assert_eq!(rt; options.end(), Ok(()));
+    let answers = [
+        options.emit(message_type),
+        options.emit(message_type),
+        options.end(),
+    ];
+    assert_eq!(rt; answers, [Ok(()), Err(Error), Ok(())]);
     let mut wanted = [0x2a; 245];
     wanted[240..244].copy_from_slice(&[0x35, 1, 1, 0xff]);
     assert_eq!(rt; octets, wanted);
-    Ok(())
 }

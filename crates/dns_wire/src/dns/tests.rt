@@ -66,15 +66,22 @@ fn bits_of_flags(rt: HostRuntime) {
     ] {
         assert_eq!(rt; flags.bits(), bits);
     }
+}
+
+#[test]
+fn flags_of_bits_with_and_without_a_name(rt: HostRuntime) {
     assert_eq!(rt; Flags::from_bits(0x0040), None);
     assert_eq!(rt; Flags::from_bits_truncate(0xffff), Flags::all());
     assert_eq!(rt; Flags::from_bits_retain(0x0040).bits(), 0x0040);
+}
+
+#[test]
+fn flags_that_are_joined_and_taken_away(rt: HostRuntime) {
     let both = Flags::RESPONSE | Flags::TRUNCATED;
-    assert_eq!(rt; both.bits(), 0x8200);
+    assert_eq!(rt; [both.bits(), (!both).bits()], [0x8200, 0x05b0]);
     assert_eq!(rt; both & Flags::RESPONSE, Flags::RESPONSE);
     assert_eq!(rt; both - Flags::RESPONSE, Flags::TRUNCATED);
     assert_eq!(rt; both ^ Flags::RESPONSE, Flags::TRUNCATED);
-    assert_eq!(rt; (!both).bits(), 0x05b0);
 }
 
 // A query for a name's address.
@@ -123,38 +130,62 @@ fn headers_of_messages(rt: HostRuntime) {
     assert!(rt; Packet::new_checked(&none[..11]).is_err());
 }
 
-#[test]
-fn the_question_behind_a_header(rt: HostRuntime) {
-    let packet = Packet::new_unchecked(QUERY.as_slice());
-    let Ok((rest, question)) = Question::parse(packet.payload()) else {
-        assert!(rt; false, "no question");
-        return;
-    };
-    assert_eq!(rt; rest.len(), 0);
-    assert_eq!(rt; question.name, b"\x06google\x03com\x00".as_slice());
-    assert_eq!(rt; question.type_, Type::A);
+// Reads a question that fills the octets.
+fn check_question(rt: &impl Abort, octets: &[u8], question: Question<'_>) {
+    let read = Question::parse(octets);
+    assert_eq!(rt; read, Ok(([].as_slice(), question)));
 }
 
 #[test]
-fn headers_that_are_written(rt: HostRuntime) {
+fn the_question_behind_a_header(rt: HostRuntime) {
+    let packet = Packet::new_unchecked(QUERY.as_slice());
+    let question = Question {
+        name: b"\x06google\x03com\x00",
+        type_: Type::A,
+    };
+    check_question(&rt, packet.payload(), question);
+}
+
+#[test]
+fn counts_and_a_payload_that_are_written(rt: HostRuntime) {
     let mut octets = [0xff; 14];
     let mut packet = Packet::new_unchecked(octets.as_mut_slice());
-    packet.set_opcode(Opcode::Status);
-    assert_eq!(rt; packet.opcode(), Opcode::Status);
-    packet.set_transaction_id(0x1234);
     packet.set_question_count(0x0102);
     packet.set_answer_record_count(0x0304);
     packet.set_authority_record_count(0x0506);
     packet.set_additional_record_count(0x0708);
     packet.payload_mut()[1] = 0x0a;
     let written = [
-        0x12, 0x34, 0x8f, 0xff, 0x01, 0x02, 0x03, 0x04, 0x05, 0x06, 0x07, 0x08, 0xff, 0x0a,
+        0xff, 0xff, 0xff, 0xff, 0x01, 0x02, 0x03, 0x04, 0x05, 0x06, 0x07, 0x08, 0xff, 0x0a,
     ];
     assert_eq!(rt; octets.as_slice(), written.as_slice());
+}
 
+#[test]
+fn a_number_and_an_opcode_that_are_written(rt: HostRuntime) {
+    let mut octets = [0xff; 12];
+    let mut packet = Packet::new_unchecked(octets.as_mut_slice());
+    packet.set_opcode(Opcode::Status);
+    assert_eq!(rt; packet.opcode(), Opcode::Status);
+    packet.set_transaction_id(0x1234);
+    let written = [
+        0x12, 0x34, 0x8f, 0xff, 0xff, 0xff, 0xff, 0xff, 0xff, 0xff, 0xff, 0xff,
+    ];
+    assert_eq!(rt; octets.as_slice(), written.as_slice());
+}
+
+#[test]
+fn an_opcode_that_leaves_the_flags(rt: HostRuntime) {
+    let mut octets = [0xff; 12];
     let mut packet = Packet::new_unchecked(octets.as_mut_slice());
     packet.set_opcode(Opcode::Query);
     assert_eq!(rt; &octets[2..4], [0x87, 0xff].as_slice());
+}
+
+#[test]
+fn flags_that_leave_the_other_bits(rt: HostRuntime) {
+    let mut octets = [0xff; 12];
+    octets[2] = 0x87;
     let mut packet = Packet::new_unchecked(octets.as_mut_slice());
     packet.set_flags(Flags::TRUNCATED);
     assert_eq!(rt; &octets[2..4], [0x02, 0x4f].as_slice());
@@ -192,24 +223,38 @@ fn questions_and_what_stands_behind_them(rt: HostRuntime) {
     }
 }
 
-// 2001::1.
-const ADDRESS: [u8; 16] = [0x20, 0x01, 0, 0, 0, 0, 0, 0, 0, 0, 0, 0, 0, 0, 0, 1];
+// Reads a record that fills the octets.
+fn check_record(rt: &impl Abort, octets: &[u8], name: &[u8], ttl: u32, data: RecordData<'_>) {
+    let read = Record::parse(octets);
+    assert_eq!(rt; read, Ok(([].as_slice(), Record { name, ttl, data })));
+}
 
 #[test]
-fn records_and_their_data(rt: HostRuntime) {
+fn records_of_three_types(rt: HostRuntime) {
     let address = [
         0xc0, 0x0c, 0x00, 0x01, 0x00, 0x01, 0x00, 0x00, 0x00, 0xca, 0x00, 0x04, 0xac, 0xd9, 0xa8,
         0xae,
     ];
-    match Record::parse(&address) {
-        Ok((rest, record)) => {
-            assert_eq!(rt; rest.len(), 0);
-            assert_eq!(rt; record.name, [0xc0, 0x0c].as_slice());
-            assert_eq!(rt; record.ttl, 202);
-            assert!(rt; record.data == RecordData::A(Ipv4Address::new(172, 217, 168, 174)));
-        }
-        Err(_) => panic!(rt; "refused"),
-    }
+    let host = RecordData::A(Ipv4Address::new(172, 217, 168, 174));
+    check_record(&rt, &address, &[0xc0, 0x0c], 202, host);
+    let alias = [
+        0xc0, 0x0c, 0x00, 0x05, 0x00, 0x01, 0x00, 0x00, 0x05, 0xf3, 0x00, 0x02, 0xc0, 0x10,
+    ];
+    let other_name = RecordData::Cname(&[0xc0, 0x10]);
+    check_record(&rt, &alias, &[0xc0, 0x0c], 1523, other_name);
+    let authority = [
+        0xc0, 0x20, 0x00, 0x06, 0x00, 0x01, 0x00, 0x00, 0x03, 0x83, 0x00, 0x01, 0xaa,
+    ];
+    let zone = RecordData::Other(Type::Soa, &[0xaa]);
+    check_record(&rt, &authority, &[0xc0, 0x20], 899, zone);
+}
+
+#[test]
+fn records_that_are_cut_or_of_another_length(rt: HostRuntime) {
+    let address = [
+        0xc0, 0x0c, 0x00, 0x01, 0x00, 0x01, 0x00, 0x00, 0x00, 0xca, 0x00, 0x04, 0xac, 0xd9, 0xa8,
+        0xae,
+    ];
     for len in 0..16usize {
         assert_eq!(rt; Record::parse(&address[..len]).is_err(), true);
     }
@@ -218,31 +263,14 @@ fn records_and_their_data(rt: HostRuntime) {
         0xae,
     ];
     assert_eq!(rt; Record::parse(&three).is_err(), true);
-    let alias = [
-        0xc0, 0x0c, 0x00, 0x05, 0x00, 0x01, 0x00, 0x00, 0x05, 0xf3, 0x00, 0x02, 0xc0, 0x10,
-    ];
-    match Record::parse(&alias) {
-        Ok((_, record)) => {
-            assert_eq!(rt; record.ttl, 1523);
-            assert!(rt; record.data == RecordData::Cname(&[0xc0, 0x10]));
-        }
-        Err(_) => panic!(rt; "refused"),
-    }
-    let authority = [
-        0xc0, 0x20, 0x00, 0x06, 0x00, 0x01, 0x00, 0x00, 0x03, 0x83, 0x00, 0x01, 0xaa,
-    ];
-    match Record::parse(&authority) {
-        Ok((_, record)) => {
-            assert_eq!(rt; record.ttl, 899);
-            assert!(rt; record.data == RecordData::Other(Type::Soa, &[0xaa]));
-        }
-        Err(_) => panic!(rt; "refused"),
-    }
-    let octets = ADDRESS;
-    assert!(rt;
-        RecordData::parse(Type::Aaaa, &octets)
-            == Ok(RecordData::Aaaa(Ipv6Address::from_octets(ADDRESS)))
-    );
+}
+
+#[test]
+fn an_address_of_16_bytes(rt: HostRuntime) {
+    // 2001::1.
+    let octets = [0x20, 0x01, 0, 0, 0, 0, 0, 0, 0, 0, 0, 0, 0, 0, 0, 1];
+    let address = RecordData::Aaaa(Ipv6Address::from_octets(octets));
+    assert!(rt; RecordData::parse(Type::Aaaa, &octets) == Ok(address));
     assert!(rt; RecordData::parse(Type::Aaaa, &octets[..15]) == Err(Error));
 }
 
@@ -266,15 +294,25 @@ fn a_query_is_written(rt: HostRuntime) {
         0x00, 0x01, 0x00, 0x01,
     ];
     assert_eq!(rt; octets.as_slice(), written.as_slice());
-    let mut longer = [0xa5; 21];
-    query.emit_into(&mut longer);
-    assert_eq!(rt; &longer[..19], written.as_slice());
-    assert_eq!(rt; &longer[19..], [0xa5, 0xa5].as_slice());
-    match Question::parse(&octets[12..]) {
-        Ok((rest, question)) => {
-            assert_eq!(rt; rest.len(), 0);
-            assert!(rt; question == query.question);
-        }
-        Err(_) => panic!(rt; "refused"),
-    }
+    check_question(&rt, &octets[12..], query.question);
+}
+
+#[test]
+fn a_query_is_written_over_the_front_of_longer_octets(rt: HostRuntime) {
+    let query = Repr {
+        transaction_id: 0x1234,
+        opcode: Opcode::Query,
+        flags: Flags::RECURSION_DESIRED,
+        question: Question {
+            name: &[0x01, 0x61, 0x00],
+            type_: Type::A,
+        },
+    };
+    let mut octets = [0xa5; 21];
+    query.emit_into(&mut octets);
+    let written = [
+        0x12, 0x34, 0x01, 0x00, 0x00, 0x01, 0x00, 0x00, 0x00, 0x00, 0x00, 0x00, 0x01, 0x61, 0x00,
+        0x00, 0x01, 0x00, 0x01, 0xa5, 0xa5,
+    ];
+    assert_eq!(rt; octets.as_slice(), written.as_slice());
 }

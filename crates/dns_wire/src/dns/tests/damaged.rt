@@ -27,8 +27,8 @@ fn behind_name(octets: &[u8]) -> Option<&[u8]> {
 // The name at the front of the octets, and what stands behind it.
 fn read_name(octets: &[u8]) -> Option<(&[u8], &[u8])> {
     let behind = behind_name(octets)?;
-    let name = octets.get(..octets.len().checked_sub(behind.len())?)?;
-    Some((name, behind))
+    let len = octets.len().checked_sub(behind.len())?;
+    octets.split_at_checked(len)
 }
 
 // What stands behind the question at the front of the octets, and the question.
@@ -41,17 +41,27 @@ fn read_question(octets: &[u8]) -> Option<(&[u8], Question<'_>)> {
     Some((rest, Question { name, type_ }))
 }
 
+// The address of four bytes.
+fn read_ipv4(data: &[u8]) -> Option<RecordData<'_>> {
+    let [a, b, c, d] = data else {
+        return None;
+    };
+    Some(RecordData::A(Ipv4Address::new(*a, *b, *c, *d)))
+}
+
+// The address of 16 bytes.
+fn read_ipv6(data: &[u8]) -> Option<RecordData<'_>> {
+    let Ok(octets) = data.try_into() else {
+        return None;
+    };
+    Some(RecordData::Aaaa(Ipv6Address::from_octets(octets)))
+}
+
 // The data of a record of this type.
 fn read_data(kind: u16, data: &[u8]) -> Option<RecordData<'_>> {
     match kind {
-        1 => match data {
-            [a, b, c, d] => Some(RecordData::A(Ipv4Address::new(*a, *b, *c, *d))),
-            _ => None,
-        },
-        28 => match data.try_into() {
-            Ok(octets) => Some(RecordData::Aaaa(Ipv6Address::from_octets(octets))),
-            Err(_) => None,
-        },
+        1 => read_ipv4(data),
+        28 => read_ipv6(data),
         5 => Some(RecordData::Cname(data)),
         _ => Some(RecordData::Other(Type::from(kind), data)),
     }
@@ -69,54 +79,79 @@ fn read_record(octets: &[u8]) -> Option<(&[u8], Record<'_>)> {
     Some((behind.get(len..)?, Record { name, ttl, data }))
 }
 
-// Compares the readers of questions and of records with the plain ones over these octets.
-fn compare(rt: &impl Abort, octets: &[u8]) {
+// Compares the reader of questions with the plain one over these octets.
+fn compare_question(rt: &impl Abort, octets: &[u8]) {
     let question = read_question(octets).ok_or(Error);
     assert_eq!(rt; Question::parse(octets), question, "of {octets:?}");
+}
+
+// Compares the reader of records with the plain one over these octets.
+fn compare_record(rt: &impl Abort, octets: &[u8]) {
     let record = read_record(octets).ok_or(Error);
     assert_eq!(rt; Record::parse(octets), record, "of {octets:?}");
 }
 
-// Compares the fields of a header with the octets at their places.
-fn compare_header(rt: &impl Abort, octets: &[u8]) {
-    let checked = Packet::new_checked(octets);
-    let [i0, i1, f0, f1, counts @ ..] = octets else {
-        assert!(rt; checked.is_err(), "of {octets:?}");
+// Compares a number of a header with the two octets from this place on.
+fn compare_number(rt: &impl Abort, octets: &[u8], place: usize, number: u16) {
+    let Some(rest) = octets.get(place..) else {
+        assert!(rt; false, "too short");
         return;
     };
-    let [q0, q1, a0, a1, s0, s1, m0, m1, payload @ ..] = counts else {
-        assert!(rt; checked.is_err(), "of {octets:?}");
+    let is_there = rest.starts_with(&number.to_be_bytes());
+    assert!(rt; is_there, "at {place} of {octets:?}");
+}
+
+// Compares the numbers of a header, and what is behind it, with the octets at their places.
+fn compare_numbers(rt: &impl Abort, octets: &[u8]) {
+    let Ok(packet) = Packet::new_checked(octets) else {
+        assert!(rt; false, "too short");
         return;
     };
-    assert!(rt; checked.is_ok(), "of {octets:?}");
-    let packet = Packet::new_unchecked(octets);
-    assert_eq!(rt;
-        packet.transaction_id().to_be_bytes(),
-        [*i0, *i1],
-        "of {octets:?}"
-    );
-    let flags = u16::from_be_bytes([*f0, *f1]);
-    assert_eq!(rt; packet.flags().bits(), flags & 0x87b0, "of {octets:?}");
+    compare_number(rt, octets, 0, packet.transaction_id());
+    compare_number(rt, octets, 4, packet.question_count());
+    compare_number(rt, octets, 6, packet.answer_record_count());
+    compare_number(rt, octets, 8, packet.authority_record_count());
+    compare_number(rt, octets, 10, packet.additional_record_count());
+    assert_eq!(rt; Some(packet.payload()), octets.get(12..), "of {octets:?}");
+}
+
+// Compares the flags of a header with the bits of these two octets.
+fn compare_flags(rt: &impl Abort, octets: &[u8], first: u8, second: u8) {
+    let Ok(packet) = Packet::new_checked(octets) else {
+        assert!(rt; false, "too short");
+        return;
+    };
+    let flags = u16::from_be_bytes([first, second]) & 0x87b0;
+    assert_eq!(rt; packet.flags().bits(), flags, "of {octets:?}");
+}
+
+// Compares the operation and the outcome with the bits of these two octets.
+fn compare_codes(rt: &impl Abort, octets: &[u8], first: u8, second: u8) {
+    let Ok(packet) = Packet::new_checked(octets) else {
+        assert!(rt; false, "too short");
+        return;
+    };
     assert_eq!(rt;
         packet.opcode(),
-        Opcode::from(*f0 / 8 % 16),
+        Opcode::from(first / 8 % 16),
         "of {octets:?}"
     );
-    assert_eq!(rt; packet.rcode(), Rcode::from(*f1 % 16), "of {octets:?}");
-    let read = [
-        packet.question_count(),
-        packet.answer_record_count(),
-        packet.authority_record_count(),
-        packet.additional_record_count(),
-    ];
-    let wanted = [
-        u16::from_be_bytes([*q0, *q1]),
-        u16::from_be_bytes([*a0, *a1]),
-        u16::from_be_bytes([*s0, *s1]),
-        u16::from_be_bytes([*m0, *m1]),
-    ];
-    assert_eq!(rt; read, wanted, "of {octets:?}");
-    assert_eq!(rt; packet.payload(), payload, "of {octets:?}");
+    assert_eq!(rt; packet.rcode(), Rcode::from(second % 16), "of {octets:?}");
+}
+
+// Compares the fields of a header with the octets at their places.
+fn compare_header(rt: &impl Abort, octets: &[u8]) {
+    let is_header = 12 <= octets.len();
+    assert_eq!(rt;
+        Packet::new_checked(octets).is_ok(),
+        is_header,
+        "of {octets:?}"
+    );
+    if is_header {
+        compare_numbers(rt, octets);
+        compare_flags(rt, octets, octets[2], octets[3]);
+        compare_codes(rt, octets, octets[2], octets[3]);
+    }
 }
 
 // A copy of the packet whose byte at this place is the value.
@@ -133,13 +168,15 @@ fn damaged(alloc: Global, packet: &[u8], at: usize, value: u8) -> Result<Vec<u8>
 fn compare_damaged(rt: &impl Abort, alloc: Global, octets: &[u8]) -> Result<(), Fail> {
     for len in 0..=octets.len() {
         compare_header(rt, &octets[..len]);
-        compare(rt, &octets[..len]);
+        compare_question(rt, &octets[..len]);
+        compare_record(rt, &octets[..len]);
     }
     for at in 0..octets.len() {
         for value in 0..=255u8 {
             let damaged = damaged(alloc, octets, at, value)?;
             compare_header(rt, damaged.as_slice());
-            compare(rt, damaged.as_slice());
+            compare_question(rt, damaged.as_slice());
+            compare_record(rt, damaged.as_slice());
         }
     }
     Ok(())

@@ -162,20 +162,44 @@ fn check_offered_fields(rt: &impl Abort, read: &Repr<'_>) {
     );
 }
 
+// Compares the addresses: of the server, of the router, of the mask, the one that is asked for, and the client's.
+fn check_addresses(
+    rt: &impl Abort,
+    read: &Repr<'_>,
+    wanted: [Option<Ipv4Address>; 4],
+    client: EthernetAddress,
+) {
+    let addresses = [
+        read.server_identifier,
+        read.router,
+        read.subnet_mask,
+        read.requested_ip,
+    ];
+    assert_eq!(rt; addresses, wanted);
+    assert_eq!(rt; read.client_identifier, Some(client));
+}
+
+// Compares the greatest size, and the times of the lease, of its renewal and of its rebinding.
+fn check_times(rt: &impl Abort, read: &Repr<'_>, max_size: u16, times: [Option<u32>; 3]) {
+    assert_eq!(rt; read.max_size, Some(max_size));
+    let read_times = [
+        read.lease_duration,
+        read.renew_duration,
+        read.rebind_duration,
+    ];
+    assert_eq!(rt; read_times, times);
+}
+
 fn check_offered_options(rt: &impl Abort, read: &Repr<'_>) {
-    assert_eq!(rt; read.server_identifier, Some(Ipv4Address::new(10, 0, 0, 1)));
-    assert_eq!(rt; read.router, Some(Ipv4Address::new(10, 0, 0, 2)));
-    assert_eq!(rt; read.subnet_mask, Some(Ipv4Address::new(255, 0, 0, 0)));
-    assert_eq!(rt; read.requested_ip, Some(Ipv4Address::new(10, 0, 0, 9)));
-    assert_eq!(rt;
-        read.client_identifier,
-        Some(EthernetAddress([2, 3, 4, 5, 6, 7]))
-    );
+    let addresses = [
+        Some(Ipv4Address::new(10, 0, 0, 1)),
+        Some(Ipv4Address::new(10, 0, 0, 2)),
+        Some(Ipv4Address::new(255, 0, 0, 0)),
+        Some(Ipv4Address::new(10, 0, 0, 9)),
+    ];
+    check_addresses(rt, read, addresses, EthernetAddress([2, 3, 4, 5, 6, 7]));
+    check_times(rt, read, 1500, [Some(3600), Some(1800), Some(3150)]);
     assert_eq!(rt; read.parameter_request_list, Some(&[1, 3][..]));
-    assert_eq!(rt; read.max_size, Some(1500));
-    assert_eq!(rt; read.lease_duration, Some(3600));
-    assert_eq!(rt; read.renew_duration, Some(1800));
-    assert_eq!(rt; read.rebind_duration, Some(3150));
     assert!(rt; read.dns_servers.is_none());
     assert!(rt; read.additional_options.is_empty());
 }
@@ -260,17 +284,13 @@ fn every_option_twice_and_last_of_another_length(rt: HostRuntime) -> Result<(), 
         return Ok(());
     };
     assert_eq!(rt; read.message_type, MessageType::Ack);
-    assert_eq!(rt;
-        read.client_identifier,
-        Some(EthernetAddress([2, 0, 0, 0, 0, 2]))
-    );
-    assert_eq!(rt; read.server_identifier, Some(Ipv4Address::new(10, 0, 0, 2)));
-    assert_eq!(rt; read.router, Some(Ipv4Address::new(10, 0, 0, 4)));
-    assert_eq!(rt; read.subnet_mask, Some(Ipv4Address::new(255, 255, 0, 0)));
-    assert_eq!(rt; read.requested_ip, Some(Ipv4Address::new(10, 0, 0, 8)));
-    assert_eq!(rt; read.max_size, Some(2));
-    assert_eq!(rt; read.lease_duration, Some(2));
-    assert_eq!(rt; read.renew_duration, Some(4));
-    assert_eq!(rt; read.rebind_duration, Some(6));
+    let addresses = [
+        Some(Ipv4Address::new(10, 0, 0, 2)),
+        Some(Ipv4Address::new(10, 0, 0, 4)),
+        Some(Ipv4Address::new(255, 255, 0, 0)),
+        Some(Ipv4Address::new(10, 0, 0, 8)),
+    ];
+    check_addresses(&rt, &read, addresses, EthernetAddress([2, 0, 0, 0, 0, 2]));
+    check_times(&rt, &read, 2, [Some(2), Some(4), Some(6)]);
     compare_damaged(&rt, rt.alloc(), octets.as_slice())
 }
