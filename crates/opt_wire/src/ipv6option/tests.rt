@@ -63,6 +63,10 @@ fn failure_types_are_the_two_highest_bits(rt: HostRuntime) {
         assert_eq!(rt; FailureType::from(number), failure, "of {number}");
         assert_eq!(rt; u8::from(failure), number & 0xc0, "of {failure:?}");
     }
+}
+
+#[test]
+fn failure_types_of_options(rt: HostRuntime) {
     for (kind, failure) in [
         (Type::PadN, FailureType::Skip),
         (Type::Rpl, FailureType::Discard),
@@ -87,6 +91,13 @@ fn order_of_types(rt: HostRuntime) {
         Type::Unknown(0),
         Type::Unknown(7),
     ];
+    for pair in types.windows(2) {
+        assert!(rt; pair[0] < pair[1], "{pair:?}");
+    }
+}
+
+#[test]
+fn order_of_router_alerts(rt: HostRuntime) {
     let alerts = [
         RouterAlert::MulticastListenerDiscovery,
         RouterAlert::Rsvp,
@@ -94,18 +105,19 @@ fn order_of_types(rt: HostRuntime) {
         RouterAlert::Unknown(0),
         RouterAlert::Unknown(7),
     ];
+    for pair in alerts.windows(2) {
+        assert!(rt; pair[0] < pair[1], "{pair:?}");
+    }
+}
+
+#[test]
+fn order_of_failure_types(rt: HostRuntime) {
     let failures = [
         FailureType::Skip,
         FailureType::Discard,
         FailureType::DiscardSendAll,
         FailureType::DiscardSendUnicast,
     ];
-    for pair in types.windows(2) {
-        assert!(rt; pair[0] < pair[1], "{pair:?}");
-    }
-    for pair in alerts.windows(2) {
-        assert!(rt; pair[0] < pair[1], "{pair:?}");
-    }
     for pair in failures.windows(2) {
         assert!(rt; pair[0] < pair[1], "{pair:?}");
     }
