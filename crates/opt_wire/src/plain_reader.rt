@@ -4,7 +4,7 @@
 
 use crate::ipv6hbh;
 use crate::ipv6hbh::Header;
-use crate::ipv6option::{Ipv6OptionsIterator, Repr, RouterAlert, Type};
+use crate::ipv6option::{Ipv6OptionsIterator, Repr};
 use std::alloc::Global;
 use std::process::Abort;
 use std::test::Fail;
@@ -21,17 +21,24 @@ fn first_option(octets: &[u8]) -> Option<(Repr<'_>, &[u8])> {
         return None;
     }
     let (data, rest) = rest.split_at(*length as usize);
-    let option = match (*kind, data) {
-        (1, _) => Repr::PadN(*length),
-        (5, [high, low]) => Repr::RouterAlert(RouterAlert::from(u16::from_be_bytes([*high, *low]))),
-        (5, _) => return None,
-        (other, _) => Repr::Unknown {
-            type_: Type::from(other),
-            length: *length,
+    Some((option_of(*kind, *length, data)?, rest))
+}
+
+// The option of a type other than 0, of its length and its data.
+fn option_of(kind: u8, length: u8, data: &[u8]) -> Option<Repr<'_>> {
+    match (kind, data) {
+        (1, _) => Some(Repr::PadN(length)),
+        (5, [high, low]) => {
+            let alert = u16::from_be_bytes([*high, *low]);
+            Some(Repr::RouterAlert(alert.into()))
+        }
+        (5, _) => None,
+        (other, _) => Some(Repr::Unknown {
+            type_: other.into(),
+            length,
             data,
-        },
-    };
-    Some((option, rest))
+        }),
+    }
 }
 
 // The options up to the end, or up to the first that is refused.

@@ -46,6 +46,10 @@ fn a_header_is_written_by_its_first_two_bytes(rt: HostRuntime) {
     let mut octets = [0xff; 2];
     repr.emit(&mut Header::new_unchecked(octets.as_mut_slice()));
     assert_eq!(rt; octets.as_slice(), [0x06, 0x01].as_slice());
+}
+
+#[test]
+fn a_payload_is_lent_for_writing(rt: HostRuntime) {
     let mut longer = [0xa5; 16];
     let mut header = Header::new_unchecked(longer.as_mut_slice());
     header.set_next_header(IpProtocol::Udp);

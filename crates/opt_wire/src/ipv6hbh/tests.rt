@@ -1,8 +1,11 @@
+ghost use Rattle.opt_wire.specs.Ipv6Hbh.{value_of, HaveData};
+
 use super::{Header, Repr};
 use crate::ipv6option;
 use crate::ipv6option::{RouterAlert, Type};
 use crate::plain_reader::compare_damaged;
 use arrayvec::ArrayVec;
+use std::process::Abort;
 use std::test::Fail;
 
 type Option<'a> = ipv6option::Repr<'a>;
@@ -73,12 +76,15 @@ fn headers_refused(rt: HostRuntime) -> Result<(), Fail> {
 }
 
 #[test]
-fn views_of_some_octets_alone(rt: HostRuntime) -> Result<(), Fail> {
+fn views_of_some_octets_alone(rt: HostRuntime) {
     let none: &[u8] = &[];
     assert!(rt; Header::new_checked(none).is_err());
     assert!(rt; Header::new_unchecked(none).check_len().is_err());
     assert!(rt; Header::new_unchecked([0x11].as_slice()).check_len().is_ok());
+}
 
+#[test]
+fn options_are_lent_for_writing(rt: HostRuntime) -> Result<(), Fail> {
     let mut octets = [0xff, 0xff, 0xff];
     let mut view = Header::new_checked(octets.as_mut_slice())?;
     view.options_mut().copy_from_slice(&[0x01, 0x01, 0x00]);
@@ -107,6 +113,21 @@ fn multicast_listener_report_with_padding(rt: HostRuntime) -> Result<(), Fail> {
     compare_damaged(&rt, rt.alloc(), &octets)
 }
 
+// Writes a header over octets of this kind, and three more.
+fn check_written(rt: &impl Abort, header: &Repr<'_>, text: [u8; 14], fill: u8)
+    requires { HaveData (value_of header.now) }
+{
+    let mut octets = [fill; 17];
+    assert_eq!(rt; header.buffer_len(), text.len());
+    header.emit(&mut Header::new_unchecked(octets.as_mut_slice()));
+    assert_eq!(rt; &octets[..14], text.as_slice(), "over {fill}");
+    assert_eq!(rt;
+        &octets[14..],
+        [fill; 3].as_slice(),
+        "after the options over {fill}"
+    );
+}
+
 #[test]
 fn options_written_one_after_another(rt: HostRuntime) -> Result<(), Fail> {
     // The third byte of data is past the length that is counted.
@@ -123,16 +144,8 @@ fn options_written_one_after_another(rt: HostRuntime) -> Result<(), Fail> {
     let text = [
         0x01, 0x03, 0x00, 0x00, 0x00, 0x05, 0x02, 0xbe, 0xef, 0x11, 0x02, 0xa1, 0xa2, 0x00,
     ];
-    assert_eq!(rt; header.buffer_len(), text.len());
     for fill in [0x00, 0xff, 0x2a, 0xa5] {
-        let mut octets = [fill; 17];
-        header.emit(&mut Header::new_unchecked(octets.as_mut_slice()));
-        assert_eq!(rt; &octets[..14], text.as_slice(), "over {fill}");
-        assert_eq!(rt;
-            &octets[14..],
-            [fill; 3].as_slice(),
-            "after the options over {fill}"
-        );
+        check_written(&rt, &header, text, fill);
     }
     compare_damaged(&rt, rt.alloc(), &text)
 }

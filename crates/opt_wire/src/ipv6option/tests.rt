@@ -3,8 +3,10 @@ ghost use Rattle.opt_wire.specs.Ipv6Option.{value_of, HasData};
 
 use super::{FailureType, Ipv6Option, Ipv6OptionsIterator, Repr, RouterAlert, Type};
 use crate::plain_reader::compare_damaged;
+use std::alloc::Global;
 use std::fmt::Write;
 use std::hash::{DefaultHasher, Hash, Hasher};
+use std::process::Abort;
 use std::test::Fail;
 use wirebase::Error;
 use wirebase::failing_writer::FailingWriter;
@@ -61,6 +63,10 @@ fn failure_types_are_the_two_highest_bits(rt: HostRuntime) {
         assert_eq!(rt; FailureType::from(number), failure, "of {number}");
         assert_eq!(rt; u8::from(failure), number & 0xc0, "of {failure:?}");
     }
+}
+
+#[test]
+fn failure_types_of_options(rt: HostRuntime) {
     for (kind, failure) in [
         (Type::PadN, FailureType::Skip),
         (Type::Rpl, FailureType::Discard),
@@ -85,6 +91,13 @@ fn order_of_types(rt: HostRuntime) {
         Type::Unknown(0),
         Type::Unknown(7),
     ];
+    for pair in types.windows(2) {
+        assert!(rt; pair[0] < pair[1], "{pair:?}");
+    }
+}
+
+#[test]
+fn order_of_router_alerts(rt: HostRuntime) {
     let alerts = [
         RouterAlert::MulticastListenerDiscovery,
         RouterAlert::Rsvp,
@@ -92,18 +105,19 @@ fn order_of_types(rt: HostRuntime) {
         RouterAlert::Unknown(0),
         RouterAlert::Unknown(7),
     ];
+    for pair in alerts.windows(2) {
+        assert!(rt; pair[0] < pair[1], "{pair:?}");
+    }
+}
+
+#[test]
+fn order_of_failure_types(rt: HostRuntime) {
     let failures = [
         FailureType::Skip,
         FailureType::Discard,
         FailureType::DiscardSendAll,
         FailureType::DiscardSendUnicast,
     ];
-    for pair in types.windows(2) {
-        assert!(rt; pair[0] < pair[1], "{pair:?}");
-    }
-    for pair in alerts.windows(2) {
-        assert!(rt; pair[0] < pair[1], "{pair:?}");
-    }
     for pair in failures.windows(2) {
         assert!(rt; pair[0] < pair[1], "{pair:?}");
     }
@@ -136,19 +150,25 @@ fn views_of_whole_options_alone(rt: HostRuntime) {
 }
 
 #[test]
-fn fields_at_their_least_lengths(rt: HostRuntime) {
+fn a_type_is_set_in_one_octet(rt: HostRuntime) {
     let mut octets = [0xff];
     let mut view = Ipv6Option::new_unchecked(octets.as_mut_slice());
     view.set_option_type(Type::Rpl);
     assert_eq!(rt; view.option_type(), Type::Rpl);
     assert_eq!(rt; &*view.into_inner(), [0x63].as_slice());
+}
 
+#[test]
+fn a_length_is_set_in_two_octets(rt: HostRuntime) {
     let mut octets = [0xff; 2];
     let mut view = Ipv6Option::new_unchecked(octets.as_mut_slice());
     view.set_data_len(3);
     assert_eq!(rt; view.data_len(), 3);
     assert_eq!(rt; octets, [0xff, 0x03]);
+}
 
+#[test]
+fn data_stand_behind_their_length(rt: HostRuntime) {
     let mut octets = [0x11, 0x03, 0xff, 0xff, 0xff];
     let mut view = Ipv6Option::new_unchecked(octets.as_mut_slice());
     view.data_mut().copy_from_slice(&[0xa1, 0xa2, 0xa3]);
@@ -268,6 +288,31 @@ fn holds_its_data(option: &Repr<'_>) -> bool
     }
 }
 
+// Writes an option over so many octets of this kind.
+fn check_written(
+    rt: &impl Abort,
+    alloc: Global,
+    option: Repr<'_>,
+    text: &[u8],
+    fill: u8,
+    len: usize,
+) -> Result<Vec<u8>, Fail> {
+    let mut octets = vec![in alloc; fill; len]?;
+    let mut plain = vec![in alloc; fill; len]?;
+    assert!(rt; text.len() <= len);
+    assert!(rt;
+        holds_its_data(&option) && option.buffer_len() == text.len(),
+        "of {option:?}"
+    );
+    option.emit(&mut Ipv6Option::new_unchecked(octets.as_mut_slice()));
+    option.emit_into(plain.as_mut_slice());
+    assert_eq!(rt; octets.as_slice(), plain.as_slice(), "of {option:?}");
+    let (front, left) = plain.as_slice().split_at(text.len());
+    assert_eq!(rt; front, text, "over {fill}");
+    assert!(rt; left.iter().all(|octet| *octet == fill), "after {option:?}");
+    Ok(octets)
+}
+
 #[test]
 fn options_written_over_octets_of_any_kind(rt: HostRuntime) -> Result<(), Fail> {
     // An option, its text, and what is read back: data past the length is not written.
@@ -291,20 +336,10 @@ fn options_written_over_octets_of_any_kind(rt: HostRuntime) -> Result<(), Fail> 
             unknown(&[0xa1, 0xa2]),
         ),
     ];
-    assert_eq!(rt; Repr::default(), Repr::Pad1);
     for (option, text, read) in rows {
-        assert!(rt; holds_its_data(&option));
-        assert_eq!(rt; option.buffer_len(), text.len(), "of {option:?}");
         for fill in [0x00, 0xff, 0x2a, 0xa5] {
-            for tail in [0, 3] {
-                let mut octets = vec![in rt.alloc(); fill; text.len() + tail]?;
-                option.emit(&mut Ipv6Option::new_unchecked(octets.as_mut_slice()));
-                let mut plain = vec![in rt.alloc(); fill; text.len() + tail]?;
-                option.emit_into(plain.as_mut_slice());
-                assert_eq!(rt; octets.as_slice(), plain.as_slice(), "of {option:?}");
-                let (front, left) = octets.as_slice().split_at(text.len());
-                assert_eq!(rt; front, text, "over {fill}");
-                assert!(rt; left.iter().all(|octet| *octet == fill), "after {option:?}");
+            for len in [text.len(), text.len() + 3] {
+                let octets = check_written(&rt, rt.alloc(), option, text, fill, len)?;
                 let view = Ipv6Option::new_unchecked(octets.as_slice());
                 assert_eq!(rt; Repr::parse(&view), Ok(read), "over {fill}");
             }
@@ -312,6 +347,11 @@ fn options_written_over_octets_of_any_kind(rt: HostRuntime) -> Result<(), Fail> 
         compare_damaged(&rt, rt.alloc(), text)?;
     }
     Ok(())
+}
+
+#[test]
+fn the_default_option_is_a_pad1(rt: HostRuntime) {
+    assert_eq!(rt; Repr::default(), Repr::Pad1);
 }
 
 #[test]
@@ -351,7 +391,7 @@ fn data_past_its_length_is_no_part_of_the_text(rt: HostRuntime) {
 }
 
 #[test]
-fn what_types_and_options_print(rt: HostRuntime) -> Result<(), Fail> {
+fn what_types_print(rt: HostRuntime) -> Result<(), Fail> {
     for (kind, text) in [
         (Type::Pad1, "Pad1"),
         (Type::PadN, "PadN"),
@@ -361,6 +401,11 @@ fn what_types_and_options_print(rt: HostRuntime) -> Result<(), Fail> {
     ] {
         assert_eq!(rt; kind.to_string(rt.alloc())?.as_str(), text);
     }
+    Ok(())
+}
+
+#[test]
+fn what_failure_types_print(rt: HostRuntime) -> Result<(), Fail> {
     for (failure, text) in [
         (FailureType::Skip, "skip"),
         (FailureType::Discard, "discard"),
@@ -372,6 +417,11 @@ fn what_types_and_options_print(rt: HostRuntime) -> Result<(), Fail> {
     ] {
         assert_eq!(rt; failure.to_string(rt.alloc())?.as_str(), text);
     }
+    Ok(())
+}
+
+#[test]
+fn what_options_print(rt: HostRuntime) -> Result<(), Fail> {
     let rows: [(&[u8], &str); 10] = [
         (&[0x00], "IPv6 Option Pad1 "),
         (&[0x01, 0x04, 0, 0, 0, 0], "IPv6 Option PadN length=4 "),

@@ -3,6 +3,7 @@ ghost use Rattle.opt_wire.specs.declared.ndiscoption.repr.Repr.TheVariants as re
 
 use super::{NdiscOption, PrefixInfoFlags, PrefixInformation, RedirectedHeader, Repr};
 use bitflags::Flags as _;
+use std::process::Abort;
 use std::test::Fail;
 use wirebase::{Duration, Error, IpProtocol, Ipv6Address, Ipv6Repr, RawHardwareAddress};
 
@@ -165,6 +166,15 @@ fn options_are_written_over_octets_of_any_kind(rt: HostRuntime) {
     }
 }
 
+fn check_address_is_written(rt: &impl Abort, address: &[u8], bytes: &[u8]) {
+    assert!(rt; address.len() <= 8);
+    let repr = Repr::SourceLinkLayerAddr(RawHardwareAddress::from_bytes(address));
+    let mut buffer = [0xff; 16];
+    let len = repr.buffer_len();
+    repr.emit_into(&mut buffer[..len]);
+    assert_eq!(rt; &buffer[..len], bytes);
+}
+
 #[test]
 fn addresses_of_other_lengths(rt: HostRuntime) {
     // An address, its option, and the address that is read in it.
@@ -187,11 +197,7 @@ fn addresses_of_other_lengths(rt: HostRuntime) {
         ),
     ];
     for (address, bytes, again) in rows {
-        let repr = Repr::SourceLinkLayerAddr(RawHardwareAddress::from_bytes(address));
-        let mut buffer = [0xff; 16];
-        let len = repr.buffer_len();
-        repr.emit_into(&mut buffer[..len]);
-        assert_eq!(rt; &buffer[..len], bytes);
+        check_address_is_written(&rt, address, bytes);
         let value = Repr::SourceLinkLayerAddr(RawHardwareAddress::from_bytes(again));
         assert_eq!(rt; read(bytes), Ok(value));
     }
@@ -359,6 +365,15 @@ fn options_in_words(rt: HostRuntime) -> Result<(), Fail> {
         target.as_str(),
         "NDISC Option: TargetLinkLayer addr=52:54:00:12:34:56"
     );
+    let mtu = Repr::Mtu(1_500).to_string(rt.alloc())?;
+    assert_eq!(rt; mtu.as_str(), "NDISC Option: MTU mtu=1500");
+    let other = unknown().to_string(rt.alloc())?;
+    assert_eq!(rt; other.as_str(), "NDISC Option: Unknown(14) length=1");
+    Ok(())
+}
+
+#[test]
+fn prefixes_and_redirected_packets_in_words(rt: HostRuntime) -> Result<(), Fail> {
     let prefix = Repr::PrefixInformation(prefix_information()).to_string(rt.alloc())?;
     assert_eq!(rt;
         prefix.as_str(),
@@ -369,10 +384,6 @@ fn options_in_words(rt: HostRuntime) -> Result<(), Fail> {
         redirected.as_str(),
         "NDISC Option: RedirectedHeader header=IPv6 src=fe80::1 dst=fe80::2 nxt_hdr=17 hop_limit=64"
     );
-    let mtu = Repr::Mtu(1_500).to_string(rt.alloc())?;
-    assert_eq!(rt; mtu.as_str(), "NDISC Option: MTU mtu=1500");
-    let other = unknown().to_string(rt.alloc())?;
-    assert_eq!(rt; other.as_str(), "NDISC Option: Unknown(14) length=1");
     Ok(())
 }
 

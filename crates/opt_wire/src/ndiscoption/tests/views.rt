@@ -42,7 +42,7 @@ fn fields_are_read_by_their_places_in_any_option(rt: HostRuntime) {
 }
 
 #[test]
-fn an_mtu_and_an_address_are_written(rt: HostRuntime) {
+fn an_mtu_is_written(rt: HostRuntime) {
     let mut bytes = [0xff; 8];
     let mut view = NdiscOption::new_unchecked(&mut bytes[..]);
     view.clear_redirected_reserved();
@@ -51,6 +51,12 @@ fn an_mtu_and_an_address_are_written(rt: HostRuntime) {
         view,
         NdiscOption::new_unchecked(&mut [0xff, 0xff, 0, 0, 0, 0, 0x05, 0xdc][..])
     );
+}
+
+#[test]
+fn an_address_is_written(rt: HostRuntime) {
+    let mut bytes = [0xff, 0xff, 0, 0, 0, 0, 0x05, 0xdc];
+    let mut view = NdiscOption::new_unchecked(&mut bytes[..]);
     view.set_data_len(1);
     view.set_link_layer_addr(RawHardwareAddress::from_bytes(&[1, 2, 3]));
     assert_eq!(rt; view.into_inner().len(), 8);
