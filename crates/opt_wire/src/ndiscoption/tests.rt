@@ -365,15 +365,6 @@ fn options_in_words(rt: HostRuntime) -> Result<(), Fail> {
         target.as_str(),
         "NDISC Option: TargetLinkLayer addr=52:54:00:12:34:56"
     );
-    let mtu = Repr::Mtu(1_500).to_string(rt.alloc())?;
-    assert_eq!(rt; mtu.as_str(), "NDISC Option: MTU mtu=1500");
-    let other = unknown().to_string(rt.alloc())?;
-    assert_eq!(rt; other.as_str(), "NDISC Option: Unknown(14) length=1");
-    Ok(())
-}
-
-#[test]
-fn prefixes_and_redirected_packets_in_words(rt: HostRuntime) -> Result<(), Fail> {
     let prefix = Repr::PrefixInformation(prefix_information()).to_string(rt.alloc())?;
     assert_eq!(rt;
         prefix.as_str(),
@@ -384,6 +375,10 @@ fn prefixes_and_redirected_packets_in_words(rt: HostRuntime) -> Result<(), Fail>
         redirected.as_str(),
         "NDISC Option: RedirectedHeader header=IPv6 src=fe80::1 dst=fe80::2 nxt_hdr=17 hop_limit=64"
     );
+    let mtu = Repr::Mtu(1_500).to_string(rt.alloc())?;
+    assert_eq!(rt; mtu.as_str(), "NDISC Option: MTU mtu=1500");
+    let other = unknown().to_string(rt.alloc())?;
+    assert_eq!(rt; other.as_str(), "NDISC Option: Unknown(14) length=1");
     Ok(())
 }
 
