@@ -355,22 +355,27 @@ const RECORD: [u8; 22] = [
 ];
 
 #[test]
-fn fields_of_records(rt: HostRuntime) {
+fn fields_of_records_are_set(rt: HostRuntime) {
     let mut octets = [0x2a; 22];
-    let Ok(mut record) = AddressRecord::new_checked(octets.as_mut_slice()) else {
-        assert!(rt; false, "20 bytes are enough");
-        return;
-    };
+    let mut record = AddressRecord::new_unchecked(octets.as_mut_slice());
     record.set_record_type(RecordType::BlockOldSources);
     record.set_aux_data_len(0x01);
     record.set_num_srcs(0x0203);
     record.set_mcast_addr(IPV6_LINK_LOCAL_ALL_NODES);
+    record.payload_mut().copy_from_slice(&[0xaa, 0xbb]);
+    assert_eq!(rt; &*record.into_inner(), RECORD.as_slice());
+}
+
+#[test]
+fn fields_of_records_are_read(rt: HostRuntime) {
+    let Ok(record) = AddressRecord::new_checked(RECORD.as_slice()) else {
+        assert!(rt; false, "20 bytes are enough");
+        return;
+    };
     assert_eq!(rt; record.record_type(), RecordType::BlockOldSources);
     assert_eq!(rt; record.aux_data_len(), 0x01);
     assert_eq!(rt; record.num_srcs(), 0x0203);
     assert_eq!(rt; record.mcast_addr(), IPV6_LINK_LOCAL_ALL_NODES);
-    record.payload_mut().copy_from_slice(&[0xaa, 0xbb]);
-    assert_eq!(rt; &*record.into_inner(), RECORD.as_slice());
 }
 
 #[test]
