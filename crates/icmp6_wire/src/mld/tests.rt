@@ -61,12 +61,25 @@ fn queries_are_written_and_read(rt: HostRuntime) -> Result<(), Fail> {
 }
 
 #[test]
-fn reports_are_written_and_read(rt: HostRuntime) -> Result<(), Fail> {
+fn reports_are_written_and_read(rt: HostRuntime) {
     let octets = REPORT;
     let report = Repr::Report {
         nr_mcast_addr_rcrds: 1,
         data: &octets[8..],
     };
+    for fill in FILLS {
+        let mut written = [fill; 28];
+        let mut packet = Packet::new_unchecked(written.as_mut_slice());
+        report.emit(&mut packet);
+        assert_eq!(rt; written.as_slice(), REPORT.as_slice(), "over {fill}");
+    }
+    let packet = Packet::new_unchecked(octets.as_slice());
+    assert!(rt; Repr::parse(&packet) == Ok(report));
+    assert_eq!(rt; [report.buffer_len(), report.packet_len()], [28, 28]);
+}
+
+#[test]
+fn a_list_of_records_is_written_as_a_report(rt: HostRuntime) {
     let records = [AddressRecordRepr::new(
         RecordType::ChangeToExclude,
         IPV6_LINK_LOCAL_ALL_ROUTERS,
@@ -75,26 +88,21 @@ fn reports_are_written_and_read(rt: HostRuntime) -> Result<(), Fail> {
     for fill in FILLS {
         let mut written = [fill; 28];
         let mut packet = Packet::new_unchecked(written.as_mut_slice());
-        report.emit(&mut packet);
-        assert_eq!(rt; written.as_slice(), REPORT.as_slice(), "over {fill}");
-        let mut written = [fill; 28];
-        let mut packet = Packet::new_unchecked(written.as_mut_slice());
         by_records.emit(&mut packet);
         assert_eq!(rt; written.as_slice(), REPORT.as_slice(), "over {fill}");
     }
-    let packet = Packet::new_unchecked(octets.as_slice());
-    assert!(rt; Repr::parse(&packet) == Ok(report));
-    assert_eq!(rt; report.buffer_len(), 28);
-    assert_eq!(rt; report.packet_len(), 28);
-    assert_eq!(rt; by_records.buffer_len(), 8);
-    assert_eq!(rt; by_records.packet_len(), 28);
+    assert_eq!(rt; [by_records.buffer_len(), by_records.packet_len()], [8, 28]);
+}
+
+#[test]
+fn reports_are_read_by_their_first_8_bytes(rt: HostRuntime) {
+    let octets = REPORT;
     for len in 0..8 {
         let packet = Packet::new_unchecked(&octets[..len]);
         assert!(rt; Repr::parse(&packet).is_err(), "{len} bytes");
     }
     let packet = Packet::new_unchecked(&octets[..8]);
     assert!(rt; Repr::parse(&packet).is_ok());
-    Ok(())
 }
 
 #[test]
@@ -259,14 +267,15 @@ fn a_list_of_records_is_read_back_as_a_report(rt: HostRuntime) {
     assert!(rt; read == Ok(report));
 }
 
+// A report of two records: one with a data word and 515 sources, which are left out, and one of an unknown type.
+const TWO_RECORDS: [u8; 48] = [
+    0x8f, 0x00, 0x00, 0x00, 0x00, 0x00, 0x00, 0x02, 0x02, 0x01, 0x02, 0x03, 0xff, 0x02, 0x00, 0x00,
+    0x00, 0x00, 0x00, 0x00, 0x00, 0x00, 0x00, 0x00, 0x00, 0x00, 0x00, 0x01, 0x07, 0x00, 0x00, 0x00,
+    0xff, 0x02, 0x00, 0x00, 0x00, 0x00, 0x00, 0x00, 0x00, 0x00, 0x00, 0x00, 0x00, 0x00, 0x00, 0x02,
+];
+
 #[test]
 fn records_are_written_in_their_order(rt: HostRuntime) {
-    let octets = [
-        0x8f, 0x00, 0x00, 0x00, 0x00, 0x00, 0x00, 0x02, 0x02, 0x01, 0x02, 0x03, 0xff, 0x02, 0x00,
-        0x00, 0x00, 0x00, 0x00, 0x00, 0x00, 0x00, 0x00, 0x00, 0x00, 0x00, 0x00, 0x01, 0x07, 0x00,
-        0x00, 0x00, 0xff, 0x02, 0x00, 0x00, 0x00, 0x00, 0x00, 0x00, 0x00, 0x00, 0x00, 0x00, 0x00,
-        0x00, 0x00, 0x02,
-    ];
     let records = [
         AddressRecordRepr {
             record_type: RecordType::ModeIsExclude,
@@ -282,8 +291,12 @@ fn records_are_written_in_their_order(rt: HostRuntime) {
     for fill in FILLS {
         let mut written = [fill; 48];
         report.emit(&mut Packet::new_unchecked(written.as_mut_slice()));
-        assert_eq!(rt; written.as_slice(), octets.as_slice(), "over {fill}");
+        assert_eq!(rt; written.as_slice(), TWO_RECORDS.as_slice(), "over {fill}");
     }
+}
+
+#[test]
+fn an_empty_list_of_records_is_written(rt: HostRuntime) {
     let report = Repr::ReportRecordReprs(&[]);
     assert_eq!(rt; report.packet_len(), 8);
     for fill in FILLS {
@@ -336,32 +349,45 @@ fn fields_of_queries_and_reports(rt: HostRuntime) {
     assert_eq!(rt; octets, [0x2a, 0x2a, 0x2a, 0x2a, 0x2a, 0x2a, 0x01, 0x02]);
 }
 
+// A record of the group ff02::1 that names a data word and 515 sources, with two octets behind it.
+const RECORD: [u8; 22] = [
+    0x06, 0x01, 0x02, 0x03, 0xff, 0x02, 0, 0, 0, 0, 0, 0, 0, 0, 0, 0, 0, 0, 0, 0x01, 0xaa, 0xbb,
+];
+
 #[test]
-fn fields_of_records(rt: HostRuntime) -> Result<(), Fail> {
+fn fields_of_records_are_set(rt: HostRuntime) {
     let mut octets = [0x2a; 22];
-    let mut record = AddressRecord::new_checked(octets.as_mut_slice())?;
+    let mut record = AddressRecord::new_unchecked(octets.as_mut_slice());
     record.set_record_type(RecordType::BlockOldSources);
     record.set_aux_data_len(0x01);
     record.set_num_srcs(0x0203);
     record.set_mcast_addr(IPV6_LINK_LOCAL_ALL_NODES);
+    record.payload_mut().copy_from_slice(&[0xaa, 0xbb]);
+    assert_eq!(rt; &*record.into_inner(), RECORD.as_slice());
+}
+
+#[test]
+fn fields_of_records_are_read(rt: HostRuntime) {
+    let Ok(record) = AddressRecord::new_checked(RECORD.as_slice()) else {
+        assert!(rt; false, "20 bytes are enough");
+        return;
+    };
     assert_eq!(rt; record.record_type(), RecordType::BlockOldSources);
     assert_eq!(rt; record.aux_data_len(), 0x01);
     assert_eq!(rt; record.num_srcs(), 0x0203);
     assert_eq!(rt; record.mcast_addr(), IPV6_LINK_LOCAL_ALL_NODES);
-    record.payload_mut().copy_from_slice(&[0xaa, 0xbb]);
-    let written = [
-        0x06, 0x01, 0x02, 0x03, 0xff, 0x02, 0, 0, 0, 0, 0, 0, 0, 0, 0, 0, 0, 0, 0, 0x01, 0xaa, 0xbb,
-    ];
-    assert_eq!(rt; &*record.into_inner(), written.as_slice());
-    let record = AddressRecord::new_unchecked(written.as_slice());
-    assert_eq!(rt; record.payload(), [0xaa, 0xbb].as_slice());
-    assert!(rt; record == AddressRecord::new_unchecked(written.as_slice()));
-    assert!(rt; record != AddressRecord::new_unchecked(&written[..21]));
-    Ok(())
 }
 
 #[test]
-fn equal_texts_have_equal_normal_forms(rt: HostRuntime) {
+fn records_are_compared_with_what_stands_behind_them(rt: HostRuntime) {
+    let record = AddressRecord::new_unchecked(RECORD.as_slice());
+    assert_eq!(rt; record.payload(), [0xaa, 0xbb].as_slice());
+    assert!(rt; record == AddressRecord::new_unchecked(RECORD.as_slice()));
+    assert!(rt; record != AddressRecord::new_unchecked(&RECORD[..21]));
+}
+
+#[test]
+fn a_list_of_records_and_a_report_have_the_same_text(rt: HostRuntime) {
     let records = [AddressRecordRepr::new(
         RecordType::ChangeToExclude,
         IPV6_LINK_LOCAL_ALL_ROUTERS,
@@ -372,31 +398,47 @@ fn equal_texts_have_equal_normal_forms(rt: HostRuntime) {
         nr_mcast_addr_rcrds: 1,
         data: &octets[8..],
     };
-    let other = Repr::Report {
-        nr_mcast_addr_rcrds: 2,
-        data: &octets[8..],
-    };
     let mut one = [0; 28];
     by_records.emit_into(&mut one);
     let mut two = [0; 28];
     report.emit_into(&mut two);
-    let mut three = [0; 28];
-    other.emit_into(&mut three);
     assert_eq!(rt; one, two);
-    assert!(rt; two != three);
     assert!(rt; by_records != report, "another value of the same text");
     Repr::same_text(&by_records, &report);
+}
+
+#[test]
+fn reports_of_other_counts_have_other_texts(rt: HostRuntime) {
+    let octets = REPORT;
+    let report = Repr::Report {
+        nr_mcast_addr_rcrds: 1,
+        data: &octets[8..],
+    };
+    let other = Repr::Report {
+        nr_mcast_addr_rcrds: 2,
+        data: &octets[8..],
+    };
+    let mut two = [0; 28];
+    report.emit_into(&mut two);
+    let mut three = [0; 28];
+    other.emit_into(&mut three);
+    assert!(rt; two != three);
     Repr::same_text(&report, &other);
+}
+
+#[test]
+fn equal_texts_of_records_have_equal_normal_forms(rt: HostRuntime) {
+    let bare = AddressRecordRepr::new(RecordType::ChangeToExclude, IPV6_LINK_LOCAL_ALL_ROUTERS);
     let with_payload = AddressRecordRepr {
         payload: &[0xaa],
-        ..records[0]
+        ..bare
     };
     let mut one = [0; 20];
-    records[0].emit_into(&mut one);
+    bare.emit_into(&mut one);
     let mut two = [0; 20];
     with_payload.emit_into(&mut two);
     assert_eq!(rt; one, two);
-    AddressRecordRepr::same_text(&records[0], &with_payload);
+    AddressRecordRepr::same_text(&bare, &with_payload);
 }
 
 #[test]

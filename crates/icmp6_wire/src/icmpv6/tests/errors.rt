@@ -2,6 +2,7 @@ ghost use Rattle.std.specs.Prelude.{◌≡◌};
 
 use super::{FILLS, TOO_BIG, all, destination, source};
 use crate::icmpv6::{DstUnreachable, Packet, ParamProblem, Repr, TimeExceeded};
+use std::process::Abort;
 use std::test::Fail;
 use wirebase::capabilities::Checksum;
 use wirebase::{IpProtocol, Ipv6Repr};
@@ -124,37 +125,57 @@ fn parameter_problems_are_written_and_read(rt: HostRuntime) {
     );
 }
 
-#[test]
-fn errors_that_differ_past_what_they_quote_have_the_same_text(rt: HostRuntime) {
+// Writes an error with this data over octets that are all this one, and checks that it is read with what it quotes.
+fn check_quoted(rt: &impl Abort, data: &[u8], cut: &[u8], fill: u8) -> [u8; 1240] {
     let caps = all(Checksum::Both);
-    let mut data = [0x11; 1194];
-    data[1192] = 0x12;
-    data[1193] = 0x13;
+    let mut octets = [fill; 1240];
+    Repr::DstUnreachable {
+        reason: DstUnreachable::PortUnreachable,
+        header: quoted(),
+        data,
+    }
+    .emit_into(&source(), &destination(), &mut octets, &caps);
+    let packet = Packet::new_unchecked(octets.as_slice());
+    assert!(rt;
+        Repr::parse(&source(), &destination(), &packet, &caps)
+            == Ok(Repr::DstUnreachable {
+                reason: DstUnreachable::PortUnreachable,
+                header: quoted(),
+                data: cut
+            })
+    );
+    octets
+}
+
+// Checks that errors with these data differ, of which the first is read from the text of both.
+fn check_same_text(rt: &impl Abort, text: &[u8], cut: &[u8], whole: &[u8]) {
+    let caps = all(Checksum::Both);
     let one = Repr::DstUnreachable {
         reason: DstUnreachable::PortUnreachable,
         header: quoted(),
-        data: &data[..1192],
+        data: cut,
     };
     let other = Repr::DstUnreachable {
         reason: DstUnreachable::PortUnreachable,
         header: quoted(),
-        data: &data,
+        data: whole,
     };
-    let mut written = [0; 1240];
-    one.emit_into(&source(), &destination(), &mut written, &caps);
-    let mut over = [0xff; 1240];
-    other.emit_into(&source(), &destination(), &mut over, &caps);
     assert!(rt; one != other);
-    assert_eq!(rt; written.as_slice(), over.as_slice());
     Repr::same_text(&one, &other, &source(), &destination(), &caps);
-    assert!(rt;
-        Repr::parse(
-            &source(),
-            &destination(),
-            &Packet::new_unchecked(written.as_slice()),
-            &caps
-        ) == Ok(one)
-    );
+    let packet = Packet::new_unchecked(text);
+    assert!(rt; Repr::parse(&source(), &destination(), &packet, &caps) == Ok(one));
+}
+
+#[test]
+fn errors_that_differ_past_what_they_quote_have_the_same_text(rt: HostRuntime) {
+    let mut data = [0x11; 1194];
+    data[1192] = 0x12;
+    data[1193] = 0x13;
+    let cut = &data[..1192];
+    let written = check_quoted(&rt, cut, cut, 0);
+    let over = check_quoted(&rt, &data, cut, 0xff);
+    assert_eq!(rt; written.as_slice(), over.as_slice());
+    check_same_text(&rt, &written, cut, &data);
 }
 
 #[test]

@@ -3,7 +3,7 @@ use crate::icmpv6::{Message, Packet};
 use std::test::Fail;
 
 #[test]
-fn what_is_reserved_is_cleared(rt: HostRuntime) {
+fn what_solicitations_have_reserved_is_cleared(rt: HostRuntime) {
     let mut octets = [0xff; 8];
     octets[0] = 0x85;
     Packet::new_unchecked(octets.as_mut_slice()).clear_reserved();
@@ -12,6 +12,10 @@ fn what_is_reserved_is_cleared(rt: HostRuntime) {
     octets[0] = 0x87;
     Packet::new_unchecked(octets.as_mut_slice()).clear_reserved();
     assert_eq!(rt; octets, [0x87, 0xff, 0xff, 0xff, 0, 0, 0, 0, 0xff]);
+}
+
+#[test]
+fn what_neighbor_advertisements_and_redirects_have_reserved_is_cleared(rt: HostRuntime) {
     let mut octets = [0xff; 9];
     octets[0] = 0x88;
     Packet::new_unchecked(octets.as_mut_slice()).clear_reserved();
@@ -20,6 +24,10 @@ fn what_is_reserved_is_cleared(rt: HostRuntime) {
     octets[0] = 0x89;
     Packet::new_unchecked(octets.as_mut_slice()).clear_reserved();
     assert_eq!(rt; octets, [0x89, 0xff, 0xff, 0xff, 0, 0, 0, 0, 0xff]);
+}
+
+#[test]
+fn what_a_report_has_reserved_is_cleared(rt: HostRuntime) {
     let mut octets = [0xff; 6];
     octets[0] = 0x8f;
     Packet::new_unchecked(octets.as_mut_slice()).clear_reserved();
@@ -42,8 +50,11 @@ fn what_a_query_has_reserved_is_cleared(rt: HostRuntime) {
     }
 }
 
+// An echo reply with one octet behind its header.
+const FIELDS: [u8; 9] = [0x81, 0x01, 0x12, 0x34, 0x56, 0x78, 0x9a, 0xbc, 0x2a];
+
 #[test]
-fn fields_are_set_and_read(rt: HostRuntime) {
+fn fields_are_set(rt: HostRuntime) {
     let mut octets = [0x2a; 9];
     let mut packet = Packet::new_unchecked(octets.as_mut_slice());
     packet.set_msg_type(Message::EchoReply);
@@ -51,17 +62,32 @@ fn fields_are_set_and_read(rt: HostRuntime) {
     packet.set_checksum(0x1234);
     packet.set_echo_ident(0x5678);
     packet.set_echo_seq_no(0x9abc);
+    assert_eq!(rt; packet.as_ref(), FIELDS.as_slice());
+}
+
+#[test]
+fn fields_are_read(rt: HostRuntime) {
+    let packet = Packet::new_unchecked(FIELDS.as_slice());
     assert_eq!(rt; packet.msg_type(), Message::EchoReply);
     assert_eq!(rt; packet.msg_code(), 0x01);
-    assert_eq!(rt; packet.checksum(), 0x1234);
-    assert_eq!(rt; packet.echo_ident(), 0x5678);
-    assert_eq!(rt; packet.echo_seq_no(), 0x9abc);
     assert_eq!(rt;
-        packet.as_ref(),
-        [0x81, 0x01, 0x12, 0x34, 0x56, 0x78, 0x9a, 0xbc, 0x2a].as_slice()
+        [packet.checksum(), packet.echo_ident(), packet.echo_seq_no()],
+        [0x1234, 0x5678, 0x9abc]
     );
+}
+
+#[test]
+fn an_mtu_is_set_and_read(rt: HostRuntime) {
+    let mut octets = FIELDS;
+    let mut packet = Packet::new_unchecked(octets.as_mut_slice());
     packet.set_pkt_too_big_mtu(0x0102_0304);
     assert_eq!(rt; packet.pkt_too_big_mtu(), 0x0102_0304);
+}
+
+#[test]
+fn a_pointer_is_set_and_read(rt: HostRuntime) {
+    let mut octets = FIELDS;
+    let mut packet = Packet::new_unchecked(octets.as_mut_slice());
     packet.set_param_problem_ptr(0x0506_0708);
     assert_eq!(rt; packet.param_problem_ptr(), 0x0506_0708);
     assert_eq!(rt;

@@ -1,5 +1,7 @@
 use crate::icmpv6::{DstUnreachable, Message, Packet, ParamProblem, TimeExceeded};
+use std::alloc::Global;
 use std::fmt::Write;
+use std::process::Abort;
 use std::test::Fail;
 use wirebase::failing_writer::FailingWriter;
 
@@ -52,86 +54,70 @@ fn each_type_asks_its_header(rt: HostRuntime) -> Result<(), Fail> {
     Ok(())
 }
 
+// Checks whether a type is that of an error, of neighbor discovery or of listener discovery, and how it is printed.
+fn check_type(rt: &impl Abort, alloc: Global, message: Message, classes: [bool; 3], text: &str) {
+    assert_eq!(rt;
+        [message.is_error(), message.is_ndisc(), message.is_mld()],
+        classes,
+        "{message}"
+    );
+    let Ok(printed) = message.to_string(alloc) else {
+        assert!(rt; false, "no room for a text");
+        return;
+    };
+    assert_eq!(rt; printed.as_str(), text);
+}
+
 #[test]
-fn classes_and_texts_of_types(rt: HostRuntime) -> Result<(), Fail> {
-    let rows = [
-        (
-            Message::DstUnreachable,
-            true,
-            false,
-            false,
-            "destination unreachable",
-        ),
-        (Message::PktTooBig, true, false, false, "packet too big"),
-        (Message::TimeExceeded, true, false, false, "time exceeded"),
-        (
-            Message::ParamProblem,
-            true,
-            false,
-            false,
-            "parameter problem",
-        ),
-        (Message::EchoRequest, false, false, false, "echo request"),
-        (Message::EchoReply, false, false, false, "echo reply"),
-        (
-            Message::MldQuery,
-            false,
-            false,
-            true,
-            "multicast listener query",
-        ),
-        (
-            Message::RouterSolicit,
-            false,
-            true,
-            false,
-            "router solicitation",
-        ),
-        (
-            Message::RouterAdvert,
-            false,
-            true,
-            false,
-            "router advertisement",
-        ),
-        (
-            Message::NeighborSolicit,
-            false,
-            true,
-            false,
-            "neighbor solicitation",
-        ),
-        (
-            Message::NeighborAdvert,
-            false,
-            true,
-            false,
-            "neighbor advert",
-        ),
-        (Message::Redirect, false, true, false, "redirect"),
-        (
-            Message::MldReport,
-            false,
-            false,
-            true,
-            "multicast listener report",
-        ),
-        (
-            Message::RplControl,
-            false,
-            false,
-            false,
-            "RPL control message",
-        ),
-        (Message::Unknown(5), true, false, false, "5"),
-        (Message::Unknown(0xff), false, false, false, "255"),
-    ];
-    for (message, error, ndisc, mld, text) in rows {
-        assert_eq!(rt; message.is_error(), error, "{message}");
-        assert_eq!(rt; message.is_ndisc(), ndisc, "{message}");
-        assert_eq!(rt; message.is_mld(), mld, "{message}");
-        assert_eq!(rt; message.to_string(rt.alloc())?.as_str(), text);
+fn types_of_errors(rt: HostRuntime) {
+    for (message, text) in [
+        (Message::DstUnreachable, "destination unreachable"),
+        (Message::PktTooBig, "packet too big"),
+        (Message::TimeExceeded, "time exceeded"),
+        (Message::ParamProblem, "parameter problem"),
+        (Message::Unknown(5), "5"),
+    ] {
+        check_type(&rt, rt.alloc(), message, [true, false, false], text);
     }
+}
+
+#[test]
+fn types_of_neighbor_discovery(rt: HostRuntime) {
+    for (message, text) in [
+        (Message::RouterSolicit, "router solicitation"),
+        (Message::RouterAdvert, "router advertisement"),
+        (Message::NeighborSolicit, "neighbor solicitation"),
+        (Message::NeighborAdvert, "neighbor advert"),
+        (Message::Redirect, "redirect"),
+    ] {
+        check_type(&rt, rt.alloc(), message, [false, true, false], text);
+    }
+}
+
+#[test]
+fn types_of_listener_discovery(rt: HostRuntime) {
+    for (message, text) in [
+        (Message::MldQuery, "multicast listener query"),
+        (Message::MldReport, "multicast listener report"),
+    ] {
+        check_type(&rt, rt.alloc(), message, [false, false, true], text);
+    }
+}
+
+#[test]
+fn types_of_no_class(rt: HostRuntime) {
+    for (message, text) in [
+        (Message::EchoRequest, "echo request"),
+        (Message::EchoReply, "echo reply"),
+        (Message::RplControl, "RPL control message"),
+        (Message::Unknown(0xff), "255"),
+    ] {
+        check_type(&rt, rt.alloc(), message, [false, false, false], text);
+    }
+}
+
+#[test]
+fn texts_of_codes(rt: HostRuntime) -> Result<(), Fail> {
     let text = ParamProblem::UnrecognizedNxtHdr.to_string(rt.alloc())?;
     assert_eq!(rt; text.as_str(), "unrecognized next header type.");
     let text = TimeExceeded::Unknown(7).to_string(rt.alloc())?;
@@ -145,13 +131,17 @@ fn classes_and_texts_of_types(rt: HostRuntime) -> Result<(), Fail> {
 }
 
 #[test]
-fn printing_fails_only_with_its_writer(rt: HostRuntime) {
+fn printing_fails_with_its_writer(rt: HostRuntime) {
     let mut none = FailingWriter { left: 0 };
     assert!(rt; write!(none, "{}", Message::EchoReply).is_err());
     assert!(rt; write!(none, "{}", Message::Unknown(5)).is_err());
     assert!(rt; write!(none, "{}", DstUnreachable::NoRoute).is_err());
     assert!(rt; write!(none, "{}", ParamProblem::ErroneousHdrField).is_err());
     assert!(rt; write!(none, "{}", TimeExceeded::HopLimitExceeded).is_err());
+}
+
+#[test]
+fn printing_fails_only_with_its_writer(rt: HostRuntime) {
     let mut five = FailingWriter { left: 5 };
     assert!(rt; write!(five, "{}", Message::EchoReply).is_ok());
     assert!(rt; write!(five, "{}", Message::Unknown(5)).is_ok());

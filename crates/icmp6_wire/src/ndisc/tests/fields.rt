@@ -4,19 +4,28 @@ use crate::ndisc::{NeighborFlags, RouterFlags};
 use bitflags::Flags as _;
 use wirebase::Duration;
 
+// Hop limit 64, flag M with bits that have no name, a lifetime of 900 s, and times of 900 and 901 ms.
+const ADVERT_FIELDS: [u8; 16] = [
+    0x86, 0x00, 0xa9, 0xde, 0x40, 0xbf, 0x03, 0x84, 0x00, 0x00, 0x03, 0x84, 0x00, 0x00, 0x03, 0x85,
+];
+
 #[test]
 fn fields_of_a_router_advertisement(rt: HostRuntime) {
-    let bytes = [
-        0x86, 0x00, 0xa9, 0xde, 0x40, 0xbf, 0x03, 0x84, 0x00, 0x00, 0x03, 0x84, 0x00, 0x00, 0x03,
-        0x85,
-    ];
-    let packet = Packet::new_unchecked(&bytes[..]);
+    let packet = Packet::new_unchecked(ADVERT_FIELDS.as_slice());
     assert_eq!(rt; packet.current_hop_limit(), 64);
     assert_eq!(rt; packet.router_flags(), RouterFlags::MANAGED);
+}
+
+#[test]
+fn times_of_a_router_advertisement(rt: HostRuntime) {
+    let packet = Packet::new_unchecked(ADVERT_FIELDS.as_slice());
     assert_eq!(rt; packet.router_lifetime(), Duration::from_secs(900));
     assert_eq!(rt; packet.reachable_time(), Duration::from_millis(900));
     assert_eq!(rt; packet.retrans_time(), Duration::from_millis(901));
+}
 
+#[test]
+fn fields_of_a_router_advertisement_are_set(rt: HostRuntime) {
     let mut buffer = [0x2a; 16];
     let mut packet = Packet::new_unchecked(&mut buffer[..]);
     packet.set_current_hop_limit(64);
@@ -24,11 +33,20 @@ fn fields_of_a_router_advertisement(rt: HostRuntime) {
     packet.set_router_lifetime(Duration::from_micros(900_999_999));
     packet.set_reachable_time(Duration::from_micros(900_999));
     packet.set_retrans_time(Duration::from_millis(901));
-    assert_eq!(rt; &buffer[..4], &[0x2a; 4][..]);
-    assert_eq!(rt; buffer[5], 0xc0);
-    buffer[5] = bytes[5];
-    assert_eq!(rt; &buffer[4..], &bytes[4..]);
+    assert_eq!(rt;
+        buffer,
+        [
+            0x2a, 0x2a, 0x2a, 0x2a, 0x40, 0xc0, 0x03, 0x84, 0x00, 0x00, 0x03, 0x84, 0x00, 0x00,
+            0x03, 0x85
+        ]
+    );
 }
+
+// Flags S and O, fe80::1 and fe80::2, over octets that are 0x2a.
+const NEIGHBOR_FIELDS: [u8; 40] = [
+    0x2a, 0x2a, 0x2a, 0x2a, 0x60, 0x2a, 0x2a, 0x2a, 0xfe, 0x80, 0, 0, 0, 0, 0, 0, 0, 0, 0, 0, 0, 0,
+    0, 0x01, 0xfe, 0x80, 0, 0, 0, 0, 0, 0, 0, 0, 0, 0, 0, 0, 0, 0x02,
+];
 
 #[test]
 fn fields_of_neighbor_messages(rt: HostRuntime) {
@@ -43,11 +61,12 @@ fn fields_of_neighbor_messages(rt: HostRuntime) {
     );
     assert_eq!(rt; packet.target_addr(), here());
     assert_eq!(rt; packet.dest_addr(), there());
-    assert_eq!(rt; bytes[4], 0x60);
-    assert_eq!(rt; &bytes[..4], &[0x2a; 4][..]);
-    assert_eq!(rt; &bytes[5..8], &[0x2a; 3][..]);
-    assert_eq!(rt; &bytes[8..24], here().octets().as_slice());
-    assert_eq!(rt; &bytes[24..], there().octets().as_slice());
+    assert_eq!(rt; bytes, NEIGHBOR_FIELDS);
+}
+
+#[test]
+fn flags_without_a_name_are_not_read(rt: HostRuntime) {
+    let mut bytes = NEIGHBOR_FIELDS;
     bytes[4] = 0xff;
     let packet = Packet::new_unchecked(&bytes[..]);
     assert_eq!(rt; packet.neighbor_flags(), NeighborFlags::all());
@@ -55,24 +74,24 @@ fn fields_of_neighbor_messages(rt: HostRuntime) {
 
 #[test]
 fn sets_of_flags(rt: HostRuntime) {
-    assert_eq!(rt; RouterFlags::all().bits(), 0xc0);
-    assert_eq!(rt; NeighborFlags::all().bits(), 0xe0);
+    assert_eq!(rt;
+        [RouterFlags::all().bits(), NeighborFlags::all().bits()],
+        [0xc0, 0xe0]
+    );
     assert_eq!(rt; RouterFlags::from_bits(0x20), None);
     assert_eq!(rt;
         NeighborFlags::from_bits_truncate(0x3f),
         NeighborFlags::OVERRIDE
     );
+}
+
+#[test]
+fn sets_of_router_flags_are_joined_and_parted(rt: HostRuntime) {
     assert_eq!(rt; (!RouterFlags::MANAGED), RouterFlags::OTHER);
-    assert_eq!(rt; (!NeighborFlags::ROUTER).bits(), 0x60);
     assert_eq!(rt;
         (RouterFlags::all() - RouterFlags::MANAGED),
         RouterFlags::OTHER
     );
-    assert_eq!(rt;
-        (NeighborFlags::all() & NeighborFlags::ROUTER),
-        NeighborFlags::ROUTER
-    );
-    assert_eq!(rt; (NeighborFlags::all() ^ NeighborFlags::ROUTER).bits(), 0x60);
     assert_eq!(rt;
         (RouterFlags::MANAGED ^ RouterFlags::OTHER),
         RouterFlags::all()
@@ -80,6 +99,21 @@ fn sets_of_flags(rt: HostRuntime) {
     assert_eq!(rt;
         (RouterFlags::MANAGED & RouterFlags::OTHER),
         RouterFlags::empty()
+    );
+}
+
+#[test]
+fn sets_of_neighbor_flags_are_joined_and_parted(rt: HostRuntime) {
+    assert_eq!(rt;
+        [
+            (!NeighborFlags::ROUTER).bits(),
+            (NeighborFlags::all() ^ NeighborFlags::ROUTER).bits()
+        ],
+        [0x60, 0x60]
+    );
+    assert_eq!(rt;
+        (NeighborFlags::all() & NeighborFlags::ROUTER),
+        NeighborFlags::ROUTER
     );
     assert_eq!(rt;
         (NeighborFlags::all() - NeighborFlags::all()),

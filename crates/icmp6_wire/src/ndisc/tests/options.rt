@@ -1,5 +1,6 @@
-use super::{REDIRECT, here, read, reads, there};
+use super::{REDIRECT, THREE_MTUS, here, read, reads, there};
 use crate::ndisc::Repr;
+use std::process::Abort;
 
 // The MTU that a router advertisement with these options tells; nothing where it is refused.
 fn mtu_of(bytes: &[u8]) -> Option<Option<u32>> {
@@ -12,51 +13,62 @@ fn mtu_of(bytes: &[u8]) -> Option<Option<u32>> {
     }
 }
 
-// A router advertisement without options.
-const BARE: [u8; 16] = [
-    0x86, 0x00, 0x00, 0x00, 0x40, 0x80, 0x03, 0x84, 0x00, 0x00, 0x03, 0x84, 0x00, 0x00, 0x03, 0x84,
-];
+// Checks the MTU that these octets tell.
+fn check_mtu(rt: &impl Abort, octets: &[u8], wanted: Option<Option<u32>>) {
+    assert_eq!(rt; mtu_of(octets), wanted, "of {octets:?}");
+}
 
 #[test]
 fn of_two_options_the_last_that_can_be_read_counts(rt: HostRuntime) {
-    let mut octets = [0; 48];
-    octets[..16].copy_from_slice(&BARE);
-    // An MTU of 1,500, one of 1,280, and one of two units, which is skipped.
-    octets[16..24].copy_from_slice(&[0x05, 0x01, 0x00, 0x00, 0x00, 0x00, 0x05, 0xdc]);
-    octets[24..32].copy_from_slice(&[0x05, 0x01, 0x00, 0x00, 0x00, 0x00, 0x05, 0x00]);
-    octets[32..34].copy_from_slice(&[0x05, 0x02]);
-    assert_eq!(rt; mtu_of(&octets), Some(Some(1_280)));
-    assert_eq!(rt; mtu_of(&octets[..24]), Some(Some(1_500)));
-    assert_eq!(rt; mtu_of(&octets[..16]), Some(None));
-    // The skipped one comes first.
-    let mut octets = [0; 40];
-    octets[..16].copy_from_slice(&BARE);
-    octets[16..18].copy_from_slice(&[0x05, 0x02]);
-    octets[32..].copy_from_slice(&[0x05, 0x01, 0x00, 0x00, 0x00, 0x00, 0x05, 0xdc]);
-    assert_eq!(rt; mtu_of(&octets), Some(Some(1_500)));
-    assert_eq!(rt; mtu_of(&octets[..32]), Some(None));
+    check_mtu(&rt, &THREE_MTUS, Some(Some(1_280)));
+    check_mtu(&rt, &THREE_MTUS[..24], Some(Some(1_500)));
+    check_mtu(&rt, &THREE_MTUS[..16], Some(None));
+}
+
+// An MTU of two units, which is skipped, and one of 1,500.
+const SKIPPED_FIRST: [u8; 40] = [
+    0x86, 0x00, 0x00, 0x00, 0x40, 0x80, 0x03, 0x84, 0x00, 0x00, 0x03, 0x84, 0x00, 0x00, 0x03, 0x84,
+    0x05, 0x02, 0, 0, 0, 0, 0, 0, 0, 0, 0, 0, 0, 0, 0, 0, 0x05, 0x01, 0x00, 0x00, 0x00, 0x00, 0x05,
+    0xdc,
+];
+
+#[test]
+fn an_option_behind_a_skipped_one_counts(rt: HostRuntime) {
+    check_mtu(&rt, &SKIPPED_FIRST, Some(Some(1_500)));
+    check_mtu(&rt, &SKIPPED_FIRST[..32], Some(None));
+}
+
+// A router advertisement without options, and zeros behind it.
+const BARE: [u8; 64] = [
+    0x86, 0x00, 0x00, 0x00, 0x40, 0x80, 0x03, 0x84, 0x00, 0x00, 0x03, 0x84, 0x00, 0x00, 0x03, 0x84,
+    0, 0, 0, 0, 0, 0, 0, 0, 0, 0, 0, 0, 0, 0, 0, 0, 0, 0, 0, 0, 0, 0, 0, 0, 0, 0, 0, 0, 0, 0, 0, 0,
+    0, 0, 0, 0, 0, 0, 0, 0, 0, 0, 0, 0, 0, 0, 0, 0,
+];
+
+// Checks the MTU of the advertisement with an option of this type and these units, of which only so many octets are
+// there.
+fn check_option(rt: &impl Abort, kind: u8, units: u8, len: usize, wanted: Option<Option<u32>>) {
+    let mut octets = BARE;
+    octets[16] = kind;
+    octets[17] = units;
+    let Some(part) = octets.get(..len) else {
+        assert!(rt; false, "64 octets are enough");
+        return;
+    };
+    check_mtu(rt, part, wanted);
 }
 
 #[test]
 fn options_that_refuse_a_message(rt: HostRuntime) {
     // No units at all.
-    let mut octets = [0; 24];
-    octets[..16].copy_from_slice(&BARE);
-    octets[16] = 0x05;
-    assert_eq!(rt; mtu_of(&octets), None);
+    check_option(&rt, 0x05, 0, 24, None);
     // A prefix of 3 units, and a redirected packet of 5; of 4 and 6 the message is read.
-    let mut octets = [0; 64];
-    octets[..16].copy_from_slice(&BARE);
-    octets[16..18].copy_from_slice(&[0x03, 0x03]);
-    assert_eq!(rt; mtu_of(&octets[..40]), None);
-    octets[17] = 0x04;
-    assert_eq!(rt; mtu_of(&octets[..48]), Some(None));
-    octets[16..18].copy_from_slice(&[0x04, 0x05]);
-    assert_eq!(rt; mtu_of(&octets[..56]), None);
-    octets[17] = 0x06;
-    assert_eq!(rt; mtu_of(&octets), Some(None));
+    check_option(&rt, 0x03, 3, 40, None);
+    check_option(&rt, 0x03, 4, 48, Some(None));
+    check_option(&rt, 0x04, 5, 56, None);
+    check_option(&rt, 0x04, 6, 64, Some(None));
     // More units than there are bytes.
-    assert_eq!(rt; mtu_of(&octets[..63]), None);
+    check_option(&rt, 0x04, 6, 63, None);
 }
 
 #[test]
