@@ -1,0 +1,96 @@
+//! What options and their parts print.
+
+use crate::ipv6option::{FailureType, Ipv6Option, Repr, Type};
+use std::fmt::Write;
+use std::test::Fail;
+use wirebase::failing_writer::FailingWriter;
+
+#[test]
+fn what_types_print(rt: HostRuntime) -> Result<(), Fail> {
+    for (kind, text) in [
+        (Type::Pad1, "Pad1"),
+        (Type::PadN, "PadN"),
+        (Type::RouterAlert, "RouterAlert"),
+        (Type::Rpl, "RPL"),
+        (Type::Unknown(0xc5), "197"),
+    ] {
+        assert_eq!(rt; kind.to_string(rt.alloc())?.as_str(), text);
+    }
+    Ok(())
+}
+
+#[test]
+fn what_failure_types_print(rt: HostRuntime) -> Result<(), Fail> {
+    for (failure, text) in [
+        (FailureType::Skip, "skip"),
+        (FailureType::Discard, "discard"),
+        (FailureType::DiscardSendAll, "discard and send error"),
+        (
+            FailureType::DiscardSendUnicast,
+            "discard and send error if unicast",
+        ),
+    ] {
+        assert_eq!(rt; failure.to_string(rt.alloc())?.as_str(), text);
+    }
+    Ok(())
+}
+
+#[test]
+fn what_options_print(rt: HostRuntime) -> Result<(), Fail> {
+    let rows: [(&[u8], &str); 10] = [
+        (&[0x00], "IPv6 Option Pad1 "),
+        (&[0x01, 0x04, 0, 0, 0, 0], "IPv6 Option PadN length=4 "),
+        (
+            &[0x05, 0x02, 0, 0],
+            "IPv6 Option RouterAlert value=MulticastListenerDiscovery",
+        ),
+        (&[0x05, 0x02, 0, 1], "IPv6 Option RouterAlert value=Rsvp"),
+        (
+            &[0x05, 0x02, 0, 2],
+            "IPv6 Option RouterAlert value=ActiveNetworks",
+        ),
+        (
+            &[0x05, 0x02, 0xbe, 0xef],
+            "IPv6 Option RouterAlert value=Unknown(48879)",
+        ),
+        (&[0x63, 0x01, 0xaa], "IPv6 Option RPL length=1 "),
+        (&[0xc5, 0x00, 0xaa], "IPv6 Option 197 length=0 "),
+        (&[0x05, 0x01, 0xaa], "IPv6 Extension Option (wire::Error)"),
+        (&[], "IPv6 Extension Option (wire::Error)"),
+    ];
+    for (octets, text) in rows {
+        let view = Ipv6Option::new_unchecked(octets);
+        assert_eq!(rt; view.to_string(rt.alloc())?.as_str(), text, "of {octets:?}");
+        if let Ok(repr) = Repr::parse(&view) {
+            assert_eq!(rt; repr.to_string(rt.alloc())?.as_str(), text, "of {octets:?}");
+        }
+    }
+    Ok(())
+}
+
+#[test]
+fn printing_fails_only_with_its_writer(rt: HostRuntime) {
+    let rows: [(&[u8], u32); 6] = [
+        (&[0x00], 1),
+        (&[0x01, 0x04, 0, 0, 0, 0], 3),
+        (&[0x05, 0x02, 0, 1], 2),
+        (&[0x05, 0x02, 0xbe, 0xef], 4),
+        (&[0x63, 0x01, 0xaa], 5),
+        (&[], 3),
+    ];
+    for (octets, calls) in rows {
+        let view = Ipv6Option::new_unchecked(octets);
+        for left in 0..calls {
+            let mut writer = FailingWriter { left };
+            assert!(rt; write!(writer, "{view}").is_err(), "after {left} writes");
+        }
+        let mut writer = FailingWriter { left: calls };
+        assert!(rt; write!(writer, "{view}").is_ok(), "of {octets:?}");
+    }
+    let mut writer = FailingWriter { left: 2 };
+    let (kind, failure) = (Type::Unknown(7), FailureType::Skip);
+    assert!(rt; write!(writer, "{kind}").is_ok());
+    assert!(rt; write!(writer, "{failure}").is_ok());
+    assert!(rt; write!(writer, "{kind}").is_err());
+    assert!(rt; write!(writer, "{failure}").is_err());
+}
