@@ -42,19 +42,20 @@ impl fmt::Display for MessageName {
     ghost output = { λ name. Some (message_name name.0) };
 
     fn fmt<W: fmt::Write>(&self, f: &mut fmt::Formatter<W>) -> fmt::Result {
-        match self.0 {
-            Message::EchoReply => write!(f, "EchoReply"),
-            Message::DstUnreachable => write!(f, "DstUnreachable"),
-            Message::Redirect => write!(f, "Redirect"),
-            Message::EchoRequest => write!(f, "EchoRequest"),
-            Message::RouterAdvert => write!(f, "RouterAdvert"),
-            Message::RouterSolicit => write!(f, "RouterSolicit"),
-            Message::TimeExceeded => write!(f, "TimeExceeded"),
-            Message::ParamProblem => write!(f, "ParamProblem"),
-            Message::Timestamp => write!(f, "Timestamp"),
-            Message::TimestampReply => write!(f, "TimestampReply"),
-            Message::Unknown(number) => write!(f, "Unknown({number})"),
-        }
+        let words = match self.0 {
+            Message::EchoReply => "EchoReply",
+            Message::DstUnreachable => "DstUnreachable",
+            Message::Redirect => "Redirect",
+            Message::EchoRequest => "EchoRequest",
+            Message::RouterAdvert => "RouterAdvert",
+            Message::RouterSolicit => "RouterSolicit",
+            Message::TimeExceeded => "TimeExceeded",
+            Message::ParamProblem => "ParamProblem",
+            Message::Timestamp => "Timestamp",
+            Message::TimestampReply => "TimestampReply",
+            Message::Unknown(number) => return write!(f, "Unknown({number})"),
+        };
+        f.write_str(words)
     }
 }
 
@@ -66,25 +67,26 @@ impl fmt::Display for UnreachableName {
     ghost output = { λ name. Some (unreachable_name name.0) };
 
     fn fmt<W: fmt::Write>(&self, f: &mut fmt::Formatter<W>) -> fmt::Result {
-        match self.0 {
-            DstUnreachable::NetUnreachable => write!(f, "NetUnreachable"),
-            DstUnreachable::HostUnreachable => write!(f, "HostUnreachable"),
-            DstUnreachable::ProtoUnreachable => write!(f, "ProtoUnreachable"),
-            DstUnreachable::PortUnreachable => write!(f, "PortUnreachable"),
-            DstUnreachable::FragRequired => write!(f, "FragRequired"),
-            DstUnreachable::SrcRouteFailed => write!(f, "SrcRouteFailed"),
-            DstUnreachable::DstNetUnknown => write!(f, "DstNetUnknown"),
-            DstUnreachable::DstHostUnknown => write!(f, "DstHostUnknown"),
-            DstUnreachable::SrcHostIsolated => write!(f, "SrcHostIsolated"),
-            DstUnreachable::NetProhibited => write!(f, "NetProhibited"),
-            DstUnreachable::HostProhibited => write!(f, "HostProhibited"),
-            DstUnreachable::NetUnreachToS => write!(f, "NetUnreachToS"),
-            DstUnreachable::HostUnreachToS => write!(f, "HostUnreachToS"),
-            DstUnreachable::CommProhibited => write!(f, "CommProhibited"),
-            DstUnreachable::HostPrecedViol => write!(f, "HostPrecedViol"),
-            DstUnreachable::PrecedCutoff => write!(f, "PrecedCutoff"),
-            DstUnreachable::Unknown(number) => write!(f, "Unknown({number})"),
-        }
+        let words = match self.0 {
+            DstUnreachable::NetUnreachable => "NetUnreachable",
+            DstUnreachable::HostUnreachable => "HostUnreachable",
+            DstUnreachable::ProtoUnreachable => "ProtoUnreachable",
+            DstUnreachable::PortUnreachable => "PortUnreachable",
+            DstUnreachable::FragRequired => "FragRequired",
+            DstUnreachable::SrcRouteFailed => "SrcRouteFailed",
+            DstUnreachable::DstNetUnknown => "DstNetUnknown",
+            DstUnreachable::DstHostUnknown => "DstHostUnknown",
+            DstUnreachable::SrcHostIsolated => "SrcHostIsolated",
+            DstUnreachable::NetProhibited => "NetProhibited",
+            DstUnreachable::HostProhibited => "HostProhibited",
+            DstUnreachable::NetUnreachToS => "NetUnreachToS",
+            DstUnreachable::HostUnreachToS => "HostUnreachToS",
+            DstUnreachable::CommProhibited => "CommProhibited",
+            DstUnreachable::HostPrecedViol => "HostPrecedViol",
+            DstUnreachable::PrecedCutoff => "PrecedCutoff",
+            DstUnreachable::Unknown(number) => return write!(f, "Unknown({number})"),
+        };
+        f.write_str(words)
     }
 }
 
@@ -96,10 +98,11 @@ impl fmt::Display for TimeExceededName {
     ghost output = { λ name. Some (time_exceeded_name name.0) };
 
     fn fmt<W: fmt::Write>(&self, f: &mut fmt::Formatter<W>) -> fmt::Result {
-        match self.0 {
-            TimeExceeded::TtlExpired => write!(f, "TtlExpired"),
-            TimeExceeded::FragExpired => write!(f, "FragExpired"),
-            TimeExceeded::Unknown(number) => write!(f, "Unknown({number})"),
-        }
+        let words = match self.0 {
+            TimeExceeded::TtlExpired => "TtlExpired",
+            TimeExceeded::FragExpired => "FragExpired",
+            TimeExceeded::Unknown(number) => return write!(f, "Unknown({number})"),
+        };
+        f.write_str(words)
     }
 }

@@ -62,12 +62,13 @@ impl fmt::Display for Message {
     ghost output = { λ message. Some (message_display message) };
 
     fn fmt<W: fmt::Write>(&self, f: &mut fmt::Formatter<W>) -> fmt::Result {
-        match self {
-            Message::MembershipQuery => write!(f, "membership query"),
-            Message::MembershipReportV2 => write!(f, "version 2 membership report"),
-            Message::LeaveGroup => write!(f, "leave group"),
-            Message::MembershipReportV1 => write!(f, "version 1 membership report"),
-            Message::Unknown(number) => write!(f, "{number}"),
-        }
+        let words = match self {
+            Message::MembershipQuery => "membership query",
+            Message::MembershipReportV2 => "version 2 membership report",
+            Message::LeaveGroup => "leave group",
+            Message::MembershipReportV1 => "version 1 membership report",
+            Message::Unknown(number) => return write!(f, "{number}"),
+        };
+        f.write_str(words)
     }
 }

@@ -141,23 +141,24 @@ impl fmt::Display for Message {
     ghost output = { λ message. Some (message_text message) };
 
     fn fmt<W: fmt::Write>(&self, f: &mut fmt::Formatter<W>) -> fmt::Result {
-        match self {
-            Message::DstUnreachable => write!(f, "destination unreachable"),
-            Message::PktTooBig => write!(f, "packet too big"),
-            Message::TimeExceeded => write!(f, "time exceeded"),
-            Message::ParamProblem => write!(f, "parameter problem"),
-            Message::EchoRequest => write!(f, "echo request"),
-            Message::EchoReply => write!(f, "echo reply"),
-            Message::MldQuery => write!(f, "multicast listener query"),
-            Message::RouterSolicit => write!(f, "router solicitation"),
-            Message::RouterAdvert => write!(f, "router advertisement"),
-            Message::NeighborSolicit => write!(f, "neighbor solicitation"),
-            Message::NeighborAdvert => write!(f, "neighbor advert"),
-            Message::Redirect => write!(f, "redirect"),
-            Message::MldReport => write!(f, "multicast listener report"),
-            Message::RplControl => write!(f, "RPL control message"),
-            Message::Unknown(number) => write!(f, "{number}"),
-        }
+        let words = match self {
+            Message::DstUnreachable => "destination unreachable",
+            Message::PktTooBig => "packet too big",
+            Message::TimeExceeded => "time exceeded",
+            Message::ParamProblem => "parameter problem",
+            Message::EchoRequest => "echo request",
+            Message::EchoReply => "echo reply",
+            Message::MldQuery => "multicast listener query",
+            Message::RouterSolicit => "router solicitation",
+            Message::RouterAdvert => "router advertisement",
+            Message::NeighborSolicit => "neighbor solicitation",
+            Message::NeighborAdvert => "neighbor advert",
+            Message::Redirect => "redirect",
+            Message::MldReport => "multicast listener report",
+            Message::RplControl => "RPL control message",
+            Message::Unknown(number) => return write!(f, "{number}"),
+        };
+        f.write_str(words)
     }
 }
 
@@ -236,22 +237,18 @@ impl fmt::Display for DstUnreachable {
     ghost output = { λ unreachable. Some (unreachable_text unreachable) };
 
     fn fmt<W: fmt::Write>(&self, f: &mut fmt::Formatter<W>) -> fmt::Result {
-        match self {
-            DstUnreachable::NoRoute => write!(f, "no route to destination"),
-            DstUnreachable::AdminProhibit => write!(
-                f,
-                "communication with destination administratively prohibited"
-            ),
-            DstUnreachable::BeyondScope => write!(f, "beyond scope of source address"),
-            DstUnreachable::AddrUnreachable => write!(f, "address unreachable"),
-            DstUnreachable::PortUnreachable => write!(f, "port unreachable"),
-            DstUnreachable::FailedPolicy => write!(
-                f,
-                "source address failed ingress/egress policy"
-            ),
-            DstUnreachable::RejectRoute => write!(f, "reject route to destination"),
-            DstUnreachable::Unknown(number) => write!(f, "{number}"),
-        }
+        let words = match self {
+            DstUnreachable::NoRoute => "no route to destination",
+            DstUnreachable::AdminProhibit =>
+                "communication with destination administratively prohibited",
+            DstUnreachable::BeyondScope => "beyond scope of source address",
+            DstUnreachable::AddrUnreachable => "address unreachable",
+            DstUnreachable::PortUnreachable => "port unreachable",
+            DstUnreachable::FailedPolicy => "source address failed ingress/egress policy",
+            DstUnreachable::RejectRoute => "reject route to destination",
+            DstUnreachable::Unknown(number) => return write!(f, "{number}"),
+        };
+        f.write_str(words)
     }
 }
 
@@ -314,12 +311,13 @@ impl fmt::Display for ParamProblem {
     ghost output = { λ param_problem. Some (param_problem_text param_problem) };
 
     fn fmt<W: fmt::Write>(&self, f: &mut fmt::Formatter<W>) -> fmt::Result {
-        match self {
-            ParamProblem::ErroneousHdrField => write!(f, "erroneous header field."),
-            ParamProblem::UnrecognizedNxtHdr => write!(f, "unrecognized next header type."),
-            ParamProblem::UnrecognizedOption => write!(f, "unrecognized IPv6 option."),
-            ParamProblem::Unknown(number) => write!(f, "{number}"),
-        }
+        let words = match self {
+            ParamProblem::ErroneousHdrField => "erroneous header field.",
+            ParamProblem::UnrecognizedNxtHdr => "unrecognized next header type.",
+            ParamProblem::UnrecognizedOption => "unrecognized IPv6 option.",
+            ParamProblem::Unknown(number) => return write!(f, "{number}"),
+        };
+        f.write_str(words)
     }
 }
 
@@ -378,10 +376,11 @@ impl fmt::Display for TimeExceeded {
     ghost output = { λ time_exceeded. Some (time_exceeded_text time_exceeded) };
 
     fn fmt<W: fmt::Write>(&self, f: &mut fmt::Formatter<W>) -> fmt::Result {
-        match self {
-            TimeExceeded::HopLimitExceeded => write!(f, "hop limit exceeded in transit"),
-            TimeExceeded::FragReassemExceeded => write!(f, "fragment reassembly time exceeded"),
-            TimeExceeded::Unknown(number) => write!(f, "{number}"),
-        }
+        let words = match self {
+            TimeExceeded::HopLimitExceeded => "hop limit exceeded in transit",
+            TimeExceeded::FragReassemExceeded => "fragment reassembly time exceeded",
+            TimeExceeded::Unknown(number) => return write!(f, "{number}"),
+        };
+        f.write_str(words)
     }
 }

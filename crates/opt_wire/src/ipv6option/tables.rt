@@ -63,13 +63,14 @@ impl fmt::Display for Type {
     ghost output = { λ kind. Some (type_display kind) };
 
     fn fmt<W: fmt::Write>(&self, f: &mut fmt::Formatter<W>) -> fmt::Result {
-        match *self {
-            Type::Pad1 => write!(f, "Pad1"),
-            Type::PadN => write!(f, "PadN"),
-            Type::RouterAlert => write!(f, "RouterAlert"),
-            Type::Rpl => write!(f, "RPL"),
-            Type::Unknown(number) => write!(f, "{number}"),
-        }
+        let words = match *self {
+            Type::Pad1 => "Pad1",
+            Type::PadN => "PadN",
+            Type::RouterAlert => "RouterAlert",
+            Type::Rpl => "RPL",
+            Type::Unknown(number) => return write!(f, "{number}"),
+        };
+        f.write_str(words)
     }
 }
 
@@ -132,12 +133,13 @@ impl fmt::Display for AlertName {
     ghost output = { λ name. Some (alert_display name.0) };
 
     fn fmt<W: fmt::Write>(&self, f: &mut fmt::Formatter<W>) -> fmt::Result {
-        match self.0 {
-            RouterAlert::MulticastListenerDiscovery => write!(f, "MulticastListenerDiscovery"),
-            RouterAlert::Rsvp => write!(f, "Rsvp"),
-            RouterAlert::ActiveNetworks => write!(f, "ActiveNetworks"),
-            RouterAlert::Unknown(number) => write!(f, "Unknown({number})"),
-        }
+        let words = match self.0 {
+            RouterAlert::MulticastListenerDiscovery => "MulticastListenerDiscovery",
+            RouterAlert::Rsvp => "Rsvp",
+            RouterAlert::ActiveNetworks => "ActiveNetworks",
+            RouterAlert::Unknown(number) => return write!(f, "Unknown({number})"),
+        };
+        f.write_str(words)
     }
 }
 
@@ -193,12 +195,13 @@ impl fmt::Display for FailureType {
     ghost output = { λ failure. Some (failure_display failure) };
 
     fn fmt<W: fmt::Write>(&self, f: &mut fmt::Formatter<W>) -> fmt::Result {
-        match *self {
-            FailureType::Skip => write!(f, "skip"),
-            FailureType::Discard => write!(f, "discard"),
-            FailureType::DiscardSendAll => write!(f, "discard and send error"),
-            FailureType::DiscardSendUnicast => write!(f, "discard and send error if unicast"),
-        }
+        let words = match *self {
+            FailureType::Skip => "skip",
+            FailureType::Discard => "discard",
+            FailureType::DiscardSendAll => "discard and send error",
+            FailureType::DiscardSendUnicast => "discard and send error if unicast",
+        };
+        f.write_str(words)
     }
 }
 

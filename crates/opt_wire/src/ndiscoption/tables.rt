@@ -76,14 +76,15 @@ impl fmt::Display for Type {
     ghost output = { λ kind. Some (type_text kind) };
 
     fn fmt<W: fmt::Write>(&self, f: &mut fmt::Formatter<W>) -> fmt::Result {
-        match self {
-            Type::SourceLinkLayerAddr => write!(f, "source link-layer address"),
-            Type::TargetLinkLayerAddr => write!(f, "target link-layer address"),
-            Type::PrefixInformation => write!(f, "prefix information"),
-            Type::RedirectedHeader => write!(f, "redirected header"),
-            Type::Mtu => write!(f, "mtu"),
-            Type::Unknown(number) => write!(f, "{number}"),
-        }
+        let words = match self {
+            Type::SourceLinkLayerAddr => "source link-layer address",
+            Type::TargetLinkLayerAddr => "target link-layer address",
+            Type::PrefixInformation => "prefix information",
+            Type::RedirectedHeader => "redirected header",
+            Type::Mtu => "mtu",
+            Type::Unknown(number) => return write!(f, "{number}"),
+        };
+        f.write_str(words)
     }
 }
 
