@@ -2,7 +2,7 @@
 #![tactic(auto, using(wirebase::proofs::Pieces::pieces))]
 
 ghost use Rattle.std.specs.Prelude.{◌≡◌, ◌≢◌, ◌+◌, ◌≤◌, ◌<◌, ◌↔◌, ◌++◌, [], ◌∷◌, List, length, map, IsOk, IfOk};
-ghost use Rattle.std.specs.Prelude.{IsOkAnd};
+ghost use Rattle.std.specs.Prelude.{⊤, IsOkAnd};
 ghost use Rattle.std.specs.Borrow.{sem, Lends, Array, u8 as byte};
 ghost use Rattle.wirebase.specs.ByteWriter.{free, Puts, the_slice};
 ghost use Rattle.wirebase.specs.Format.{Rewrites, SameText};
@@ -16,6 +16,7 @@ ghost use Rattle.opt_wire.specs.contracts.ipv6hbh.Header.{the_row};
 use crate::ipv6option;
 use crate::ipv6option::{Ipv6OptionsIterator, RouterAlert};
 use arrayvec::ArrayVec;
+use std::alloc::AllocError;
 use wirebase::{ByteWriter, Error, IPV6_HBH_MAX_OPTIONS, Octets, OctetsMut, Result, are_bytes};
 
 /// A view of the options of a hop-by-hop header: all that stands after its first two bytes.
@@ -85,10 +86,22 @@ impl<T: OctetsMut> Header<T> {
 }
 
 /// The options of a hop-by-hop header, at most `IPV6_HBH_MAX_OPTIONS`.
-#[derive(Debug, PartialEq, Eq, Clone, Drop)]
+#[derive(Debug, PartialEq, Eq, Drop)]
 pub struct Repr<'a> {
     /// The options, in the order of the header.
     pub options: ArrayVec<ipv6option::Repr<'a>, IPV6_HBH_MAX_OPTIONS>,
+}
+
+impl Clone for Repr<'_> {
+    ghost is_clone = { λ header copy. value_of copy ≡ value_of header };
+
+    ghost is_infallible = { λ _. ⊤ };
+
+    fn clone(&self) -> std::result::Result<Self, AllocError> {
+        Ok(Repr {
+            options: self.options.clone()?,
+        })
+    }
 }
 
 impl<'a> Repr<'a> {

@@ -1,7 +1,7 @@
 //! What a packet says.
 #![tactic(auto, using(wirebase::proofs::Pieces::pieces))]
 
-ghost use Rattle.std.specs.Prelude.{◌≡◌, ◌≤◌, ◌↔◌, length, IsOk, IfOk, IsOkAnd};
+ghost use Rattle.std.specs.Prelude.{◌≡◌, ◌≤◌, ◌↔◌, ⊤, length, IsOk, IfOk, IsOkAnd};
 ghost use Rattle.dhcp_wire.specs.Dhcpv4.{Value, value_of, has_broadcast, HasHeader, IsPacket};
 ghost use Rattle.dhcp_wire.specs.Dhcpv4Format.{format};
 ghost use Rattle.dhcp_wire.specs.Dhcpv4Found.{kept_of, IsMadeOf};
@@ -16,10 +16,11 @@ use super::packet::Packet;
 use super::tables::{Flags, MessageType};
 use arrayvec::ArrayVec;
 use bitflags::Flags as _;
+use std::alloc::AllocError;
 use wirebase::{Error, EthernetAddress, Hardware, Ipv4Address, Result, are_bytes};
 
 /// What a packet says (RFC 2131 section 2), with the options that a client or a server asks for (RFC 2132).
-#[derive(Debug, PartialEq, Eq, Clone, Drop)]
+#[derive(Debug, PartialEq, Eq, Drop)]
 pub struct Repr<'a> {
     /// The type of the message, option 53. The operation of the packet goes with it.
     pub message_type: MessageType,
@@ -69,6 +70,20 @@ pub struct Repr<'a> {
 pub(super) const ETHERNET_LEN: u8 = 6;
 
 pub(super) const MAGIC_NUMBER: u32 = 0x6382_5363;
+
+impl Clone for Repr<'_> {
+    ghost is_clone = { λ repr copy. value_of copy ≡ value_of repr };
+
+    ghost is_infallible = { λ _. ⊤ };
+
+    fn clone(&self) -> std::result::Result<Self, AllocError> {
+        let dns_servers = self.dns_servers.clone()?;
+        Ok(Repr {
+            dns_servers,
+            ..*self
+        })
+    }
+}
 
 impl<'a> Repr<'a> {
     /// What a packet says. Refused where the octets are fewer than 240; where the hardware is not Ethernet, or the
