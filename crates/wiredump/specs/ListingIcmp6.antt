@@ -18,19 +18,22 @@ use Rattle.wiredump.specs.ListingNdisc.{ndisc_listing}
 abbrev pub quote_listing : Ipv6Repr → List ℕ → List ℕ
 quote_listing quoted d = header_listing (codes "header.") quoted ++ field (codes "data") (octets_text d)
 
+-- an error: its name, the number of its reason, and that packet
+abbrev pub error_listing : List ℕ → ℕ → Ipv6Repr → List ℕ → List ℕ
+error_listing name reason quoted d =
+    line name
+    ++ field (codes "reason") (decimal reason)
+    ++ quote_listing quoted d
+
 abbrev pub icmp6_listing : MessageValue → List ℕ
 icmp6_listing (unreachable reason quoted d) =
-    line (codes "DstUnreachable")
-    ++ field (codes "reason") (decimal (unreachable_number reason))
-    ++ quote_listing quoted d
+    error_listing (codes "DstUnreachable") (unreachable_number reason) quoted d
 icmp6_listing (too_big mtu quoted d) =
     line (codes "PktTooBig")
     ++ field (codes "mtu") (decimal mtu)
     ++ quote_listing quoted d
 icmp6_listing (time_exceeded reason quoted d) =
-    line (codes "TimeExceeded")
-    ++ field (codes "reason") (decimal (time_exceeded_number reason))
-    ++ quote_listing quoted d
+    error_listing (codes "TimeExceeded") (time_exceeded_number reason) quoted d
 icmp6_listing (param_problem reason pointer quoted d) =
     line (codes "ParamProblem")
     ++ field (codes "reason") (decimal (param_problem_number reason))

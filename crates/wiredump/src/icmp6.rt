@@ -5,16 +5,17 @@
 ghost use Rattle.std.specs.Prelude.{OnOk};
 ghost use Rattle.wirebase.specs.Capabilities.{all_of};
 ghost use Rattle.wirebase.specs.declared.capabilities.Checksum.TheVariants.{Both};
-ghost use Rattle.icmp6_wire.specs.Icmpv6.{IsMessage, value_of};
+ghost use Rattle.icmp6_wire.specs.Icmpv6.{IsMessage, too_big, param_problem, value_of};
 ghost use Rattle.wiredump.specs.Layout.{IsListingOrRefused};
-ghost use Rattle.wiredump.specs.ListingIcmp6.{Icmp6Prints, icmp6_listing, quote_listing};
+ghost use Rattle.wiredump.specs.ListingIcmp6.{Icmp6Prints, icmp6_listing, error_listing};
+ghost use Rattle.wiredump.specs.ListingIcmp6.{quote_listing};
 ghost use Rattle.wiredump.specs.Output.{Gains, GainsSome};
 
 use crate::icmp4::show_echo;
 use crate::ipv6::show_header;
 use crate::printer::{field, line};
 use crate::{mld, ndisc};
-use icmp6_wire::icmpv6::{Packet, Repr};
+use icmp6_wire::icmpv6::{Packet, ParamProblem, Repr};
 use std::io;
 use std::io::Write;
 use wirebase::{ChecksumCapabilities, Ipv6Address, Ipv6Repr};
@@ -61,36 +62,19 @@ fn show_message<W: Write>(output: &mut W, message: &Repr<'_>) -> io::Result<()>
             reason,
             header,
             data,
-        } => {
-            line(output, "DstUnreachable")?;
-            field(output, "reason", u8::from(*reason))?;
-            show_quote(output, header, data)
-        }
-        Repr::PktTooBig { mtu, header, data } => {
-            line(output, "PktTooBig")?;
-            field(output, "mtu", *mtu)?;
-            show_quote(output, header, data)
-        }
+        } => show_error(output, "DstUnreachable", (*reason).into(), header, data),
+        Repr::PktTooBig { mtu, header, data } => show_pkt_too_big(output, *mtu, header, data),
         Repr::TimeExceeded {
             reason,
             header,
             data,
-        } => {
-            line(output, "TimeExceeded")?;
-            field(output, "reason", u8::from(*reason))?;
-            show_quote(output, header, data)
-        }
+        } => show_error(output, "TimeExceeded", (*reason).into(), header, data),
         Repr::ParamProblem {
             reason,
             pointer,
             header,
             data,
-        } => {
-            line(output, "ParamProblem")?;
-            field(output, "reason", u8::from(*reason))?;
-            field(output, "pointer", *pointer)?;
-            show_quote(output, header, data)
-        }
+        } => show_param_problem(output, *reason, *pointer, header, data),
         Repr::EchoRequest {
             ident,
             seq_no,
@@ -104,6 +88,52 @@ fn show_message<W: Write>(output: &mut W, message: &Repr<'_>) -> io::Result<()>
         Repr::Mld(message) => mld::show_message(output, message),
         Repr::Ndisc(message) => ndisc::show_message(output, message),
     }
+}
+
+// An error that has no more than a reason.
+fn show_error<W: Write>(
+    output: &mut W,
+    name: &str,
+    reason: u8,
+    header: &Ipv6Repr,
+    data: &[u8],
+) -> io::Result<()>
+    ensures { OnOk result (Gains (W.contents output.old) (W.contents output.new)
+        (error_listing name.now reason header.now «data».now)) }
+{
+    line(output, name)?;
+    field(output, "reason", reason)?;
+    show_quote(output, header, data)
+}
+
+fn show_pkt_too_big<W: Write>(
+    output: &mut W,
+    mtu: u32,
+    header: &Ipv6Repr,
+    data: &[u8],
+) -> io::Result<()>
+    ensures { OnOk result (Gains (W.contents output.old) (W.contents output.new)
+        (icmp6_listing (too_big mtu header.now «data».now))) }
+{
+    line(output, "PktTooBig")?;
+    field(output, "mtu", mtu)?;
+    show_quote(output, header, data)
+}
+
+fn show_param_problem<W: Write>(
+    output: &mut W,
+    reason: ParamProblem,
+    pointer: u32,
+    header: &Ipv6Repr,
+    data: &[u8],
+) -> io::Result<()>
+    ensures { OnOk result (Gains (W.contents output.old) (W.contents output.new)
+        (icmp6_listing (param_problem reason pointer header.now «data».now))) }
+{
+    line(output, "ParamProblem")?;
+    field(output, "reason", u8::from(reason))?;
+    field(output, "pointer", pointer)?;
+    show_quote(output, header, data)
 }
 
 fn show_quote<W: Write>(output: &mut W, header: &Ipv6Repr, data: &[u8]) -> io::Result<()>

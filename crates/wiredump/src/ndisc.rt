@@ -4,7 +4,7 @@
 
 ghost use Rattle.std.specs.Prelude.{OnOk};
 ghost use Rattle.std.specs.Option.{option_map};
-ghost use Rattle.icmp6_wire.specs.Ndisc.{value_of};
+ghost use Rattle.icmp6_wire.specs.Ndisc.{neighbor_advert, redirect, value_of};
 ghost use Rattle.icmp6_wire.specs.NdiscFound.{packet_of};
 ghost use Rattle.wiredump.specs.ListingNdisc.{ndisc_listing, router_listing, lladdr_listing};
 ghost use Rattle.wiredump.specs.ListingNdisc.{prefix_info_listing, redirected_hdr_listing};
@@ -13,11 +13,11 @@ ghost use Rattle.wiredump.specs.Output.{Gains};
 use crate::ndopt::{show_prefix, show_redirected};
 use crate::printer::{field, line};
 use bitflags::Flags as _;
-use icmp6_wire::ndisc::{Repr, RouterFlags};
+use icmp6_wire::ndisc::{NeighborFlags, Repr, RouterFlags};
 use opt_wire::ndiscoption::{PrefixInformation, RedirectedHeader};
 use std::io;
 use std::io::Write;
-use wirebase::{Duration, RawHardwareAddress};
+use wirebase::{Duration, Ipv6Address, RawHardwareAddress};
 
 /// Prints a message that was read.
 pub fn show_message<W: Write>(output: &mut W, message: &Repr<'_>) -> io::Result<()>
@@ -63,24 +63,13 @@ pub fn show_message<W: Write>(output: &mut W, message: &Repr<'_>) -> io::Result<
             flags,
             target_addr,
             lladdr,
-        } => {
-            line(output, "NeighborAdvert")?;
-            field(output, "flags", flags.bits())?;
-            field(output, "target_addr", target_addr)?;
-            show_lladdr(output, lladdr)
-        }
+        } => show_neighbor_advert(output, flags, target_addr, lladdr),
         Repr::Redirect {
             target_addr,
             dest_addr,
             lladdr,
             redirected_hdr,
-        } => {
-            line(output, "Redirect")?;
-            field(output, "target_addr", target_addr)?;
-            field(output, "dest_addr", dest_addr)?;
-            show_lladdr(output, lladdr)?;
-            show_redirected_hdr(output, &redirected_hdr)
-        }
+        } => show_redirect(output, target_addr, dest_addr, lladdr, &redirected_hdr),
     }
 }
 
@@ -101,6 +90,39 @@ fn show_router<W: Write>(
     field(output, "router_lifetime", router_lifetime)?;
     field(output, "reachable_time", reachable_time)?;
     field(output, "retrans_time", retrans_time)
+}
+
+fn show_neighbor_advert<W: Write>(
+    output: &mut W,
+    flags: NeighborFlags,
+    target_addr: Ipv6Address,
+    lladdr: Option<RawHardwareAddress>,
+) -> io::Result<()>
+    ensures { OnOk result (Gains (W.contents output.old) (W.contents output.new)
+        (ndisc_listing (neighbor_advert flags target_addr lladdr))) }
+{
+    line(output, "NeighborAdvert")?;
+    field(output, "flags", flags.bits())?;
+    field(output, "target_addr", target_addr)?;
+    show_lladdr(output, lladdr)
+}
+
+fn show_redirect<W: Write>(
+    output: &mut W,
+    target_addr: Ipv6Address,
+    dest_addr: Ipv6Address,
+    lladdr: Option<RawHardwareAddress>,
+    redirected_hdr: &Option<RedirectedHeader<'_>>,
+) -> io::Result<()>
+    ensures { OnOk result (Gains (W.contents output.old) (W.contents output.new)
+        (ndisc_listing (redirect target_addr dest_addr lladdr
+        (option_map packet_of redirected_hdr.now)))) }
+{
+    line(output, "Redirect")?;
+    field(output, "target_addr", target_addr)?;
+    field(output, "dest_addr", dest_addr)?;
+    show_lladdr(output, lladdr)?;
+    show_redirected_hdr(output, redirected_hdr)
 }
 
 fn show_lladdr<W: Write>(output: &mut W, address: Option<RawHardwareAddress>) -> io::Result<()>

@@ -11,17 +11,3 @@ returns-in_ok-field-in-RouterAdvert g c =
     rw c.in-RouterAdvert.is
     (gains_last _ _ _ (c.in_ok-show_router-in-RouterAdvert.ensures then c.in_ok-show_lladdr-in-RouterAdvert.ensures
     then c.in_ok-field-in-RouterAdvert.ensures) c.show_prefix_info.ensures)
-
-pub returns-in_ok-field-in-NeighborAdvert-2 : goal.returns-in_ok-field-in-NeighborAdvert-2
-returns-in_ok-field-in-NeighborAdvert-2 g c =
-    let flags = rw c.bits.ensures at c.in_ok-field-in-NeighborAdvert.ensures in
-    rw c.in-NeighborAdvert.is
-    (gains_last _ _ _ (c.in_ok-line-in-NeighborAdvert.ensures then flags
-    then c.in_ok-field-in-NeighborAdvert-2.ensures) c.show_lladdr-in-NeighborAdvert.ensures)
-
-pub returns-in_ok-show_lladdr-in-Redirect : goal.returns-in_ok-show_lladdr-in-Redirect
-returns-in_ok-show_lladdr-in-Redirect g c =
-    rw c.in-Redirect.is
-    (gains_last _ _ _ (c.in_ok-line-in-Redirect.ensures then c.in_ok-field-in-Redirect.ensures
-    then c.in_ok-field-in-Redirect-2.ensures then c.in_ok-show_lladdr-in-Redirect.ensures)
-    c.show_redirected_hdr.ensures)
