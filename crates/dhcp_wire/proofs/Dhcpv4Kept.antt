@@ -1,7 +1,7 @@
 -- What a pass over the options keeps is what the last option says; and bytes have one value.
 use Rattle.std.proofs.Common.{◌≡◌, ℕ, Bool, List, [], ◌∷◌, ◌++◌, flat_map, slice_index, Option, None, Some}
 use Rattle.std.proofs.Common.{refl, sym, ap, subst, ◌∙◌}
-use Rattle.std.specs.Option.{option_map, option_or}
+use Rattle.std.specs.Option.{option_map}
 use Rattle.std.proofs.lemmas.List.Concat.{flat_map-cons}
 use Rattle.wirebase.specs.Bytes.{byte_of}
 use Rattle.wirebase.specs.Ethernet.{Ethernet}
@@ -14,7 +14,7 @@ use Rattle.wirebase.proofs.LastOf.{kept}
 use Rattle.dhcp_wire.specs.declared.dhcpv4.tables.MessageType.{MessageType}
 use Rattle.dhcp_wire.specs.Dhcpv4.{Value, HasHeader, IsPacket, AreOfEthernet, said, of_len, number_in}
 use Rattle.dhcp_wire.specs.Dhcpv4.{identifier_in, addresses_in, type_in}
-use Rattle.dhcp_wire.specs.Dhcpv4Found.{Kept, nothing, keep, IsMadeOf}
+use Rattle.dhcp_wire.specs.Dhcpv4Found.{nothing, keep, IsMadeOf}
 use Rattle.dhcp_wire.specs.Dhcpv4Options.{OptionValue}
 use Rattle.dhcp_wire.specs.Dhcpv4OptionsAhead.{list_of}
 use Rattle.dhcp_wire.specs.Dhcpv4Packet.{op_field, options_in}

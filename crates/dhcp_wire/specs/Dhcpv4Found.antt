@@ -1,5 +1,5 @@
 -- What a pass over the options keeps: for each field what the last option says that says anything.
-use Rattle.std.specs.Prelude.{◌≡◌, ℕ, List, [], ◌∷◌, Option, None, Some}
+use Rattle.std.specs.Prelude.{◌≡◌, ℕ, List, [], Option, None, Some}
 use Rattle.std.specs.Option.{option_map, option_or}
 use Rattle.std.specs.Prelude.{flat_map}
 use Rattle.wirebase.specs.Bytes.{bytes_of, number_of}

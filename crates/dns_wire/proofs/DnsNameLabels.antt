@@ -1,11 +1,11 @@
 -- The labels that a walk gives before its end, and those of the name.
-use Rattle.std.proofs.Common.{◌≡◌, ℕ, ◌+◌, List, [], ◌∷◌, ◌++◌, length, Option, Some, None, Result, Ok, Err, Bor, refl}
+use Rattle.std.proofs.Common.{◌≡◌, ℕ, ◌+◌, List, [], ◌∷◌, ◌++◌, length, Option, Some, Result, Bor, refl}
 use Rattle.std.proofs.Common.{if◌then◌else◌, sym, ap, ◌∙◌, subst, inl, inr, append_assoc, slice_get}
 use Rattle.std.proofs.lemmas.List.{append-nil}
 use Rattle.wirebase.specs.declared.error.Error.{Error}
 use Rattle.dns_wire.specs.DnsName.{IsCompletePath, IsBrokenPath, IsName, HasPath, joined}
 use Rattle.dns_wire.specs.DnsNameWalk.{Coming, Walk, label, fault, ending, answer_of, is_ending, GivesFirst, Gives}
-use Rattle.dns_wire.specs.DnsNameWalk.{in_window, in_windows, whole_name, broken_name, at_end, at_fault, after_first}
+use Rattle.dns_wire.specs.DnsNameWalk.{in_window, in_windows, whole_name, broken_name, at_end, after_first}
 
 -- ---- a whole walk
 

@@ -1,5 +1,5 @@
 -- What a pass over the options of a message keeps: of each kind what the last option says.
-use Rattle.std.specs.Prelude.{◌≡◌, ℕ, List, [], ◌∷◌, Option, None}
+use Rattle.std.specs.Prelude.{◌≡◌, ℕ, List, Option, None}
 use Rattle.std.specs.Option.{option_map, option_or}
 use Rattle.wirebase.specs.LastOf.{keep_all}
 use Rattle.wirebase.specs.declared.ipv6.Ipv6Repr.{Ipv6Repr}

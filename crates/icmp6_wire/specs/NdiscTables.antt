@@ -1,5 +1,5 @@
 -- The flags of router and neighbor advertisements (RFC 4861 sections 4.2 and 4.4).
-use Rattle.std.specs.Prelude.{◌≡◌, ℕ, List, [], ◌∷◌, codes}
+use Rattle.std.specs.Prelude.{ℕ, List, [], ◌∷◌, codes}
 use Rattle.std.specs.Int.RustNames.{bit_and}
 use Rattle.icmp6_wire.specs.declared.ndisc.flags.NeighborFlags.{NeighborFlags}
 use Rattle.icmp6_wire.specs.declared.ndisc.flags.RouterFlags.{RouterFlags}

@@ -1,5 +1,5 @@
 use Rattle.std.proofs.Common.{refl}
-use Rattle.icmp6_wire.specs.MldRecord.{view_octets, value_of, IsFields, IsRecord}
+use Rattle.icmp6_wire.specs.MldRecord.{view_octets, IsFields}
 use Rattle.icmp6_wire.proofs.MldRecords.{record-one}
 use Rattle.icmp6_wire.proofs.mld.record.AddressRecordRepr.read.Goals as goal
 
