@@ -4,3 +4,5 @@
 pub mod dhcpv4;
 #[cfg(test)]
 mod plain_reader;
+#[cfg(test)]
+mod testing;

@@ -4,6 +4,7 @@
 // crate with it.
 
 use crate::dhcpv4::{DhcpOption, MAX_DNS_SERVER_COUNT, OptionsIter, Packet, Repr};
+use crate::testing::{holds_of, same, same_of};
 use std::alloc::Global;
 use std::process::Abort;
 use std::test::Fail;
@@ -154,19 +155,15 @@ fn compare(rt: &impl Abort, alloc: Global, octets: &[u8]) -> Result<(), Fail> {
     let plain = options_in(alloc, behind)?;
     match Packet::new_checked(octets) {
         Ok(packet) => compare_options(rt, packet.options(), plain.as_slice()),
-        Err(_) => assert!(rt; octets.len() < HEADER_LEN, "{octets:?}"),
+        Err(_) => holds_of(rt, octets, octets.len() < HEADER_LEN),
     }
     let message_type = type_of_packet(octets, plain.as_slice());
     match Repr::parse(&Packet::new_unchecked(octets)) {
         Ok(read) => {
-            assert_eq!(rt;
-                Some(u8::from(read.message_type)),
-                message_type,
-                "{octets:?}"
-            );
+            same_of(rt, octets, Some(u8::from(read.message_type)), message_type);
             compare_fields(rt, &read, plain.as_slice());
         }
-        Err(_) => assert!(rt; message_type.is_none(), "refused {octets:?}"),
+        Err(_) => holds_of(rt, octets, message_type.is_none()),
     }
     Ok(())
 }
@@ -175,10 +172,10 @@ fn compare(rt: &impl Abort, alloc: Global, octets: &[u8]) -> Result<(), Fail> {
 fn compare_options(rt: &impl Abort, options: OptionsIter<'_>, plain: &[DhcpOption<'_>]) {
     let mut options = options;
     for option in plain {
-        assert_eq!(rt; options.next(), Some(*option), "of {plain:?}");
+        same_of(rt, plain, options.next(), Some(*option));
     }
-    assert!(rt; options.next().is_none(), "after {plain:?}");
-    assert!(rt; options.next().is_none(), "long after {plain:?}");
+    holds_of(rt, plain, options.next().is_none());
+    holds_of(rt, plain, options.next().is_none());
 }
 
 // Compares what a value holds of the options with the last ones of the plain reader.
@@ -190,7 +187,7 @@ fn compare_fields(rt: &impl Abort, read: &Repr<'_>, plain: &[DhcpOption<'_>]) {
         (read.server_identifier, 54),
     ] {
         let octets = address.map(|address| address.octets());
-        assert!(rt; is_data(octets, last_of_len(plain, kind, 4)), "{kind}");
+        holds_of(rt, kind, is_data(octets, last_of_len(plain, kind, 4)));
     }
     for (seconds, kind) in [
         (read.lease_duration, 51),
@@ -198,15 +195,15 @@ fn compare_fields(rt: &impl Abort, read: &Repr<'_>, plain: &[DhcpOption<'_>]) {
         (read.rebind_duration, 59),
     ] {
         let octets = seconds.map(|seconds| seconds.to_be_bytes());
-        assert!(rt; is_data(octets, last_of_len(plain, kind, 4)), "{kind}");
+        holds_of(rt, kind, is_data(octets, last_of_len(plain, kind, 4)));
     }
     let size = read.max_size.map(|size| size.to_be_bytes());
     assert!(rt; is_data(size, last_of_len(plain, 57, 2)));
     let address = read.client_identifier.map(|address| address.0);
     let identifier = last_of_len(plain, 61, 7).and_then(|data| data.get(1..));
     assert!(rt; is_data(address, identifier));
-    assert_eq!(rt; read.parameter_request_list, last(plain, 55));
+    same(rt, read.parameter_request_list, last(plain, 55));
     let servers = read.dns_servers.as_ref().map(|servers| servers.len());
     let whole = last(plain, 6).map(|data| (data.len() / 4).min(MAX_DNS_SERVER_COUNT));
-    assert_eq!(rt; servers, whole);
+    same(rt, servers, whole);
 }

@@ -2,3 +2,5 @@
 #![tactic(auto)]
 
 pub mod dns;
+#[cfg(test)]
+mod testing;

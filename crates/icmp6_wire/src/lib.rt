@@ -6,3 +6,5 @@ pub mod mld;
 pub mod ndisc;
 #[cfg(test)]
 mod plain_reader;
+#[cfg(test)]
+mod testing;

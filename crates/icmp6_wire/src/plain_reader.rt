@@ -2,6 +2,7 @@
 // it.
 
 use crate::icmpv6::Packet;
+use crate::testing::{holds_of, same_of};
 use crate::{icmpv6, mld, ndisc};
 use std::alloc::Global;
 use std::process::Abort;
@@ -58,7 +59,7 @@ pub(crate) fn compare_damaged(rt: &impl Abort, alloc: Global, message: &[u8]) ->
 // Compares the check of a header and the three readers.
 fn compare(rt: &impl Abort, octets: &[u8]) {
     let checked = Packet::new_checked(octets).is_ok();
-    assert_eq!(rt; checked, split_header(octets).is_some(), "of {octets:?}");
+    same_of(rt, octets, checked, split_header(octets).is_some());
     let packet = Packet::new_unchecked(octets);
     compare_neighbor(rt, octets, &packet);
     compare_listener(rt, octets, &packet);
@@ -68,19 +69,19 @@ fn compare(rt: &impl Abort, octets: &[u8]) {
 fn compare_neighbor(rt: &impl Abort, octets: &[u8], packet: &Packet<&[u8]>) {
     let plain = neighbor::message(octets);
     let Ok(read) = ndisc::Repr::parse(packet) else {
-        assert!(rt; plain.is_none(), "refused {octets:?}");
+        holds_of(rt, octets, plain.is_none());
         return;
     };
-    assert_eq!(rt; Some(read), plain, "of {octets:?}");
+    same_of(rt, octets, &Some(read), &plain);
 }
 
 fn compare_listener(rt: &impl Abort, octets: &[u8], packet: &Packet<&[u8]>) {
     let plain = listener::message(octets);
     let Ok(read) = mld::Repr::parse(packet) else {
-        assert!(rt; plain.is_none(), "refused {octets:?}");
+        holds_of(rt, octets, plain.is_none());
         return;
     };
-    assert_eq!(rt; Some(read), plain, "of {octets:?}");
+    same_of(rt, octets, &Some(read), &plain);
 }
 
 // The checksum is not looked at.
@@ -89,8 +90,8 @@ fn compare_control(rt: &impl Abort, octets: &[u8], packet: &Packet<&[u8]>) {
     let nobody = Ipv6Address::UNSPECIFIED;
     let caps = ChecksumCapabilities::ignored();
     let Ok(read) = icmpv6::Repr::parse(&nobody, &nobody, packet, &caps) else {
-        assert!(rt; plain.is_none(), "refused {octets:?}");
+        holds_of(rt, octets, plain.is_none());
         return;
     };
-    assert_eq!(rt; Some(read), plain, "of {octets:?}");
+    same_of(rt, octets, &Some(read), &plain);
 }

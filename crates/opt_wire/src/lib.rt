@@ -7,3 +7,5 @@ pub mod ipv6option;
 pub mod ndiscoption;
 #[cfg(test)]
 mod plain_reader;
+#[cfg(test)]
+mod testing;

@@ -5,6 +5,7 @@
 use crate::ipv6hbh;
 use crate::ipv6hbh::Header;
 use crate::ipv6option::{Ipv6OptionsIterator, Repr};
+use crate::testing::{holds_of, same_of};
 use std::alloc::Global;
 use std::process::Abort;
 use std::test::Fail;
@@ -92,27 +93,28 @@ fn compare(rt: &impl Abort, alloc: Global, octets: &[u8]) -> Result<(), Fail> {
 
     let mut options = Ipv6OptionsIterator::new(octets);
     for answer in plain.as_slice() {
-        assert_eq!(rt; options.next(), Some(*answer), "in {octets:?}");
+        same_of(rt, octets, options.next(), Some(*answer));
     }
-    assert!(rt; options.next().is_none(), "after {octets:?}");
-    assert!(rt; options.next().is_none(), "long after {octets:?}");
+    holds_of(rt, octets, options.next().is_none());
+    holds_of(rt, octets, options.next().is_none());
 
     let read = &plain[..plain.len().min(IPV6_HBH_MAX_OPTIONS + 1)];
     let is_header = !octets.is_empty() && read.iter().all(|answer| answer.is_ok());
     match ipv6hbh::Repr::parse(&Header::new_unchecked(octets)) {
         Ok(header) => {
-            assert!(rt; is_header, "read {octets:?}");
+            holds_of(rt, octets, is_header);
             let kept = header.options.as_slice();
-            assert_eq!(rt;
+            same_of(
+                rt,
+                octets,
                 kept.len(),
                 plain.len().min(IPV6_HBH_MAX_OPTIONS),
-                "of {octets:?}"
             );
             for (option, answer) in kept.iter().zip(plain.as_slice()) {
-                assert_eq!(rt; Ok(*option), *answer, "of {octets:?}");
+                same_of(rt, octets, Ok(*option), *answer);
             }
         }
-        Err(_) => assert!(rt; !is_header, "refused {octets:?}"),
+        Err(_) => holds_of(rt, octets, !is_header),
     }
     Ok(())
 }

@@ -4,6 +4,7 @@ use super::{
     SERVER_PORT,
 };
 use crate::plain_reader::compare_damaged;
+use crate::testing::{fail, same, same_of};
 use bitflags::Flags as _;
 use std::alloc::Global;
 use std::process::Abort;
@@ -52,7 +53,7 @@ fn options_in_turn(rt: HostRuntime) -> Result<(), Fail> {
     for (bytes, wanted) in rows {
         let octets = packet(rt.alloc(), 1, bytes)?;
         let options = listed(rt.alloc(), octets.as_slice())?;
-        assert_eq!(rt; options.as_slice(), wanted, "{bytes:?}");
+        same_of(&rt, bytes, options.as_slice(), wanted);
         compare_damaged(&rt, rt.alloc(), octets.as_slice())?;
     }
     Ok(())
@@ -62,7 +63,7 @@ fn options_in_turn(rt: HostRuntime) -> Result<(), Fail> {
 fn after_the_last_option_comes_the_end_for_good(rt: HostRuntime) -> Result<(), Fail> {
     let octets = packet(rt.alloc(), 1, &[12, 0, 0xff, 12, 0])?;
     let Ok(view) = Packet::new_checked(octets.as_slice()) else {
-        assert!(rt; false, "240 bytes are enough");
+        fail(&rt, "240 bytes are enough");
         return Ok(());
     };
     let mut options = view.options();
@@ -78,23 +79,25 @@ fn a_thousand_bytes_of_padding_before_an_option(rt: HostRuntime) -> Result<(), F
     octets.extend_from_slice(&[0; 1000])?;
     octets.extend_from_slice(&[0x01, 4, 0xff, 0xff, 0xff, 0x00])?;
     let Ok(view) = Packet::new_checked(octets.as_slice()) else {
-        assert!(rt; false, "240 bytes are enough");
+        fail(&rt, "240 bytes are enough");
         return Ok(());
     };
     let mut options = view.options();
-    assert_eq!(rt;
+    same(
+        &rt,
         options.next(),
         Some(DhcpOption {
             kind: 53,
-            data: &[1]
-        })
+            data: &[1],
+        }),
     );
-    assert_eq!(rt;
+    same(
+        &rt,
         options.next(),
         Some(DhcpOption {
             kind: 1,
-            data: &[0xff, 0xff, 0xff, 0]
-        })
+            data: &[0xff, 0xff, 0xff, 0],
+        }),
     );
     assert!(rt; options.next().is_none());
     compare_damaged(&rt, rt.alloc(), octets.as_slice())
@@ -113,11 +116,11 @@ fn names_before_the_first_zero(rt: HostRuntime) -> Result<(), Fail> {
         octets[34] = first;
         octets[108] = first;
         let Ok(view) = Packet::new_checked(&octets[..]) else {
-            assert!(rt; false, "240 bytes are enough");
+            fail(&rt, "240 bytes are enough");
             return Ok(());
         };
-        assert_eq!(rt; view.get_sname().ok(), wanted, "{first} {rest}");
-        assert_eq!(rt; view.get_boot_file().ok(), wanted, "{first} {rest}");
+        same_of(&rt, (first, rest), view.get_sname().ok(), wanted);
+        same_of(&rt, (first, rest), view.get_boot_file().ok(), wanted);
     }
     Ok(())
 }
@@ -135,9 +138,9 @@ fn check_writer(rt: &impl Abort, octets: &mut [u8]) {
     };
     let mut writer = DhcpOptionWriter::new(octets);
     let taken = [writer.emit(name).is_ok(), writer.end().is_ok()];
-    assert_eq!(rt; taken, [4 <= room, room != 0 && room != 4], "{room}");
+    same_of(rt, room, taken, [4 <= room, room != 0 && room != 4]);
     let behind_the_end = [writer.end(), writer.emit(empty)];
-    assert_eq!(rt; behind_the_end, [Err(Error), Err(Error)], "{room}");
+    same_of(rt, room, behind_the_end, [Err(Error), Err(Error)]);
 }
 
 #[test]
@@ -151,7 +154,7 @@ fn a_writer_and_its_refusals(rt: HostRuntime) {
             4 => [12, 2, 0x61, 0x62, 0x2a],
             _ => [12, 2, 0x61, 0x62, 0xff],
         };
-        assert_eq!(rt; octets, wanted, "{room}");
+        same_of(&rt, room, octets, wanted);
     }
 }
 
@@ -169,38 +172,39 @@ fn a_writer_takes_255_bytes_of_data_and_no_more(rt: HostRuntime) {
     let mut octets = [0; 600];
     let mut writer = DhcpOptionWriter::new(&mut octets);
     let answers = [writer.emit(too_long), writer.emit(longest), writer.end()];
-    assert_eq!(rt; answers, [Err(Error), Ok(()), Ok(())]);
-    assert_eq!(rt; [octets[1], octets[257], octets[258]], [255, 0xff, 0]);
+    same(&rt, answers, [Err(Error), Ok(()), Ok(())]);
+    same(&rt, [octets[1], octets[257], octets[258]], [255, 0xff, 0]);
 }
 
 fn check_numbers(rt: &impl Abort, octets: &[u8]) {
     let Ok(read) = Packet::new_checked(octets) else {
-        assert!(rt; false, "240 bytes are enough");
+        fail(rt, "240 bytes are enough");
         return;
     };
-    assert_eq!(rt; read.opcode(), OpCode::Reply);
-    assert_eq!(rt; read.hardware_type(), Hardware::Ethernet);
-    assert_eq!(rt; read.hardware_len(), 6);
-    assert_eq!(rt; read.hops(), 3);
-    assert_eq!(rt; read.transaction_id(), 0x0102_0304);
-    assert_eq!(rt; read.secs(), 0x0506);
-    assert_eq!(rt; read.flags(), Flags::BROADCAST);
+    same(rt, read.opcode(), OpCode::Reply);
+    same(rt, read.hardware_type(), Hardware::Ethernet);
+    same(rt, read.hardware_len(), 6);
+    same(rt, read.hops(), 3);
+    same(rt, read.transaction_id(), 0x0102_0304);
+    same(rt, read.secs(), 0x0506);
+    same(rt, read.flags(), Flags::BROADCAST);
 }
 
 fn check_addresses(rt: &impl Abort, octets: &[u8]) {
     let Ok(read) = Packet::new_checked(octets) else {
-        assert!(rt; false, "240 bytes are enough");
+        fail(rt, "240 bytes are enough");
         return;
     };
-    assert_eq!(rt; read.client_ip(), Ipv4Address::new(10, 0, 0, 1));
-    assert_eq!(rt; read.your_ip(), Ipv4Address::new(10, 0, 0, 2));
-    assert_eq!(rt; read.server_ip(), Ipv4Address::new(10, 0, 0, 3));
-    assert_eq!(rt; read.relay_agent_ip(), Ipv4Address::new(10, 0, 0, 4));
-    assert_eq!(rt;
+    same(rt, read.client_ip(), Ipv4Address::new(10, 0, 0, 1));
+    same(rt, read.your_ip(), Ipv4Address::new(10, 0, 0, 2));
+    same(rt, read.server_ip(), Ipv4Address::new(10, 0, 0, 3));
+    same(rt, read.relay_agent_ip(), Ipv4Address::new(10, 0, 0, 4));
+    same(
+        rt,
         read.client_hardware_address(),
-        EthernetAddress([2, 3, 4, 5, 6, 7])
+        EthernetAddress([2, 3, 4, 5, 6, 7]),
     );
-    assert_eq!(rt; read.magic_number(), 0x6382_5363);
+    same(rt, read.magic_number(), 0x6382_5363);
 }
 
 #[test]
@@ -230,13 +234,13 @@ fn fields_of_a_packet(rt: HostRuntime) -> Result<(), Fail> {
     wanted[0..34].copy_from_slice(&head);
     wanted[34..236].fill(0);
     wanted[236..240].copy_from_slice(&[0x63, 0x82, 0x53, 0x63]);
-    assert_eq!(rt; octets, wanted);
+    same(&rt, octets, wanted);
 
     check_numbers(&rt, &octets);
     check_addresses(&rt, &octets);
     let read = Packet::new_unchecked(&octets[..]);
     assert!(rt; read == read);
-    assert_eq!(rt; read.into_inner().len(), 250);
+    same(&rt, read.into_inner().len(), 250);
     assert!(rt; Packet::new_checked(&[0; 239][..]).is_err());
     Ok(())
 }
@@ -249,8 +253,8 @@ fn numbers_of_operations(rt: HostRuntime) {
         (2, OpCode::Reply),
         (3, OpCode::Unknown(3)),
     ] {
-        assert_eq!(rt; OpCode::from(number), opcode);
-        assert_eq!(rt; u8::from(opcode), number);
+        same(&rt, OpCode::from(number), opcode);
+        same(&rt, u8::from(opcode), number);
     }
 }
 
@@ -268,8 +272,8 @@ fn numbers_of_types_of_message(rt: HostRuntime) {
         (9, MessageType::Unknown(9)),
         (0, MessageType::Unknown(0)),
     ] {
-        assert_eq!(rt; MessageType::from(number), message);
-        assert_eq!(rt; u8::from(message), number);
+        same(&rt, MessageType::from(number), message);
+        same(&rt, u8::from(message), number);
     }
     assert!(rt; MessageType::Inform < MessageType::Unknown(0));
 }
@@ -277,18 +281,19 @@ fn numbers_of_types_of_message(rt: HostRuntime) {
 #[test]
 fn bits_of_flags(rt: HostRuntime) {
     let none = !Flags::BROADCAST;
-    assert_eq!(rt; [Flags::all().bits(), none.bits()], [0x8000, 0]);
-    assert_eq!(rt; Flags::from_bits_truncate(0xffff), Flags::BROADCAST);
+    same(&rt, [Flags::all().bits(), none.bits()], [0x8000, 0]);
+    same(&rt, Flags::from_bits_truncate(0xffff), Flags::BROADCAST);
 }
 
 #[test]
 fn numbers_of_ports_and_of_kinds(rt: HostRuntime) {
-    assert_eq!(rt; [SERVER_PORT, CLIENT_PORT], [67, 68]);
-    assert_eq!(rt;
+    same(&rt, [SERVER_PORT, CLIENT_PORT], [67, 68]);
+    same(
+        &rt,
         [OPT_PAD, OPT_DHCP_MESSAGE_TYPE, OPT_RENEWAL_TIME_VALUE],
-        [0, 53, 58]
+        [0, 53, 58],
     );
-    assert_eq!(rt; [OPT_REBINDING_TIME_VALUE, OPT_END], [59, 255]);
+    same(&rt, [OPT_REBINDING_TIME_VALUE, OPT_END], [59, 255]);
 }
 
 #[test]
@@ -305,8 +310,8 @@ fn options_written_into_a_view(rt: HostRuntime) {
         options.emit(message_type),
         options.end(),
     ];
-    assert_eq!(rt; answers, [Ok(()), Err(Error), Ok(())]);
+    same(&rt, answers, [Ok(()), Err(Error), Ok(())]);
     let mut wanted = [0x2a; 245];
     wanted[240..244].copy_from_slice(&[0x35, 1, 1, 0xff]);
-    assert_eq!(rt; octets, wanted);
+    same(&rt, octets, wanted);
 }

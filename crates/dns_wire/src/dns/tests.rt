@@ -2,6 +2,7 @@ ghost use Rattle.std.specs.Prelude.{◌≡◌};
 ghost use Rattle.dns_wire.specs.DnsTables.{flag_bits, IsKnown};
 
 use super::{Flags, Opcode, Packet, Question, Rcode, Record, RecordData, Repr, Type};
+use crate::testing::{fail, same};
 use bitflags::Flags as _;
 use std::process::Abort;
 use std::test::Fail;
@@ -16,8 +17,8 @@ fn numbers_of_messages(rt: HostRuntime) {
         (1, Opcode::Status),
         (2, Opcode::Unknown(2)),
     ] {
-        assert_eq!(rt; Opcode::from(number), opcode);
-        assert_eq!(rt; u8::from(opcode), number);
+        same(&rt, Opcode::from(number), opcode);
+        same(&rt, u8::from(opcode), number);
     }
     for (number, rcode) in [
         (0, Rcode::NoError),
@@ -33,8 +34,8 @@ fn numbers_of_messages(rt: HostRuntime) {
         (10, Rcode::NotZone),
         (11, Rcode::Unknown(11)),
     ] {
-        assert_eq!(rt; Rcode::from(number), rcode);
-        assert_eq!(rt; u8::from(rcode), number);
+        same(&rt, Rcode::from(number), rcode);
+        same(&rt, u8::from(rcode), number);
     }
     for (number, kind) in [
         (1u16, Type::A),
@@ -44,8 +45,8 @@ fn numbers_of_messages(rt: HostRuntime) {
         (28, Type::Aaaa),
         (255, Type::Unknown(255)),
     ] {
-        assert_eq!(rt; Type::from(number), kind);
-        assert_eq!(rt; u16::from(kind), number);
+        same(&rt, Type::from(number), kind);
+        same(&rt, u16::from(kind), number);
     }
     assert!(rt; Type::Aaaa < Type::Unknown(0));
     assert!(rt; Rcode::NXDomain < Rcode::NotImp);
@@ -64,24 +65,24 @@ fn bits_of_flags(rt: HostRuntime) {
         (Flags::all(), 0x87b0),
         (Flags::empty(), 0),
     ] {
-        assert_eq!(rt; flags.bits(), bits);
+        same(&rt, flags.bits(), bits);
     }
 }
 
 #[test]
 fn flags_of_bits_with_and_without_a_name(rt: HostRuntime) {
-    assert_eq!(rt; Flags::from_bits(0x0040), None);
-    assert_eq!(rt; Flags::from_bits_truncate(0xffff), Flags::all());
-    assert_eq!(rt; Flags::from_bits_retain(0x0040).bits(), 0x0040);
+    same(&rt, Flags::from_bits(0x0040), None);
+    same(&rt, Flags::from_bits_truncate(0xffff), Flags::all());
+    same(&rt, Flags::from_bits_retain(0x0040).bits(), 0x0040);
 }
 
 #[test]
 fn flags_that_are_joined_and_taken_away(rt: HostRuntime) {
     let both = Flags::RESPONSE | Flags::TRUNCATED;
-    assert_eq!(rt; [both.bits(), (!both).bits()], [0x8200, 0x05b0]);
-    assert_eq!(rt; both & Flags::RESPONSE, Flags::RESPONSE);
-    assert_eq!(rt; both - Flags::RESPONSE, Flags::TRUNCATED);
-    assert_eq!(rt; both ^ Flags::RESPONSE, Flags::TRUNCATED);
+    same(&rt, [both.bits(), (!both).bits()], [0x8200, 0x05b0]);
+    same(&rt, both & Flags::RESPONSE, Flags::RESPONSE);
+    same(&rt, both - Flags::RESPONSE, Flags::TRUNCATED);
+    same(&rt, both ^ Flags::RESPONSE, Flags::TRUNCATED);
 }
 
 // A query for a name's address.
@@ -100,20 +101,20 @@ fn check_header(
     counts: [u16; 4],
 ) {
     let Ok(packet) = Packet::new_checked(octets) else {
-        assert!(rt; false, "too short");
+        fail(rt, "too short");
         return;
     };
-    assert_eq!(rt; packet.transaction_id(), transaction_id);
-    assert_eq!(rt; packet.flags().bits(), flags);
-    assert_eq!(rt; packet.opcode(), Opcode::Query);
-    assert_eq!(rt; packet.rcode(), outcome);
+    same(rt, packet.transaction_id(), transaction_id);
+    same(rt, packet.flags().bits(), flags);
+    same(rt, packet.opcode(), Opcode::Query);
+    same(rt, packet.rcode(), outcome);
     let read = [
         packet.question_count(),
         packet.answer_record_count(),
         packet.authority_record_count(),
         packet.additional_record_count(),
     ];
-    assert_eq!(rt; read, counts);
+    same(rt, read, counts);
 }
 
 #[test]
@@ -133,7 +134,7 @@ fn headers_of_messages(rt: HostRuntime) {
 // Reads a question that fills the octets.
 fn check_question(rt: &impl Abort, octets: &[u8], question: Question<'_>) {
     let read = Question::parse(octets);
-    assert_eq!(rt; read, Ok(([].as_slice(), question)));
+    same(rt, read, Ok(([].as_slice(), question)));
 }
 
 #[test]
@@ -158,7 +159,7 @@ fn counts_and_a_payload_that_are_written(rt: HostRuntime) {
     let written = [
         0xff, 0xff, 0xff, 0xff, 0x01, 0x02, 0x03, 0x04, 0x05, 0x06, 0x07, 0x08, 0xff, 0x0a,
     ];
-    assert_eq!(rt; octets.as_slice(), written.as_slice());
+    same(&rt, octets.as_slice(), written.as_slice());
 }
 
 #[test]
@@ -166,12 +167,12 @@ fn a_number_and_an_opcode_that_are_written(rt: HostRuntime) {
     let mut octets = [0xff; 12];
     let mut packet = Packet::new_unchecked(octets.as_mut_slice());
     packet.set_opcode(Opcode::Status);
-    assert_eq!(rt; packet.opcode(), Opcode::Status);
+    same(&rt, packet.opcode(), Opcode::Status);
     packet.set_transaction_id(0x1234);
     let written = [
         0x12, 0x34, 0x8f, 0xff, 0xff, 0xff, 0xff, 0xff, 0xff, 0xff, 0xff, 0xff,
     ];
-    assert_eq!(rt; octets.as_slice(), written.as_slice());
+    same(&rt, octets.as_slice(), written.as_slice());
 }
 
 #[test]
@@ -179,7 +180,7 @@ fn an_opcode_that_leaves_the_flags(rt: HostRuntime) {
     let mut octets = [0xff; 12];
     let mut packet = Packet::new_unchecked(octets.as_mut_slice());
     packet.set_opcode(Opcode::Query);
-    assert_eq!(rt; &octets[2..4], [0x87, 0xff].as_slice());
+    same(&rt, &octets[2..4], [0x87, 0xff].as_slice());
 }
 
 #[test]
@@ -188,7 +189,7 @@ fn flags_that_leave_the_other_bits(rt: HostRuntime) {
     octets[2] = 0x87;
     let mut packet = Packet::new_unchecked(octets.as_mut_slice());
     packet.set_flags(Flags::TRUNCATED);
-    assert_eq!(rt; &octets[2..4], [0x02, 0x4f].as_slice());
+    same(&rt, &octets[2..4], [0x02, 0x4f].as_slice());
 }
 
 #[test]
@@ -196,19 +197,19 @@ fn questions_and_what_stands_behind_them(rt: HostRuntime) {
     let whole = [0x01, 0x61, 0x00, 0x00, 0x01, 0x00, 0x01, 0xff];
     match Question::parse(&whole) {
         Ok((rest, question)) => {
-            assert_eq!(rt; question.name, [0x01, 0x61, 0x00].as_slice());
-            assert_eq!(rt; question.type_, Type::A);
-            assert_eq!(rt; rest, [0xff].as_slice());
+            same(&rt, question.name, [0x01, 0x61, 0x00].as_slice());
+            same(&rt, question.type_, Type::A);
+            same(&rt, rest, [0xff].as_slice());
         }
         Err(_) => panic!(rt; "refused"),
     }
     for len in 0..7usize {
-        assert_eq!(rt; Question::parse(&whole[..len]).is_err(), true);
+        same(&rt, Question::parse(&whole[..len]).is_err(), true);
     }
     match Question::parse(&[0xc0, 0x0c, 0x00, 0x01, 0x00, 0x01, 0xff]) {
         Ok((rest, question)) => {
-            assert_eq!(rt; question.name, [0xc0, 0x0c].as_slice());
-            assert_eq!(rt; rest.len(), 1);
+            same(&rt, question.name, [0xc0, 0x0c].as_slice());
+            same(&rt, rest.len(), 1);
         }
         Err(_) => panic!(rt; "refused"),
     }
@@ -219,14 +220,14 @@ fn questions_and_what_stands_behind_them(rt: HostRuntime) {
         [0x03, 0x61].as_slice(),
         [0xc0].as_slice(),
     ] {
-        assert_eq!(rt; Question::parse(refused).is_err(), true);
+        same(&rt, Question::parse(refused).is_err(), true);
     }
 }
 
 // Reads a record that fills the octets.
 fn check_record(rt: &impl Abort, octets: &[u8], name: &[u8], ttl: u32, data: RecordData<'_>) {
     let read = Record::parse(octets);
-    assert_eq!(rt; read, Ok(([].as_slice(), Record { name, ttl, data })));
+    same(rt, read, Ok(([].as_slice(), Record { name, ttl, data })));
 }
 
 #[test]
@@ -256,13 +257,13 @@ fn records_that_are_cut_or_of_another_length(rt: HostRuntime) {
         0xae,
     ];
     for len in 0..16usize {
-        assert_eq!(rt; Record::parse(&address[..len]).is_err(), true);
+        same(&rt, Record::parse(&address[..len]).is_err(), true);
     }
     let three = [
         0xc0, 0x0c, 0x00, 0x01, 0x00, 0x01, 0x00, 0x00, 0x00, 0xca, 0x00, 0x03, 0xac, 0xd9, 0xa8,
         0xae,
     ];
-    assert_eq!(rt; Record::parse(&three).is_err(), true);
+    same(&rt, Record::parse(&three).is_err(), true);
 }
 
 #[test]
@@ -285,7 +286,7 @@ fn a_query_is_written(rt: HostRuntime) {
             type_: Type::A,
         },
     };
-    assert_eq!(rt; query.buffer_len(), 19);
+    same(&rt, query.buffer_len(), 19);
     let mut octets = [0xff; 19];
     let mut packet = Packet::new_unchecked(octets.as_mut_slice());
     query.emit(&mut packet);
@@ -293,7 +294,7 @@ fn a_query_is_written(rt: HostRuntime) {
         0x12, 0x34, 0x01, 0x00, 0x00, 0x01, 0x00, 0x00, 0x00, 0x00, 0x00, 0x00, 0x01, 0x61, 0x00,
         0x00, 0x01, 0x00, 0x01,
     ];
-    assert_eq!(rt; octets.as_slice(), written.as_slice());
+    same(&rt, octets.as_slice(), written.as_slice());
     check_question(&rt, &octets[12..], query.question);
 }
 
@@ -314,5 +315,5 @@ fn a_query_is_written_over_the_front_of_longer_octets(rt: HostRuntime) {
         0x12, 0x34, 0x01, 0x00, 0x00, 0x01, 0x00, 0x00, 0x00, 0x00, 0x00, 0x00, 0x01, 0x61, 0x00,
         0x00, 0x01, 0x00, 0x01, 0xa5, 0xa5,
     ];
-    assert_eq!(rt; octets.as_slice(), written.as_slice());
+    same(&rt, octets.as_slice(), written.as_slice());
 }

@@ -1,4 +1,5 @@
 use super::{discover, read_lease, request};
+use crate::testing::same;
 use control_wire::dhcpv4::MessageType;
 use control_wire::{EthernetAddress, Ipv4Address};
 use std::test::Fail;
@@ -36,11 +37,11 @@ fn an_offer_gives_all_that_it_says(rt: HostRuntime) -> Result<(), Fail> {
     assert!(rt; lease.server == Ipv4Address::new(192, 168, 0, 1));
     assert!(rt; lease.subnet_mask == Some(Ipv4Address::new(255, 255, 255, 0)));
     assert!(rt; lease.router == Some(Ipv4Address::new(192, 168, 0, 254)));
-    assert_eq!(rt; lease.lease_duration, Some(3600));
-    assert_eq!(rt; lease.renew_duration, Some(1800));
-    assert_eq!(rt; lease.rebind_duration, Some(3150));
+    same(&rt, lease.lease_duration, Some(3600));
+    same(&rt, lease.renew_duration, Some(1800));
+    same(&rt, lease.rebind_duration, Some(3150));
     let servers = lease.dns_servers.ok_or("no DNS servers")?;
-    assert_eq!(rt; servers.len(), 2);
+    same(&rt, servers.len(), 2);
     assert!(rt; servers.as_slice()[0] == Ipv4Address::new(8, 8, 8, 8));
     assert!(rt; servers.as_slice()[1] == Ipv4Address::new(1, 1, 1, 1));
     Ok(())
@@ -86,20 +87,21 @@ fn a_client_asks(rt: HostRuntime) {
     discovers[..34].copy_from_slice(&ASKING);
     discovers[236..].copy_from_slice(&DISCOVER);
     let mut out = [0xa5; 258];
-    assert_eq!(rt; discover(0x3d1d, client, &mut out), Some(258));
-    assert_eq!(rt; out, discovers);
+    same(&rt, discover(0x3d1d, client, &mut out), Some(258));
+    same(&rt, out, discovers);
     let mut requests = [0; 270];
     requests[..34].copy_from_slice(&ASKING);
     requests[236..].copy_from_slice(&REQUEST);
     let server = Ipv4Address::new(192, 168, 0, 1);
     let address = Ipv4Address::new(192, 168, 0, 10);
     let mut out = [0xa5; 270];
-    assert_eq!(rt;
+    same(
+        &rt,
         request(0x3d1d, client, server, address, &mut out),
-        Some(270)
+        Some(270),
     );
-    assert_eq!(rt; out, requests);
+    same(&rt, out, requests);
     let mut short = [0xa5; 257];
-    assert_eq!(rt; discover(0x3d1d, client, &mut short), None);
-    assert_eq!(rt; short, [0xa5; 257]);
+    same(&rt, discover(0x3d1d, client, &mut short), None);
+    same(&rt, short, [0xa5; 257]);
 }

@@ -1,6 +1,7 @@
 ghost use Rattle.control_wire.specs.Ipv4.{IsMulticast};
 
 use super::{MESSAGE_LEN, answer, join, leave, listens, report_v6, router_alert};
+use crate::testing::same;
 use control_wire::{Duration, Ipv4Address, Ipv6Address};
 
 // 224.0.6.150
@@ -22,20 +23,21 @@ fn groups_are_joined_and_left(rt: HostRuntime) {
     for fill in [0x00, 0xff, 0x2a] {
         let mut out = [fill; MESSAGE_LEN];
         join(group(), &mut out);
-        assert_eq!(rt; out.as_slice(), REPORT.as_slice());
+        same(&rt, out.as_slice(), REPORT.as_slice());
         leave(group(), &mut out);
-        assert_eq!(rt; out.as_slice(), LEAVE.as_slice());
+        same(&rt, out.as_slice(), LEAVE.as_slice());
     }
 }
 
 #[test]
 fn query_for_all_groups_is_answered_within_its_time(rt: HostRuntime) {
     let mut out = [0x2a; MESSAGE_LEN];
-    assert_eq!(rt;
+    same(
+        &rt,
         answer(&QUERY, group(), &mut out),
-        Some(Duration::from_millis(12_800))
+        Some(Duration::from_millis(12_800)),
     );
-    assert_eq!(rt; out.as_slice(), REPORT.as_slice());
+    same(&rt, out.as_slice(), REPORT.as_slice());
 }
 
 #[test]
@@ -43,10 +45,10 @@ fn what_is_no_good_query_is_not_answered(rt: HostRuntime) {
     let mut out = [0x2a; MESSAGE_LEN];
     let mut bad = QUERY;
     bad[3] ^= 1;
-    assert_eq!(rt; answer(&bad, group(), &mut out), None);
-    assert_eq!(rt; answer(&LEAVE, group(), &mut out), None);
-    assert_eq!(rt; answer(&QUERY[..7], group(), &mut out), None);
-    assert_eq!(rt; out.as_slice(), [0x2a; MESSAGE_LEN].as_slice());
+    same(&rt, answer(&bad, group(), &mut out), None);
+    same(&rt, answer(&LEAVE, group(), &mut out), None);
+    same(&rt, answer(&QUERY[..7], group(), &mut out), None);
+    same(&rt, out.as_slice(), [0x2a; MESSAGE_LEN].as_slice());
 }
 
 // A host fe80::1 listens to ff02::fb.
@@ -61,10 +63,14 @@ fn groups_are_reported_over_ipv6(rt: HostRuntime) {
     ];
     let mut out = [0xa5; 28];
     report_v6(&own, &records, &mut out);
-    assert_eq!(rt; out, written);
+    same(&rt, out, written);
     let mut options = [0xa5; 8];
     router_alert(&mut options);
-    assert_eq!(rt; options, [0x3a, 0x00, 0x05, 0x02, 0x00, 0x00, 0x01, 0x00]);
+    same(
+        &rt,
+        options,
+        [0x3a, 0x00, 0x05, 0x02, 0x00, 0x00, 0x01, 0x00],
+    );
 }
 
 const GROUP_V6: [u8; 16] = [0xff, 0x02, 0, 0, 0, 0, 0, 0, 0, 0, 0, 0, 0, 0, 0, 0xfb];

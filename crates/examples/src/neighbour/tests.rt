@@ -1,4 +1,5 @@
 use super::{answer, link_address, router};
+use crate::testing::same;
 use control_wire::ndiscoption::PrefixInfoFlags;
 use control_wire::{
     Duration, EthernetAddress, IPV6_LINK_LOCAL_ALL_NODES, Ipv6Address, RawHardwareAddress,
@@ -60,9 +61,9 @@ fn a_solicitation_is_answered_with_the_address_on_the_link(rt: HostRuntime) {
         &SOLICITATION,
         &mut reply,
     );
-    assert_eq!(rt; written, Some(32));
-    assert_eq!(rt; &reply[..32], ADVERTISEMENT.as_slice());
-    assert_eq!(rt; &reply[32..], [0x2a; 2].as_slice());
+    same(&rt, written, Some(32));
+    same(&rt, &reply[..32], ADVERTISEMENT.as_slice());
+    same(&rt, &reply[32..], [0x2a; 2].as_slice());
 }
 
 #[test]
@@ -78,33 +79,35 @@ fn what_is_no_solicitation_for_this_host_or_has_no_room_is_not_answered(rt: Host
         &SOLICITATION,
         &mut reply,
     );
-    assert_eq!(rt; none, None);
+    same(&rt, none, None);
     let none = answer(&peer(), &own(), &own(), lladdr, &SOLICITATION, &mut reply);
-    assert_eq!(rt; none, None);
+    same(&rt, none, None);
     let none = answer(&own(), &peer(), &own(), lladdr, &ADVERTISEMENT, &mut reply);
-    assert_eq!(rt; none, None);
-    assert_eq!(rt; reply, [0x2a; 32]);
+    same(&rt, none, None);
+    same(&rt, reply, [0x2a; 32]);
     let mut short = [0x2a; 31];
     let none = answer(&peer(), &asked(), &own(), lladdr, &SOLICITATION, &mut short);
-    assert_eq!(rt; none, None);
-    assert_eq!(rt; short, [0x2a; 31]);
+    same(&rt, none, None);
+    same(&rt, short, [0x2a; 31]);
 }
 
 #[test]
 fn the_address_on_the_link_is_read_from_an_advertisement(rt: HostRuntime) {
     let told = link_address(&own(), &peer(), &own(), &ADVERTISEMENT);
-    assert_eq!(rt; told, Some(RawHardwareAddress::from(OWN_LINK_ADDRESS)));
+    same(&rt, told, Some(RawHardwareAddress::from(OWN_LINK_ADDRESS)));
     // Of another neighbor, of another checksum, and with no address of the target.
-    assert_eq!(rt;
+    same(
+        &rt,
         link_address(&own(), &peer(), &peer(), &ADVERTISEMENT),
-        None
+        None,
     );
-    assert_eq!(rt;
+    same(
+        &rt,
         link_address(&own(), &asked(), &own(), &ADVERTISEMENT),
-        None
+        None,
     );
-    assert_eq!(rt; link_address(&own(), &peer(), &own(), &BARE), None);
-    assert_eq!(rt; link_address(&own(), &peer(), &own(), &OF_SENDER), None);
+    same(&rt, link_address(&own(), &peer(), &own(), &BARE), None);
+    same(&rt, link_address(&own(), &peer(), &own(), &OF_SENDER), None);
 }
 
 #[test]
@@ -113,18 +116,19 @@ fn lifetime_mtu_and_prefix_are_read_from_a_router(rt: HostRuntime) {
     let Some(told) = told else {
         panic!(rt; "not read");
     };
-    assert_eq!(rt; told.lifetime, Duration::from_secs(1_800));
-    assert_eq!(rt; told.mtu, Some(1_500));
+    same(&rt, told.lifetime, Duration::from_secs(1_800));
+    same(&rt, told.mtu, Some(1_500));
     let Some(info) = told.prefix_info else {
         panic!(rt; "no prefix");
     };
-    assert_eq!(rt; info.prefix_len, 64);
+    same(&rt, info.prefix_len, 64);
     assert!(rt; info.flags == PrefixInfoFlags::ON_LINK | PrefixInfoFlags::ADDRCONF);
-    assert_eq!(rt; info.valid_lifetime, Duration::from_secs(2_592_000));
-    assert_eq!(rt; info.preferred_lifetime, Duration::from_secs(604_800));
-    assert_eq!(rt;
+    same(&rt, info.valid_lifetime, Duration::from_secs(2_592_000));
+    same(&rt, info.preferred_lifetime, Duration::from_secs(604_800));
+    same(
+        &rt,
         info.prefix,
-        Ipv6Address::new(0x2001, 0xdb8, 0, 0, 0, 0, 0, 0)
+        Ipv6Address::new(0x2001, 0xdb8, 0, 0, 0, 0, 0, 0),
     );
     // To another address the checksum is not good; and no advertisement of a router.
     assert!(rt; router(&peer(), &own(), &ROUTER).is_none());

@@ -1,4 +1,5 @@
 use super::{answer, answer_v6};
+use crate::testing::same;
 use control_wire::Ipv6Address;
 
 // An echo request with identifier 0x1234, sequence number 0xabcd and four bytes, and its reply.
@@ -14,22 +15,22 @@ const REPLY: [u8; 12] = [
 fn echo_request_is_answered_at_the_front(rt: HostRuntime) {
     for fill in [0x00, 0xff, 0x2a] {
         let mut reply = [fill; 14];
-        assert_eq!(rt; answer(&REQUEST, &mut reply), Some(12));
-        assert_eq!(rt; &reply[..12], REPLY.as_slice());
-        assert_eq!(rt; &reply[12..], [fill; 2].as_slice());
+        same(&rt, answer(&REQUEST, &mut reply), Some(12));
+        same(&rt, &reply[..12], REPLY.as_slice());
+        same(&rt, &reply[12..], [fill; 2].as_slice());
     }
 }
 
 #[test]
 fn what_is_no_good_request_or_has_no_room_is_not_answered(rt: HostRuntime) {
     let mut reply = [0x2a; 12];
-    assert_eq!(rt; answer(&REPLY, &mut reply), None);
-    assert_eq!(rt; answer(&REQUEST[..11], &mut reply), None);
-    assert_eq!(rt; answer(&[], &mut reply), None);
-    assert_eq!(rt; reply.as_slice(), [0x2a; 12].as_slice());
+    same(&rt, answer(&REPLY, &mut reply), None);
+    same(&rt, answer(&REQUEST[..11], &mut reply), None);
+    same(&rt, answer(&[], &mut reply), None);
+    same(&rt, reply.as_slice(), [0x2a; 12].as_slice());
     let mut short = [0x2a; 11];
-    assert_eq!(rt; answer(&REQUEST, &mut short), None);
-    assert_eq!(rt; short.as_slice(), [0x2a; 11].as_slice());
+    same(&rt, answer(&REQUEST, &mut short), None);
+    same(&rt, short.as_slice(), [0x2a; 11].as_slice());
 }
 
 #[test]
@@ -40,16 +41,21 @@ fn echo_request_over_ipv6_is_answered_from_the_own_address(rt: HostRuntime) {
         0x80, 0x00, 0x19, 0xb3, 0x12, 0x34, 0xab, 0xcd, 0xaa, 0x00, 0x00, 0xff,
     ];
     let mut reply = [0x2a; 14];
-    assert_eq!(rt;
+    same(
+        &rt,
         answer_v6(&peer, &own, &own, &request, &mut reply),
-        Some(12)
+        Some(12),
     );
     let written = [
         0x81, 0x00, 0x18, 0xb3, 0x12, 0x34, 0xab, 0xcd, 0xaa, 0x00, 0x00, 0xff, 0x2a, 0x2a,
     ];
-    assert_eq!(rt; reply, written);
+    same(&rt, reply, written);
     let mut short = [0x2a; 11];
-    assert_eq!(rt; answer_v6(&peer, &own, &own, &request, &mut short), None);
-    assert_eq!(rt; short, [0x2a; 11]);
-    assert_eq!(rt; answer_v6(&own, &own, &own, &request, &mut reply), None);
+    same(
+        &rt,
+        answer_v6(&peer, &own, &own, &request, &mut short),
+        None,
+    );
+    same(&rt, short, [0x2a; 11]);
+    same(&rt, answer_v6(&own, &own, &own, &request, &mut reply), None);
 }

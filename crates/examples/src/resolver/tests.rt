@@ -1,6 +1,7 @@
 //! A response of a real server for www.facebook.com: its canonical name, and the address of that.
 
 use super::{Address, next_address, query, read_answers};
+use crate::testing::same;
 use control_wire::Ipv4Address;
 use control_wire::dns::Type;
 use std::test::Fail;
@@ -25,17 +26,19 @@ fn the_query_is_that_of_a_real_client(rt: HostRuntime) {
         0x6f, 0x67, 0x6c, 0x65, 0x03, 0x63, 0x6f, 0x6d, 0x00, 0x00, 0x01, 0x00, 0x01,
     ];
     let mut out = [0xa5; 28];
-    assert_eq!(rt;
+    same(
+        &rt,
         query(0x5184, b"\x06google\x03com\x00", Type::A, &mut out),
-        Some(28)
+        Some(28),
     );
-    assert_eq!(rt; out, written);
+    same(&rt, out, written);
     let mut short = [0xa5; 27];
-    assert_eq!(rt;
+    same(
+        &rt,
         query(0x5184, b"\x06google\x03com\x00", Type::A, &mut short),
-        None
+        None,
     );
-    assert_eq!(rt; short, [0xa5; 27]);
+    same(&rt, short, [0xa5; 27]);
 }
 
 #[test]
@@ -43,7 +46,7 @@ fn the_address_of_an_alias(rt: HostRuntime) -> Result<(), Fail> {
     let message = RESPONSE;
     let name = NAME;
     let all = read_answers(&message, 0x786c, &name, Type::A).ok_or("no response")?;
-    assert_eq!(rt; all.left, 2);
+    same(&rt, all.left, 2);
     let (address, rest) = next_address(all).ok_or("no address")?;
     assert!(rt; address == Address::V4(Ipv4Address::new(31, 13, 83, 36)));
     assert!(rt; next_address(rest).is_none());

@@ -1,4 +1,5 @@
 use super::{port_unreachable, port_unreachable_v6};
+use crate::testing::same;
 use control_wire::Ipv6Address;
 
 // A datagram from port 53 of 10.0.0.1 to port 53 of 10.0.0.2, with no data.
@@ -22,20 +23,20 @@ fn a_datagram_is_quoted_whole(rt: HostRuntime) {
         0x00, 0x35, 0x00, 0x08, 0x00, 0x00,
     ];
     let mut out = [0xff; 36];
-    assert_eq!(rt; port_unreachable(&DATAGRAM, &mut out), Some(36));
-    assert_eq!(rt; out, written);
+    same(&rt, port_unreachable(&DATAGRAM, &mut out), Some(36));
+    same(&rt, out, written);
     let mut short = [0xff; 35];
-    assert_eq!(rt; port_unreachable(&DATAGRAM, &mut short), None);
-    assert_eq!(rt; short, [0xff; 35]);
-    assert_eq!(rt; port_unreachable(&DATAGRAM[..27], &mut out), None);
-    assert_eq!(rt; out, written);
+    same(&rt, port_unreachable(&DATAGRAM, &mut short), None);
+    same(&rt, short, [0xff; 35]);
+    same(&rt, port_unreachable(&DATAGRAM[..27], &mut out), None);
+    same(&rt, out, written);
 }
 
 #[test]
 fn a_header_of_less_than_20_bytes_is_not_answered(rt: HostRuntime) {
     let mut datagram = DATAGRAM;
     datagram[0] = 0x44;
-    assert_eq!(rt; port_unreachable(&datagram, &mut [0; 64]), None);
+    same(&rt, port_unreachable(&datagram, &mut [0; 64]), None);
 }
 
 // A datagram of 640 bytes, of 1,400 over IPv6.
@@ -45,15 +46,16 @@ fn long_datagrams_are_quoted_in_part(rt: HostRuntime) {
     datagram[..28].copy_from_slice(&DATAGRAM);
     datagram[2] = 0x02;
     datagram[3] = 0x80;
-    assert_eq!(rt; port_unreachable(&datagram, &mut [0; 640]), Some(556));
+    same(&rt, port_unreachable(&datagram, &mut [0; 640]), Some(556));
     let mut datagram = [0; 1400];
     datagram[..48].copy_from_slice(&DATAGRAM_V6);
     datagram[4] = 0x05;
     datagram[5] = 0x50;
     let own = Ipv6Address::new(0xfe80, 0, 0, 0, 0, 0, 0, 2);
-    assert_eq!(rt;
+    same(
+        &rt,
         port_unreachable_v6(&own, &datagram, &mut [0; 1400]),
-        Some(1240)
+        Some(1240),
     );
 }
 
@@ -67,10 +69,18 @@ fn a_datagram_over_ipv6_is_quoted_whole(rt: HostRuntime) {
         0x00, 0x00, 0x02, 0x00, 0x35, 0x00, 0x35, 0x00, 0x08, 0x00, 0x00,
     ];
     let mut out = [0xff; 56];
-    assert_eq!(rt; port_unreachable_v6(&own, &DATAGRAM_V6, &mut out), Some(56));
-    assert_eq!(rt; out, written);
+    same(
+        &rt,
+        port_unreachable_v6(&own, &DATAGRAM_V6, &mut out),
+        Some(56),
+    );
+    same(&rt, out, written);
     let mut short = [0xff; 55];
-    assert_eq!(rt; port_unreachable_v6(&own, &DATAGRAM_V6, &mut short), None);
-    assert_eq!(rt; short, [0xff; 55]);
-    assert_eq!(rt; port_unreachable_v6(&own, &DATAGRAM, &mut out), None);
+    same(
+        &rt,
+        port_unreachable_v6(&own, &DATAGRAM_V6, &mut short),
+        None,
+    );
+    same(&rt, short, [0xff; 55]);
+    same(&rt, port_unreachable_v6(&own, &DATAGRAM, &mut out), None);
 }

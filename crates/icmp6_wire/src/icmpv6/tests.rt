@@ -1,5 +1,6 @@
 use super::{Packet, Repr};
 use crate::plain_reader::compare_damaged;
+use crate::testing::{holds_of, same_of};
 use std::test::Fail;
 use wirebase::capabilities::Checksum;
 use wirebase::{ChecksumCapabilities, Ipv6Address};
@@ -54,7 +55,7 @@ fn echo_requests_are_written_and_read(rt: HostRuntime) -> Result<(), Fail> {
             data: &[0xaa, 0x00, 0x00, 0xff],
         }
         .emit(&source(), &destination(), &mut packet, &caps);
-        assert_eq!(rt; octets.as_slice(), ECHO.as_slice(), "over {fill}");
+        same_of(&rt, fill, octets.as_slice(), ECHO.as_slice());
     }
     let octets = ECHO;
     let packet = Packet::new_unchecked(octets.as_slice());
@@ -67,9 +68,10 @@ fn echo_requests_are_written_and_read(rt: HostRuntime) -> Result<(), Fail> {
                 data: &[0xaa, 0x00, 0x00, 0xff]
             })
     );
-    assert!(rt;
+    holds_of(
+        &rt,
+        "to another address",
         Repr::parse(&source(), &Ipv6Address::UNSPECIFIED, &packet, &caps).is_err(),
-        "to another address"
     );
     Ok(())
 }
@@ -89,7 +91,7 @@ fn echo_replies_are_written_and_read(rt: HostRuntime) {
             data: &[0xaa, 0x00, 0x00, 0xff],
         }
         .emit(&source(), &destination(), &mut packet, &caps);
-        assert_eq!(rt; octets.as_slice(), wanted.as_slice(), "over {fill}");
+        same_of(&rt, fill, octets.as_slice(), wanted.as_slice());
     }
     let packet = Packet::new_unchecked(wanted.as_slice());
     assert!(rt;
@@ -121,7 +123,7 @@ fn three_errors_have_any_code_and_the_others_code_0(rt: HostRuntime) -> Result<(
             octets[1] = code;
             let packet = Packet::new_unchecked(octets.as_slice());
             let read = Repr::parse(&source(), &destination(), &packet, &caps).is_ok();
-            assert_eq!(rt; read, any || code == 0, "type {kind}, code {code}");
+            same_of(&rt, (kind, code), read, any || code == 0);
         }
     }
     Ok(())
@@ -134,17 +136,20 @@ fn a_turned_bit_of_the_checksum_is_refused(rt: HostRuntime) -> Result<(), Fail> 
             let mut octets = TOO_BIG;
             octets[at] ^= mask;
             let packet = Packet::new_unchecked(octets.as_slice());
-            assert!(rt;
+            holds_of(
+                &rt,
+                (mask, at),
                 !packet.verify_checksum(&source(), &destination()),
-                "bit {mask} of byte {at}"
             );
-            assert!(rt;
+            holds_of(
+                &rt,
+                (mask, at),
                 Repr::parse(&source(), &destination(), &packet, &all(Checksum::Rx)).is_err(),
-                "bit {mask} of byte {at}"
             );
-            assert!(rt;
+            holds_of(
+                &rt,
+                (mask, at),
                 Repr::parse(&source(), &destination(), &packet, &all(Checksum::Tx)).is_ok(),
-                "bit {mask} of byte {at}"
             );
         }
     }

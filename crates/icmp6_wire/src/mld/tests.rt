@@ -3,6 +3,7 @@ ghost use Rattle.std.specs.Prelude.{◌≡◌};
 use super::{AddressRecord, AddressRecordRepr, RecordType, Repr};
 use crate::icmpv6::{self, Packet};
 use crate::plain_reader::compare_damaged;
+use crate::testing::{fail, holds_of, same, same_of};
 use std::test::Fail;
 use wirebase::{
     ChecksumCapabilities, IPV6_LINK_LOCAL_ALL_NODES, IPV6_LINK_LOCAL_ALL_ROUTERS, Ipv6Address,
@@ -47,15 +48,15 @@ fn queries_are_written_and_read(rt: HostRuntime) -> Result<(), Fail> {
         let mut written = [fill; 44];
         let mut packet = Packet::new_unchecked(written.as_mut_slice());
         query.emit(&mut packet);
-        assert_eq!(rt; written.as_slice(), QUERY.as_slice(), "over {fill}");
+        same_of(&rt, fill, written.as_slice(), QUERY.as_slice());
     }
     let packet = Packet::new_unchecked(octets.as_slice());
     assert!(rt; Repr::parse(&packet) == Ok(query));
-    assert_eq!(rt; query.buffer_len(), 44);
-    assert_eq!(rt; query.packet_len(), 44);
+    same(&rt, query.buffer_len(), 44);
+    same(&rt, query.packet_len(), 44);
     for len in 0..28 {
         let packet = Packet::new_unchecked(&octets[..len]);
-        assert!(rt; Repr::parse(&packet).is_err(), "{len} bytes");
+        holds_of(&rt, len, Repr::parse(&packet).is_err());
     }
     Ok(())
 }
@@ -71,11 +72,11 @@ fn reports_are_written_and_read(rt: HostRuntime) {
         let mut written = [fill; 28];
         let mut packet = Packet::new_unchecked(written.as_mut_slice());
         report.emit(&mut packet);
-        assert_eq!(rt; written.as_slice(), REPORT.as_slice(), "over {fill}");
+        same_of(&rt, fill, written.as_slice(), REPORT.as_slice());
     }
     let packet = Packet::new_unchecked(octets.as_slice());
     assert!(rt; Repr::parse(&packet) == Ok(report));
-    assert_eq!(rt; [report.buffer_len(), report.packet_len()], [28, 28]);
+    same(&rt, [report.buffer_len(), report.packet_len()], [28, 28]);
 }
 
 #[test]
@@ -89,9 +90,13 @@ fn a_list_of_records_is_written_as_a_report(rt: HostRuntime) {
         let mut written = [fill; 28];
         let mut packet = Packet::new_unchecked(written.as_mut_slice());
         by_records.emit(&mut packet);
-        assert_eq!(rt; written.as_slice(), REPORT.as_slice(), "over {fill}");
+        same_of(&rt, fill, written.as_slice(), REPORT.as_slice());
     }
-    assert_eq!(rt; [by_records.buffer_len(), by_records.packet_len()], [8, 28]);
+    same(
+        &rt,
+        [by_records.buffer_len(), by_records.packet_len()],
+        [8, 28],
+    );
 }
 
 #[test]
@@ -99,7 +104,7 @@ fn reports_are_read_by_their_first_8_bytes(rt: HostRuntime) {
     let octets = REPORT;
     for len in 0..8 {
         let packet = Packet::new_unchecked(&octets[..len]);
-        assert!(rt; Repr::parse(&packet).is_err(), "{len} bytes");
+        holds_of(&rt, len, Repr::parse(&packet).is_err());
     }
     let packet = Packet::new_unchecked(&octets[..8]);
     assert!(rt; Repr::parse(&packet).is_ok());
@@ -111,18 +116,18 @@ fn the_flag_and_the_robustness_variable(rt: HostRuntime) -> Result<(), Fail> {
         let mut octets = [0; 25];
         octets[24] = byte;
         let mut packet = Packet::new_unchecked(octets.as_mut_slice());
-        assert_eq!(rt; packet.s_flag(), byte & 8 != 0, "byte {byte}");
-        assert_eq!(rt; packet.qrv(), byte & 7, "byte {byte}");
+        same_of(&rt, byte, packet.s_flag(), byte & 8 != 0);
+        same_of(&rt, byte, packet.qrv(), byte & 7);
         packet.set_qrv(2);
-        assert_eq!(rt; octets[24], (byte & 8) | 2, "byte {byte}");
+        same_of(&rt, byte, octets[24], (byte & 8) | 2);
         octets[24] = byte;
         let mut packet = Packet::new_unchecked(octets.as_mut_slice());
         packet.set_s_flag();
-        assert_eq!(rt; octets[24], (byte & 7) | 8, "byte {byte}");
+        same_of(&rt, byte, octets[24], (byte & 7) | 8);
         octets[24] = byte;
         let mut packet = Packet::new_unchecked(octets.as_mut_slice());
         packet.clear_s_flag();
-        assert_eq!(rt; octets[24], byte & 7, "byte {byte}");
+        same_of(&rt, byte, octets[24], byte & 7);
     }
     Ok(())
 }
@@ -133,12 +138,13 @@ fn records_are_read_by_their_first_20_bytes(rt: HostRuntime) -> Result<(), Fail>
         0x04, 0x01, 0x00, 0x02, 0xff, 0x02, 0, 0, 0, 0, 0, 0, 0, 0, 0, 0, 0, 0, 0, 0x02, 0xaa, 0xbb,
     ];
     for len in 0..20 {
-        assert!(rt;
+        holds_of(
+            &rt,
+            len,
             AddressRecord::new_checked(&octets[..len]).is_err(),
-            "{len} bytes"
         );
         let record = AddressRecord::new_unchecked(&octets[..len]);
-        assert!(rt; AddressRecordRepr::parse(&record).is_err(), "{len} bytes");
+        holds_of(&rt, len, AddressRecordRepr::parse(&record).is_err());
     }
     let record = AddressRecord::new_unchecked(octets.as_slice());
     let repr = AddressRecordRepr {
@@ -149,13 +155,13 @@ fn records_are_read_by_their_first_20_bytes(rt: HostRuntime) -> Result<(), Fail>
         payload: &[0xaa, 0xbb],
     };
     assert!(rt; AddressRecordRepr::parse(&record) == Ok(repr));
-    assert_eq!(rt; repr.buffer_len(), 20);
+    same(&rt, repr.buffer_len(), 20);
     for fill in FILLS {
         let mut written = [fill; 21];
         let mut record = AddressRecord::new_unchecked(written.as_mut_slice());
         repr.emit(&mut record);
-        assert_eq!(rt; &written[..20], &octets[..20], "over {fill}");
-        assert_eq!(rt; written[20], fill, "over {fill}");
+        same_of(&rt, fill, &written[..20], &octets[..20]);
+        same_of(&rt, fill, written[20], fill);
     }
     Ok(())
 }
@@ -176,8 +182,8 @@ fn queries_inside_icmpv6_have_a_checksum(rt: HostRuntime) {
         num_srcs: 1,
         data: &octets[28..],
     });
-    assert_eq!(rt; query.buffer_len(), 44);
-    assert_eq!(rt; query.packet_len(), 44);
+    same(&rt, query.buffer_len(), 44);
+    same(&rt, query.packet_len(), 44);
     for fill in FILLS {
         let mut written = [fill; 44];
         query.emit(
@@ -186,7 +192,7 @@ fn queries_inside_icmpv6_have_a_checksum(rt: HostRuntime) {
             &mut Packet::new_unchecked(written.as_mut_slice()),
             &caps,
         );
-        assert_eq!(rt; written.as_slice(), sealed.as_slice(), "over {fill}");
+        same_of(&rt, fill, written.as_slice(), sealed.as_slice());
     }
     let read = icmpv6::Repr::parse(
         &IPV6_LINK_LOCAL_ALL_NODES,
@@ -201,7 +207,7 @@ fn queries_inside_icmpv6_have_a_checksum(rt: HostRuntime) {
         &Packet::new_unchecked(octets.as_slice()),
         &caps,
     );
-    assert!(rt; read.is_err(), "no checksum");
+    holds_of(&rt, "no checksum", read.is_err());
 }
 
 #[test]
@@ -212,8 +218,8 @@ fn reports_inside_icmpv6_have_a_checksum(rt: HostRuntime) {
         nr_mcast_addr_rcrds: 1,
         data: &octets[8..],
     });
-    assert_eq!(rt; report.buffer_len(), 44);
-    assert_eq!(rt; report.packet_len(), 44);
+    same(&rt, report.buffer_len(), 44);
+    same(&rt, report.packet_len(), 44);
     for fill in FILLS {
         let mut written = [fill; 44];
         report.emit(
@@ -222,7 +228,7 @@ fn reports_inside_icmpv6_have_a_checksum(rt: HostRuntime) {
             &mut Packet::new_unchecked(written.as_mut_slice()),
             &caps,
         );
-        assert_eq!(rt; written.as_slice(), octets.as_slice(), "over {fill}");
+        same_of(&rt, fill, written.as_slice(), octets.as_slice());
     }
     let read = icmpv6::Repr::parse(
         &IPV6_LINK_LOCAL_ALL_NODES,
@@ -242,8 +248,8 @@ fn a_list_of_records_is_read_back_as_a_report(rt: HostRuntime) {
         IPV6_LINK_LOCAL_ALL_ROUTERS,
     )];
     let by_records = icmpv6::Repr::Mld(Repr::ReportRecordReprs(&records));
-    assert_eq!(rt; by_records.buffer_len(), 8);
-    assert_eq!(rt; by_records.packet_len(), 28);
+    same(&rt, by_records.buffer_len(), 8);
+    same(&rt, by_records.packet_len(), 28);
     for fill in FILLS {
         let mut written = [fill; 28];
         by_records.emit(
@@ -252,7 +258,7 @@ fn a_list_of_records_is_read_back_as_a_report(rt: HostRuntime) {
             &mut Packet::new_unchecked(written.as_mut_slice()),
             &caps,
         );
-        assert_eq!(rt; written.as_slice(), octets.as_slice(), "over {fill}");
+        same_of(&rt, fill, written.as_slice(), octets.as_slice());
     }
     let read = icmpv6::Repr::parse(
         &Ipv6Address::UNSPECIFIED,
@@ -287,22 +293,22 @@ fn records_are_written_in_their_order(rt: HostRuntime) {
         AddressRecordRepr::new(RecordType::Unknown(7), IPV6_LINK_LOCAL_ALL_ROUTERS),
     ];
     let report = Repr::ReportRecordReprs(&records);
-    assert_eq!(rt; report.packet_len(), 48);
+    same(&rt, report.packet_len(), 48);
     for fill in FILLS {
         let mut written = [fill; 48];
         report.emit(&mut Packet::new_unchecked(written.as_mut_slice()));
-        assert_eq!(rt; written.as_slice(), TWO_RECORDS.as_slice(), "over {fill}");
+        same_of(&rt, fill, written.as_slice(), TWO_RECORDS.as_slice());
     }
 }
 
 #[test]
 fn an_empty_list_of_records_is_written(rt: HostRuntime) {
     let report = Repr::ReportRecordReprs(&[]);
-    assert_eq!(rt; report.packet_len(), 8);
+    same(&rt, report.packet_len(), 8);
     for fill in FILLS {
         let mut written = [fill; 8];
         report.emit(&mut Packet::new_unchecked(written.as_mut_slice()));
-        assert_eq!(rt; written, [0x8f, 0, 0, 0, 0, 0, 0, 0], "over {fill}");
+        same_of(&rt, fill, written, [0x8f, 0, 0, 0, 0, 0, 0, 0]);
     }
 }
 
@@ -311,8 +317,8 @@ fn a_report_of_300_records(rt: HostRuntime) {
     let record = AddressRecordRepr::new(RecordType::ModeIsExclude, IPV6_LINK_LOCAL_ALL_NODES);
     let records = [record; 300];
     let report = Repr::ReportRecordReprs(&records);
-    assert_eq!(rt; report.buffer_len(), 8);
-    assert_eq!(rt; report.packet_len(), 6008);
+    same(&rt, report.buffer_len(), 8);
+    same(&rt, report.packet_len(), 6008);
     let mut octets = [0x2a; 6008];
     report.emit(&mut Packet::new_unchecked(octets.as_mut_slice()));
     let head = [0x8f, 0x00, 0x00, 0x00, 0x00, 0x00, 0x01, 0x2c];
@@ -321,7 +327,7 @@ fn a_report_of_300_records(rt: HostRuntime) {
     ];
     for (at, byte) in octets.iter().enumerate() {
         let wanted = if at < 8 { head[at] } else { one[(at - 8) % 20] };
-        assert_eq!(rt; *byte, wanted, "byte {at}");
+        same_of(&rt, at, *byte, wanted);
     }
 }
 
@@ -333,20 +339,24 @@ fn fields_of_queries_and_reports(rt: HostRuntime) {
     packet.set_mcast_addr(IPV6_LINK_LOCAL_ALL_ROUTERS);
     packet.set_qqic(0x12);
     packet.set_num_srcs(0x0304);
-    assert_eq!(rt; packet.max_resp_code(), 0x0102);
-    assert_eq!(rt; packet.mcast_addr(), IPV6_LINK_LOCAL_ALL_ROUTERS);
-    assert_eq!(rt; packet.qqic(), 0x12);
-    assert_eq!(rt; packet.num_srcs(), 0x0304);
+    same(&rt, packet.max_resp_code(), 0x0102);
+    same(&rt, packet.mcast_addr(), IPV6_LINK_LOCAL_ALL_ROUTERS);
+    same(&rt, packet.qqic(), 0x12);
+    same(&rt, packet.num_srcs(), 0x0304);
     let written = [
         0x2a, 0x2a, 0x2a, 0x2a, 0x01, 0x02, 0x2a, 0x2a, 0xff, 0x02, 0, 0, 0, 0, 0, 0, 0, 0, 0, 0,
         0, 0, 0, 0x02, 0x2a, 0x12, 0x03, 0x04,
     ];
-    assert_eq!(rt; octets, written);
+    same(&rt, octets, written);
     let mut octets = [0x2a; 8];
     let mut packet = Packet::new_unchecked(octets.as_mut_slice());
     packet.set_nr_mcast_addr_rcrds(0x0102);
-    assert_eq!(rt; packet.nr_mcast_addr_rcrds(), 0x0102);
-    assert_eq!(rt; octets, [0x2a, 0x2a, 0x2a, 0x2a, 0x2a, 0x2a, 0x01, 0x02]);
+    same(&rt, packet.nr_mcast_addr_rcrds(), 0x0102);
+    same(
+        &rt,
+        octets,
+        [0x2a, 0x2a, 0x2a, 0x2a, 0x2a, 0x2a, 0x01, 0x02],
+    );
 }
 
 // A record of the group ff02::1 that names a data word and 515 sources, with two octets behind it.
@@ -363,25 +373,25 @@ fn fields_of_records_are_set(rt: HostRuntime) {
     record.set_num_srcs(0x0203);
     record.set_mcast_addr(IPV6_LINK_LOCAL_ALL_NODES);
     record.payload_mut().copy_from_slice(&[0xaa, 0xbb]);
-    assert_eq!(rt; &*record.into_inner(), RECORD.as_slice());
+    same(&rt, &*record.into_inner(), RECORD.as_slice());
 }
 
 #[test]
 fn fields_of_records_are_read(rt: HostRuntime) {
     let Ok(record) = AddressRecord::new_checked(RECORD.as_slice()) else {
-        assert!(rt; false, "20 bytes are enough");
+        fail(&rt, "20 bytes are enough");
         return;
     };
-    assert_eq!(rt; record.record_type(), RecordType::BlockOldSources);
-    assert_eq!(rt; record.aux_data_len(), 0x01);
-    assert_eq!(rt; record.num_srcs(), 0x0203);
-    assert_eq!(rt; record.mcast_addr(), IPV6_LINK_LOCAL_ALL_NODES);
+    same(&rt, record.record_type(), RecordType::BlockOldSources);
+    same(&rt, record.aux_data_len(), 0x01);
+    same(&rt, record.num_srcs(), 0x0203);
+    same(&rt, record.mcast_addr(), IPV6_LINK_LOCAL_ALL_NODES);
 }
 
 #[test]
 fn records_are_compared_with_what_stands_behind_them(rt: HostRuntime) {
     let record = AddressRecord::new_unchecked(RECORD.as_slice());
-    assert_eq!(rt; record.payload(), [0xaa, 0xbb].as_slice());
+    same(&rt, record.payload(), [0xaa, 0xbb].as_slice());
     assert!(rt; record == AddressRecord::new_unchecked(RECORD.as_slice()));
     assert!(rt; record != AddressRecord::new_unchecked(&RECORD[..21]));
 }
@@ -402,8 +412,8 @@ fn a_list_of_records_and_a_report_have_the_same_text(rt: HostRuntime) {
     by_records.emit_into(&mut one);
     let mut two = [0; 28];
     report.emit_into(&mut two);
-    assert_eq!(rt; one, two);
-    assert!(rt; by_records != report, "another value of the same text");
+    same(&rt, one, two);
+    holds_of(&rt, "another value of the same text", by_records != report);
     Repr::same_text(&by_records, &report);
 }
 
@@ -437,7 +447,7 @@ fn equal_texts_of_records_have_equal_normal_forms(rt: HostRuntime) {
     bare.emit_into(&mut one);
     let mut two = [0; 20];
     with_payload.emit_into(&mut two);
-    assert_eq!(rt; one, two);
+    same(&rt, one, two);
     AddressRecordRepr::same_text(&bare, &with_payload);
 }
 

@@ -4,6 +4,7 @@ ghost use Rattle.icmp6_wire.specs.Ndisc.{value_of, text_len, CanEmit};
 use super::{NeighborFlags, Repr, RouterFlags};
 use crate::icmpv6::Packet;
 use crate::plain_reader::compare_damaged;
+use crate::testing::{holds_of, same, same_of};
 use crate::{icmpv6, mld};
 use bitflags::Flags as _;
 use opt_wire::ndiscoption::{PrefixInfoFlags, PrefixInformation, RedirectedHeader};
@@ -68,15 +69,15 @@ fn router_advert() -> Repr<'static>
 #[test]
 fn router_advertisements_are_written_and_read(rt: HostRuntime) {
     let repr = router_advert();
-    assert_eq!(rt; repr.buffer_len(), 24);
+    same(&rt, repr.buffer_len(), 24);
     for fill in FILLS {
         let mut octets = [fill; 24];
         repr.emit_into(&mut octets);
-        assert_eq!(rt; octets.as_slice(), ROUTER_ADVERT.as_slice(), "over {fill}");
+        same_of(&rt, fill, octets.as_slice(), ROUTER_ADVERT.as_slice());
     }
     assert!(rt; reads(&ROUTER_ADVERT, &repr));
     for len in 0..16 {
-        assert!(rt; read(&ROUTER_ADVERT[..len]).is_err(), "{len} bytes");
+        holds_of(&rt, len, read(&ROUTER_ADVERT[..len]).is_err());
     }
     // All flag bits are set; those without a name are not read.
     let mut octets = ROUTER_ADVERT;
@@ -103,12 +104,12 @@ fn router_advertisements_of_icmpv6_carry_a_checksum(rt: HostRuntime) {
     text[2] = 0xa9;
     text[3] = 0xde;
     let repr = icmpv6::Repr::Ndisc(router_advert());
-    assert_eq!(rt; repr.buffer_len(), 24);
-    assert_eq!(rt; repr.packet_len(), 24);
+    same(&rt, repr.buffer_len(), 24);
+    same(&rt, repr.packet_len(), 24);
     for fill in FILLS {
         let mut octets = [fill; 24];
         repr.emit_into(&here(), &there(), &mut octets, &caps);
-        assert_eq!(rt; octets.as_slice(), text.as_slice(), "over {fill}");
+        same_of(&rt, fill, octets.as_slice(), text.as_slice());
     }
     assert!(rt; reads_icmpv6(&text, &repr, &caps));
     // A turned bit, and another code.
@@ -152,23 +153,19 @@ fn full_router_advert() -> Repr<'static>
 #[test]
 fn router_advertisements_with_all_options(rt: HostRuntime) {
     let repr = full_router_advert();
-    assert_eq!(rt; repr.buffer_len(), 64);
+    same(&rt, repr.buffer_len(), 64);
     for fill in FILLS {
         let mut octets = [fill; 64];
         repr.emit_into(&mut octets);
-        assert_eq!(rt;
-            octets.as_slice(),
-            FULL_ROUTER_ADVERT.as_slice(),
-            "over {fill}"
-        );
+        same_of(&rt, fill, octets.as_slice(), FULL_ROUTER_ADVERT.as_slice());
     }
     assert!(rt; reads(&FULL_ROUTER_ADVERT, &repr));
     Repr::same_text(&repr, &router_advert());
     for len in 0..16 {
-        assert!(rt; read(&FULL_ROUTER_ADVERT[..len]).is_err(), "{len} bytes");
+        holds_of(&rt, len, read(&FULL_ROUTER_ADVERT[..len]).is_err());
     }
     for len in 33..64 {
-        assert!(rt; read(&FULL_ROUTER_ADVERT[..len]).is_err(), "{len} bytes");
+        holds_of(&rt, len, read(&FULL_ROUTER_ADVERT[..len]).is_err());
     }
 }
 
@@ -190,11 +187,11 @@ fn solicitations_are_written_and_read(rt: HostRuntime) {
     ];
     assert!(rt; reads(&other, &neighbor));
     assert!(rt; read(&other[..23]).is_err());
-    assert_eq!(rt; neighbor.buffer_len(), 24);
+    same(&rt, neighbor.buffer_len(), 24);
     for fill in FILLS {
         let mut octets = [fill; 24];
         neighbor.emit_into(&mut octets);
-        assert_eq!(rt; octets.as_slice(), other.as_slice(), "over {fill}");
+        same_of(&rt, fill, octets.as_slice(), other.as_slice());
     }
 }
 
@@ -204,9 +201,10 @@ fn a_solicitation_in_a_longer_buffer_leaves_the_rest(rt: HostRuntime) {
     let mut octets = [0xa5; 10];
     let mut packet = Packet::new_unchecked(octets.as_mut_slice());
     repr.emit(&mut packet);
-    assert_eq!(rt;
+    same(
+        &rt,
         octets,
-        [0x85, 0x00, 0x00, 0x00, 0x00, 0x00, 0x00, 0x00, 0xa5, 0xa5]
+        [0x85, 0x00, 0x00, 0x00, 0x00, 0x00, 0x00, 0x00, 0xa5, 0xa5],
     );
     assert!(rt; read(&octets).is_err());
 }
@@ -226,7 +224,7 @@ fn advertisements_of_neighbors_are_written_and_read(rt: HostRuntime) {
     for fill in FILLS {
         let mut octets = [fill; 24];
         repr.emit_into(&mut octets);
-        assert_eq!(rt; octets.as_slice(), text.as_slice(), "over {fill}");
+        same_of(&rt, fill, octets.as_slice(), text.as_slice());
     }
     assert!(rt; read(&text[..23]).is_err());
     // The link-layer address is that of the target, not that of a source.
@@ -277,11 +275,11 @@ fn redirect() -> Repr<'static>
 #[test]
 fn redirects_are_written_and_read(rt: HostRuntime) {
     let repr = redirect();
-    assert_eq!(rt; repr.buffer_len(), 104);
+    same(&rt, repr.buffer_len(), 104);
     for fill in FILLS {
         let mut octets = [fill; 104];
         repr.emit_into(&mut octets);
-        assert_eq!(rt; octets.as_slice(), REDIRECT.as_slice(), "over {fill}");
+        same_of(&rt, fill, octets.as_slice(), REDIRECT.as_slice());
     }
     assert!(rt; reads(&REDIRECT, &repr));
     assert!(rt; read(&REDIRECT[..39]).is_err());

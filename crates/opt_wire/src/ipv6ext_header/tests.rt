@@ -1,5 +1,6 @@
 use super::{Header, Repr};
 use crate::ipv6option::RouterAlert;
+use crate::testing::same;
 use crate::{ipv6hbh, ipv6option};
 use std::test::Fail;
 use wirebase::IpProtocol;
@@ -11,14 +12,14 @@ fn a_router_alert_behind_a_header(rt: HostRuntime) -> Result<(), Fail> {
         .ok()
         .ok_or("refused")?;
     let repr = Repr::parse(&header).ok().ok_or("refused")?;
-    assert_eq!(rt; repr.next_header, IpProtocol::Icmpv6);
-    assert_eq!(rt; repr.length, 0);
-    assert_eq!(rt; repr.data, &octets[2..]);
+    same(&rt, repr.next_header, IpProtocol::Icmpv6);
+    same(&rt, repr.length, 0);
+    same(&rt, repr.data, &octets[2..]);
     let options = ipv6hbh::Repr::parse(&ipv6hbh::Header::new_unchecked(repr.data))
         .ok()
         .ok_or("refused")?;
     let options = options.options.as_slice();
-    assert_eq!(rt; options.len(), 2);
+    same(&rt, options.len(), 2);
     assert!(rt;
         options[0] == ipv6option::Repr::RouterAlert(RouterAlert::MulticastListenerDiscovery)
     );
@@ -42,10 +43,10 @@ fn a_header_is_written_by_its_first_two_bytes(rt: HostRuntime) {
         length: 1,
         data: &[],
     };
-    assert_eq!(rt; repr.header_len(), 2);
+    same(&rt, repr.header_len(), 2);
     let mut octets = [0xff; 2];
     repr.emit(&mut Header::new_unchecked(octets.as_mut_slice()));
-    assert_eq!(rt; octets.as_slice(), [0x06, 0x01].as_slice());
+    same(&rt, octets.as_slice(), [0x06, 0x01].as_slice());
 }
 
 #[test]
@@ -55,14 +56,15 @@ fn a_payload_is_lent_for_writing(rt: HostRuntime) {
     header.set_next_header(IpProtocol::Udp);
     header.set_header_len(1);
     header.payload_mut()[13] = 0x2a;
-    assert_eq!(rt; header.next_header(), IpProtocol::Udp);
-    assert_eq!(rt; header.header_len(), 1);
-    assert_eq!(rt;
+    same(&rt, header.next_header(), IpProtocol::Udp);
+    same(&rt, header.header_len(), 1);
+    same(
+        &rt,
         longer.as_slice(),
         [
             0x11, 0x01, 0xa5, 0xa5, 0xa5, 0xa5, 0xa5, 0xa5, 0xa5, 0xa5, 0xa5, 0xa5, 0xa5, 0xa5,
-            0xa5, 0x2a
+            0xa5, 0x2a,
         ]
-        .as_slice()
+        .as_slice(),
     );
 }

@@ -4,6 +4,7 @@ use super::{Header, Repr};
 use crate::ipv6option;
 use crate::ipv6option::{RouterAlert, Type};
 use crate::plain_reader::compare_damaged;
+use crate::testing::{holds_of, same, same_of};
 use arrayvec::ArrayVec;
 use std::process::Abort;
 use std::test::Fail;
@@ -49,7 +50,7 @@ fn headers_and_the_options_that_they_keep(rt: HostRuntime) -> Result<(), Fail> {
     ];
     for (octets, options) in rows {
         let header = Repr::parse(&Header::new_checked(octets)?)?;
-        assert_eq!(rt; header.options.as_slice(), options, "of {octets:?}");
+        same_of(&rt, octets, header.options.as_slice(), options);
         compare_damaged(&rt, rt.alloc(), octets)?;
     }
     Ok(())
@@ -69,7 +70,7 @@ fn headers_refused(rt: HostRuntime) -> Result<(), Fail> {
     ];
     for octets in rows {
         let header = Header::new_unchecked(octets);
-        assert!(rt; Repr::parse(&header).is_err(), "of {octets:?}");
+        holds_of(&rt, octets, Repr::parse(&header).is_err());
         compare_damaged(&rt, rt.alloc(), octets)?;
     }
     Ok(())
@@ -88,9 +89,9 @@ fn options_are_lent_for_writing(rt: HostRuntime) -> Result<(), Fail> {
     let mut octets = [0xff, 0xff, 0xff];
     let mut view = Header::new_checked(octets.as_mut_slice())?;
     view.options_mut().copy_from_slice(&[0x01, 0x01, 0x00]);
-    assert_eq!(rt; &*view.into_inner(), [0x01, 0x01, 0x00].as_slice());
+    same(&rt, &*view.into_inner(), [0x01, 0x01, 0x00].as_slice());
     let view = Header::new_checked(octets.as_slice())?;
-    assert_eq!(rt; view.options(), [0x01, 0x01, 0x00].as_slice());
+    same(&rt, view.options(), [0x01, 0x01, 0x00].as_slice());
     Ok(())
 }
 
@@ -98,18 +99,18 @@ fn options_are_lent_for_writing(rt: HostRuntime) -> Result<(), Fail> {
 fn multicast_listener_report_with_padding(rt: HostRuntime) -> Result<(), Fail> {
     let mut header = Repr::mldv2_router_alert();
     header.push_padn_option(0);
-    assert_eq!(rt; header.buffer_len(), 6);
+    same(&rt, header.buffer_len(), 6);
 
     let mut octets = [0xff; 6];
     header.emit(&mut Header::new_unchecked(octets.as_mut_slice()));
-    assert_eq!(rt; octets, [0x05, 0x02, 0x00, 0x00, 0x01, 0x00]);
+    same(&rt, octets, [0x05, 0x02, 0x00, 0x00, 0x01, 0x00]);
     let read = Repr::parse(&Header::new_unchecked(octets.as_slice()))?;
-    assert_eq!(rt; read, header);
+    same(&rt, &read, &header);
     Repr::same_text(&read, &header);
     let mut plain = [0xff; 6];
     header.emit_into(plain.as_mut_slice());
-    assert_eq!(rt; plain, octets);
-    assert_eq!(rt; header.clone()?, header);
+    same(&rt, plain, octets);
+    same(&rt, &header.clone()?, &header);
     compare_damaged(&rt, rt.alloc(), &octets)
 }
 
@@ -118,14 +119,10 @@ fn check_written(rt: &impl Abort, header: &Repr<'_>, text: [u8; 14], fill: u8)
     requires { HaveData (value_of header.now) }
 {
     let mut octets = [fill; 17];
-    assert_eq!(rt; header.buffer_len(), text.len());
+    same(rt, header.buffer_len(), text.len());
     header.emit(&mut Header::new_unchecked(octets.as_mut_slice()));
-    assert_eq!(rt; &octets[..14], text.as_slice(), "over {fill}");
-    assert_eq!(rt;
-        &octets[14..],
-        [fill; 3].as_slice(),
-        "after the options over {fill}"
-    );
+    same_of(rt, fill, &octets[..14], text.as_slice());
+    same_of(rt, fill, &octets[14..], [fill; 3].as_slice());
 }
 
 #[test]

@@ -3,6 +3,7 @@ ghost use Rattle.opt_wire.specs.Ipv6Option.{value_of, HasData};
 
 use super::{FailureType, Ipv6Option, Ipv6OptionsIterator, Repr, RouterAlert, Type};
 use crate::plain_reader::compare_damaged;
+use crate::testing::{holds_of, same, same_of};
 use std::alloc::Global;
 use std::hash::{DefaultHasher, Hash, Hasher};
 use std::process::Abort;
@@ -23,8 +24,8 @@ fn option_types_and_their_numbers(rt: HostRuntime) {
         (0x06, Type::Unknown(0x06)),
         (0xff, Type::Unknown(0xff)),
     ] {
-        assert_eq!(rt; Type::from(number), kind, "of {number}");
-        assert_eq!(rt; u8::from(kind), number, "of {kind:?}");
+        same_of(&rt, number, Type::from(number), kind);
+        same_of(&rt, kind, u8::from(kind), number);
     }
 }
 
@@ -38,8 +39,8 @@ fn router_alerts_and_their_numbers(rt: HostRuntime) {
         (0xbeef, RouterAlert::Unknown(0xbeef)),
         (0xffff, RouterAlert::Unknown(0xffff)),
     ] {
-        assert_eq!(rt; RouterAlert::from(number), alert, "of {number}");
-        assert_eq!(rt; u16::from(alert), number, "of {alert:?}");
+        same_of(&rt, number, RouterAlert::from(number), alert);
+        same_of(&rt, alert, u16::from(alert), number);
     }
 }
 
@@ -60,8 +61,8 @@ fn failure_types_are_the_two_highest_bits(rt: HostRuntime) {
         (0xc0, FailureType::DiscardSendUnicast),
         (0xff, FailureType::DiscardSendUnicast),
     ] {
-        assert_eq!(rt; FailureType::from(number), failure, "of {number}");
-        assert_eq!(rt; u8::from(failure), number & 0xc0, "of {failure:?}");
+        same_of(&rt, number, FailureType::from(number), failure);
+        same_of(&rt, failure, u8::from(failure), number & 0xc0);
     }
 }
 
@@ -72,11 +73,12 @@ fn failure_types_of_options(rt: HostRuntime) {
         (Type::Rpl, FailureType::Discard),
         (Type::Unknown(0xc5), FailureType::DiscardSendUnicast),
     ] {
-        assert_eq!(rt; FailureType::from(kind), failure, "of {kind:?}");
-        assert_eq!(rt;
+        same_of(&rt, kind, FailureType::from(kind), failure);
+        same_of(
+            &rt,
+            kind,
             hash_of(FailureType::from(kind)),
             hash_of(failure),
-            "of {kind:?}"
         );
     }
 }
@@ -92,7 +94,7 @@ fn order_of_types(rt: HostRuntime) {
         Type::Unknown(7),
     ];
     for pair in types.windows(2) {
-        assert!(rt; pair[0] < pair[1], "{pair:?}");
+        holds_of(&rt, pair, pair[0] < pair[1]);
     }
 }
 
@@ -106,7 +108,7 @@ fn order_of_router_alerts(rt: HostRuntime) {
         RouterAlert::Unknown(7),
     ];
     for pair in alerts.windows(2) {
-        assert!(rt; pair[0] < pair[1], "{pair:?}");
+        holds_of(&rt, pair, pair[0] < pair[1]);
     }
 }
 
@@ -119,7 +121,7 @@ fn order_of_failure_types(rt: HostRuntime) {
         FailureType::DiscardSendUnicast,
     ];
     for pair in failures.windows(2) {
-        assert!(rt; pair[0] < pair[1], "{pair:?}");
+        holds_of(&rt, pair, pair[0] < pair[1]);
     }
 }
 
@@ -142,10 +144,10 @@ fn views_of_whole_options_alone(rt: HostRuntime) {
     ];
     for (octets, whole) in rows {
         let view = Ipv6Option::new_checked(octets);
-        assert_eq!(rt; view.is_ok(), whole, "of {octets:?}");
+        same_of(&rt, octets, view.is_ok(), whole);
         let view = Ipv6Option::new_unchecked(octets);
-        assert_eq!(rt; view.check_len().is_ok(), whole, "of {octets:?}");
-        assert_eq!(rt; view.into_inner(), octets);
+        same_of(&rt, octets, view.check_len().is_ok(), whole);
+        same(&rt, view.into_inner(), octets);
     }
 }
 
@@ -154,8 +156,8 @@ fn a_type_is_set_in_one_octet(rt: HostRuntime) {
     let mut octets = [0xff];
     let mut view = Ipv6Option::new_unchecked(octets.as_mut_slice());
     view.set_option_type(Type::Rpl);
-    assert_eq!(rt; view.option_type(), Type::Rpl);
-    assert_eq!(rt; &*view.into_inner(), [0x63].as_slice());
+    same(&rt, view.option_type(), Type::Rpl);
+    same(&rt, &*view.into_inner(), [0x63].as_slice());
 }
 
 #[test]
@@ -163,8 +165,8 @@ fn a_length_is_set_in_two_octets(rt: HostRuntime) {
     let mut octets = [0xff; 2];
     let mut view = Ipv6Option::new_unchecked(octets.as_mut_slice());
     view.set_data_len(3);
-    assert_eq!(rt; view.data_len(), 3);
-    assert_eq!(rt; octets, [0xff, 0x03]);
+    same(&rt, view.data_len(), 3);
+    same(&rt, octets, [0xff, 0x03]);
 }
 
 #[test]
@@ -172,9 +174,9 @@ fn data_stand_behind_their_length(rt: HostRuntime) {
     let mut octets = [0x11, 0x03, 0xff, 0xff, 0xff];
     let mut view = Ipv6Option::new_unchecked(octets.as_mut_slice());
     view.data_mut().copy_from_slice(&[0xa1, 0xa2, 0xa3]);
-    assert_eq!(rt; octets, [0x11, 0x03, 0xa1, 0xa2, 0xa3]);
+    same(&rt, octets, [0x11, 0x03, 0xa1, 0xa2, 0xa3]);
     let view = Ipv6Option::new_unchecked(octets.as_slice());
-    assert_eq!(rt; view.data(), [0xa1, 0xa2, 0xa3].as_slice());
+    same(&rt, view.data(), [0xa1, 0xa2, 0xa3].as_slice());
 }
 
 #[test]
@@ -204,7 +206,7 @@ fn data_lives_as_long_as_its_buffer(rt: HostRuntime) {
     {
         data = Ipv6Option::new_unchecked(octets.as_slice()).data();
     }
-    assert_eq!(rt; data.len(), 1);
+    same(&rt, data.len(), 1);
 }
 
 #[test]
@@ -213,7 +215,7 @@ fn buffer_is_read_after_its_view(rt: HostRuntime) {
     let mut view = Ipv6Option::new_unchecked(octets.as_mut_slice());
     view.set_option_type(Type::Rpl);
     let kind = octets[0];
-    assert_eq!(rt; kind, 0x63);
+    same(&rt, kind, 0x63);
 }
 
 #[test]
@@ -237,11 +239,11 @@ fn options_in_turn(rt: HostRuntime) -> Result<(), Fail> {
         },
         Repr::RouterAlert(RouterAlert::Rsvp),
     ] {
-        assert_eq!(rt; options.next(), Some(Ok(option)));
+        same(&rt, options.next(), Some(Ok(option)));
     }
-    assert_eq!(rt; options.next(), Some(Err(Error)));
-    assert_eq!(rt; options.next(), None);
-    assert_eq!(rt; options.next(), None);
+    same(&rt, options.next(), Some(Err(Error)));
+    same(&rt, options.next(), None);
+    same(&rt, options.next(), None);
     compare_damaged(&rt, rt.alloc(), &octets)
 }
 
@@ -253,7 +255,7 @@ fn longest_padding(rt: HostRuntime) -> Result<(), Fail> {
     let whole = octets.as_slice();
     for (octets, answer) in [(whole, Ok(Repr::PadN(255))), (&whole[..256], Err(Error))] {
         let view = Ipv6Option::new_unchecked(octets);
-        assert_eq!(rt; Repr::parse(&view), answer, "of {} octets", octets.len());
+        same_of(&rt, octets.len(), Repr::parse(&view), answer);
     }
     compare_damaged(&rt, rt.alloc(), whole)
 }
@@ -272,7 +274,7 @@ fn options_refused(rt: HostRuntime) -> Result<(), Fail> {
     ];
     for octets in rows {
         let view = Ipv6Option::new_unchecked(octets);
-        assert_eq!(rt; Repr::parse(&view), Err(Error), "of {octets:?}");
+        same_of(&rt, octets, Repr::parse(&view), Err(Error));
         compare_damaged(&rt, rt.alloc(), octets)?;
     }
     Ok(())
@@ -300,16 +302,17 @@ fn check_written(
     let mut octets = vec![in alloc; fill; len]?;
     let mut plain = vec![in alloc; fill; len]?;
     assert!(rt; text.len() <= len);
-    assert!(rt;
+    holds_of(
+        rt,
+        option,
         holds_its_data(&option) && option.buffer_len() == text.len(),
-        "of {option:?}"
     );
     option.emit(&mut Ipv6Option::new_unchecked(octets.as_mut_slice()));
     option.emit_into(plain.as_mut_slice());
-    assert_eq!(rt; octets.as_slice(), plain.as_slice(), "of {option:?}");
+    same_of(rt, option, octets.as_slice(), plain.as_slice());
     let (front, left) = plain.as_slice().split_at(text.len());
-    assert_eq!(rt; front, text, "over {fill}");
-    assert!(rt; left.iter().all(|octet| *octet == fill), "after {option:?}");
+    same_of(rt, fill, front, text);
+    holds_of(rt, option, left.iter().all(|octet| *octet == fill));
     Ok(octets)
 }
 
@@ -341,7 +344,7 @@ fn options_written_over_octets_of_any_kind(rt: HostRuntime) -> Result<(), Fail> 
             for len in [text.len(), text.len() + 3] {
                 let octets = check_written(&rt, rt.alloc(), option, text, fill, len)?;
                 let view = Ipv6Option::new_unchecked(octets.as_slice());
-                assert_eq!(rt; Repr::parse(&view), Ok(read), "over {fill}");
+                same_of(&rt, fill, Repr::parse(&view), Ok(read));
             }
         }
         compare_damaged(&rt, rt.alloc(), text)?;
@@ -351,18 +354,18 @@ fn options_written_over_octets_of_any_kind(rt: HostRuntime) -> Result<(), Fail> 
 
 #[test]
 fn the_default_option_is_a_pad1(rt: HostRuntime) {
-    assert_eq!(rt; Repr::default(), Repr::Pad1);
+    same(&rt, Repr::default(), Repr::Pad1);
 }
 
 #[test]
 fn padding_loses_what_it_is_filled_with_when_it_is_rewritten(rt: HostRuntime) -> Result<(), Fail> {
     for octets in [[0x01, 0x02, 0xaa, 0xbb], [0x01, 0x02, 0x00, 0x00]] {
         let option = Repr::parse(&Ipv6Option::new_checked(octets.as_slice())?)?;
-        assert_eq!(rt; option, Repr::PadN(2));
+        same(&rt, option, Repr::PadN(2));
         assert!(rt; holds_its_data(&option) && option.buffer_len() == 4);
         let mut text = [0xff; 4];
         option.emit_into(text.as_mut_slice());
-        assert_eq!(rt; text, [0x01, 0x02, 0x00, 0x00]);
+        same(&rt, text, [0x01, 0x02, 0x00, 0x00]);
     }
     Ok(())
 }
@@ -386,6 +389,6 @@ fn data_past_its_length_is_no_part_of_the_text(rt: HostRuntime) {
         assert!(rt; holds_its_data(&other) && other.buffer_len() == 4);
         whole.emit_into(texts[0].as_mut_slice());
         other.emit_into(texts[1].as_mut_slice());
-        assert_eq!(rt; texts[0] == texts[1], same, "of {other:?}");
+        same_of(&rt, other, texts[0] == texts[1], same);
     }
 }

@@ -2,6 +2,7 @@ ghost use Rattle.opt_wire.specs.NdiscOptionRepr.{HasSeconds, CanEmit, value_of};
 ghost use Rattle.opt_wire.specs.declared.ndiscoption.repr.Repr.TheVariants as repr;
 
 use super::{NdiscOption, PrefixInfoFlags, PrefixInformation, RedirectedHeader, Repr};
+use crate::testing::{holds_of, prints, same, same_of};
 use bitflags::Flags as _;
 use std::process::Abort;
 use std::test::Fail;
@@ -137,32 +138,32 @@ fn options_are_written_over_octets_of_any_kind(rt: HostRuntime) {
     for filler in [0x00, 0xff, 0x2a] {
         let mut octets = [filler; 32];
         let repr = Repr::PrefixInformation(prefix_information());
-        assert_eq!(rt; repr.buffer_len(), 32);
+        same(&rt, repr.buffer_len(), 32);
         repr.emit_into(&mut octets);
-        assert_eq!(rt; octets.as_slice(), PREFIX.as_slice());
+        same(&rt, octets.as_slice(), PREFIX.as_slice());
 
         let mut octets = [filler; 32];
         let repr = Repr::PrefixInformation(longer_prefix_information());
         repr.emit_into(&mut octets);
-        assert_eq!(rt; octets.as_slice(), PREFIX.as_slice());
+        same(&rt, octets.as_slice(), PREFIX.as_slice());
 
         let mut octets = [filler; 56];
         let repr = Repr::RedirectedHeader(redirected_header());
-        assert_eq!(rt; repr.buffer_len(), 56);
+        same(&rt, repr.buffer_len(), 56);
         repr.emit_into(&mut octets);
-        assert_eq!(rt; octets.as_slice(), REDIRECTED.as_slice());
+        same(&rt, octets.as_slice(), REDIRECTED.as_slice());
 
         let mut octets = [filler; 8];
         let repr = Repr::Mtu(1_500);
-        assert_eq!(rt; repr.buffer_len(), 8);
+        same(&rt, repr.buffer_len(), 8);
         repr.emit_into(&mut octets);
-        assert_eq!(rt; octets.as_slice(), MTU.as_slice());
+        same(&rt, octets.as_slice(), MTU.as_slice());
 
         let mut octets = [filler; 8];
         let repr = unknown();
-        assert_eq!(rt; repr.buffer_len(), 8);
+        same(&rt, repr.buffer_len(), 8);
         repr.emit_into(&mut octets);
-        assert_eq!(rt; octets.as_slice(), UNKNOWN.as_slice());
+        same(&rt, octets.as_slice(), UNKNOWN.as_slice());
     }
 }
 
@@ -172,7 +173,7 @@ fn check_address_is_written(rt: &impl Abort, address: &[u8], bytes: &[u8]) {
     let mut buffer = [0xff; 16];
     let len = repr.buffer_len();
     repr.emit_into(&mut buffer[..len]);
-    assert_eq!(rt; &buffer[..len], bytes);
+    same(rt, &buffer[..len], bytes);
 }
 
 #[test]
@@ -199,7 +200,7 @@ fn addresses_of_other_lengths(rt: HostRuntime) {
     for (address, bytes, again) in rows {
         check_address_is_written(&rt, address, bytes);
         let value = Repr::SourceLinkLayerAddr(RawHardwareAddress::from_bytes(again));
-        assert_eq!(rt; read(bytes), Ok(value));
+        same(&rt, &read(bytes), &Ok(value));
     }
 }
 
@@ -209,14 +210,14 @@ fn long_address_options_are_written_shorter(rt: HostRuntime) {
     bytes[0] = 0x01;
     bytes[1] = 0x03;
     let address = RawHardwareAddress::from_bytes(&[0xaa; 8]);
-    assert_eq!(rt; read(&bytes), Ok(Repr::SourceLinkLayerAddr(address)));
+    same(&rt, &read(&bytes), &Ok(Repr::SourceLinkLayerAddr(address)));
     let text = [
         0x01, 0x02, 0xaa, 0xaa, 0xaa, 0xaa, 0xaa, 0xaa, 0xaa, 0xaa, 0, 0, 0, 0, 0, 0,
     ];
     let mut octets = [0x2a; 16];
     let repr = Repr::SourceLinkLayerAddr(address);
     repr.emit_into(&mut octets);
-    assert_eq!(rt; octets.as_slice(), text.as_slice());
+    same(&rt, octets.as_slice(), text.as_slice());
 }
 
 #[test]
@@ -250,34 +251,21 @@ fn options_of_each_type_and_number_of_units(rt: HostRuntime) {
             bytes[0] = kind;
             bytes[1] = units as u8;
             let view = NdiscOption::new_unchecked(&bytes[..]);
-            assert_eq!(rt;
-                view.check_len().is_ok(),
-                whole[units],
-                "type {kind}, {units} units"
-            );
+            same_of(&rt, (kind, units), view.check_len().is_ok(), whole[units]);
             let checked = NdiscOption::new_checked(&bytes[..]);
-            assert_eq!(rt;
+            same_of(
+                &rt,
+                (kind, units),
                 checked.is_ok(),
                 whole[units] && units > 0,
-                "type {kind}, {units} units"
             );
-            assert_eq!(rt;
-                read(&bytes).is_ok(),
-                reads[units],
-                "type {kind}, {units} units"
-            );
+            same_of(&rt, (kind, units), read(&bytes).is_ok(), reads[units]);
             // All units but for a byte.
             if units > 1 {
-                assert!(rt;
-                    read(&bytes[..8 * units - 1]).is_err(),
-                    "type {kind}, {units} units"
-                );
+                holds_of(&rt, (kind, units), read(&bytes[..8 * units - 1]).is_err());
             }
         }
-        assert!(rt;
-            read(&[kind, 1, 0, 0, 0, 0, 0]).is_err(),
-            "type {kind} in 7 bytes"
-        );
+        holds_of(&rt, kind, read(&[kind, 1, 0, 0, 0, 0, 0]).is_err());
     }
 }
 
@@ -287,7 +275,7 @@ fn an_option_of_the_most_units(rt: HostRuntime) {
     octets[..2].copy_from_slice(&[0x0e, 0xff]);
     for (len, is_whole) in [(2039, false), (2040, true), (2041, true)] {
         let checked = NdiscOption::new_checked(&octets[..len]);
-        assert_eq!(rt; checked.is_ok(), is_whole, "{len} bytes");
+        same_of(&rt, len, checked.is_ok(), is_whole);
     }
 }
 
@@ -305,7 +293,7 @@ fn redirected_packets_that_are_not_whole(rt: HostRuntime) {
     for (at, value, reads) in rows {
         let mut bytes = REDIRECTED;
         bytes[at] = value;
-        assert_eq!(rt; read(&bytes).is_ok(), reads, "byte {at} is {value}");
+        same_of(&rt, (at, value), read(&bytes).is_ok(), reads);
     }
 }
 
@@ -313,9 +301,10 @@ fn redirected_packets_that_are_not_whole(rt: HostRuntime) {
 fn flags_without_a_name_are_not_read(rt: HostRuntime) {
     let mut bytes = PREFIX;
     bytes[3] = 0xff;
-    assert_eq!(rt;
-        read(&bytes),
-        Ok(Repr::PrefixInformation(prefix_information()))
+    same(
+        &rt,
+        &read(&bytes),
+        &Ok(Repr::PrefixInformation(prefix_information())),
     );
 }
 
@@ -344,10 +333,11 @@ fn prefixes_that_addresses_are_made_of(rt: HostRuntime) {
             preferred_lifetime: Duration::from_secs(preferred),
             prefix,
         };
-        assert_eq!(rt;
+        same_of(
+            &rt,
+            (valid, preferred),
             info.is_valid_prefix_info(),
             is_valid,
-            "valid {valid}, preferred {preferred}"
         );
     }
     assert!(rt; !prefix_information().is_valid_prefix_info());
@@ -355,30 +345,42 @@ fn prefixes_that_addresses_are_made_of(rt: HostRuntime) {
 
 #[test]
 fn options_in_words(rt: HostRuntime) -> Result<(), Fail> {
-    let source = Repr::SourceLinkLayerAddr(ethernet()).to_string(rt.alloc())?;
-    assert_eq!(rt;
-        source.as_str(),
-        "NDISC Option: SourceLinkLayer addr=52:54:00:12:34:56"
-    );
-    let target = Repr::TargetLinkLayerAddr(ethernet()).to_string(rt.alloc())?;
-    assert_eq!(rt;
-        target.as_str(),
-        "NDISC Option: TargetLinkLayer addr=52:54:00:12:34:56"
-    );
-    let prefix = Repr::PrefixInformation(prefix_information()).to_string(rt.alloc())?;
-    assert_eq!(rt;
-        prefix.as_str(),
-        "NDISC Option: PrefixInformation prefix=fe80::1/64"
-    );
-    let redirected = Repr::RedirectedHeader(redirected_header()).to_string(rt.alloc())?;
-    assert_eq!(rt;
-        redirected.as_str(),
-        "NDISC Option: RedirectedHeader header=IPv6 src=fe80::1 dst=fe80::2 nxt_hdr=17 hop_limit=64"
-    );
-    let mtu = Repr::Mtu(1_500).to_string(rt.alloc())?;
-    assert_eq!(rt; mtu.as_str(), "NDISC Option: MTU mtu=1500");
-    let other = unknown().to_string(rt.alloc())?;
-    assert_eq!(rt; other.as_str(), "NDISC Option: Unknown(14) length=1");
+    prints(
+        &rt,
+        rt.alloc(),
+        Repr::SourceLinkLayerAddr(ethernet()),
+        "NDISC Option: SourceLinkLayer addr=52:54:00:12:34:56",
+    )?;
+    prints(
+        &rt,
+        rt.alloc(),
+        Repr::TargetLinkLayerAddr(ethernet()),
+        "NDISC Option: TargetLinkLayer addr=52:54:00:12:34:56",
+    )?;
+    prints(
+        &rt,
+        rt.alloc(),
+        Repr::PrefixInformation(prefix_information()),
+        "NDISC Option: PrefixInformation prefix=fe80::1/64",
+    )?;
+    prints(
+        &rt,
+        rt.alloc(),
+        Repr::RedirectedHeader(redirected_header()),
+        "NDISC Option: RedirectedHeader header=IPv6 src=fe80::1 dst=fe80::2 nxt_hdr=17 hop_limit=64",
+    )?;
+    prints(
+        &rt,
+        rt.alloc(),
+        Repr::Mtu(1_500),
+        "NDISC Option: MTU mtu=1500",
+    )?;
+    prints(
+        &rt,
+        rt.alloc(),
+        unknown(),
+        "NDISC Option: Unknown(14) length=1",
+    )?;
     Ok(())
 }
 
@@ -391,9 +393,10 @@ fn equal_texts_of_options(rt: HostRuntime) {
     short.emit_into(&mut first);
     let mut second = [0xa5; 8];
     filled.emit_into(&mut second);
-    assert_eq!(rt; first, second);
-    assert_eq!(rt;
-        read(&first),
-        Ok(Repr::SourceLinkLayerAddr(RawHardwareAddress::from_bytes(&[1, 2, 3, 4, 5, 0])))
+    same(&rt, first, second);
+    same(
+        &rt,
+        &read(&first),
+        &Ok(Repr::SourceLinkLayerAddr(RawHardwareAddress::from_bytes(&[1, 2, 3, 4, 5, 0]))),
     );
 }

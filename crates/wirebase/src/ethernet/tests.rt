@@ -1,6 +1,5 @@
 use super::{EthernetAddress, MAX_HARDWARE_ADDRESS_LEN, RawHardwareAddress};
-use crate::failing_writer::FailingWriter;
-use std::fmt::Write;
+use crate::testing::{prints, same, same_of, takes_writes};
 use std::test::Fail;
 
 const ADDRESS: EthernetAddress = EthernetAddress([0x52, 0x54, 0x00, 0x12, 0x34, 0x56]);
@@ -9,20 +8,17 @@ const ADDRESS: EthernetAddress = EthernetAddress([0x52, 0x54, 0x00, 0x12, 0x34, 
 fn addresses_of_ethernet(rt: HostRuntime) -> Result<(), Fail> {
     let bytes = [0x52, 0x54, 0x00, 0x12, 0x34, 0x56];
     let address = EthernetAddress::from_bytes(&bytes);
-    assert_eq!(rt; address, ADDRESS);
-    assert_eq!(rt; address.as_bytes(), bytes.as_slice());
+    same(&rt, address, ADDRESS);
+    same(&rt, address.as_bytes(), bytes.as_slice());
     assert_ne!(rt;
         address,
         EthernetAddress([0x52, 0x54, 0x00, 0x12, 0x34, 0x57])
     );
-    assert_eq!(rt;
-        address.to_string(rt.alloc())?.as_str(),
-        "52:54:00:12:34:56"
-    );
+    prints(&rt, rt.alloc(), address, "52:54:00:12:34:56")?;
 
     let raw = RawHardwareAddress::from(address);
-    assert_eq!(rt; raw, RawHardwareAddress::from_bytes(&bytes));
-    assert_eq!(rt; raw.as_bytes(), bytes.as_slice());
+    same(&rt, raw, RawHardwareAddress::from_bytes(&bytes));
+    same(&rt, raw.as_bytes(), bytes.as_slice());
     Ok(())
 }
 
@@ -31,16 +27,16 @@ fn addresses_of_each_length(rt: HostRuntime) {
     let bytes = [1, 2, 3, 4, 5, 6, 7, 8];
     for len in 0..MAX_HARDWARE_ADDRESS_LEN + 1 {
         let address = RawHardwareAddress::from_bytes(&bytes[..len]);
-        assert_eq!(rt; address.len(), len);
-        assert_eq!(rt; address.is_empty(), len == 0, "of {len} bytes");
-        assert_eq!(rt; address.as_bytes(), &bytes[..len]);
+        same(&rt, address.len(), len);
+        same_of(&rt, len, address.is_empty(), len == 0);
+        same(&rt, address.as_bytes(), &bytes[..len]);
     }
 }
 
 #[test]
 fn equality_of_addresses(rt: HostRuntime) {
     let one = RawHardwareAddress::from_bytes(&[1]);
-    assert_eq!(rt; one, RawHardwareAddress::from_bytes(&[1]));
+    same(&rt, one, RawHardwareAddress::from_bytes(&[1]));
     // Zeros behind an address are not a part of it.
     assert_ne!(rt; one, RawHardwareAddress::from_bytes(&[1, 0]));
     assert_ne!(rt; one, RawHardwareAddress::from_bytes(&[2]));
@@ -63,18 +59,12 @@ fn addresses_in_hexadecimal(rt: HostRuntime) -> Result<(), Fail> {
     ];
     for (bytes, text) in rows {
         let address = RawHardwareAddress::from_bytes(bytes);
-        assert_eq!(rt; address.to_string(rt.alloc())?.as_str(), text);
+        prints(&rt, rt.alloc(), address, text)?;
     }
     Ok(())
 }
 
 #[test]
 fn printing_an_address_fails_only_with_its_writer(rt: HostRuntime) {
-    let raw = RawHardwareAddress::from(ADDRESS);
-    for left in 0..17 {
-        let mut writer = FailingWriter { left };
-        assert!(rt; write!(writer, "{raw}").is_err(), "after {left} writes");
-    }
-    let mut writer = FailingWriter { left: 17 };
-    assert!(rt; write!(writer, "{raw}").is_ok());
+    takes_writes(&rt, &RawHardwareAddress::from(ADDRESS), 17);
 }

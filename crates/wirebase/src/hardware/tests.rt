@@ -1,4 +1,5 @@
 use super::Hardware;
+use crate::testing::same_of;
 use std::test::Fail;
 
 #[test]
@@ -9,8 +10,8 @@ fn hardware_by_its_number(rt: HostRuntime) -> Result<(), Fail> {
         (2, Hardware::Unknown(2)),
         (0xffff, Hardware::Unknown(0xffff)),
     ] {
-        assert_eq!(rt; Hardware::from(number), hardware, "{number}");
-        assert_eq!(rt; u16::from(hardware), number, "{hardware:?}");
+        same_of(&rt, number, Hardware::from(number), hardware);
+        same_of(&rt, hardware, u16::from(hardware), number);
     }
     assert!(rt; Hardware::Ethernet < Hardware::Unknown(0));
     assert!(rt; Hardware::Unknown(0) < Hardware::Unknown(2));

@@ -5,9 +5,8 @@ use super::{
     Ipv6Address, Ipv6Packet, Ipv6Repr,
 };
 use crate::checksum;
-use crate::failing_writer::FailingWriter;
 use crate::ip::IpProtocol;
-use std::fmt::Write;
+use crate::testing::{holds_of, prints, same, same_of, takes_writes};
 use std::test::Fail;
 
 // The address fe80::1, and one whose groups all differ.
@@ -41,7 +40,7 @@ fn addresses_in_hexadecimal(rt: HostRuntime) -> Result<(), Fail> {
         (IPV6_LINK_LOCAL_ALL_ROUTERS, "ff02::2"),
     ];
     for (address, text) in rows {
-        assert_eq!(rt; address.to_string(rt.alloc())?.as_str(), text);
+        prints(&rt, rt.alloc(), address, text)?;
     }
     Ok(())
 }
@@ -84,7 +83,7 @@ fn addresses_of_every_pattern_of_zero_groups(rt: HostRuntime) -> Result<(), Fail
         }
         let [a, b, c, d, e, f, g, h] = groups;
         let address = Ipv6Address::new(a, b, c, d, e, f, g, h);
-        assert_eq!(rt; address.to_string(rt.alloc())?.as_str(), expected.as_str());
+        prints(&rt, rt.alloc(), address, expected.as_str())?;
     }
     Ok(())
 }
@@ -92,18 +91,13 @@ fn addresses_of_every_pattern_of_zero_groups(rt: HostRuntime) -> Result<(), Fail
 #[test]
 fn printing_a_header_fails_only_with_its_writer(rt: HostRuntime) -> Result<(), Fail> {
     let header = quoted();
-    let text = header.to_string(rt.alloc())?;
-    assert_eq!(rt;
-        text.as_str(),
-        "IPv6 src=fe80::1 dst=fe80::2 nxt_hdr=17 hop_limit=64"
-    );
-    for left in 0..4 {
-        let mut writer = FailingWriter { left };
-        assert!(rt; write!(writer, "{header}").is_err(), "after {left} writes");
-    }
-    let mut writer = FailingWriter { left: 100 };
-    assert!(rt; write!(writer, "{header}").is_ok());
-    Ok(())
+    takes_writes(&rt, &header, 12);
+    prints(
+        &rt,
+        rt.alloc(),
+        header,
+        "IPv6 src=fe80::1 dst=fe80::2 nxt_hdr=17 hop_limit=64",
+    )
 }
 
 #[test]
@@ -162,14 +156,14 @@ fn kinds_of_addresses(rt: HostRuntime) -> Result<(), Fail> {
         ),
     ];
     for (address, unspecified, multicast, link_local) in rows {
-        assert_eq!(rt; address.is_unspecified(), unspecified, "{address}");
-        assert_eq!(rt; address.is_multicast(), multicast, "{address}");
-        assert_eq!(rt; address.is_link_local(), link_local, "{address}");
+        same_of(&rt, address, address.is_unspecified(), unspecified);
+        same_of(&rt, address, address.is_multicast(), multicast);
+        same_of(&rt, address, address.is_link_local(), link_local);
     }
     let octets = [0xfe, 0x80, 0, 0, 0, 0, 0, 0, 0, 0, 0, 0, 0, 0, 0, 1];
     assert!(rt; Ipv6Address::from_octets(octets) == first());
     assert!(rt; first() != second());
-    assert_eq!(rt; first().octets().as_slice(), octets.as_slice());
+    same(&rt, first().octets().as_slice(), octets.as_slice());
     Ok(())
 }
 
@@ -202,9 +196,9 @@ fn headers_are_written_over_the_front(rt: HostRuntime) -> Result<(), Fail> {
         quoted().emit(&mut packet);
         let mut want = [fill; 41];
         want[..40].copy_from_slice(&PACKET[..40]);
-        assert_eq!(rt; octets.as_slice(), want.as_slice(), "over {fill}");
+        same_of(&rt, fill, octets.as_slice(), want.as_slice());
     }
-    assert_eq!(rt; quoted().buffer_len(), 40);
+    same(&rt, quoted().buffer_len(), 40);
     Ok(())
 }
 
@@ -212,10 +206,10 @@ fn headers_are_written_over_the_front(rt: HostRuntime) -> Result<(), Fail> {
 fn headers_are_read(rt: HostRuntime) -> Result<(), Fail> {
     let octets = PACKET;
     let packet = Ipv6Packet::new_unchecked(octets.as_slice());
-    assert_eq!(rt; packet.version(), 6);
-    assert_eq!(rt; packet.header_len(), 40);
-    assert_eq!(rt; packet.payload_len(), 12);
-    assert_eq!(rt; packet.hop_limit(), 64);
+    same(&rt, packet.version(), 6);
+    same(&rt, packet.header_len(), 40);
+    same(&rt, packet.payload_len(), 12);
+    same(&rt, packet.hop_limit(), 64);
     assert!(rt; packet.next_header() == IpProtocol::Udp);
     assert!(rt; packet.src_addr() == first());
     assert!(rt; packet.dst_addr() == second());
@@ -228,54 +222,60 @@ fn packets_are_whole_by_their_own_length(rt: HostRuntime) -> Result<(), Fail> {
     let octets = PACKET;
     for len in 0..=52 {
         let whole = len == 52;
-        assert_eq!(rt;
+        same_of(
+            &rt,
+            len,
             Ipv6Packet::new_checked(&octets[..len]).is_ok(),
             whole,
-            "{len} bytes"
         );
         let packet = Ipv6Packet::new_unchecked(&octets[..len]);
-        assert_eq!(rt; Ipv6Repr::parse(&packet).is_ok(), whole, "{len} bytes");
+        same_of(&rt, len, Ipv6Repr::parse(&packet).is_ok(), whole);
     }
     let mut other = PACKET;
     other[0] = 0x4f;
-    assert!(rt;
+    holds_of(
+        &rt,
+        "the version is not looked at",
         Ipv6Packet::new_checked(other.as_slice()).is_ok(),
-        "the version is not looked at"
     );
     let packet = Ipv6Packet::new_unchecked(other.as_slice());
-    assert!(rt;
+    holds_of(
+        &rt,
+        "the version is looked at",
         Ipv6Repr::parse(&packet).is_err(),
-        "the version is looked at"
     );
-    assert_eq!(rt; IPV6_HEADER_LEN, 40);
-    assert_eq!(rt; IPV6_MIN_MTU, 1280);
+    same(&rt, IPV6_HEADER_LEN, 40);
+    same(&rt, IPV6_MIN_MTU, 1280);
     Ok(())
 }
 
 #[test]
 fn pseudo_headers_are_summed(rt: HostRuntime) -> Result<(), Fail> {
     // fe80 + 1 + fe80 + 2 + 12 + 58, with the carries added at the low end (RFC 8200 section 8.1).
-    assert_eq!(rt;
+    same(
+        &rt,
         checksum::pseudo_header_v6(&first(), &second(), IpProtocol::Icmpv6, 12),
-        0xfd4a
+        0xfd4a,
     );
-    assert_eq!(rt;
+    same(
+        &rt,
         checksum::pseudo_header_v6(
             &Ipv6Address::UNSPECIFIED,
             &Ipv6Address::UNSPECIFIED,
             IpProtocol::HopByHop,
-            0
+            0,
         ),
-        0
+        0,
     );
-    assert_eq!(rt;
+    same(
+        &rt,
         checksum::pseudo_header_v6(
             &Ipv6Address::UNSPECIFIED,
             &Ipv6Address::UNSPECIFIED,
             IpProtocol::Icmpv6,
-            0x0002_0001
+            0x0002_0001,
         ),
-        61
+        61,
     );
     Ok(())
 }

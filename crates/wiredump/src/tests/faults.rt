@@ -2,6 +2,7 @@
 
 use crate::line::show_line;
 use crate::reading::{Line, read_line};
+use crate::testing::{holds_of, same, same_of};
 use crate::{Fault, run, status};
 use std::alloc::Global;
 use std::io;
@@ -49,7 +50,7 @@ fn statuses(rt: HostRuntime) -> Result<(), Fail> {
         (Err(Fault::Write), 3),
         (Err(Fault::Memory), 3),
     ] {
-        assert_eq!(rt; status(&answer), code);
+        same(&rt, status(&answer), code);
     }
     Ok(())
 }
@@ -86,7 +87,7 @@ fn reads_that_fail(rt: HostRuntime) -> Result<(), Fail> {
     let input = whole_input(rt.alloc())?;
     let mut undisturbed = Vec::new(rt.alloc());
     let answer = run(rt.alloc(), input.as_slice(), &mut undisturbed);
-    assert_eq!(rt; answer, Ok(false));
+    same(&rt, answer, Ok(false));
     // Calls for all octets, and one more at the end.
     let calls = input.len() / GIVEN + 1;
     for (kind, fails) in [
@@ -105,18 +106,11 @@ fn reads_that_fail(rt: HostRuntime) -> Result<(), Fail> {
             let mut output = Vec::new(rt.alloc());
             let answer = run(rt.alloc(), source, &mut output);
             if fails && fails_at < calls {
-                assert_eq!(rt; answer, Err(Fault::Read), "at call {fails_at}");
-                assert!(rt;
-                    undisturbed.starts_with(output.as_slice()),
-                    "at call {fails_at}"
-                );
+                same_of(&rt, fails_at, answer, Err(Fault::Read));
+                holds_of(&rt, fails_at, undisturbed.starts_with(output.as_slice()));
             } else {
-                assert_eq!(rt; answer, Ok(false), "at call {fails_at}");
-                assert_eq!(rt;
-                    output.as_slice(),
-                    undisturbed.as_slice(),
-                    "at call {fails_at}"
-                );
+                same_of(&rt, fails_at, answer, Ok(false));
+                same_of(&rt, fails_at, output.as_slice(), undisturbed.as_slice());
             }
         }
     }
@@ -167,9 +161,10 @@ fn writes_that_fail(rt: HostRuntime) -> Result<(), Fail> {
         input.extend_from_slice(b"\nfoo\n")?;
     }
     let mut undisturbed = Vec::new(rt.alloc());
-    assert_eq!(rt;
+    same(
+        &rt,
         run(rt.alloc(), input.as_slice(), &mut undisturbed),
-        Ok(false)
+        Ok(false),
     );
     for (kind, fault, for_good) in [
         (ErrorKind::BrokenPipe, Fault::Write, false),
@@ -187,23 +182,16 @@ fn writes_that_fail(rt: HostRuntime) -> Result<(), Fail> {
                 kind,
             };
             let answer = run(rt.alloc(), input.as_slice(), sink);
-            assert!(rt;
-                undisturbed.starts_with(output.as_slice()),
-                "at call {fails_at}"
-            );
+            holds_of(&rt, fails_at, undisturbed.starts_with(output.as_slice()));
             if answer.is_ok() {
-                assert_eq!(rt;
-                    output.as_slice(),
-                    undisturbed.as_slice(),
-                    "at call {fails_at}"
-                );
+                same_of(&rt, fails_at, output.as_slice(), undisturbed.as_slice());
                 succeeded = true;
             } else {
-                assert_eq!(rt; answer, Err(fault), "at call {fails_at}");
-                assert!(rt; !succeeded, "at call {fails_at}");
+                same_of(&rt, fails_at, answer, Err(fault));
+                holds_of(&rt, fails_at, !succeeded);
             }
         }
-        assert!(rt; succeeded, "16 calls were too few");
+        holds_of(&rt, "16 calls were too few", succeeded);
     }
     Ok(())
 }
@@ -214,10 +202,10 @@ fn writes_of_each_word_that_fail(rt: HostRuntime) -> Result<(), Fail> {
     for octets in lines_of_each_word() {
         let mut input = BufReader::new(rt.alloc(), octets)?;
         let mut line = Line::new(rt.alloc());
-        assert_eq!(rt; read_line(&mut input, &mut line), Ok(true));
+        same(&rt, read_line(&mut input, &mut line), Ok(true));
         let mut undisturbed = Vec::new(rt.alloc());
         let known = show_line(rt.alloc(), &mut undisturbed, &line);
-        assert!(rt; known.is_ok(), "of {octets:?}");
+        holds_of(&rt, octets, known.is_ok());
         let mut faults = 0;
         for fails_at in 0..500 {
             let mut output = Vec::new(rt.alloc());
@@ -229,18 +217,15 @@ fn writes_of_each_word_that_fail(rt: HostRuntime) -> Result<(), Fail> {
                 kind: ErrorKind::BrokenPipe,
             };
             let answer = show_line(rt.alloc(), &mut sink, &line);
-            assert!(rt;
-                undisturbed.starts_with(output.as_slice()),
-                "at call {fails_at}"
-            );
+            holds_of(&rt, fails_at, undisturbed.starts_with(output.as_slice()));
             if answer == known {
-                assert_eq!(rt; output.as_slice(), undisturbed.as_slice());
+                same(&rt, output.as_slice(), undisturbed.as_slice());
                 break;
             }
-            assert_eq!(rt; answer, Err(Fault::Write), "at call {fails_at}");
+            same_of(&rt, fails_at, answer, Err(Fault::Write));
             faults = fails_at;
         }
-        assert!(rt; faults > 0 && faults < 499, "of {octets:?}");
+        holds_of(&rt, octets, faults > 0 && faults < 499);
     }
     Ok(())
 }

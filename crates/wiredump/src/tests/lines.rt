@@ -1,5 +1,6 @@
 //! Lines of every shape, and at the limits of what a line may have.
 
+use crate::testing::{same, same_of};
 use crate::{read_word, run, status};
 use std::test::Fail;
 
@@ -72,8 +73,8 @@ fn lines_of_every_shape(rt: HostRuntime) -> Result<(), Fail> {
     ] {
         let mut output = Vec::new(rt.alloc());
         let answer = run(rt.alloc(), input.as_bytes(), &mut output);
-        assert_eq!(rt; status(&answer), code, "at {input:?}");
-        assert_eq!(rt; output.as_slice(), want.as_bytes(), "at {input:?}");
+        same_of(&rt, input, status(&answer), code);
+        same_of(&rt, input, output.as_slice(), want.as_bytes());
     }
     Ok(())
 }
@@ -87,12 +88,8 @@ fn lines_that_are_no_text(rt: HostRuntime) -> Result<(), Fail> {
         b"\xef\xbb\xbfhbh 00\n".as_slice(),
     ] {
         let mut output = Vec::new(rt.alloc());
-        assert_eq!(rt;
-            run(rt.alloc(), input, &mut output),
-            Ok(false),
-            "at {input:?}"
-        );
-        assert_eq!(rt; output.as_slice(), b"bad line\n".as_slice(), "at {input:?}");
+        same_of(&rt, input, run(rt.alloc(), input, &mut output), Ok(false));
+        same_of(&rt, input, output.as_slice(), b"bad line\n".as_slice());
     }
     Ok(())
 }
@@ -112,15 +109,11 @@ fn words_of_the_most_digits(rt: HostRuntime) -> Result<(), Fail> {
         let text = vec![in rt.alloc(); b'0'; digits]?;
         line.extend_from_slice(text.as_slice())?;
         let word = read_word(rt.alloc(), text.as_slice())?;
-        assert_eq!(rt;
-            word.as_ref().map(|word| word.len()),
-            length,
-            "at {digits} digits"
-        );
+        same_of(&rt, digits, word.as_ref().map(|word| word.len()), length);
         let mut output = Vec::new(rt.alloc());
         let answer = run(rt.alloc(), line.as_slice(), &mut output);
-        assert_eq!(rt; answer, Ok(length.is_some()), "at {digits} digits");
-        assert_eq!(rt; output.as_slice(), want.as_bytes(), "at {digits} digits");
+        same_of(&rt, digits, answer, Ok(length.is_some()));
+        same_of(&rt, digits, output.as_slice(), want.as_bytes());
     }
     Ok(())
 }
@@ -191,8 +184,8 @@ fn lines_at_their_limits(rt: HostRuntime) -> Result<(), Fail> {
         let mut output = Vec::new(rt.alloc());
         let answer = run(rt.alloc(), input.as_slice(), &mut output);
         let want = format!(in rt.alloc(); "{want}Pad1\n")?;
-        assert_eq!(rt; answer, Ok(known), "at {texts:?}");
-        assert_eq!(rt; output.as_slice(), want.as_bytes(), "at {texts:?}");
+        same_of(&rt, texts, answer, Ok(known));
+        same_of(&rt, texts, output.as_slice(), want.as_bytes());
     }
     Ok(())
 }
@@ -206,7 +199,7 @@ fn octets_of_every_value(rt: HostRuntime) -> Result<(), Fail> {
     let line = format!(in rt.alloc(); "hbh 11ff{digits}")?;
     let want = format!(in rt.alloc(); "Unknown\ntype_=17\nlength=255\ndata={digits}\n")?;
     let mut output = Vec::new(rt.alloc());
-    assert_eq!(rt; run(rt.alloc(), line.as_bytes(), &mut output), Ok(true));
-    assert_eq!(rt; output.as_slice(), want.as_bytes());
+    same(&rt, run(rt.alloc(), line.as_bytes(), &mut output), Ok(true));
+    same(&rt, output.as_slice(), want.as_bytes());
     Ok(())
 }

@@ -1,6 +1,7 @@
 //! Words, and what they spell.
 
 use crate::read_word;
+use crate::testing::same_of;
 use crate::words::{read_address, read_offset};
 use std::test::Fail;
 
@@ -26,11 +27,7 @@ fn words_and_the_octets_they_spell(rt: HostRuntime) -> Result<(), Fail> {
         (" 00", None),
     ] {
         let word = read_word(rt.alloc(), text.as_bytes())?;
-        assert_eq!(rt;
-            word.as_ref().map(|word| word.as_slice()),
-            octets,
-            "at {text:?}"
-        );
+        same_of(&rt, text, word.as_ref().map(|word| word.as_slice()), octets);
     }
     Ok(())
 }
@@ -50,7 +47,7 @@ fn words_that_are_addresses(rt: HostRuntime) -> Result<(), Fail> {
         ("-", None),
         ("", None),
     ] {
-        assert_eq!(rt; read_address(text.as_bytes()), octets, "at {text:?}");
+        same_of(&rt, text, read_address(text.as_bytes()), octets);
     }
     Ok(())
 }
@@ -76,7 +73,7 @@ fn words_that_are_offsets(rt: HostRuntime) -> Result<(), Fail> {
         ("0x1", None),
         ("a", None),
     ] {
-        assert_eq!(rt; read_offset(text.as_bytes()), offset, "at {text:?}");
+        same_of(&rt, text, read_offset(text.as_bytes()), offset);
     }
     Ok(())
 }

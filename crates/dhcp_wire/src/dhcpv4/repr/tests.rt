@@ -2,6 +2,7 @@ ghost use Rattle.std.specs.Prelude.{◌≡◌, [], None, length};
 
 use super::Repr;
 use crate::dhcpv4::{DhcpOption, MAX_DNS_SERVER_COUNT, MessageType};
+use crate::testing::same;
 use arrayvec::ArrayVec;
 use std::test::Fail;
 use wirebase::{EthernetAddress, Ipv4Address};
@@ -77,17 +78,17 @@ fn five_servers() -> ArrayVec<Ipv4Address, MAX_DNS_SERVER_COUNT>
 #[test]
 fn bytes_that_a_value_takes(rt: HostRuntime) -> Result<(), Fail> {
     let mut repr = bare(MessageType::Discover);
-    assert_eq!(rt; repr.buffer_len(), 244);
+    same(&rt, repr.buffer_len(), 244);
     repr.client_identifier = Some(EthernetAddress([2, 0, 0, 0, 0, 1]));
     repr.requested_ip = Some(Ipv4Address::UNSPECIFIED);
     repr.max_size = Some(1500);
     repr.parameter_request_list = Some(&[1, 3, 6, 42]);
-    assert_eq!(rt; repr.buffer_len(), 269);
+    same(&rt, repr.buffer_len(), 269);
     let mut repr = bare(MessageType::Ack);
     repr.lease_duration = Some(3600);
     repr.renew_duration = Some(1800);
     repr.rebind_duration = Some(3150);
-    assert_eq!(rt; repr.buffer_len(), 262);
+    same(&rt, repr.buffer_len(), 262);
     Ok(())
 }
 
@@ -95,6 +96,6 @@ fn bytes_that_a_value_takes(rt: HostRuntime) -> Result<(), Fail> {
 fn a_discover_with_five_servers_takes_266_bytes(rt: HostRuntime) -> Result<(), Fail> {
     let mut repr = bare(MessageType::Discover);
     repr.dns_servers = Some(five_servers());
-    assert_eq!(rt; repr.buffer_len(), 266);
+    same(&rt, repr.buffer_len(), 266);
     Ok(())
 }

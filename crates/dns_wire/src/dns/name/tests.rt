@@ -2,6 +2,7 @@
 
 use super::NameIter;
 use crate::dns::Packet;
+use crate::testing::same;
 use std::process::Abort;
 use std::test::Fail;
 use wirebase::Error;
@@ -25,16 +26,16 @@ fn check(
     steps: usize,
 ) {
     let mut walk: NameIter<'_> = Packet::new_unchecked(message).parse_name(slice);
-    assert_eq!(rt; walk.steps(), 0);
+    same(rt, walk.steps(), 0);
     for label in labels {
         match walk.next() {
-            Some(Ok(found)) => assert_eq!(rt; found, *label),
+            Some(Ok(found)) => same(rt, found, *label),
             _ => panic!(rt; "no label"),
         }
     }
     if broken {
         match walk.next() {
-            Some(Err(error)) => assert_eq!(rt; error, Error),
+            Some(Err(error)) => same(rt, error, Error),
             _ => panic!(rt; "no error"),
         }
     }
@@ -44,7 +45,7 @@ fn check(
             Some(_) => panic!(rt; "no end"),
         }
     }
-    assert_eq!(rt; walk.steps(), steps);
+    same(rt, walk.steps(), steps);
 }
 
 #[test]
@@ -139,7 +140,7 @@ fn five_thousand_pointers(rt: HostRuntime) -> Result<(), Fail> {
         message.push(0xc0 | (target >> 8) as u8)?;
         message.push((target & 0xff) as u8)?;
     }
-    assert_eq!(rt; message.len(), 10_001);
+    same(&rt, message.len(), 10_001);
     check(&rt, &message, &message[9999..], &[], false, 5000);
     Ok(())
 }
@@ -212,9 +213,9 @@ fn all_short_messages_and_offsets(rt: HostRuntime) -> Result<(), Fail> {
                 let slice = &message[offset..];
                 let plain = plain_walk(&rt, message, slice)?;
                 let found = iterated_walk(&rt, message, slice)?;
-                assert_eq!(rt; found.0.as_slice(), plain.0.as_slice());
-                assert_eq!(rt; found.1, plain.1);
-                assert_eq!(rt; found.2, plain.2);
+                same(&rt, found.0.as_slice(), plain.0.as_slice());
+                same(&rt, found.1, plain.1);
+                same(&rt, found.2, plain.2);
             }
         }
     }

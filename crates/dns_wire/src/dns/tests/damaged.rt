@@ -2,6 +2,7 @@
 //! 2.2 alone.
 
 use crate::dns::{Flags, Opcode, Packet, Question, Rcode, Record, RecordData, Type};
+use crate::testing::{fail, holds_of, same_of};
 use bitflags::Flags as _;
 use std::alloc::Global;
 use std::process::Abort;
@@ -82,29 +83,29 @@ fn read_record(octets: &[u8]) -> Option<(&[u8], Record<'_>)> {
 // Compares the reader of questions with the plain one over these octets.
 fn compare_question(rt: &impl Abort, octets: &[u8]) {
     let question = read_question(octets).ok_or(Error);
-    assert_eq!(rt; Question::parse(octets), question, "of {octets:?}");
+    same_of(rt, octets, Question::parse(octets), question);
 }
 
 // Compares the reader of records with the plain one over these octets.
 fn compare_record(rt: &impl Abort, octets: &[u8]) {
     let record = read_record(octets).ok_or(Error);
-    assert_eq!(rt; Record::parse(octets), record, "of {octets:?}");
+    same_of(rt, octets, Record::parse(octets), record);
 }
 
 // Compares a number of a header with the two octets from this place on.
 fn compare_number(rt: &impl Abort, octets: &[u8], place: usize, number: u16) {
     let Some(rest) = octets.get(place..) else {
-        assert!(rt; false, "too short");
+        fail(rt, "too short");
         return;
     };
     let is_there = rest.starts_with(&number.to_be_bytes());
-    assert!(rt; is_there, "at {place} of {octets:?}");
+    holds_of(rt, (place, octets), is_there);
 }
 
 // Compares the numbers of a header, and what is behind it, with the octets at their places.
 fn compare_numbers(rt: &impl Abort, octets: &[u8]) {
     let Ok(packet) = Packet::new_checked(octets) else {
-        assert!(rt; false, "too short");
+        fail(rt, "too short");
         return;
     };
     compare_number(rt, octets, 0, packet.transaction_id());
@@ -112,41 +113,33 @@ fn compare_numbers(rt: &impl Abort, octets: &[u8]) {
     compare_number(rt, octets, 6, packet.answer_record_count());
     compare_number(rt, octets, 8, packet.authority_record_count());
     compare_number(rt, octets, 10, packet.additional_record_count());
-    assert_eq!(rt; Some(packet.payload()), octets.get(12..), "of {octets:?}");
+    same_of(rt, octets, Some(packet.payload()), octets.get(12..));
 }
 
 // Compares the flags of a header with the bits of these two octets.
 fn compare_flags(rt: &impl Abort, octets: &[u8], first: u8, second: u8) {
     let Ok(packet) = Packet::new_checked(octets) else {
-        assert!(rt; false, "too short");
+        fail(rt, "too short");
         return;
     };
     let flags = u16::from_be_bytes([first, second]) & 0x87b0;
-    assert_eq!(rt; packet.flags().bits(), flags, "of {octets:?}");
+    same_of(rt, octets, packet.flags().bits(), flags);
 }
 
 // Compares the operation and the outcome with the bits of these two octets.
 fn compare_codes(rt: &impl Abort, octets: &[u8], first: u8, second: u8) {
     let Ok(packet) = Packet::new_checked(octets) else {
-        assert!(rt; false, "too short");
+        fail(rt, "too short");
         return;
     };
-    assert_eq!(rt;
-        packet.opcode(),
-        Opcode::from(first / 8 % 16),
-        "of {octets:?}"
-    );
-    assert_eq!(rt; packet.rcode(), Rcode::from(second % 16), "of {octets:?}");
+    same_of(rt, octets, packet.opcode(), Opcode::from(first / 8 % 16));
+    same_of(rt, octets, packet.rcode(), Rcode::from(second % 16));
 }
 
 // Compares the fields of a header with the octets at their places.
 fn compare_header(rt: &impl Abort, octets: &[u8]) {
     let is_header = 12 <= octets.len();
-    assert_eq!(rt;
-        Packet::new_checked(octets).is_ok(),
-        is_header,
-        "of {octets:?}"
-    );
+    same_of(rt, octets, Packet::new_checked(octets).is_ok(), is_header);
     if is_header {
         compare_numbers(rt, octets);
         compare_flags(rt, octets, octets[2], octets[3]);
@@ -199,7 +192,7 @@ fn damaged_questions_are_read_as_by_a_plain_reader(rt: HostRuntime) -> Result<()
         &long_label,
     ];
     for octets in rows {
-        assert!(rt; Question::parse(octets).is_ok(), "of {octets:?}");
+        holds_of(&rt, octets, Question::parse(octets).is_ok());
         compare_damaged(&rt, rt.alloc(), octets)?;
     }
     Ok(())
@@ -229,7 +222,7 @@ fn damaged_records_are_read_as_by_a_plain_reader(rt: HostRuntime) -> Result<(), 
         ],
     ];
     for octets in rows {
-        assert!(rt; Record::parse(octets).is_ok(), "of {octets:?}");
+        holds_of(&rt, octets, Record::parse(octets).is_ok());
         compare_damaged(&rt, rt.alloc(), octets)?;
     }
     Ok(())
@@ -250,7 +243,7 @@ fn damaged_messages_are_read_as_by_a_plain_reader(rt: HostRuntime) -> Result<(),
         ],
     ];
     for octets in rows {
-        assert!(rt; Packet::new_checked(octets).is_ok(), "of {octets:?}");
+        holds_of(&rt, octets, Packet::new_checked(octets).is_ok());
         compare_damaged(&rt, rt.alloc(), octets)?;
     }
     Ok(())

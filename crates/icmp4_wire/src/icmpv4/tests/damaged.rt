@@ -3,6 +3,7 @@
 use super::{ALL, ECHO_REQUEST, PORT_UNREACHABLE};
 use crate::damage::damaged;
 use crate::icmpv4::{DstUnreachable, Packet, Repr, TimeExceeded};
+use crate::testing::{holds_of, same_of};
 use std::alloc::Global;
 use std::process::Abort;
 use std::test::Fail;
@@ -110,20 +111,17 @@ fn compare(rt: &impl Abort, octets: &[u8]) {
     let plain = read(octets).ok_or(Error);
     let verified = if good { plain } else { Err(Error) };
     let packet = Packet::new_unchecked(octets);
-    assert_eq!(rt; packet.verify_checksum(), good, "of {octets:?}");
-    assert_eq!(rt;
-        packet.check_len().is_ok(),
-        octets.len() >= 8,
-        "of {octets:?}"
-    );
-    assert_eq!(rt;
+    same_of(rt, octets, packet.verify_checksum(), good);
+    same_of(rt, octets, packet.check_len().is_ok(), octets.len() >= 8);
+    same_of(
+        rt,
+        octets,
         Packet::new_checked(octets).is_ok(),
         octets.len() >= 8,
-        "of {octets:?}"
     );
     let ignored = ChecksumCapabilities::ignored();
-    assert_eq!(rt; Repr::parse(&packet, &ignored), plain, "of {octets:?}");
-    assert_eq!(rt; Repr::parse(&packet, &ALL), verified, "of {octets:?}");
+    same_of(rt, octets, Repr::parse(&packet, &ignored), plain);
+    same_of(rt, octets, Repr::parse(&packet, &ALL), verified);
 }
 
 // Compares the fields of the view with the octets at their places.
@@ -132,19 +130,11 @@ fn compare_fields(rt: &impl Abort, octets: &[u8]) {
         return;
     };
     let packet = Packet::new_unchecked(octets);
-    assert_eq!(rt; u8::from(packet.msg_type()), *kind, "of {octets:?}");
-    assert_eq!(rt; packet.msg_code(), *code, "of {octets:?}");
-    assert_eq!(rt;
-        packet.echo_ident().to_be_bytes(),
-        [*i0, *i1],
-        "of {octets:?}"
-    );
-    assert_eq!(rt;
-        packet.echo_seq_no().to_be_bytes(),
-        [*n0, *n1],
-        "of {octets:?}"
-    );
-    assert_eq!(rt; packet.data(), data, "of {octets:?}");
+    same_of(rt, octets, u8::from(packet.msg_type()), *kind);
+    same_of(rt, octets, packet.msg_code(), *code);
+    same_of(rt, octets, packet.echo_ident().to_be_bytes(), [*i0, *i1]);
+    same_of(rt, octets, packet.echo_seq_no().to_be_bytes(), [*n0, *n1]);
+    same_of(rt, octets, packet.data(), data);
 }
 
 // Compares them over each shorter part of the packet, and over each copy of it in which one byte is another.
@@ -188,9 +178,10 @@ fn damaged_messages_are_read_as_by_a_plain_reader(rt: HostRuntime) -> Result<(),
         &header_alone,
     ];
     for packet in rows {
-        assert!(rt;
+        holds_of(
+            &rt,
+            packet,
             Repr::parse(&Packet::new_unchecked(packet), &ALL).is_ok(),
-            "of {packet:?}"
         );
         compare_damaged(&rt, rt.alloc(), packet)?;
     }

@@ -2,9 +2,8 @@
 
 use super::{ECHO_REQUEST, PORT_UNREACHABLE, QUOTED_DATA, quoted};
 use crate::icmpv4::{DstUnreachable, Message, Packet, Repr, TimeExceeded};
-use std::fmt::Write;
+use crate::testing::{prints, takes_writes};
 use std::test::Fail;
-use wirebase::failing_writer::FailingWriter;
 
 #[test]
 fn types_and_reasons_print_their_words(rt: HostRuntime) -> Result<(), Fail> {
@@ -23,7 +22,7 @@ fn types_and_reasons_print_their_words(rt: HostRuntime) -> Result<(), Fail> {
     ];
     for (number, text) in messages {
         let message = Message::from(number);
-        assert_eq!(rt; message.to_string(rt.alloc())?.as_str(), text);
+        prints(&rt, rt.alloc(), message, text)?;
     }
     let unreachables = [
         (0, "destination network unreachable"),
@@ -46,7 +45,7 @@ fn types_and_reasons_print_their_words(rt: HostRuntime) -> Result<(), Fail> {
     ];
     for (number, text) in unreachables {
         let reason = DstUnreachable::from(number);
-        assert_eq!(rt; reason.to_string(rt.alloc())?.as_str(), text);
+        prints(&rt, rt.alloc(), reason, text)?;
     }
     let times = [
         (0, "time-to-live exceeded in transit"),
@@ -55,7 +54,7 @@ fn types_and_reasons_print_their_words(rt: HostRuntime) -> Result<(), Fail> {
     ];
     for (number, text) in times {
         let reason = TimeExceeded::from(number);
-        assert_eq!(rt; reason.to_string(rt.alloc())?.as_str(), text);
+        prints(&rt, rt.alloc(), reason, text)?;
     }
     Ok(())
 }
@@ -97,7 +96,7 @@ fn packets_print_their_message_or_why_not(rt: HostRuntime) -> Result<(), Fail> {
     ];
     for (octets, text) in rows {
         let packet = Packet::new_unchecked(octets);
-        assert_eq!(rt; packet.to_string(rt.alloc())?.as_str(), text);
+        prints(&rt, rt.alloc(), packet, text)?;
     }
     let time_exceeded = Repr::TimeExceeded {
         reason: TimeExceeded::FragExpired,
@@ -105,13 +104,13 @@ fn packets_print_their_message_or_why_not(rt: HostRuntime) -> Result<(), Fail> {
         data: &QUOTED_DATA,
     };
     let text = "ICMPv4 time exceeded (fragment reassembly time exceeded)";
-    assert_eq!(rt; time_exceeded.to_string(rt.alloc())?.as_str(), text);
+    prints(&rt, rt.alloc(), time_exceeded, text)?;
     // A wrong checksum refuses the octets.
     let mut octets = ECHO_REQUEST;
     octets[3] ^= 1;
     let packet = Packet::new_unchecked(&mut octets[..]);
     let text = "ICMPv4 (wire::Error) type=EchoRequest code=0";
-    assert_eq!(rt; packet.to_string(rt.alloc())?.as_str(), text);
+    prints(&rt, rt.alloc(), packet, text)?;
     Ok(())
 }
 
@@ -124,12 +123,6 @@ fn printing_fails_only_with_its_writer(rt: HostRuntime) {
         (&[0x08], 1),
     ];
     for (octets, calls) in rows {
-        let packet = Packet::new_unchecked(octets);
-        for left in 0..calls {
-            let mut writer = FailingWriter { left };
-            assert!(rt; write!(writer, "{packet}").is_err(), "after {left} writes");
-        }
-        let mut writer = FailingWriter { left: calls };
-        assert!(rt; write!(writer, "{packet}").is_ok());
+        takes_writes(&rt, &Packet::new_unchecked(octets), calls);
     }
 }

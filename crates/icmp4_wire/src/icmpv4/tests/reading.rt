@@ -2,6 +2,7 @@
 
 use super::{ALL, PORT_UNREACHABLE, QUOTED_DATA, all, quoted, write_unreachable};
 use crate::icmpv4::{DstUnreachable, Message, Packet, ParamProblem, Redirect, Repr, TimeExceeded};
+use crate::testing::{holds_of, same, same_of};
 use std::test::Fail;
 use wirebase::ChecksumCapabilities;
 use wirebase::capabilities::Checksum;
@@ -19,9 +20,9 @@ fn a_quoted_length_is_read_as_that_of_the_data(rt: HostRuntime) -> Result<(), Fa
     else {
         return Err(Fail::from("no unreachable"));
     };
-    assert_eq!(rt; reason, DstUnreachable::PortUnreachable);
-    assert_eq!(rt; header, quoted(8));
-    assert_eq!(rt; data, QUOTED_DATA.as_slice());
+    same(&rt, reason, DstUnreachable::PortUnreachable);
+    same(&rt, header, quoted(8));
+    same(&rt, data, QUOTED_DATA.as_slice());
     let mut octets = [0; 36];
     write_unreachable(&mut octets, 16, &ALL);
     assert!(rt; Repr::parse(&Packet::new_unchecked(&octets[..]), &ALL).is_err());
@@ -62,16 +63,12 @@ fn quotes_are_read_by_their_own_lengths(rt: HostRuntime) -> Result<(), Fail> {
         let read = Repr::parse(&Packet::new_unchecked(&octets[..]), &ignored);
         let read_len = match read {
             Ok(Repr::DstUnreachable { header, data, .. }) => {
-                assert_eq!(rt; header.payload_len, data.len());
+                same(&rt, header.payload_len, data.len());
                 Some(data.len())
             }
             _ => None,
         };
-        assert_eq!(rt;
-            read_len,
-            data_len,
-            "first byte {first}, total length {total_len}"
-        );
+        same_of(&rt, (first, total_len), read_len, data_len);
     }
     Ok(())
 }
@@ -84,14 +81,12 @@ fn a_checksum_that_is_wrong_by_a_bit_is_refused(rt: HostRuntime) -> Result<(), F
             let mut octets = PORT_UNREACHABLE;
             octets[place] ^= 1 << bit;
             let packet = Packet::new_unchecked(&octets[..]);
-            assert!(rt; !packet.verify_checksum(), "byte {place}, bit {bit}");
-            assert!(rt;
-                Repr::parse(&packet, &ALL).is_err(),
-                "byte {place}, bit {bit}"
-            );
-            assert!(rt;
+            holds_of(&rt, (place, bit), !packet.verify_checksum());
+            holds_of(&rt, (place, bit), Repr::parse(&packet, &ALL).is_err());
+            holds_of(
+                &rt,
+                (place, bit),
                 Repr::parse(&packet, &all(Checksum::Rx)).is_err(),
-                "byte {place}, bit {bit}"
             );
         }
     }
@@ -119,7 +114,7 @@ fn other_messages_are_refused(rt: HostRuntime) -> Result<(), Fail> {
     ] {
         let octets = [kind, code, 0, 0, 0, 0, 0, 0];
         let read = Repr::parse(&Packet::new_unchecked(&octets[..]), &ignored);
-        assert_eq!(rt; read.is_ok(), accepted, "type {kind}, code {code}");
+        same_of(&rt, (kind, code), read.is_ok(), accepted);
     }
     // A sum of zero does not verify.
     assert!(rt; Repr::parse(&Packet::new_unchecked(&[0u8; 8][..]), &ALL).is_err());
@@ -136,7 +131,7 @@ fn packets_are_read_at_each_shorter_length(rt: HostRuntime) -> Result<(), Fail> 
     let ignored = ChecksumCapabilities::ignored();
     for len in 0..36usize {
         let packet = Packet::new_unchecked(&PORT_UNREACHABLE[..len]);
-        assert!(rt; Repr::parse(&packet, &ignored).is_err(), "{len} bytes");
+        holds_of(&rt, len, Repr::parse(&packet, &ignored).is_err());
     }
     Ok(())
 }
@@ -151,20 +146,21 @@ fn accessors(rt: HostRuntime) -> Result<(), Fail> {
     packet.set_echo_ident(0x5678);
     packet.set_echo_seq_no(0x9abc);
     packet.data_mut().fill(0xff);
-    assert_eq!(rt;
+    same(
+        &rt,
         packet.as_ref(),
-        [0x0d, 0x07, 0x12, 0x34, 0x56, 0x78, 0x9a, 0xbc, 0xff, 0xff].as_slice()
+        [0x0d, 0x07, 0x12, 0x34, 0x56, 0x78, 0x9a, 0xbc, 0xff, 0xff].as_slice(),
     );
     packet.fill_checksum();
     assert!(rt; packet.verify_checksum());
     let octets = packet.into_inner();
     let packet = Packet::new_checked(&*octets)?;
-    assert_eq!(rt; packet.msg_type(), Message::Timestamp);
-    assert_eq!(rt; packet.msg_code(), 7);
-    assert_eq!(rt; packet.echo_ident(), 0x5678);
-    assert_eq!(rt; packet.echo_seq_no(), 0x9abc);
-    assert_eq!(rt; packet.header_len(), 8);
-    assert_eq!(rt; packet.data(), [0xff, 0xff].as_slice());
+    same(&rt, packet.msg_type(), Message::Timestamp);
+    same(&rt, packet.msg_code(), 7);
+    same(&rt, packet.echo_ident(), 0x5678);
+    same(&rt, packet.echo_seq_no(), 0x9abc);
+    same(&rt, packet.header_len(), 8);
+    same(&rt, packet.data(), [0xff, 0xff].as_slice());
     assert!(rt; packet.check_len().is_ok());
     let copy = packet.clone()?;
     assert!(rt; packet == copy);
@@ -174,22 +170,22 @@ fn accessors(rt: HostRuntime) -> Result<(), Fail> {
 #[test]
 fn every_number_of_an_enum_comes_back(rt: HostRuntime) {
     for number in 0..=255u8 {
-        assert_eq!(rt; u8::from(Message::from(number)), number);
-        assert_eq!(rt; u8::from(DstUnreachable::from(number)), number);
-        assert_eq!(rt; u8::from(Redirect::from(number)), number);
-        assert_eq!(rt; u8::from(TimeExceeded::from(number)), number);
-        assert_eq!(rt; u8::from(ParamProblem::from(number)), number);
+        same(&rt, u8::from(Message::from(number)), number);
+        same(&rt, u8::from(DstUnreachable::from(number)), number);
+        same(&rt, u8::from(Redirect::from(number)), number);
+        same(&rt, u8::from(TimeExceeded::from(number)), number);
+        same(&rt, u8::from(ParamProblem::from(number)), number);
     }
 }
 
 #[test]
 fn numbers_of_the_enums(rt: HostRuntime) {
-    assert_eq!(rt; Message::from(14), Message::TimestampReply);
-    assert_eq!(rt; DstUnreachable::from(15), DstUnreachable::PrecedCutoff);
-    assert_eq!(rt; Redirect::from(3), Redirect::HostToS);
-    assert_eq!(rt; TimeExceeded::from(1), TimeExceeded::FragExpired);
-    assert_eq!(rt; ParamProblem::from(2), ParamProblem::BadLength);
-    assert_eq!(rt; ParamProblem::from(3), ParamProblem::Unknown(3));
+    same(&rt, Message::from(14), Message::TimestampReply);
+    same(&rt, DstUnreachable::from(15), DstUnreachable::PrecedCutoff);
+    same(&rt, Redirect::from(3), Redirect::HostToS);
+    same(&rt, TimeExceeded::from(1), TimeExceeded::FragExpired);
+    same(&rt, ParamProblem::from(2), ParamProblem::BadLength);
+    same(&rt, ParamProblem::from(3), ParamProblem::Unknown(3));
     assert!(rt; Message::Redirect < Message::EchoRequest);
     assert!(rt; Message::TimestampReply < Message::Unknown(0));
 }
@@ -203,7 +199,7 @@ fn a_quoted_length_below_its_data_has_the_normal_form_of_the_whole(rt: HostRunti
     assert!(rt; whole != part);
     let one = Repr::parse(&Packet::new_unchecked(&whole[..]), &ALL);
     let other = Repr::parse(&Packet::new_unchecked(&part[..]), &ALL);
-    assert_eq!(rt; one, other);
+    same(&rt, one, other);
     if let (Ok(one), Ok(other)) = (one, other) {
         Repr::same_text(&one, &other, &ALL);
     }

@@ -4,6 +4,7 @@ ghost use Rattle.std.specs.Prelude.{◌≡◌, ◌≤◌, length};
 
 use super::{ALL, PORT_UNREACHABLE, QUOTED_DATA, all, quoted, write_unreachable};
 use crate::icmpv4::{Packet, Repr, TimeExceeded};
+use crate::testing::{same, same_of};
 use std::test::Fail;
 use wirebase::ChecksumCapabilities;
 use wirebase::capabilities::Checksum;
@@ -29,38 +30,42 @@ fn echo_requests_are_written(rt: HostRuntime) -> Result<(), Fail> {
     for fill in FILLS {
         let mut exact = [fill; 12];
         write_request(&mut exact, 0x1234, 0xabcd, &[0xaa, 0x00, 0x00, 0xff]);
-        assert_eq!(rt;
+        same_of(
+            &rt,
+            fill,
             exact.as_slice(),
             [
-                0x08, 0x00, 0x8e, 0xfe, 0x12, 0x34, 0xab, 0xcd, 0xaa, 0x00, 0x00, 0xff
+                0x08, 0x00, 0x8e, 0xfe, 0x12, 0x34, 0xab, 0xcd, 0xaa, 0x00, 0x00, 0xff,
             ]
             .as_slice(),
-            "over {fill}"
         );
         let mut short = [fill; 10];
         write_request(&mut short, 0x1234, 0xabcd, &[0xaa, 0x00, 0x00, 0xff]);
-        assert_eq!(rt;
+        same_of(
+            &rt,
+            fill,
             short.as_slice(),
             [0x08, 0x00, 0x8f, 0xfd, 0x12, 0x34, 0xab, 0xcd, 0xaa, 0x00].as_slice(),
-            "over {fill}"
         );
         let mut odd = [fill; 9];
         write_request(&mut odd, 0, 0, &[0xff]);
-        assert_eq!(rt;
+        same_of(
+            &rt,
+            fill,
             odd.as_slice(),
             [0x08, 0x00, 0xf8, 0xfe, 0x00, 0x00, 0x00, 0x00, 0xff].as_slice(),
-            "over {fill}"
         );
     }
     // The checksum is that of the whole buffer.
     let mut long = [0xa5; 14];
     write_request(&mut long, 0x1234, 0xabcd, &[0xaa, 0x00, 0x00, 0xff]);
-    assert_eq!(rt;
+    same(
+        &rt,
         long.as_slice(),
         [
-            0x08, 0x00, 0xe9, 0x58, 0x12, 0x34, 0xab, 0xcd, 0xaa, 0x00, 0x00, 0xff, 0xa5, 0xa5
+            0x08, 0x00, 0xe9, 0x58, 0x12, 0x34, 0xab, 0xcd, 0xaa, 0x00, 0x00, 0xff, 0xa5, 0xa5,
         ]
-        .as_slice()
+        .as_slice(),
     );
     Ok(())
 }
@@ -72,21 +77,22 @@ fn echo_replies_are_written(rt: HostRuntime) -> Result<(), Fail> {
         seq_no: 0,
         data: &[],
     };
-    assert_eq!(rt; reply.buffer_len(), 8);
+    same(&rt, reply.buffer_len(), 8);
     for fill in FILLS {
         let mut octets = [fill; 8];
         reply.emit(&mut Packet::new_unchecked(&mut octets[..]), &ALL);
-        assert_eq!(rt;
+        same_of(
+            &rt,
+            fill,
             octets.as_slice(),
             [0x00, 0x00, 0xff, 0xff, 0x00, 0x00, 0x00, 0x00].as_slice(),
-            "over {fill}"
         );
         let mut unsealed = [fill; 8];
         reply.emit(
             &mut Packet::new_unchecked(&mut unsealed[..]),
             &all(Checksum::Rx),
         );
-        assert_eq!(rt; unsealed.as_slice(), [0; 8].as_slice(), "over {fill}");
+        same_of(&rt, fill, unsealed.as_slice(), [0; 8].as_slice());
     }
     Ok(())
 }
@@ -108,11 +114,7 @@ fn errors_are_written(rt: HostRuntime) -> Result<(), Fail> {
     for fill in FILLS {
         let mut octets = [fill; 36];
         write_unreachable(&mut octets, 8, &ALL);
-        assert_eq!(rt;
-            octets.as_slice(),
-            PORT_UNREACHABLE.as_slice(),
-            "over {fill}"
-        );
+        same_of(&rt, fill, octets.as_slice(), PORT_UNREACHABLE.as_slice());
         let mut unsealed_quote = [fill; 36];
         let capabilities = ChecksumCapabilities {
             ipv4: Checksum::None,
@@ -124,15 +126,15 @@ fn errors_are_written(rt: HostRuntime) -> Result<(), Fail> {
         want[3] = 0x5a;
         want[18] = 0;
         want[19] = 0;
-        assert_eq!(rt; unsealed_quote.as_slice(), want.as_slice(), "over {fill}");
+        same_of(&rt, fill, unsealed_quote.as_slice(), want.as_slice());
         for (reason, first) in [
             (TimeExceeded::TtlExpired, [0x0b, 0x00, 0xf4, 0x8d]),
             (TimeExceeded::FragExpired, [0x0b, 0x01, 0xf4, 0x8c]),
         ] {
             let mut octets = [fill; 36];
             write_time_exceeded(&mut octets, reason);
-            assert_eq!(rt; &octets[..4], first.as_slice(), "over {fill}");
-            assert_eq!(rt; &octets[4..], &PORT_UNREACHABLE[4..], "over {fill}");
+            same_of(&rt, fill, &octets[..4], first.as_slice());
+            same_of(&rt, fill, &octets[4..], &PORT_UNREACHABLE[4..]);
         }
     }
     Ok(())

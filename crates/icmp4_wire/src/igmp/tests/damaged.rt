@@ -3,6 +3,7 @@
 use crate::damage::damaged;
 use crate::igmp::IgmpVersion::{Version1, Version2};
 use crate::igmp::{Packet, Repr};
+use crate::testing::{holds_of, same_of};
 use std::alloc::Global;
 use std::process::Abort;
 use std::test::Fail;
@@ -57,36 +58,21 @@ fn read(octets: &[u8]) -> Option<Repr> {
 // Compares the crate with the plain reader over these octets.
 fn compare(rt: &impl Abort, octets: &[u8]) {
     let packet = Packet::new_unchecked(octets);
-    assert_eq!(rt;
-        packet.check_len().is_ok(),
-        octets.len() >= 8,
-        "of {octets:?}"
-    );
-    assert_eq!(rt;
+    same_of(rt, octets, packet.check_len().is_ok(), octets.len() >= 8);
+    same_of(
+        rt,
+        octets,
         Packet::new_checked(octets).is_ok(),
         octets.len() >= 8,
-        "of {octets:?}"
     );
-    assert_eq!(rt;
-        Repr::parse(&packet),
-        read(octets).ok_or(Error),
-        "of {octets:?}"
-    );
+    same_of(rt, octets, Repr::parse(&packet), read(octets).ok_or(Error));
     let [kind, code, s0, s1, a, b, c, d, ..] = octets else {
         return;
     };
-    assert_eq!(rt; u8::from(packet.msg_type()), *kind, "of {octets:?}");
-    assert_eq!(rt; packet.max_resp_code(), *code, "of {octets:?}");
-    assert_eq!(rt;
-        packet.checksum().to_be_bytes(),
-        [*s0, *s1],
-        "of {octets:?}"
-    );
-    assert_eq!(rt;
-        packet.group_addr().octets(),
-        [*a, *b, *c, *d],
-        "of {octets:?}"
-    );
+    same_of(rt, octets, u8::from(packet.msg_type()), *kind);
+    same_of(rt, octets, packet.max_resp_code(), *code);
+    same_of(rt, octets, packet.checksum().to_be_bytes(), [*s0, *s1]);
+    same_of(rt, octets, packet.group_addr().octets(), [*a, *b, *c, *d]);
 }
 
 // Compares them over each shorter part of the packet, and over each copy of it in which one byte is another.
@@ -115,13 +101,11 @@ fn damaged_messages_are_read_as_by_a_plain_reader(rt: HostRuntime) -> Result<(),
         &[0x12, 0x00, 0x0c, 0xda, 0xe1, 0x00, 0x00, 0x25],
     ];
     for packet in rows {
-        assert!(rt;
-            Packet::new_unchecked(packet).verify_checksum(),
-            "of {packet:?}"
-        );
-        assert!(rt;
+        holds_of(&rt, packet, Packet::new_unchecked(packet).verify_checksum());
+        holds_of(
+            &rt,
+            packet,
             Repr::parse(&Packet::new_unchecked(packet)).is_ok(),
-            "of {packet:?}"
         );
         compare_damaged(&rt, rt.alloc(), packet)?;
     }

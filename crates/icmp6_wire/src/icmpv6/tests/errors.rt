@@ -2,6 +2,7 @@ ghost use Rattle.std.specs.Prelude.{◌≡◌};
 
 use super::{FILLS, TOO_BIG, all, destination, source};
 use crate::icmpv6::{DstUnreachable, Packet, ParamProblem, Repr, TimeExceeded};
+use crate::testing::{same, same_of};
 use std::process::Abort;
 use std::test::Fail;
 use wirebase::capabilities::Checksum;
@@ -37,7 +38,7 @@ fn errors_are_written_and_read(rt: HostRuntime) -> Result<(), Fail> {
             data: &data,
         }
         .emit(&source(), &destination(), &mut packet, &caps);
-        assert_eq!(rt; octets.as_slice(), TOO_BIG.as_slice(), "over {fill}");
+        same_of(&rt, fill, octets.as_slice(), TOO_BIG.as_slice());
         let mut octets = [fill; 60];
         let mut packet = Packet::new_unchecked(octets.as_mut_slice());
         Repr::DstUnreachable {
@@ -47,8 +48,8 @@ fn errors_are_written_and_read(rt: HostRuntime) -> Result<(), Fail> {
         }
         .emit(&source(), &destination(), &mut packet, &caps);
         let front = [0x01, 0x00, 0x16, 0xa5, 0x00, 0x00, 0x00, 0x00];
-        assert_eq!(rt; &octets[..8], front.as_slice(), "over {fill}");
-        assert_eq!(rt; &octets[8..], &TOO_BIG[8..], "over {fill}");
+        same_of(&rt, fill, &octets[..8], front.as_slice());
+        same_of(&rt, fill, &octets[8..], &TOO_BIG[8..]);
     }
     let octets = TOO_BIG;
     let packet = Packet::new_unchecked(octets.as_slice());
@@ -82,7 +83,7 @@ fn times_exceeded_are_written_and_read(rt: HostRuntime) {
             data: &data,
         }
         .emit(&source(), &destination(), &mut packet, &caps);
-        assert_eq!(rt; octets.as_slice(), wanted.as_slice(), "over {fill}");
+        same_of(&rt, fill, octets.as_slice(), wanted.as_slice());
     }
     let packet = Packet::new_unchecked(wanted.as_slice());
     assert!(rt;
@@ -111,7 +112,7 @@ fn parameter_problems_are_written_and_read(rt: HostRuntime) {
             data: &data,
         }
         .emit(&source(), &destination(), &mut packet, &caps);
-        assert_eq!(rt; octets.as_slice(), wanted.as_slice(), "over {fill}");
+        same_of(&rt, fill, octets.as_slice(), wanted.as_slice());
     }
     let packet = Packet::new_unchecked(wanted.as_slice());
     assert!(rt;
@@ -174,7 +175,7 @@ fn errors_that_differ_past_what_they_quote_have_the_same_text(rt: HostRuntime) {
     let cut = &data[..1192];
     let written = check_quoted(&rt, cut, cut, 0);
     let over = check_quoted(&rt, &data, cut, 0xff);
-    assert_eq!(rt; written.as_slice(), over.as_slice());
+    same(&rt, written.as_slice(), over.as_slice());
     check_same_text(&rt, &written, cut, &data);
 }
 
@@ -187,8 +188,8 @@ fn errors_quote_1192_bytes_at_the_most(rt: HostRuntime) -> Result<(), Fail> {
             header: quoted(),
             data: &data[..count],
         };
-        assert_eq!(rt; repr.buffer_len(), len, "{count} bytes");
-        assert_eq!(rt; repr.packet_len(), len, "{count} bytes");
+        same_of(&rt, count, repr.buffer_len(), len);
+        same_of(&rt, count, repr.packet_len(), len);
     }
     let caps = all(Checksum::Both);
     let mut octets = [0xff; 1240];
@@ -229,7 +230,7 @@ fn an_error_in_a_longer_buffer_has_the_checksum_of_the_whole(rt: HostRuntime) {
         Ok(Repr::PktTooBig { data, .. }) => data.len(),
         _ => 0,
     };
-    assert_eq!(rt; data_len, 1252);
+    same(&rt, data_len, 1252);
 }
 
 #[test]

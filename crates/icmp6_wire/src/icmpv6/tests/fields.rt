@@ -1,5 +1,6 @@
 use super::{ECHO, destination, source};
 use crate::icmpv6::{Message, Packet};
+use crate::testing::{same, same_of};
 use std::test::Fail;
 
 #[test]
@@ -7,11 +8,11 @@ fn what_solicitations_have_reserved_is_cleared(rt: HostRuntime) {
     let mut octets = [0xff; 8];
     octets[0] = 0x85;
     Packet::new_unchecked(octets.as_mut_slice()).clear_reserved();
-    assert_eq!(rt; octets, [0x85, 0xff, 0xff, 0xff, 0, 0, 0, 0]);
+    same(&rt, octets, [0x85, 0xff, 0xff, 0xff, 0, 0, 0, 0]);
     let mut octets = [0xff; 9];
     octets[0] = 0x87;
     Packet::new_unchecked(octets.as_mut_slice()).clear_reserved();
-    assert_eq!(rt; octets, [0x87, 0xff, 0xff, 0xff, 0, 0, 0, 0, 0xff]);
+    same(&rt, octets, [0x87, 0xff, 0xff, 0xff, 0, 0, 0, 0, 0xff]);
 }
 
 #[test]
@@ -19,11 +20,11 @@ fn what_neighbor_advertisements_and_redirects_have_reserved_is_cleared(rt: HostR
     let mut octets = [0xff; 9];
     octets[0] = 0x88;
     Packet::new_unchecked(octets.as_mut_slice()).clear_reserved();
-    assert_eq!(rt; octets, [0x88, 0xff, 0xff, 0xff, 0, 0, 0, 0, 0xff]);
+    same(&rt, octets, [0x88, 0xff, 0xff, 0xff, 0, 0, 0, 0, 0xff]);
     let mut octets = [0xff; 9];
     octets[0] = 0x89;
     Packet::new_unchecked(octets.as_mut_slice()).clear_reserved();
-    assert_eq!(rt; octets, [0x89, 0xff, 0xff, 0xff, 0, 0, 0, 0, 0xff]);
+    same(&rt, octets, [0x89, 0xff, 0xff, 0xff, 0, 0, 0, 0, 0xff]);
 }
 
 #[test]
@@ -31,7 +32,7 @@ fn what_a_report_has_reserved_is_cleared(rt: HostRuntime) {
     let mut octets = [0xff; 6];
     octets[0] = 0x8f;
     Packet::new_unchecked(octets.as_mut_slice()).clear_reserved();
-    assert_eq!(rt; octets, [0x8f, 0xff, 0xff, 0xff, 0, 0]);
+    same(&rt, octets, [0x8f, 0xff, 0xff, 0xff, 0, 0]);
 }
 
 #[test]
@@ -46,7 +47,7 @@ fn what_a_query_has_reserved_is_cleared(rt: HostRuntime) {
         wanted[6] = 0;
         wanted[7] = 0;
         wanted[24] = byte & 0x0f;
-        assert_eq!(rt; octets, wanted, "byte {byte}");
+        same_of(&rt, byte, octets, wanted);
     }
 }
 
@@ -62,17 +63,18 @@ fn fields_are_set(rt: HostRuntime) {
     packet.set_checksum(0x1234);
     packet.set_echo_ident(0x5678);
     packet.set_echo_seq_no(0x9abc);
-    assert_eq!(rt; packet.as_ref(), FIELDS.as_slice());
+    same(&rt, packet.as_ref(), FIELDS.as_slice());
 }
 
 #[test]
 fn fields_are_read(rt: HostRuntime) {
     let packet = Packet::new_unchecked(FIELDS.as_slice());
-    assert_eq!(rt; packet.msg_type(), Message::EchoReply);
-    assert_eq!(rt; packet.msg_code(), 0x01);
-    assert_eq!(rt;
+    same(&rt, packet.msg_type(), Message::EchoReply);
+    same(&rt, packet.msg_code(), 0x01);
+    same(
+        &rt,
         [packet.checksum(), packet.echo_ident(), packet.echo_seq_no()],
-        [0x1234, 0x5678, 0x9abc]
+        [0x1234, 0x5678, 0x9abc],
     );
 }
 
@@ -81,7 +83,7 @@ fn an_mtu_is_set_and_read(rt: HostRuntime) {
     let mut octets = FIELDS;
     let mut packet = Packet::new_unchecked(octets.as_mut_slice());
     packet.set_pkt_too_big_mtu(0x0102_0304);
-    assert_eq!(rt; packet.pkt_too_big_mtu(), 0x0102_0304);
+    same(&rt, packet.pkt_too_big_mtu(), 0x0102_0304);
 }
 
 #[test]
@@ -89,10 +91,11 @@ fn a_pointer_is_set_and_read(rt: HostRuntime) {
     let mut octets = FIELDS;
     let mut packet = Packet::new_unchecked(octets.as_mut_slice());
     packet.set_param_problem_ptr(0x0506_0708);
-    assert_eq!(rt; packet.param_problem_ptr(), 0x0506_0708);
-    assert_eq!(rt;
+    same(&rt, packet.param_problem_ptr(), 0x0506_0708);
+    same(
+        &rt,
         &*packet.into_inner(),
-        [0x81, 0x01, 0x12, 0x34, 0x05, 0x06, 0x07, 0x08, 0x2a].as_slice()
+        [0x81, 0x01, 0x12, 0x34, 0x05, 0x06, 0x07, 0x08, 0x2a].as_slice(),
     );
 }
 
@@ -104,14 +107,14 @@ fn checksums_and_what_stands_behind_the_header(rt: HostRuntime) -> Result<(), Fa
     let written = [
         0x80, 0x00, 0x19, 0xb3, 0x12, 0x34, 0xab, 0xcd, 0xff, 0xff, 0xff, 0xff,
     ];
-    assert_eq!(rt; &*packet.into_inner(), written.as_slice());
+    same(&rt, &*packet.into_inner(), written.as_slice());
     let mut octets = ECHO;
     octets[2] = 0;
     let mut packet = Packet::new_unchecked(octets.as_mut_slice());
     assert!(rt; !packet.verify_checksum(&source(), &destination()));
     packet.fill_checksum(&source(), &destination());
     assert!(rt; packet.verify_checksum(&source(), &destination()));
-    assert_eq!(rt; &*packet.into_inner(), ECHO.as_slice());
+    same(&rt, &*packet.into_inner(), ECHO.as_slice());
     let octets = ECHO;
     let packet = Packet::new_checked(octets.as_slice())?;
     assert!(rt; packet == Packet::new_unchecked(octets.as_slice()));

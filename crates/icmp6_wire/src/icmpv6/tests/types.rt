@@ -1,9 +1,8 @@
 use crate::icmpv6::{DstUnreachable, Message, Packet, ParamProblem, TimeExceeded};
+use crate::testing::{fail, holds_of, prints, same, same_of, takes_writes};
 use std::alloc::Global;
-use std::fmt::Write;
 use std::process::Abort;
 use std::test::Fail;
-use wirebase::failing_writer::FailingWriter;
 
 #[test]
 fn each_type_asks_its_header(rt: HostRuntime) -> Result<(), Fail> {
@@ -25,47 +24,48 @@ fn each_type_asks_its_header(rt: HostRuntime) -> Result<(), Fail> {
     for (kind, least) in rows {
         let mut octets = [0; 41];
         octets[0] = kind;
-        assert_eq!(rt;
+        same_of(
+            &rt,
+            kind,
             Packet::new_unchecked(octets.as_slice()).header_len(),
             least,
-            "type {kind}"
         );
         for len in 0..=41 {
-            assert_eq!(rt;
+            same_of(
+                &rt,
+                (kind, len),
                 Packet::new_checked(&octets[..len]).is_ok(),
                 least <= len,
-                "type {kind}, {len} bytes"
             );
         }
     }
     for kind in [0u8, 5, 127, 0x83, 0x84, 0x9b, 0xff] {
         let mut octets = [0; 41];
         octets[0] = kind;
-        assert_eq!(rt;
+        same_of(
+            &rt,
+            kind,
             Packet::new_unchecked(octets.as_slice()).header_len(),
             4,
-            "type {kind}"
         );
-        assert!(rt;
-            Packet::new_checked(octets.as_slice()).is_err(),
-            "type {kind}"
-        );
+        holds_of(&rt, kind, Packet::new_checked(octets.as_slice()).is_err());
     }
     Ok(())
 }
 
 // Checks whether a type is that of an error, of neighbor discovery or of listener discovery, and how it is printed.
 fn check_type(rt: &impl Abort, alloc: Global, message: Message, classes: [bool; 3], text: &str) {
-    assert_eq!(rt;
+    same_of(
+        rt,
+        message,
         [message.is_error(), message.is_ndisc(), message.is_mld()],
         classes,
-        "{message}"
     );
     let Ok(printed) = message.to_string(alloc) else {
-        assert!(rt; false, "no room for a text");
+        fail(rt, "no room for a text");
         return;
     };
-    assert_eq!(rt; printed.as_str(), text);
+    same(rt, printed.as_str(), text);
 }
 
 #[test]
@@ -118,35 +118,27 @@ fn types_of_no_class(rt: HostRuntime) {
 
 #[test]
 fn texts_of_codes(rt: HostRuntime) -> Result<(), Fail> {
-    let text = ParamProblem::UnrecognizedNxtHdr.to_string(rt.alloc())?;
-    assert_eq!(rt; text.as_str(), "unrecognized next header type.");
-    let text = TimeExceeded::Unknown(7).to_string(rt.alloc())?;
-    assert_eq!(rt; text.as_str(), "7");
-    let text = DstUnreachable::FailedPolicy.to_string(rt.alloc())?;
-    assert_eq!(rt;
-        text.as_str(),
-        "source address failed ingress/egress policy"
-    );
+    prints(
+        &rt,
+        rt.alloc(),
+        ParamProblem::UnrecognizedNxtHdr,
+        "unrecognized next header type.",
+    )?;
+    prints(&rt, rt.alloc(), TimeExceeded::Unknown(7), "7")?;
+    prints(
+        &rt,
+        rt.alloc(),
+        DstUnreachable::FailedPolicy,
+        "source address failed ingress/egress policy",
+    )?;
     Ok(())
 }
 
 #[test]
-fn printing_fails_with_its_writer(rt: HostRuntime) {
-    let mut none = FailingWriter { left: 0 };
-    assert!(rt; write!(none, "{}", Message::EchoReply).is_err());
-    assert!(rt; write!(none, "{}", Message::Unknown(5)).is_err());
-    assert!(rt; write!(none, "{}", DstUnreachable::NoRoute).is_err());
-    assert!(rt; write!(none, "{}", ParamProblem::ErroneousHdrField).is_err());
-    assert!(rt; write!(none, "{}", TimeExceeded::HopLimitExceeded).is_err());
-}
-
-#[test]
 fn printing_fails_only_with_its_writer(rt: HostRuntime) {
-    let mut five = FailingWriter { left: 5 };
-    assert!(rt; write!(five, "{}", Message::EchoReply).is_ok());
-    assert!(rt; write!(five, "{}", Message::Unknown(5)).is_ok());
-    assert!(rt; write!(five, "{}", DstUnreachable::NoRoute).is_ok());
-    assert!(rt; write!(five, "{}", ParamProblem::ErroneousHdrField).is_ok());
-    assert!(rt; write!(five, "{}", TimeExceeded::HopLimitExceeded).is_ok());
-    assert!(rt; write!(five, "{}", Message::EchoReply).is_err());
+    takes_writes(&rt, &Message::EchoReply, 1);
+    takes_writes(&rt, &Message::Unknown(5), 1);
+    takes_writes(&rt, &DstUnreachable::NoRoute, 1);
+    takes_writes(&rt, &ParamProblem::ErroneousHdrField, 1);
+    takes_writes(&rt, &TimeExceeded::HopLimitExceeded, 1);
 }

@@ -1,6 +1,7 @@
 use super::{here, there};
 use crate::icmpv6::Packet;
 use crate::ndisc::{NeighborFlags, RouterFlags};
+use crate::testing::same;
 use bitflags::Flags as _;
 use wirebase::Duration;
 
@@ -12,16 +13,16 @@ const ADVERT_FIELDS: [u8; 16] = [
 #[test]
 fn fields_of_a_router_advertisement(rt: HostRuntime) {
     let packet = Packet::new_unchecked(ADVERT_FIELDS.as_slice());
-    assert_eq!(rt; packet.current_hop_limit(), 64);
-    assert_eq!(rt; packet.router_flags(), RouterFlags::MANAGED);
+    same(&rt, packet.current_hop_limit(), 64);
+    same(&rt, packet.router_flags(), RouterFlags::MANAGED);
 }
 
 #[test]
 fn times_of_a_router_advertisement(rt: HostRuntime) {
     let packet = Packet::new_unchecked(ADVERT_FIELDS.as_slice());
-    assert_eq!(rt; packet.router_lifetime(), Duration::from_secs(900));
-    assert_eq!(rt; packet.reachable_time(), Duration::from_millis(900));
-    assert_eq!(rt; packet.retrans_time(), Duration::from_millis(901));
+    same(&rt, packet.router_lifetime(), Duration::from_secs(900));
+    same(&rt, packet.reachable_time(), Duration::from_millis(900));
+    same(&rt, packet.retrans_time(), Duration::from_millis(901));
 }
 
 #[test]
@@ -33,12 +34,13 @@ fn fields_of_a_router_advertisement_are_set(rt: HostRuntime) {
     packet.set_router_lifetime(Duration::from_micros(900_999_999));
     packet.set_reachable_time(Duration::from_micros(900_999));
     packet.set_retrans_time(Duration::from_millis(901));
-    assert_eq!(rt;
+    same(
+        &rt,
         buffer,
         [
             0x2a, 0x2a, 0x2a, 0x2a, 0x40, 0xc0, 0x03, 0x84, 0x00, 0x00, 0x03, 0x84, 0x00, 0x00,
-            0x03, 0x85
-        ]
+            0x03, 0x85,
+        ],
     );
 }
 
@@ -55,13 +57,14 @@ fn fields_of_neighbor_messages(rt: HostRuntime) {
     packet.set_neighbor_flags(NeighborFlags::SOLICITED | NeighborFlags::OVERRIDE);
     packet.set_target_addr(here());
     packet.set_dest_addr(there());
-    assert_eq!(rt;
+    same(
+        &rt,
         packet.neighbor_flags(),
-        NeighborFlags::SOLICITED | NeighborFlags::OVERRIDE
+        NeighborFlags::SOLICITED | NeighborFlags::OVERRIDE,
     );
-    assert_eq!(rt; packet.target_addr(), here());
-    assert_eq!(rt; packet.dest_addr(), there());
-    assert_eq!(rt; bytes, NEIGHBOR_FIELDS);
+    same(&rt, packet.target_addr(), here());
+    same(&rt, packet.dest_addr(), there());
+    same(&rt, bytes, NEIGHBOR_FIELDS);
 }
 
 #[test]
@@ -69,54 +72,62 @@ fn flags_without_a_name_are_not_read(rt: HostRuntime) {
     let mut bytes = NEIGHBOR_FIELDS;
     bytes[4] = 0xff;
     let packet = Packet::new_unchecked(&bytes[..]);
-    assert_eq!(rt; packet.neighbor_flags(), NeighborFlags::all());
+    same(&rt, packet.neighbor_flags(), NeighborFlags::all());
 }
 
 #[test]
 fn sets_of_flags(rt: HostRuntime) {
-    assert_eq!(rt;
+    same(
+        &rt,
         [RouterFlags::all().bits(), NeighborFlags::all().bits()],
-        [0xc0, 0xe0]
+        [0xc0, 0xe0],
     );
-    assert_eq!(rt; RouterFlags::from_bits(0x20), None);
-    assert_eq!(rt;
+    same(&rt, RouterFlags::from_bits(0x20), None);
+    same(
+        &rt,
         NeighborFlags::from_bits_truncate(0x3f),
-        NeighborFlags::OVERRIDE
+        NeighborFlags::OVERRIDE,
     );
 }
 
 #[test]
 fn sets_of_router_flags_are_joined_and_parted(rt: HostRuntime) {
-    assert_eq!(rt; (!RouterFlags::MANAGED), RouterFlags::OTHER);
-    assert_eq!(rt;
+    same(&rt, (!RouterFlags::MANAGED), RouterFlags::OTHER);
+    same(
+        &rt,
         (RouterFlags::all() - RouterFlags::MANAGED),
-        RouterFlags::OTHER
+        RouterFlags::OTHER,
     );
-    assert_eq!(rt;
+    same(
+        &rt,
         (RouterFlags::MANAGED ^ RouterFlags::OTHER),
-        RouterFlags::all()
+        RouterFlags::all(),
     );
-    assert_eq!(rt;
+    same(
+        &rt,
         (RouterFlags::MANAGED & RouterFlags::OTHER),
-        RouterFlags::empty()
+        RouterFlags::empty(),
     );
 }
 
 #[test]
 fn sets_of_neighbor_flags_are_joined_and_parted(rt: HostRuntime) {
-    assert_eq!(rt;
+    same(
+        &rt,
         [
             (!NeighborFlags::ROUTER).bits(),
-            (NeighborFlags::all() ^ NeighborFlags::ROUTER).bits()
+            (NeighborFlags::all() ^ NeighborFlags::ROUTER).bits(),
         ],
-        [0x60, 0x60]
+        [0x60, 0x60],
     );
-    assert_eq!(rt;
+    same(
+        &rt,
         (NeighborFlags::all() & NeighborFlags::ROUTER),
-        NeighborFlags::ROUTER
+        NeighborFlags::ROUTER,
     );
-    assert_eq!(rt;
+    same(
+        &rt,
         (NeighborFlags::all() - NeighborFlags::all()),
-        NeighborFlags::empty()
+        NeighborFlags::empty(),
     );
 }

@@ -1,5 +1,6 @@
 use super::{REDIRECT, THREE_MTUS, here, read, reads, there};
 use crate::ndisc::Repr;
+use crate::testing::{fail, same_of};
 use std::process::Abort;
 
 // The MTU that a router advertisement with these options tells; nothing where it is refused.
@@ -15,7 +16,7 @@ fn mtu_of(bytes: &[u8]) -> Option<Option<u32>> {
 
 // Checks the MTU that these octets tell.
 fn check_mtu(rt: &impl Abort, octets: &[u8], wanted: Option<Option<u32>>) {
-    assert_eq!(rt; mtu_of(octets), wanted, "of {octets:?}");
+    same_of(rt, octets, mtu_of(octets), wanted);
 }
 
 #[test]
@@ -52,7 +53,7 @@ fn check_option(rt: &impl Abort, kind: u8, units: u8, len: usize, wanted: Option
     octets[16] = kind;
     octets[17] = units;
     let Some(part) = octets.get(..len) else {
-        assert!(rt; false, "64 octets are enough");
+        fail(rt, "64 octets are enough");
         return;
     };
     check_mtu(rt, part, wanted);

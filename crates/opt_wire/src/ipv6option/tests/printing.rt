@@ -1,9 +1,8 @@
 //! What options and their parts print.
 
 use crate::ipv6option::{FailureType, Ipv6Option, Repr, Type};
-use std::fmt::Write;
+use crate::testing::{prints, same_of, takes_writes};
 use std::test::Fail;
-use wirebase::failing_writer::FailingWriter;
 
 #[test]
 fn what_types_print(rt: HostRuntime) -> Result<(), Fail> {
@@ -14,7 +13,7 @@ fn what_types_print(rt: HostRuntime) -> Result<(), Fail> {
         (Type::Rpl, "RPL"),
         (Type::Unknown(0xc5), "197"),
     ] {
-        assert_eq!(rt; kind.to_string(rt.alloc())?.as_str(), text);
+        prints(&rt, rt.alloc(), kind, text)?;
     }
     Ok(())
 }
@@ -30,7 +29,7 @@ fn what_failure_types_print(rt: HostRuntime) -> Result<(), Fail> {
             "discard and send error if unicast",
         ),
     ] {
-        assert_eq!(rt; failure.to_string(rt.alloc())?.as_str(), text);
+        prints(&rt, rt.alloc(), failure, text)?;
     }
     Ok(())
 }
@@ -60,9 +59,9 @@ fn what_options_print(rt: HostRuntime) -> Result<(), Fail> {
     ];
     for (octets, text) in rows {
         let view = Ipv6Option::new_unchecked(octets);
-        assert_eq!(rt; view.to_string(rt.alloc())?.as_str(), text, "of {octets:?}");
+        same_of(&rt, octets, view.to_string(rt.alloc())?.as_str(), text);
         if let Ok(repr) = Repr::parse(&view) {
-            assert_eq!(rt; repr.to_string(rt.alloc())?.as_str(), text, "of {octets:?}");
+            same_of(&rt, octets, repr.to_string(rt.alloc())?.as_str(), text);
         }
     }
     Ok(())
@@ -79,18 +78,8 @@ fn printing_fails_only_with_its_writer(rt: HostRuntime) {
         (&[], 3),
     ];
     for (octets, calls) in rows {
-        let view = Ipv6Option::new_unchecked(octets);
-        for left in 0..calls {
-            let mut writer = FailingWriter { left };
-            assert!(rt; write!(writer, "{view}").is_err(), "after {left} writes");
-        }
-        let mut writer = FailingWriter { left: calls };
-        assert!(rt; write!(writer, "{view}").is_ok(), "of {octets:?}");
+        takes_writes(&rt, &Ipv6Option::new_unchecked(octets), calls);
     }
-    let mut writer = FailingWriter { left: 2 };
-    let (kind, failure) = (Type::Unknown(7), FailureType::Skip);
-    assert!(rt; write!(writer, "{kind}").is_ok());
-    assert!(rt; write!(writer, "{failure}").is_ok());
-    assert!(rt; write!(writer, "{kind}").is_err());
-    assert!(rt; write!(writer, "{failure}").is_err());
+    takes_writes(&rt, &Type::Unknown(7), 1);
+    takes_writes(&rt, &FailureType::Skip, 1);
 }

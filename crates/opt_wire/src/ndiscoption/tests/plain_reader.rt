@@ -3,6 +3,7 @@
 
 use crate::ndiscoption::{NdiscOption, PrefixInfoFlags, PrefixInformation, RedirectedHeader, Repr};
 use crate::plain_reader::{DAMAGE, damaged};
+use crate::testing::{holds_of, same_of};
 use bitflags::Flags as _;
 use std::alloc::Global;
 use std::process::Abort;
@@ -126,11 +127,11 @@ pub(super) fn compare_damaged(rt: &impl Abort, alloc: Global, packet: &[u8]) -> 
 // Compares what is taken for an option, and what is read in it.
 fn compare(rt: &impl Abort, octets: &[u8]) {
     let checked = NdiscOption::new_checked(octets).is_ok();
-    assert_eq!(rt; checked, front(octets).is_some(), "of {octets:?}");
+    same_of(rt, octets, checked, front(octets).is_some());
     let plain = option(octets);
     let Ok(read) = Repr::parse(&NdiscOption::new_unchecked(octets)) else {
-        assert!(rt; plain.is_none(), "refused {octets:?}");
+        holds_of(rt, octets, plain.is_none());
         return;
     };
-    assert_eq!(rt; Some(read), plain, "of {octets:?}");
+    same_of(rt, octets, &Some(read), &plain);
 }

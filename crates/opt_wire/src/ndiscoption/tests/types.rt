@@ -1,4 +1,5 @@
 use crate::ndiscoption::{PrefixInfoFlags, Type};
+use crate::testing::{prints, same};
 use bitflags::Flags as _;
 use std::test::Fail;
 
@@ -14,9 +15,9 @@ fn types_and_their_numbers(rt: HostRuntime) -> Result<(), Fail> {
         (14, Type::Unknown(14), "14"),
     ];
     for (number, kind, text) in rows {
-        assert_eq!(rt; Type::from(number), kind);
-        assert_eq!(rt; u8::from(kind), number);
-        assert_eq!(rt; kind.to_string(rt.alloc())?.as_str(), text);
+        same(&rt, Type::from(number), kind);
+        same(&rt, u8::from(kind), number);
+        prints(&rt, rt.alloc(), kind, text)?;
     }
     assert!(rt; Type::SourceLinkLayerAddr < Type::TargetLinkLayerAddr);
     assert!(rt; Type::Mtu < Type::Unknown(0));
@@ -27,12 +28,12 @@ fn types_and_their_numbers(rt: HostRuntime) -> Result<(), Fail> {
 #[test]
 fn sets_of_flags(rt: HostRuntime) {
     let both = PrefixInfoFlags::ON_LINK | PrefixInfoFlags::ADDRCONF;
-    assert_eq!(rt; both.bits(), 0xc0);
-    assert_eq!(rt; PrefixInfoFlags::all(), both);
-    assert_eq!(rt; PrefixInfoFlags::empty().bits(), 0);
-    assert_eq!(rt; PrefixInfoFlags::from_bits(0xc1), None);
-    assert_eq!(rt; PrefixInfoFlags::from_bits_truncate(0xc1), both);
-    assert_eq!(rt; PrefixInfoFlags::from_bits_retain(0xc1).bits(), 0xc1);
+    same(&rt, both.bits(), 0xc0);
+    same(&rt, PrefixInfoFlags::all(), both);
+    same(&rt, PrefixInfoFlags::empty().bits(), 0);
+    same(&rt, PrefixInfoFlags::from_bits(0xc1), None);
+    same(&rt, PrefixInfoFlags::from_bits_truncate(0xc1), both);
+    same(&rt, PrefixInfoFlags::from_bits_retain(0xc1).bits(), 0xc1);
 }
 
 #[test]
@@ -43,8 +44,12 @@ fn flags_are_joined_and_parted(rt: HostRuntime) {
         both - PrefixInfoFlags::ON_LINK,
         both ^ PrefixInfoFlags::ON_LINK,
     ];
-    assert_eq!(rt; others, [PrefixInfoFlags::ADDRCONF; 3]);
-    assert_eq!(rt; both & PrefixInfoFlags::ON_LINK, PrefixInfoFlags::ON_LINK);
+    same(&rt, others, [PrefixInfoFlags::ADDRCONF; 3]);
+    same(
+        &rt,
+        both & PrefixInfoFlags::ON_LINK,
+        PrefixInfoFlags::ON_LINK,
+    );
     assert!(rt; both.contains(PrefixInfoFlags::ON_LINK));
     assert!(rt; !PrefixInfoFlags::ON_LINK.intersects(PrefixInfoFlags::ADDRCONF));
 }
@@ -55,7 +60,7 @@ fn flags_are_put_in_and_taken_out(rt: HostRuntime) {
     let mut flags = PrefixInfoFlags::empty();
     flags.insert(PrefixInfoFlags::ON_LINK);
     flags.toggle(both);
-    assert_eq!(rt; flags, PrefixInfoFlags::ADDRCONF);
+    same(&rt, flags, PrefixInfoFlags::ADDRCONF);
     flags.remove(both);
     assert!(rt; flags.is_empty());
 }

@@ -1,9 +1,8 @@
 use super::{MTU, PREFIX, here};
 use crate::ndiscoption::{NdiscOption, PrefixInfoFlags, Type};
+use crate::testing::{prints, same, takes_writes};
 use bitflags::Flags as _;
-use std::fmt::Write;
 use std::test::Fail;
-use wirebase::failing_writer::FailingWriter;
 use wirebase::{Duration, RawHardwareAddress};
 
 #[test]
@@ -18,27 +17,27 @@ fn fields_of_a_prefix_are_written(rt: HostRuntime) {
     view.set_preferred_lifetime(Duration::from_secs(1_000));
     view.clear_prefix_reserved();
     view.set_prefix(here());
-    assert_eq!(rt; bytes, PREFIX);
+    same(&rt, bytes, PREFIX);
 }
 
 #[test]
 fn fields_of_a_prefix_are_read(rt: HostRuntime) {
     let view = NdiscOption::new_unchecked(PREFIX.as_slice());
-    assert_eq!(rt; view.option_type(), Type::PrefixInformation);
-    assert_eq!(rt; view.data_len(), 4);
-    assert_eq!(rt; view.prefix_len(), 64);
-    assert_eq!(rt; view.prefix_flags(), PrefixInfoFlags::all());
-    assert_eq!(rt; view.valid_lifetime(), Duration::from_secs(900));
-    assert_eq!(rt; view.preferred_lifetime(), Duration::from_secs(1_000));
-    assert_eq!(rt; view.prefix(), here());
+    same(&rt, view.option_type(), Type::PrefixInformation);
+    same(&rt, view.data_len(), 4);
+    same(&rt, view.prefix_len(), 64);
+    same(&rt, view.prefix_flags(), PrefixInfoFlags::all());
+    same(&rt, view.valid_lifetime(), Duration::from_secs(900));
+    same(&rt, view.preferred_lifetime(), Duration::from_secs(1_000));
+    same(&rt, view.prefix(), here());
 }
 
 #[test]
 fn fields_are_read_by_their_places_in_any_option(rt: HostRuntime) {
     let view = NdiscOption::new_unchecked(PREFIX.as_slice());
-    assert_eq!(rt; view.data(), &PREFIX[2..]);
-    assert_eq!(rt; view.mtu(), 900);
-    assert_eq!(rt; view.link_layer_addr().as_bytes(), &PREFIX[2..10]);
+    same(&rt, view.data(), &PREFIX[2..]);
+    same(&rt, view.mtu(), 900);
+    same(&rt, view.link_layer_addr().as_bytes(), &PREFIX[2..10]);
 }
 
 #[test]
@@ -47,9 +46,10 @@ fn an_mtu_is_written(rt: HostRuntime) {
     let mut view = NdiscOption::new_unchecked(&mut bytes[..]);
     view.clear_redirected_reserved();
     view.set_mtu(1_500);
-    assert_eq!(rt;
+    same(
+        &rt,
         view,
-        NdiscOption::new_unchecked(&mut [0xff, 0xff, 0, 0, 0, 0, 0x05, 0xdc][..])
+        NdiscOption::new_unchecked(&mut [0xff, 0xff, 0, 0, 0, 0, 0x05, 0xdc][..]),
     );
 }
 
@@ -59,10 +59,11 @@ fn an_address_is_written(rt: HostRuntime) {
     let mut view = NdiscOption::new_unchecked(&mut bytes[..]);
     view.set_data_len(1);
     view.set_link_layer_addr(RawHardwareAddress::from_bytes(&[1, 2, 3]));
-    assert_eq!(rt; view.into_inner().len(), 8);
-    assert_eq!(rt;
+    same(&rt, view.into_inner().len(), 8);
+    same(
+        &rt,
         bytes.as_slice(),
-        [0xff, 0x01, 1, 2, 3, 0, 0x05, 0xdc].as_slice()
+        [0xff, 0x01, 1, 2, 3, 0, 0x05, 0xdc].as_slice(),
     );
 }
 
@@ -70,7 +71,7 @@ fn an_address_is_written(rt: HostRuntime) {
 fn data_is_lent_for_writing(rt: HostRuntime) {
     let mut octets = MTU;
     let mut view = NdiscOption::new_unchecked(octets.as_mut_slice());
-    assert_eq!(rt; &*view.data_mut(), &MTU[2..]);
+    same(&rt, &*view.data_mut(), &MTU[2..]);
 }
 
 #[test]
@@ -89,21 +90,16 @@ fn views_in_words(rt: HostRuntime) -> Result<(), Fail> {
     ];
     for (bytes, text) in rows {
         let view = NdiscOption::new_unchecked(bytes);
-        assert_eq!(rt; view.to_string(rt.alloc())?.as_str(), text);
+        prints(&rt, rt.alloc(), view, text)?;
     }
     Ok(())
 }
 
 #[test]
 fn printing_fails_only_with_its_writer(rt: HostRuntime) {
-    let rows: [&[u8]; 3] = [&MTU, &PREFIX, &[]];
-    for bytes in rows {
-        let view = NdiscOption::new_unchecked(bytes);
-        let mut none = FailingWriter { left: 0 };
-        assert!(rt; write!(none, "{view}").is_err(), "of {bytes:?}");
-        let mut many = FailingWriter { left: 100 };
-        assert!(rt; write!(many, "{view}").is_ok(), "of {bytes:?}");
+    let rows: [(&[u8], u32); 3] = [(&MTU, 2), (&PREFIX, 6), (&[], 3)];
+    for (bytes, calls) in rows {
+        takes_writes(&rt, &NdiscOption::new_unchecked(bytes), calls);
     }
-    let mut none = FailingWriter { left: 0 };
-    assert!(rt; write!(none, "{}", Type::Mtu).is_err());
+    takes_writes(&rt, &Type::Mtu, 1);
 }

@@ -1,6 +1,7 @@
 use crate::dhcpv4::tests::packet;
 use crate::dhcpv4::{Packet, Repr};
 use crate::plain_reader::compare_damaged;
+use crate::testing::{fail, same_of};
 use std::alloc::Global;
 use std::process::Abort;
 use std::test::Fail;
@@ -50,11 +51,11 @@ fn compare_held(
     octets.push(0xff)?;
     let read = Repr::parse(&Packet::new_unchecked(octets.as_slice()));
     let Ok(read) = read else {
-        assert!(rt; false, "the packet is read");
+        fail(rt, "the packet is read");
         return Ok(());
     };
     let kind = *option.first().unwrap_or(&0);
-    assert_eq!(rt; held(&read, kind), wanted, "{option:?}");
+    same_of(rt, option, held(&read, kind), wanted);
     compare_damaged(rt, alloc, octets.as_slice())
 }
 

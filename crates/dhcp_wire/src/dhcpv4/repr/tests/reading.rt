@@ -1,6 +1,7 @@
 use crate::dhcpv4::tests::packet;
 use crate::dhcpv4::{MessageType, Packet, Repr};
 use crate::plain_reader::compare_damaged;
+use crate::testing::{fail, holds_of, same, same_of};
 use std::process::Abort;
 use std::test::Fail;
 use wirebase::{EthernetAddress, Ipv4Address};
@@ -50,7 +51,7 @@ fn types_of_message_with_the_operation_of_the_packet(rt: HostRuntime) -> Result<
     ];
     for (op, options, wanted) in rows {
         let octets = packet(rt.alloc(), op, options)?;
-        assert_eq!(rt; type_in(octets.as_slice()), wanted, "{op} {options:?}");
+        same_of(&rt, (op, options), type_in(octets.as_slice()), wanted);
         compare_damaged(&rt, rt.alloc(), octets.as_slice())?;
     }
     Ok(())
@@ -70,9 +71,10 @@ fn packets_that_are_not_of_ethernet_or_of_dhcp(rt: HostRuntime) -> Result<(), Fa
         let mut octets = packet(rt.alloc(), 1, &[0x35, 1, 1, 0xff])?;
         assert!(rt; Repr::parse(&Packet::new_unchecked(octets.as_slice())).is_ok());
         set(&mut octets, place, byte);
-        assert!(rt;
+        holds_of(
+            &rt,
+            place,
             Repr::parse(&Packet::new_unchecked(octets.as_slice())).is_err(),
-            "{place}"
         );
     }
     assert!(rt; Repr::parse(&Packet::new_unchecked(&[1; 239][..])).is_err());
@@ -90,10 +92,14 @@ fn the_last_option_of_a_kind_and_of_its_length(rt: HostRuntime) -> Result<(), Fa
     )?;
     let read = Repr::parse(&Packet::new_unchecked(octets.as_slice()));
     let Ok(read) = read else {
-        assert!(rt; false, "the packet is read");
+        fail(&rt, "the packet is read");
         return Ok(());
     };
-    assert_eq!(rt; read.subnet_mask, Some(Ipv4Address::new(255, 255, 0, 0)));
+    same(
+        &rt,
+        read.subnet_mask,
+        Some(Ipv4Address::new(255, 255, 0, 0)),
+    );
     compare_damaged(&rt, rt.alloc(), octets.as_slice())?;
 
     let octets = packet(
@@ -105,11 +111,15 @@ fn the_last_option_of_a_kind_and_of_its_length(rt: HostRuntime) -> Result<(), Fa
     )?;
     let read = Repr::parse(&Packet::new_unchecked(octets.as_slice()));
     let Ok(read) = read else {
-        assert!(rt; false, "the packet is read");
+        fail(&rt, "the packet is read");
         return Ok(());
     };
-    assert_eq!(rt; read.subnet_mask, Some(Ipv4Address::new(255, 255, 255, 0)));
-    assert_eq!(rt; read.server_identifier, None);
+    same(
+        &rt,
+        read.subnet_mask,
+        Some(Ipv4Address::new(255, 255, 255, 0)),
+    );
+    same(&rt, read.server_identifier, None);
     compare_damaged(&rt, rt.alloc(), octets.as_slice())
 }
 
@@ -134,31 +144,32 @@ fn lists_of_servers(rt: HostRuntime) -> Result<(), Fail> {
         octets.push(0xff)?;
         let read = Repr::parse(&Packet::new_unchecked(octets.as_slice()));
         let Ok(read) = read else {
-            assert!(rt; false, "the packet is read");
+            fail(&rt, "the packet is read");
             return Ok(());
         };
         let Some(servers) = read.dns_servers else {
-            assert!(rt; false, "the list is present");
+            fail(&rt, "the list is present");
             return Ok(());
         };
-        assert_eq!(rt; servers.as_slice(), wanted, "{options:?}");
+        same_of(&rt, options, servers.as_slice(), wanted);
         compare_damaged(&rt, rt.alloc(), octets.as_slice())?;
     }
     Ok(())
 }
 
 fn check_offered_fields(rt: &impl Abort, read: &Repr<'_>) {
-    assert_eq!(rt; read.message_type, MessageType::Offer);
-    assert_eq!(rt; read.transaction_id, 0x1200_0000);
-    assert_eq!(rt; read.secs, 5);
+    same(rt, read.message_type, MessageType::Offer);
+    same(rt, read.transaction_id, 0x1200_0000);
+    same(rt, read.secs, 5);
     assert!(rt; read.broadcast);
-    assert_eq!(rt; read.client_ip, Ipv4Address::UNSPECIFIED);
-    assert_eq!(rt; read.your_ip, Ipv4Address::new(0, 0, 0, 7));
-    assert_eq!(rt; read.server_ip, Ipv4Address::UNSPECIFIED);
-    assert_eq!(rt; read.relay_agent_ip, Ipv4Address::UNSPECIFIED);
-    assert_eq!(rt;
+    same(rt, read.client_ip, Ipv4Address::UNSPECIFIED);
+    same(rt, read.your_ip, Ipv4Address::new(0, 0, 0, 7));
+    same(rt, read.server_ip, Ipv4Address::UNSPECIFIED);
+    same(rt, read.relay_agent_ip, Ipv4Address::UNSPECIFIED);
+    same(
+        rt,
         read.client_hardware_address,
-        EthernetAddress([2, 0, 0, 0, 0, 0])
+        EthernetAddress([2, 0, 0, 0, 0, 0]),
     );
 }
 
@@ -175,19 +186,19 @@ fn check_addresses(
         read.subnet_mask,
         read.requested_ip,
     ];
-    assert_eq!(rt; addresses, wanted);
-    assert_eq!(rt; read.client_identifier, Some(client));
+    same(rt, addresses, wanted);
+    same(rt, read.client_identifier, Some(client));
 }
 
 // Compares the greatest size, and the times of the lease, of its renewal and of its rebinding.
 fn check_times(rt: &impl Abort, read: &Repr<'_>, max_size: u16, times: [Option<u32>; 3]) {
-    assert_eq!(rt; read.max_size, Some(max_size));
+    same(rt, read.max_size, Some(max_size));
     let read_times = [
         read.lease_duration,
         read.renew_duration,
         read.rebind_duration,
     ];
-    assert_eq!(rt; read_times, times);
+    same(rt, read_times, times);
 }
 
 fn check_offered_options(rt: &impl Abort, read: &Repr<'_>) {
@@ -199,7 +210,7 @@ fn check_offered_options(rt: &impl Abort, read: &Repr<'_>) {
     ];
     check_addresses(rt, read, addresses, EthernetAddress([2, 3, 4, 5, 6, 7]));
     check_times(rt, read, 1500, [Some(3600), Some(1800), Some(3150)]);
-    assert_eq!(rt; read.parameter_request_list, Some(&[1, 3][..]));
+    same(rt, read.parameter_request_list, Some(&[1, 3][..]));
     assert!(rt; read.dns_servers.is_none());
     assert!(rt; read.additional_options.is_empty());
 }
@@ -222,7 +233,7 @@ fn an_offer_with_all_that_a_client_takes(rt: HostRuntime) -> Result<(), Fail> {
     set(&mut octets, 28, 2);
     let read = Repr::parse(&Packet::new_unchecked(octets.as_slice()));
     let Ok(read) = read else {
-        assert!(rt; false, "the packet is read");
+        fail(&rt, "the packet is read");
         return Ok(());
     };
     check_offered_fields(&rt, &read);
@@ -237,10 +248,14 @@ fn a_mask_behind_a_thousand_bytes_of_padding(rt: HostRuntime) -> Result<(), Fail
     octets.extend_from_slice(&[1, 4, 255, 255, 255, 0])?;
     let read = Repr::parse(&Packet::new_unchecked(octets.as_slice()));
     let Ok(read) = read else {
-        assert!(rt; false, "the packet is read");
+        fail(&rt, "the packet is read");
         return Ok(());
     };
-    assert_eq!(rt; read.subnet_mask, Some(Ipv4Address::new(255, 255, 255, 0)));
+    same(
+        &rt,
+        read.subnet_mask,
+        Some(Ipv4Address::new(255, 255, 255, 0)),
+    );
     Ok(())
 }
 
@@ -253,11 +268,11 @@ fn lists_that_are_present_and_empty(rt: HostRuntime) -> Result<(), Fail> {
     )?;
     let read = Repr::parse(&Packet::new_unchecked(octets.as_slice()));
     let Ok(read) = read else {
-        assert!(rt; false, "the packet is read");
+        fail(&rt, "the packet is read");
         return Ok(());
     };
-    assert_eq!(rt; read.client_identifier, None);
-    assert_eq!(rt; read.parameter_request_list, Some(&[][..]));
+    same(&rt, read.client_identifier, None);
+    same(&rt, read.parameter_request_list, Some(&[][..]));
     assert!(rt; read.dns_servers.is_some_and(|servers| servers.is_empty()));
     compare_damaged(&rt, rt.alloc(), octets.as_slice())
 }
@@ -280,10 +295,10 @@ fn every_option_twice_and_last_of_another_length(rt: HostRuntime) -> Result<(), 
     )?;
     let read = Repr::parse(&Packet::new_unchecked(octets.as_slice()));
     let Ok(read) = read else {
-        assert!(rt; false, "the packet is read");
+        fail(&rt, "the packet is read");
         return Ok(());
     };
-    assert_eq!(rt; read.message_type, MessageType::Ack);
+    same(&rt, read.message_type, MessageType::Ack);
     let addresses = [
         Some(Ipv4Address::new(10, 0, 0, 2)),
         Some(Ipv4Address::new(10, 0, 0, 4)),

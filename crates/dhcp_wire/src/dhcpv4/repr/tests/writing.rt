@@ -1,6 +1,7 @@
 use super::{bare, five_servers, with_options};
 use crate::dhcpv4::{DhcpOption, MessageType, Packet, Repr};
 use crate::plain_reader::options_in;
+use crate::testing::{same, same_of};
 use std::alloc::Global;
 use std::process::Abort;
 use std::test::Fail;
@@ -64,8 +65,8 @@ fn compare_written(
             let wanted = written(alloc, fill, first_fields, options, len)?;
             let mut octets = [fill; 340];
             let answer = repr.emit_into(&mut octets[..len]);
-            assert_eq!(rt; answer.is_ok(), options.len() <= len - 240, "{len}");
-            assert_eq!(rt; &octets[..], wanted.as_slice(), "{len} of {fill}");
+            same_of(rt, len, answer.is_ok(), options.len() <= len - 240);
+            same_of(rt, (len, fill), &octets[..], wanted.as_slice());
         }
     }
     Ok(())
@@ -181,21 +182,21 @@ fn values_over_buffers_of_every_length_and_of_three_contents(rt: HostRuntime) ->
 fn an_ack_with_its_three_times(rt: HostRuntime) -> Result<(), Fail> {
     let repr = ack();
     let mut octets = [0x2a; 262];
-    assert_eq!(rt; repr.emit_into(&mut octets), Ok(()));
-    assert_eq!(rt; octets[240..], ACK_OPTIONS[..]);
+    same(&rt, repr.emit_into(&mut octets), Ok(()));
+    same(&rt, &octets[240..], &ACK_OPTIONS[..]);
     let read = Repr::parse(&Packet::new_unchecked(&octets[..]));
     assert!(rt; read.is_ok_and(|read| read == repr));
 
     let mut octets = [0x2a; 255];
-    assert_eq!(rt; repr.emit_into(&mut octets), Err(Error));
-    assert_eq!(rt; octets[240..], ACK_OPTIONS[..15]);
+    same(&rt, repr.emit_into(&mut octets), Err(Error));
+    same(&rt, &octets[240..], &ACK_OPTIONS[..15]);
     Ok(())
 }
 
 // Writes a value, and reads it back.
 fn compare_read_back(rt: &impl Abort, repr: &Repr<'_>) {
     let mut octets = [0x2a; 600];
-    assert_eq!(rt; repr.emit_into(&mut octets), Ok(()));
+    same(rt, repr.emit_into(&mut octets), Ok(()));
     let read = Repr::parse(&Packet::new_unchecked(&octets[..]));
     assert!(rt; read.is_ok_and(|read| read == *repr));
 }
@@ -213,13 +214,13 @@ fn request_lists_of_255_and_of_256_bytes(rt: HostRuntime) -> Result<(), Fail> {
     let mut repr = bare(MessageType::Discover);
     repr.parameter_request_list = Some(&[42; 255]);
     let mut octets = [0x2a; 501];
-    assert_eq!(rt; repr.emit_into(&mut octets), Ok(()));
-    assert_eq!(rt; octets[243..246], [0x37, 255, 42][..]);
-    assert_eq!(rt; octets[500], 0xff);
+    same(&rt, repr.emit_into(&mut octets), Ok(()));
+    same(&rt, &octets[243..246], &[0x37, 255, 42][..]);
+    same(&rt, octets[500], 0xff);
     repr.parameter_request_list = Some(&[42; 256]);
     let mut octets = [0x2a; 600];
-    assert_eq!(rt; repr.emit_into(&mut octets), Err(Error));
-    assert_eq!(rt; octets[240..246], [0x35, 1, 1, 0x2a, 0x2a, 0x2a][..]);
+    same(&rt, repr.emit_into(&mut octets), Err(Error));
+    same(&rt, &octets[240..246], &[0x35, 1, 1, 0x2a, 0x2a, 0x2a][..]);
     Ok(())
 }
 
@@ -227,8 +228,8 @@ fn request_lists_of_255_and_of_256_bytes(rt: HostRuntime) -> Result<(), Fail> {
 fn an_additional_option_of_256_bytes(rt: HostRuntime) -> Result<(), Fail> {
     let repr = with_options(MessageType::Discover, LONG_OPTION);
     let mut octets = [0x2a; 600];
-    assert_eq!(rt; repr.emit_into(&mut octets), Err(Error));
-    assert_eq!(rt; octets[240..243], [0x35, 1, 1][..]);
+    same(&rt, repr.emit_into(&mut octets), Err(Error));
+    same(&rt, &octets[240..243], &[0x35, 1, 1][..]);
     assert!(rt; octets[243..600].iter().all(|byte| *byte == 0x2a));
     Ok(())
 }
@@ -238,11 +239,11 @@ fn a_value_written_into_a_view(rt: HostRuntime) -> Result<(), Fail> {
     let repr = bare(MessageType::Inform);
     let mut octets = [0xff; 244];
     let mut view = Packet::new_unchecked(&mut octets[..]);
-    assert_eq!(rt; repr.emit(&mut view), Ok(()));
+    same(&rt, repr.emit(&mut view), Ok(()));
     let mut wanted = [0; 244];
     wanted[0..3].copy_from_slice(&[1, 1, 6]);
     wanted[236..244].copy_from_slice(&[0x63, 0x82, 0x53, 0x63, 0x35, 1, 8, 0xff]);
-    assert_eq!(rt; octets, wanted);
+    same(&rt, octets, wanted);
     Repr::same_text(&repr, &bare(MessageType::Inform));
     Ok(())
 }

@@ -1,0 +1,63 @@
+// What the tests compare by, each over one macro of std: the prover goes through the code of a macro anew at each place
+// where it stands, and through a call of these in a sixth of the time. They take the test's runtime, so that they
+// can't stand once in a library: the gate refuses a public function that may end the process.
+
+ghost use Rattle.std.specs.Prelude.{◌≡◌, true};
+
+use std::alloc::Global;
+use std::fmt::{Debug, Display, Write};
+use std::process::Abort;
+use std::test::Fail;
+use wirebase::failing_writer::FailingWriter;
+
+// Ends the test where the two differ.
+pub(crate) fn same<T: PartialEq + Debug + Drop>(rt: &impl Abort, left: T, right: T)
+    ensures { T.eq left right ≡ true }
+{
+    assert_eq!(rt; left, right);
+}
+
+// Ends the test where the two differ, and says what they are of.
+pub(crate) fn same_of<T: PartialEq + Debug + Drop>(
+    rt: &impl Abort,
+    of: impl Debug + Drop,
+    left: T,
+    right: T,
+)
+    ensures { T.eq left right ≡ true }
+{
+    assert_eq!(rt; left, right, "of {of:?}");
+}
+
+// Ends the test where this does not hold, and says what it was to hold of.
+pub(crate) fn holds_of(rt: &impl Abort, of: impl Debug + Drop, is_so: bool)
+    ensures { is_so ≡ true }
+{
+    assert!(rt; is_so, "of {of:?}");
+}
+
+// Ends the test, for want of what should have been.
+pub(crate) fn fail(rt: &impl Abort, wanted: &str) {
+    assert!(rt; false, "{wanted}");
+}
+
+// Ends the test where the value prints another text.
+pub(crate) fn prints(
+    rt: &impl Abort,
+    alloc: Global,
+    value: impl Display + Drop,
+    text: &str,
+) -> Result<(), Fail> {
+    assert_eq!(rt; value.to_string(alloc)?.as_str(), text);
+    Ok(())
+}
+
+// Ends the test unless the value is printed in so many writes, and fails where its writer refuses one of them.
+pub(crate) fn takes_writes(rt: &impl Abort, value: &impl Display, writes: u32) {
+    for left in 0..writes {
+        let mut writer = FailingWriter { left };
+        assert!(rt; write!(writer, "{value}").is_err(), "after {left} writes");
+    }
+    let mut writer = FailingWriter { left: writes };
+    assert!(rt; write!(writer, "{value}").is_ok(), "after {writes} writes");
+}
