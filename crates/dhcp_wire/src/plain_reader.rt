@@ -131,6 +131,15 @@ fn is_data<const N: usize>(held: Option<[u8; N]>, data: Option<&[u8]>) -> bool {
 // What a byte of a packet is set to, one byte at a time.
 const DAMAGE: [u8; 6] = [0x00, 0x40, 0x7f, 0x80, 0xc0, 0xff];
 
+// A copy of the packet whose byte at this place is the value.
+fn damaged(alloc: Global, packet: &[u8], at: usize, value: u8) -> Result<Vec<u8>, Fail> {
+    let mut octets = Vec::from_slice(alloc, packet)?;
+    if let Some(octet) = octets.as_mut_slice().get_mut(at) {
+        *octet = value;
+    }
+    Ok(octets)
+}
+
 // Compares the crate with the plain reader over this packet, over each shorter part of it from its start on, and over
 // each copy of it in which one byte is damaged.
 pub(crate) fn compare_damaged(rt: &impl Abort, alloc: Global, packet: &[u8]) -> Result<(), Fail> {
@@ -139,11 +148,8 @@ pub(crate) fn compare_damaged(rt: &impl Abort, alloc: Global, packet: &[u8]) -> 
     }
     for at in 0..packet.len() {
         for value in DAMAGE {
-            let mut damaged = Vec::from_slice(alloc, packet)?;
-            if let Some(octet) = damaged.as_mut_slice().get_mut(at) {
-                *octet = value;
-            }
-            compare(rt, alloc, damaged.as_slice())?;
+            let octets = damaged(alloc, packet, at, value)?;
+            compare(rt, alloc, octets.as_slice())?;
         }
     }
     Ok(())
@@ -153,19 +159,29 @@ pub(crate) fn compare_damaged(rt: &impl Abort, alloc: Global, packet: &[u8]) -> 
 fn compare(rt: &impl Abort, alloc: Global, octets: &[u8]) -> Result<(), Fail> {
     let behind = octets.get(HEADER_LEN..).unwrap_or(&[]);
     let plain = options_in(alloc, behind)?;
+    compare_view(rt, octets, plain.as_slice());
+    compare_value(rt, octets, plain.as_slice());
+    Ok(())
+}
+
+// Compares the iterator of a view with these options of the plain reader.
+fn compare_view(rt: &impl Abort, octets: &[u8], plain: &[DhcpOption<'_>]) {
     match Packet::new_checked(octets) {
-        Ok(packet) => compare_options(rt, packet.options(), plain.as_slice()),
+        Ok(packet) => compare_options(rt, packet.options(), plain),
         Err(_) => holds_of(rt, octets, octets.len() < HEADER_LEN),
     }
-    let message_type = type_of_packet(octets, plain.as_slice());
+}
+
+// Compares what the parser reads with them.
+fn compare_value(rt: &impl Abort, octets: &[u8], plain: &[DhcpOption<'_>]) {
+    let message_type = type_of_packet(octets, plain);
     match Repr::parse(&Packet::new_unchecked(octets)) {
         Ok(read) => {
             same_of(rt, octets, Some(u8::from(read.message_type)), message_type);
-            compare_fields(rt, &read, plain.as_slice());
+            compare_fields(rt, &read, plain);
         }
         Err(_) => holds_of(rt, octets, message_type.is_none()),
     }
-    Ok(())
 }
 
 // Compares the iterator with the options of the plain reader.
@@ -180,6 +196,13 @@ fn compare_options(rt: &impl Abort, options: OptionsIter<'_>, plain: &[DhcpOptio
 
 // Compares what a value holds of the options with the last ones of the plain reader.
 fn compare_fields(rt: &impl Abort, read: &Repr<'_>, plain: &[DhcpOption<'_>]) {
+    compare_addresses(rt, read, plain);
+    compare_numbers(rt, read, plain);
+    compare_lists(rt, read, plain);
+}
+
+// Compares the addresses, those of Internet and that of Ethernet.
+fn compare_addresses(rt: &impl Abort, read: &Repr<'_>, plain: &[DhcpOption<'_>]) {
     for (address, kind) in [
         (read.subnet_mask, 1),
         (read.router, 3),
@@ -189,6 +212,13 @@ fn compare_fields(rt: &impl Abort, read: &Repr<'_>, plain: &[DhcpOption<'_>]) {
         let octets = address.map(|address| address.octets());
         holds_of(rt, kind, is_data(octets, last_of_len(plain, kind, 4)));
     }
+    let address = read.client_identifier.map(|address| address.0);
+    let identifier = last_of_len(plain, 61, 7).and_then(|data| data.get(1..));
+    holds_of(rt, 61, is_data(address, identifier));
+}
+
+// Compares the times and the greatest size.
+fn compare_numbers(rt: &impl Abort, read: &Repr<'_>, plain: &[DhcpOption<'_>]) {
     for (seconds, kind) in [
         (read.lease_duration, 51),
         (read.renew_duration, 58),
@@ -198,10 +228,11 @@ fn compare_fields(rt: &impl Abort, read: &Repr<'_>, plain: &[DhcpOption<'_>]) {
         holds_of(rt, kind, is_data(octets, last_of_len(plain, kind, 4)));
     }
     let size = read.max_size.map(|size| size.to_be_bytes());
-    assert!(rt; is_data(size, last_of_len(plain, 57, 2)));
-    let address = read.client_identifier.map(|address| address.0);
-    let identifier = last_of_len(plain, 61, 7).and_then(|data| data.get(1..));
-    assert!(rt; is_data(address, identifier));
+    holds_of(rt, 57, is_data(size, last_of_len(plain, 57, 2)));
+}
+
+// Compares the list of kinds, and how many servers there are.
+fn compare_lists(rt: &impl Abort, read: &Repr<'_>, plain: &[DhcpOption<'_>]) {
     same(rt, read.parameter_request_list, last(plain, 55));
     let servers = read.dns_servers.as_ref().map(|servers| servers.len());
     let whole = last(plain, 6).map(|data| (data.len() / 4).min(MAX_DNS_SERVER_COUNT));

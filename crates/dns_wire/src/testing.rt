@@ -30,7 +30,7 @@ pub(crate) fn same_of<T: PartialEq + Debug + Drop>(
 pub(crate) fn holds_of(rt: &impl Abort, of: impl Debug + Drop, is_so: bool)
     ensures { is_so ≡ true }
 {
-    assert!(rt; is_so, "of {of:?}");
+    same_of(rt, of, is_so, true);
 }
 
 // Ends the test, for want of what should have been.

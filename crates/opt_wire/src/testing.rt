@@ -33,7 +33,7 @@ pub(crate) fn same_of<T: PartialEq + Debug + Drop>(
 pub(crate) fn holds_of(rt: &impl Abort, of: impl Debug + Drop, is_so: bool)
     ensures { is_so ≡ true }
 {
-    assert!(rt; is_so, "of {of:?}");
+    same_of(rt, of, is_so, true);
 }
 
 // Ends the test where the value prints another text.
@@ -43,16 +43,14 @@ pub(crate) fn prints(
     value: impl Display + Drop,
     text: &str,
 ) -> Result<(), Fail> {
-    assert_eq!(rt; value.to_string(alloc)?.as_str(), text);
+    same(rt, value.to_string(alloc)?.as_str(), text);
     Ok(())
 }
 
 // Ends the test unless the value is printed in so many writes, and fails where its writer refuses one of them.
 pub(crate) fn takes_writes(rt: &impl Abort, value: &impl Display, writes: u32) {
-    for left in 0..writes {
+    for left in 0..=writes {
         let mut writer = FailingWriter { left };
-        assert!(rt; write!(writer, "{value}").is_err(), "after {left} writes");
+        same_of(rt, left, write!(writer, "{value}").is_ok(), left == writes);
     }
-    let mut writer = FailingWriter { left: writes };
-    assert!(rt; write!(writer, "{value}").is_ok(), "after {writes} writes");
 }

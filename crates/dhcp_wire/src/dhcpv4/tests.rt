@@ -1,10 +1,13 @@
+ghost use Rattle.std.specs.Prelude.{◌≤◌, length};
+ghost use Rattle.dhcp_wire.specs.Dhcpv4Packet.{inner};
+
 use super::{
     CLIENT_PORT, DhcpOption, DhcpOptionWriter, Flags, MessageType, OPT_DHCP_MESSAGE_TYPE, OPT_END,
     OPT_HOST_NAME, OPT_PAD, OPT_REBINDING_TIME_VALUE, OPT_RENEWAL_TIME_VALUE, OpCode, Packet,
     SERVER_PORT,
 };
 use crate::plain_reader::compare_damaged;
-use crate::testing::{fail, same, same_of};
+use crate::testing::{same, same_of};
 use bitflags::Flags as _;
 use std::alloc::Global;
 use std::process::Abort;
@@ -62,10 +65,7 @@ fn options_in_turn(rt: HostRuntime) -> Result<(), Fail> {
 #[test]
 fn after_the_last_option_comes_the_end_for_good(rt: HostRuntime) -> Result<(), Fail> {
     let octets = packet(rt.alloc(), 1, &[12, 0, 0xff, 12, 0])?;
-    let Ok(view) = Packet::new_checked(octets.as_slice()) else {
-        fail(&rt, "240 bytes are enough");
-        return Ok(());
-    };
+    let view = Packet::new_checked(octets.as_slice())?;
     let mut options = view.options();
     assert!(rt; options.next().is_some());
     assert!(rt; options.next().is_none());
@@ -78,28 +78,12 @@ fn a_thousand_bytes_of_padding_before_an_option(rt: HostRuntime) -> Result<(), F
     let mut octets = packet(rt.alloc(), 1, &[0x35, 1, 1])?;
     octets.extend_from_slice(&[0; 1000])?;
     octets.extend_from_slice(&[0x01, 4, 0xff, 0xff, 0xff, 0x00])?;
-    let Ok(view) = Packet::new_checked(octets.as_slice()) else {
-        fail(&rt, "240 bytes are enough");
-        return Ok(());
-    };
-    let mut options = view.options();
+    let options = listed(rt.alloc(), octets.as_slice())?;
     same(
         &rt,
-        options.next(),
-        Some(DhcpOption {
-            kind: 53,
-            data: &[1],
-        }),
+        options.as_slice(),
+        [53, 1, 0xee, 1, 0xff, 0xff, 0xff, 0, 0xee].as_slice(),
     );
-    same(
-        &rt,
-        options.next(),
-        Some(DhcpOption {
-            kind: 1,
-            data: &[0xff, 0xff, 0xff, 0],
-        }),
-    );
-    assert!(rt; options.next().is_none());
     compare_damaged(&rt, rt.alloc(), octets.as_slice())
 }
 
@@ -115,10 +99,7 @@ fn names_before_the_first_zero(rt: HostRuntime) -> Result<(), Fail> {
         let mut octets = [rest; 240];
         octets[34] = first;
         octets[108] = first;
-        let Ok(view) = Packet::new_checked(&octets[..]) else {
-            fail(&rt, "240 bytes are enough");
-            return Ok(());
-        };
+        let view = Packet::new_checked(&octets[..])?;
         same_of(&rt, (first, rest), view.get_sname().ok(), wanted);
         same_of(&rt, (first, rest), view.get_boot_file().ok(), wanted);
     }
@@ -176,11 +157,9 @@ fn a_writer_takes_255_bytes_of_data_and_no_more(rt: HostRuntime) {
     same(&rt, [octets[1], octets[257], octets[258]], [255, 0xff, 0]);
 }
 
-fn check_numbers(rt: &impl Abort, octets: &[u8]) {
-    let Ok(read) = Packet::new_checked(octets) else {
-        fail(rt, "240 bytes are enough");
-        return;
-    };
+fn check_numbers(rt: &impl Abort, read: &Packet<&[u8]>)
+    requires { 240 ≤ length (inner read.now).now }
+{
     same(rt, read.opcode(), OpCode::Reply);
     same(rt, read.hardware_type(), Hardware::Ethernet);
     same(rt, read.hardware_len(), 6);
@@ -190,11 +169,9 @@ fn check_numbers(rt: &impl Abort, octets: &[u8]) {
     same(rt, read.flags(), Flags::BROADCAST);
 }
 
-fn check_addresses(rt: &impl Abort, octets: &[u8]) {
-    let Ok(read) = Packet::new_checked(octets) else {
-        fail(rt, "240 bytes are enough");
-        return;
-    };
+fn check_addresses(rt: &impl Abort, read: &Packet<&[u8]>)
+    requires { 240 ≤ length (inner read.now).now }
+{
     same(rt, read.client_ip(), Ipv4Address::new(10, 0, 0, 1));
     same(rt, read.your_ip(), Ipv4Address::new(10, 0, 0, 2));
     same(rt, read.server_ip(), Ipv4Address::new(10, 0, 0, 3));
@@ -207,11 +184,10 @@ fn check_addresses(rt: &impl Abort, octets: &[u8]) {
     same(rt, read.magic_number(), 0x6382_5363);
 }
 
-#[test]
-fn fields_of_a_packet(rt: HostRuntime) -> Result<(), Fail> {
-    let mut octets = [0x2a; 250];
-    let mut view = Packet::new_unchecked(&mut octets[..]);
-    view.set_sname_and_boot_file_to_zero();
+fn set_numbers(octets: &mut [u8])
+    requires { 240 ≤ length octets.old }
+{
+    let mut view = Packet::new_unchecked(octets);
     view.set_opcode(OpCode::Reply);
     view.set_hardware_type(Hardware::Ethernet);
     view.set_hardware_len(6);
@@ -219,12 +195,23 @@ fn fields_of_a_packet(rt: HostRuntime) -> Result<(), Fail> {
     view.set_transaction_id(0x0102_0304);
     view.set_secs(0x0506);
     view.set_flags(Flags::BROADCAST);
+    view.set_magic_number(0x6382_5363);
+}
+
+fn set_addresses(octets: &mut [u8])
+    requires { 240 ≤ length octets.old }
+{
+    let mut view = Packet::new_unchecked(octets);
+    view.set_sname_and_boot_file_to_zero();
     view.set_client_ip(Ipv4Address::new(10, 0, 0, 1));
     view.set_your_ip(Ipv4Address::new(10, 0, 0, 2));
     view.set_server_ip(Ipv4Address::new(10, 0, 0, 3));
     view.set_relay_agent_ip(Ipv4Address::new(10, 0, 0, 4));
     view.set_client_hardware_address(EthernetAddress([2, 3, 4, 5, 6, 7]));
-    view.set_magic_number(0x6382_5363);
+}
+
+// The octets that they are set in, which were all 0x2a.
+fn octets_of_fields() -> [u8; 250] {
     let head: [u8; 34] = [
         0x02, 0x01, 0x06, 0x03, 0x01, 0x02, 0x03, 0x04, 0x05, 0x06, 0x80, 0x00, 0x0a, 0x00, 0x00,
         0x01, 0x0a, 0x00, 0x00, 0x02, 0x0a, 0x00, 0x00, 0x03, 0x0a, 0x00, 0x00, 0x04, 0x02, 0x03,
@@ -234,11 +221,18 @@ fn fields_of_a_packet(rt: HostRuntime) -> Result<(), Fail> {
     wanted[0..34].copy_from_slice(&head);
     wanted[34..236].fill(0);
     wanted[236..240].copy_from_slice(&[0x63, 0x82, 0x53, 0x63]);
-    same(&rt, octets, wanted);
+    wanted
+}
 
-    check_numbers(&rt, &octets);
-    check_addresses(&rt, &octets);
-    let read = Packet::new_unchecked(&octets[..]);
+#[test]
+fn fields_of_a_packet(rt: HostRuntime) -> Result<(), Fail> {
+    let mut octets = [0x2a; 250];
+    set_numbers(&mut octets);
+    set_addresses(&mut octets);
+    same(&rt, octets, octets_of_fields());
+    let read = Packet::new_checked(&octets[..])?;
+    check_numbers(&rt, &read);
+    check_addresses(&rt, &read);
     assert!(rt; read == read);
     same(&rt, read.into_inner().len(), 250);
     assert!(rt; Packet::new_checked(&[0; 239][..]).is_err());

@@ -1,6 +1,10 @@
+ghost use Rattle.std.specs.Prelude.{◌<◌};
+ghost use Rattle.icmp6_wire.specs.Icmpv6.{CanEmit, value_of};
+
 use super::{Packet, Repr};
 use crate::plain_reader::compare_damaged;
-use crate::testing::{holds_of, same_of};
+use crate::testing::{fail, holds_of, same, same_of};
+use std::process::Abort;
 use std::test::Fail;
 use wirebase::capabilities::Checksum;
 use wirebase::{ChecksumCapabilities, Ipv6Address};
@@ -43,65 +47,75 @@ const TOO_BIG: [u8; 60] = [
     0xbf, 0x00, 0x00, 0x35, 0x00, 0x0c, 0x12, 0x4d, 0xaa, 0x00, 0x00, 0xff,
 ];
 
-#[test]
-fn echo_requests_are_written_and_read(rt: HostRuntime) -> Result<(), Fail> {
-    let caps = all(Checksum::Both);
-    for fill in FILLS {
-        let mut octets = [fill; 12];
-        let mut packet = Packet::new_unchecked(octets.as_mut_slice());
-        Repr::EchoRequest {
-            ident: 0x1234,
-            seq_no: 0xabcd,
-            data: &[0xaa, 0x00, 0x00, 0xff],
-        }
-        .emit(&source(), &destination(), &mut packet, &caps);
-        same_of(&rt, fill, octets.as_slice(), ECHO.as_slice());
+// An error that quotes the same packet behind its type, code, checksum and the word behind them.
+fn behind(front: &[u8; 8]) -> [u8; 60] {
+    let mut octets = TOO_BIG;
+    octets[..8].copy_from_slice(front);
+    octets
+}
+
+// The message in the octets, whose checksum is verified or not.
+fn read(octets: &[u8], checksum: Checksum) -> wirebase::Result<Repr<'_>> {
+    let packet = Packet::new_unchecked(octets);
+    Repr::parse(&source(), &destination(), &packet, &all(checksum))
+}
+
+// Writes a message over these octets and checks that it is those which are wanted.
+fn check_written(rt: &impl Abort, message: &Repr<'_>, octets: &mut [u8], wanted: &[u8])
+    requires { CanEmit (value_of message.now) octets.old }
+{
+    let mut packet = Packet::new_unchecked(&mut *octets);
+    message.emit(&source(), &destination(), &mut packet, &all(Checksum::Both));
+    same(rt, &*octets, wanted);
+}
+
+// Checks that what was read is this message.
+fn check_found(rt: &impl Abort, found: &wirebase::Result<Repr<'_>>, wanted: &Repr<'_>) {
+    match found {
+        Ok(found) => same(rt, found, wanted),
+        Err(_) => fail(rt, "a message"),
     }
-    let octets = ECHO;
-    let packet = Packet::new_unchecked(octets.as_slice());
+}
+
+#[test]
+fn echo_requests_are_written_and_read(rt: HostRuntime) {
+    let request = Repr::EchoRequest {
+        ident: 0x1234,
+        seq_no: 0xabcd,
+        data: &[0xaa, 0x00, 0x00, 0xff],
+    };
+    for fill in FILLS {
+        check_written(&rt, &request, &mut [fill; 12], &ECHO);
+    }
+    check_found(&rt, &read(&ECHO, Checksum::Both), &request);
+}
+
+#[test]
+fn the_checksum_of_an_echo_is_of_its_addresses(rt: HostRuntime) {
+    let packet = Packet::new_unchecked(ECHO.as_slice());
     assert!(rt; packet.verify_checksum(&source(), &destination()));
-    assert!(rt;
-        Repr::parse(&source(), &destination(), &packet, &caps)
-            == Ok(Repr::EchoRequest {
-                ident: 0x1234,
-                seq_no: 0xabcd,
-                data: &[0xaa, 0x00, 0x00, 0xff]
-            })
-    );
+    let caps = all(Checksum::Both);
     holds_of(
         &rt,
         "to another address",
         Repr::parse(&source(), &Ipv6Address::UNSPECIFIED, &packet, &caps).is_err(),
     );
-    Ok(())
 }
 
 #[test]
 fn echo_replies_are_written_and_read(rt: HostRuntime) {
-    let caps = all(Checksum::Both);
-    let mut wanted = ECHO;
-    wanted[0] = 0x81;
-    wanted[2] = 0x18;
+    let wanted = [
+        0x81, 0x00, 0x18, 0xb3, 0x12, 0x34, 0xab, 0xcd, 0xaa, 0x00, 0x00, 0xff,
+    ];
+    let reply = Repr::EchoReply {
+        ident: 0x1234,
+        seq_no: 0xabcd,
+        data: &[0xaa, 0x00, 0x00, 0xff],
+    };
     for fill in FILLS {
-        let mut octets = [fill; 12];
-        let mut packet = Packet::new_unchecked(octets.as_mut_slice());
-        Repr::EchoReply {
-            ident: 0x1234,
-            seq_no: 0xabcd,
-            data: &[0xaa, 0x00, 0x00, 0xff],
-        }
-        .emit(&source(), &destination(), &mut packet, &caps);
-        same_of(&rt, fill, octets.as_slice(), wanted.as_slice());
+        check_written(&rt, &reply, &mut [fill; 12], &wanted);
     }
-    let packet = Packet::new_unchecked(wanted.as_slice());
-    assert!(rt;
-        Repr::parse(&source(), &destination(), &packet, &caps)
-            == Ok(Repr::EchoReply {
-                ident: 0x1234,
-                seq_no: 0xabcd,
-                data: &[0xaa, 0x00, 0x00, 0xff]
-            })
-    );
+    check_found(&rt, &read(&wanted, Checksum::Both), &reply);
 }
 
 #[test]
@@ -129,46 +143,39 @@ fn three_errors_have_any_code_and_the_others_code_0(rt: HostRuntime) -> Result<(
     Ok(())
 }
 
+// Turns this bit of a packet that is too big, and checks that it is read only where no checksum is verified.
+fn check_turned(rt: &impl Abort, at: usize, mask: u8)
+    requires { at < 60 }
+{
+    let mut octets = TOO_BIG;
+    octets[at] ^= mask;
+    let packet = Packet::new_unchecked(octets.as_slice());
+    let found = [
+        packet.verify_checksum(&source(), &destination()),
+        read(&octets, Checksum::Rx).is_ok(),
+        read(&octets, Checksum::Tx).is_ok(),
+    ];
+    same_of(rt, (mask, at), found, [false, false, true]);
+}
+
 #[test]
-fn a_turned_bit_of_the_checksum_is_refused(rt: HostRuntime) -> Result<(), Fail> {
-    for at in [2, 3] {
-        for mask in [0x01, 0x02, 0x04, 0x08, 0x10, 0x20, 0x40, 0x80] {
-            let mut octets = TOO_BIG;
-            octets[at] ^= mask;
-            let packet = Packet::new_unchecked(octets.as_slice());
-            holds_of(
-                &rt,
-                (mask, at),
-                !packet.verify_checksum(&source(), &destination()),
-            );
-            holds_of(
-                &rt,
-                (mask, at),
-                Repr::parse(&source(), &destination(), &packet, &all(Checksum::Rx)).is_err(),
-            );
-            holds_of(
-                &rt,
-                (mask, at),
-                Repr::parse(&source(), &destination(), &packet, &all(Checksum::Tx)).is_ok(),
-            );
-        }
+fn a_turned_bit_of_the_checksum_is_refused(rt: HostRuntime) {
+    for mask in [0x01, 0x02, 0x04, 0x08, 0x10, 0x20, 0x40, 0x80] {
+        check_turned(&rt, 2, mask);
+        check_turned(&rt, 3, mask);
     }
-    Ok(())
 }
 
 #[test]
 fn damaged_echoes_and_errors(rt: HostRuntime) -> Result<(), Fail> {
     compare_damaged(&rt, rt.alloc(), &ECHO)?;
-    // Type, code, checksum and the word behind them of the errors that quote the same packet.
     for front in [
         [0x01, 0x00, 0x16, 0xa5, 0x00, 0x00, 0x00, 0x00],
         [0x02, 0x00, 0x0f, 0xc9, 0x00, 0x00, 0x05, 0xdc],
         [0x03, 0x01, 0x14, 0xa4, 0x00, 0x00, 0x00, 0x00],
         [0x04, 0x01, 0x0f, 0x9c, 0x01, 0x02, 0x03, 0x06],
     ] {
-        let mut octets = TOO_BIG;
-        octets[..8].copy_from_slice(&front);
-        compare_damaged(&rt, rt.alloc(), &octets)?;
+        compare_damaged(&rt, rt.alloc(), &behind(&front))?;
     }
     let mut octets = ECHO;
     octets[0] = 0x81;

@@ -1,13 +1,14 @@
 ghost use Rattle.std.specs.Prelude.{◌≡◌};
+ghost use Rattle.wirebase.specs.Ipv6Address.{IsMulticast};
 
 use super::{AddressRecord, AddressRecordRepr, RecordType, Repr};
-use crate::icmpv6::{self, Packet};
+use crate::icmpv6::Packet;
 use crate::plain_reader::compare_damaged;
 use crate::testing::{fail, holds_of, same, same_of};
 use std::test::Fail;
-use wirebase::{
-    ChecksumCapabilities, IPV6_LINK_LOCAL_ALL_NODES, IPV6_LINK_LOCAL_ALL_ROUTERS, Ipv6Address,
-};
+use wirebase::{IPV6_LINK_LOCAL_ALL_NODES, IPV6_LINK_LOCAL_ALL_ROUTERS, Ipv6Address};
+
+mod inside_icmpv6;
 
 // The octets that stand in a buffer before it is written into.
 const FILLS: [u8; 4] = [0x00, 0xff, 0x2a, 0xa5];
@@ -132,145 +133,46 @@ fn the_flag_and_the_robustness_variable(rt: HostRuntime) -> Result<(), Fail> {
     Ok(())
 }
 
-#[test]
-fn records_are_read_by_their_first_20_bytes(rt: HostRuntime) -> Result<(), Fail> {
-    let octets = [
-        0x04, 0x01, 0x00, 0x02, 0xff, 0x02, 0, 0, 0, 0, 0, 0, 0, 0, 0, 0, 0, 0, 0, 0x02, 0xaa, 0xbb,
-    ];
-    for len in 0..20 {
-        holds_of(
-            &rt,
-            len,
-            AddressRecord::new_checked(&octets[..len]).is_err(),
-        );
-        let record = AddressRecord::new_unchecked(&octets[..len]);
-        holds_of(&rt, len, AddressRecordRepr::parse(&record).is_err());
-    }
-    let record = AddressRecord::new_unchecked(octets.as_slice());
-    let repr = AddressRecordRepr {
+// A record of the group ff02::2 that names a data word and two sources, with two octets behind it.
+const SHORT_RECORD: [u8; 22] = [
+    0x04, 0x01, 0x00, 0x02, 0xff, 0x02, 0, 0, 0, 0, 0, 0, 0, 0, 0, 0, 0, 0, 0, 0x02, 0xaa, 0xbb,
+];
+
+fn short_record() -> AddressRecordRepr<'static>
+    ensures { IsMulticast result.mcast_addr }
+{
+    AddressRecordRepr {
         record_type: RecordType::ChangeToExclude,
         aux_data_len: 1,
         num_srcs: 2,
         mcast_addr: Ipv6Address::new(0xff02, 0, 0, 0, 0, 0, 0, 2),
         payload: &[0xaa, 0xbb],
-    };
-    assert!(rt; AddressRecordRepr::parse(&record) == Ok(repr));
+    }
+}
+
+#[test]
+fn records_are_read_by_their_first_20_bytes(rt: HostRuntime) {
+    for len in 0..20 {
+        let octets = &SHORT_RECORD[..len];
+        holds_of(&rt, len, AddressRecord::new_checked(octets).is_err());
+        let record = AddressRecord::new_unchecked(octets);
+        holds_of(&rt, len, AddressRecordRepr::parse(&record).is_err());
+    }
+    let record = AddressRecord::new_unchecked(SHORT_RECORD.as_slice());
+    assert!(rt; AddressRecordRepr::parse(&record) == Ok(short_record()));
+}
+
+#[test]
+fn records_are_written_in_20_bytes(rt: HostRuntime) {
+    let repr = short_record();
     same(&rt, repr.buffer_len(), 20);
     for fill in FILLS {
         let mut written = [fill; 21];
         let mut record = AddressRecord::new_unchecked(written.as_mut_slice());
         repr.emit(&mut record);
-        same_of(&rt, fill, &written[..20], &octets[..20]);
+        same_of(&rt, fill, &written[..20], &SHORT_RECORD[..20]);
         same_of(&rt, fill, written[20], fill);
     }
-    Ok(())
-}
-
-#[test]
-fn queries_inside_icmpv6_have_a_checksum(rt: HostRuntime) {
-    let caps = ChecksumCapabilities::default();
-    let mut sealed = QUERY;
-    sealed[2] = 0x73;
-    sealed[3] = 0x74;
-    let octets = QUERY;
-    let query = icmpv6::Repr::Mld(Repr::Query {
-        max_resp_code: 0x400,
-        mcast_addr: IPV6_LINK_LOCAL_ALL_NODES,
-        s_flag: true,
-        qrv: 2,
-        qqic: 0x12,
-        num_srcs: 1,
-        data: &octets[28..],
-    });
-    same(&rt, query.buffer_len(), 44);
-    same(&rt, query.packet_len(), 44);
-    for fill in FILLS {
-        let mut written = [fill; 44];
-        query.emit(
-            &IPV6_LINK_LOCAL_ALL_NODES,
-            &IPV6_LINK_LOCAL_ALL_ROUTERS,
-            &mut Packet::new_unchecked(written.as_mut_slice()),
-            &caps,
-        );
-        same_of(&rt, fill, written.as_slice(), sealed.as_slice());
-    }
-    let read = icmpv6::Repr::parse(
-        &IPV6_LINK_LOCAL_ALL_NODES,
-        &IPV6_LINK_LOCAL_ALL_ROUTERS,
-        &Packet::new_unchecked(sealed.as_slice()),
-        &caps,
-    );
-    assert!(rt; read == Ok(query));
-    let read = icmpv6::Repr::parse(
-        &IPV6_LINK_LOCAL_ALL_NODES,
-        &IPV6_LINK_LOCAL_ALL_ROUTERS,
-        &Packet::new_unchecked(octets.as_slice()),
-        &caps,
-    );
-    holds_of(&rt, "no checksum", read.is_err());
-}
-
-#[test]
-fn reports_inside_icmpv6_have_a_checksum(rt: HostRuntime) {
-    let caps = ChecksumCapabilities::default();
-    let octets = SOURCE_REPORT;
-    let report = icmpv6::Repr::Mld(Repr::Report {
-        nr_mcast_addr_rcrds: 1,
-        data: &octets[8..],
-    });
-    same(&rt, report.buffer_len(), 44);
-    same(&rt, report.packet_len(), 44);
-    for fill in FILLS {
-        let mut written = [fill; 44];
-        report.emit(
-            &IPV6_LINK_LOCAL_ALL_NODES,
-            &IPV6_LINK_LOCAL_ALL_ROUTERS,
-            &mut Packet::new_unchecked(written.as_mut_slice()),
-            &caps,
-        );
-        same_of(&rt, fill, written.as_slice(), octets.as_slice());
-    }
-    let read = icmpv6::Repr::parse(
-        &IPV6_LINK_LOCAL_ALL_NODES,
-        &IPV6_LINK_LOCAL_ALL_ROUTERS,
-        &Packet::new_unchecked(octets.as_slice()),
-        &caps,
-    );
-    assert!(rt; read == Ok(report));
-}
-
-#[test]
-fn a_list_of_records_is_read_back_as_a_report(rt: HostRuntime) {
-    let caps = ChecksumCapabilities::ignored();
-    let octets = REPORT;
-    let records = [AddressRecordRepr::new(
-        RecordType::ChangeToExclude,
-        IPV6_LINK_LOCAL_ALL_ROUTERS,
-    )];
-    let by_records = icmpv6::Repr::Mld(Repr::ReportRecordReprs(&records));
-    same(&rt, by_records.buffer_len(), 8);
-    same(&rt, by_records.packet_len(), 28);
-    for fill in FILLS {
-        let mut written = [fill; 28];
-        by_records.emit(
-            &Ipv6Address::UNSPECIFIED,
-            &Ipv6Address::UNSPECIFIED,
-            &mut Packet::new_unchecked(written.as_mut_slice()),
-            &caps,
-        );
-        same_of(&rt, fill, written.as_slice(), octets.as_slice());
-    }
-    let read = icmpv6::Repr::parse(
-        &Ipv6Address::UNSPECIFIED,
-        &Ipv6Address::UNSPECIFIED,
-        &Packet::new_unchecked(octets.as_slice()),
-        &caps,
-    );
-    let report = icmpv6::Repr::Mld(Repr::Report {
-        nr_mcast_addr_rcrds: 1,
-        data: &octets[8..],
-    });
-    assert!(rt; read == Ok(report));
 }
 
 // A report of two records: one with a data word and 515 sources, which are left out, and one of an unknown type.

@@ -5,25 +5,20 @@ use crate::{ipv6hbh, ipv6option};
 use std::test::Fail;
 use wirebase::IpProtocol;
 
+const ROUTER_ALERT: [ipv6option::Repr<'static>; 2] = [
+    ipv6option::Repr::RouterAlert(RouterAlert::MulticastListenerDiscovery),
+    ipv6option::Repr::PadN(0),
+];
+
 #[test]
 fn a_router_alert_behind_a_header(rt: HostRuntime) -> Result<(), Fail> {
     let octets = [0x3a, 0x00, 0x05, 0x02, 0x00, 0x00, 0x01, 0x00];
-    let header = Header::new_checked(octets.as_slice())
-        .ok()
-        .ok_or("refused")?;
-    let repr = Repr::parse(&header).ok().ok_or("refused")?;
+    let repr = Repr::parse(&Header::new_checked(octets.as_slice())?)?;
     same(&rt, repr.next_header, IpProtocol::Icmpv6);
     same(&rt, repr.length, 0);
     same(&rt, repr.data, &octets[2..]);
-    let options = ipv6hbh::Repr::parse(&ipv6hbh::Header::new_unchecked(repr.data))
-        .ok()
-        .ok_or("refused")?;
-    let options = options.options.as_slice();
-    same(&rt, options.len(), 2);
-    assert!(rt;
-        options[0] == ipv6option::Repr::RouterAlert(RouterAlert::MulticastListenerDiscovery)
-    );
-    assert!(rt; options[1] == ipv6option::Repr::PadN(0));
+    let options = ipv6hbh::Repr::parse(&ipv6hbh::Header::new_unchecked(repr.data))?;
+    same(&rt, options.options.as_slice(), ROUTER_ALERT.as_slice());
     Ok(())
 }
 

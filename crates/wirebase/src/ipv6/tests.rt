@@ -7,6 +7,7 @@ use super::{
 use crate::checksum;
 use crate::ip::IpProtocol;
 use crate::testing::{holds_of, prints, same, same_of, takes_writes};
+use std::alloc::Global;
 use std::test::Fail;
 
 // The address fe80::1, and one whose groups all differ.
@@ -56,34 +57,59 @@ const RUNS: [&str; 7] = [
     ":0:0:",
 ];
 
+// The groups of a pattern: 1 for each bit that is set, from the lowest on.
+fn groups_of(pattern: u16) -> [u16; 8] {
+    let mut groups = [0; 8];
+    let mut rest = pattern;
+    for group in groups.iter_mut() {
+        *group = rest % 2;
+        rest /= 2;
+    }
+    groups
+}
+
+// All groups of 0 and 1, with a colon before each and one after the last.
+fn whole_text(alloc: Global, groups: &[u16]) -> Result<String, Fail> {
+    let mut text = String::new(alloc);
+    for group in groups {
+        text.push_str(if *group == 0 { ":0" } else { ":1" })?;
+    }
+    text.push_str(":")?;
+    Ok(text)
+}
+
+// What stands before and after the first of the longest runs.
+fn parted_by_a_run(text: &str) -> Option<(&str, &str)> {
+    for run in RUNS {
+        if let Some(parts) = text.split_once(run) {
+            return Some(parts);
+        }
+    }
+    None
+}
+
+// The text with such a run left out.
+fn shortened(alloc: Global, whole: &str) -> Result<String, Fail> {
+    let mut text = String::new(alloc);
+    let Some((before, after)) = parted_by_a_run(whole) else {
+        text.push_str(whole.trim_matches(':'))?;
+        return Ok(text);
+    };
+    text.push_str(before.strip_prefix(":").unwrap_or(before))?;
+    text.push_str("::")?;
+    text.push_str(after.strip_suffix(":").unwrap_or(after))?;
+    Ok(text)
+}
+
 #[test]
 fn addresses_of_every_pattern_of_zero_groups(rt: HostRuntime) -> Result<(), Fail> {
     for pattern in 0..256 {
-        let mut groups: [u16; 8] = [0; 8];
-        let mut whole = String::new(rt.alloc());
-        let mut rest: u16 = pattern;
-        for group in groups.iter_mut() {
-            *group = rest % 2;
-            rest /= 2;
-            whole.push_str(if *group == 0 { ":0" } else { ":1" })?;
-        }
-        whole.push_str(":")?;
-        let mut expected = String::new(rt.alloc());
-        for run in RUNS {
-            if let Some((before, after)) = whole.as_str().split_once(run) {
-                if expected.is_empty() {
-                    expected.push_str(before.strip_prefix(":").unwrap_or(before))?;
-                    expected.push_str("::")?;
-                    expected.push_str(after.strip_suffix(":").unwrap_or(after))?;
-                }
-            }
-        }
-        if expected.is_empty() {
-            expected.push_str(whole.as_str().trim_matches(':'))?;
-        }
+        let groups = groups_of(pattern);
+        let whole = whole_text(rt.alloc(), &groups)?;
+        let text = shortened(rt.alloc(), whole.as_str())?;
         let [a, b, c, d, e, f, g, h] = groups;
         let address = Ipv6Address::new(a, b, c, d, e, f, g, h);
-        prints(&rt, rt.alloc(), address, expected.as_str())?;
+        prints(&rt, rt.alloc(), address, text.as_str())?;
     }
     Ok(())
 }

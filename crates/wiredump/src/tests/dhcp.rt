@@ -64,8 +64,9 @@ fn said_of<'a>(said: &'a str, name: &str) -> Option<&'a str> {
 fn listing(alloc: Global, said: &str) -> Result<String, Fail> {
     let mut text = String::new(alloc);
     for (name, default) in FIELDS {
-        let value = said_of(said, name).unwrap_or(default);
-        text.push_str(format!(in alloc; "{name}{value}\n")?.as_str())?;
+        text.push_str(name)?;
+        text.push_str(said_of(said, name).unwrap_or(default))?;
+        text.push_str("\n")?;
     }
     Ok(text)
 }

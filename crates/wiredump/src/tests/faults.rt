@@ -7,6 +7,7 @@ use crate::{Fault, run, status};
 use std::alloc::Global;
 use std::io;
 use std::io::{BufReader, ErrorKind, Read, Write};
+use std::process::Abort;
 use std::test::Fail;
 
 // A line of each word, and a bad one.
@@ -82,6 +83,24 @@ impl Read for Source<'_> {
     }
 }
 
+// Compares what was printed of a source that fails, or does not, with what is printed of one that never does.
+fn check_read(
+    rt: &impl Abort,
+    fails_at: usize,
+    answer: Result<bool, Fault>,
+    fails: bool,
+    output: &[u8],
+    undisturbed: &[u8],
+) {
+    if fails {
+        same_of(rt, fails_at, answer, Err(Fault::Read));
+        holds_of(rt, fails_at, undisturbed.starts_with(output));
+    } else {
+        same_of(rt, fails_at, answer, Ok(false));
+        same_of(rt, fails_at, output, undisturbed);
+    }
+}
+
 #[test]
 fn reads_that_fail(rt: HostRuntime) -> Result<(), Fail> {
     let input = whole_input(rt.alloc())?;
@@ -105,13 +124,9 @@ fn reads_that_fail(rt: HostRuntime) -> Result<(), Fail> {
             };
             let mut output = Vec::new(rt.alloc());
             let answer = run(rt.alloc(), source, &mut output);
-            if fails && fails_at < calls {
-                same_of(&rt, fails_at, answer, Err(Fault::Read));
-                holds_of(&rt, fails_at, undisturbed.starts_with(output.as_slice()));
-            } else {
-                same_of(&rt, fails_at, answer, Ok(false));
-                same_of(&rt, fails_at, output.as_slice(), undisturbed.as_slice());
-            }
+            let fails = fails && fails_at < calls;
+            let (output, undisturbed) = (output.as_slice(), undisturbed.as_slice());
+            check_read(&rt, fails_at, answer, fails, output, undisturbed);
         }
     }
     Ok(())
@@ -151,15 +166,39 @@ impl Write for Sink<'_> {
     }
 }
 
-#[test]
-fn writes_that_fail(rt: HostRuntime) -> Result<(), Fail> {
-    // A line of each word, and then lines of 255 octets that print about 540 each.
-    let mut input = whole_input(rt.alloc())?;
+// A line of each word, and then lines of 255 octets that print about 540 each.
+fn long_input(alloc: Global) -> Result<Vec<u8>, Fail> {
+    let mut input = whole_input(alloc)?;
     for _ in 0..60 {
         input.extend_from_slice(b"hbh 11ff")?;
         input.extend_from_slice(&[b'a'; 510])?;
         input.extend_from_slice(b"\nfoo\n")?;
     }
+    Ok(input)
+}
+
+// Compares what was printed to a sink with what is printed to one that never fails; true where no write failed.
+fn check_written(
+    rt: &impl Abort,
+    fails_at: usize,
+    answer: Result<bool, Fault>,
+    known: Result<bool, Fault>,
+    fault: Fault,
+    output: &[u8],
+    undisturbed: &[u8],
+) -> bool {
+    holds_of(rt, fails_at, undisturbed.starts_with(output));
+    if answer == known {
+        same_of(rt, fails_at, output, undisturbed);
+        return true;
+    }
+    same_of(rt, fails_at, answer, Err(fault));
+    false
+}
+
+#[test]
+fn writes_that_fail(rt: HostRuntime) -> Result<(), Fail> {
+    let input = long_input(rt.alloc())?;
     let mut undisturbed = Vec::new(rt.alloc());
     same(
         &rt,
@@ -182,27 +221,29 @@ fn writes_that_fail(rt: HostRuntime) -> Result<(), Fail> {
                 kind,
             };
             let answer = run(rt.alloc(), input.as_slice(), sink);
-            holds_of(&rt, fails_at, undisturbed.starts_with(output.as_slice()));
-            if answer.is_ok() {
-                same_of(&rt, fails_at, output.as_slice(), undisturbed.as_slice());
-                succeeded = true;
-            } else {
-                same_of(&rt, fails_at, answer, Err(fault));
-                holds_of(&rt, fails_at, !succeeded);
-            }
+            let (output, undisturbed) = (output.as_slice(), undisturbed.as_slice());
+            let known = Ok(false);
+            let printed = check_written(&rt, fails_at, answer, known, fault, output, undisturbed);
+            holds_of(&rt, fails_at, printed || !succeeded);
+            succeeded = printed;
         }
         holds_of(&rt, "16 calls were too few", succeeded);
     }
     Ok(())
 }
 
+fn only_line(rt: &impl Abort, alloc: Global, octets: &[u8]) -> Result<Line, Fail> {
+    let mut input = BufReader::new(alloc, octets)?;
+    let mut line = Line::new(alloc);
+    same(rt, read_line(&mut input, &mut line), Ok(true));
+    Ok(line)
+}
+
 // Each write of what a line prints fails in turn, with no buffer between.
 #[test]
 fn writes_of_each_word_that_fail(rt: HostRuntime) -> Result<(), Fail> {
     for octets in lines_of_each_word() {
-        let mut input = BufReader::new(rt.alloc(), octets)?;
-        let mut line = Line::new(rt.alloc());
-        same(&rt, read_line(&mut input, &mut line), Ok(true));
+        let line = only_line(&rt, rt.alloc(), octets)?;
         let mut undisturbed = Vec::new(rt.alloc());
         let known = show_line(rt.alloc(), &mut undisturbed, &line);
         holds_of(&rt, octets, known.is_ok());
@@ -217,12 +258,11 @@ fn writes_of_each_word_that_fail(rt: HostRuntime) -> Result<(), Fail> {
                 kind: ErrorKind::BrokenPipe,
             };
             let answer = show_line(rt.alloc(), &mut sink, &line);
-            holds_of(&rt, fails_at, undisturbed.starts_with(output.as_slice()));
-            if answer == known {
-                same(&rt, output.as_slice(), undisturbed.as_slice());
+            let fault = Fault::Write;
+            let (output, undisturbed) = (output.as_slice(), undisturbed.as_slice());
+            if check_written(&rt, fails_at, answer, known, fault, output, undisturbed) {
                 break;
             }
-            same_of(&rt, fails_at, answer, Err(Fault::Write));
             faults = fails_at;
         }
         holds_of(&rt, octets, faults > 0 && faults < 499);

@@ -1,6 +1,8 @@
 //! Messages of ICMPv4 and of IGMP.
 
 use super::{check, check_changed, check_line};
+use std::alloc::Global;
+use std::process::Abort;
 use std::test::Fail;
 
 #[test]
@@ -39,6 +41,17 @@ const QUOTE: &str = "4500001c00004000401126cf0a0000010a0000020035003500080000";
 const QUOTED: &str = "header.src_addr=10.0.0.1\nheader.dst_addr=10.0.0.2\nheader.next_header=17\n\
     header.payload_len=8\nheader.hop_limit=64\ndata=0035003500080000\n";
 
+fn check_error(rt: &impl Abort, alloc: Global, header: &str, want: &str) -> Result<(), Fail> {
+    let line = format!(in alloc; "icmp4 {header}{QUOTE}")?;
+    let want = format!(in alloc; "{want}{QUOTED}")?;
+    check_line(rt, alloc, line.as_str(), want.as_str())
+}
+
+fn check_refused(rt: &impl Abort, alloc: Global, header: &str) -> Result<(), Fail> {
+    let line = format!(in alloc; "icmp4 {header}{QUOTE}")?;
+    check_line(rt, alloc, line.as_str(), "refused\n")
+}
+
 #[test]
 fn errors_of_icmpv4(rt: HostRuntime) -> Result<(), Fail> {
     for (header, want) in [
@@ -46,9 +59,7 @@ fn errors_of_icmpv4(rt: HostRuntime) -> Result<(), Fail> {
         ("0b00f48d00000000", "TimeExceeded\nreason=0\n"),
         ("0b01f48c00000000", "TimeExceeded\nreason=1\n"),
     ] {
-        let line = format!(in rt.alloc(); "icmp4 {header}{QUOTE}")?;
-        let want = format!(in rt.alloc(); "{want}{QUOTED}")?;
-        check_line(&rt, rt.alloc(), line.as_str(), want.as_str())?;
+        check_error(&rt, rt.alloc(), header, want)?;
     }
     // Types that are not read.
     for header in [
@@ -59,8 +70,7 @@ fn errors_of_icmpv4(rt: HostRuntime) -> Result<(), Fail> {
         "0d00f28d00000000",
         "0e00f18d00000000",
     ] {
-        let line = format!(in rt.alloc(); "icmp4 {header}{QUOTE}")?;
-        check_line(&rt, rt.alloc(), line.as_str(), "refused\n")?;
+        check_refused(&rt, rt.alloc(), header)?;
     }
     Ok(())
 }

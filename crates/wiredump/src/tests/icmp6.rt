@@ -1,6 +1,8 @@
 //! Messages of ICMPv6 and of multicast listener discovery.
 
 use super::{check, check_changed, check_line};
+use std::alloc::Global;
+use std::process::Abort;
 use std::test::Fail;
 
 /// A message from one address of the link to another.
@@ -61,6 +63,12 @@ const QUOTED: &str = "header.src_addr=fe800000000000000000000000000001\n\
     header.dst_addr=fe800000000000000000000000000002\nheader.next_header=17\n\
     header.payload_len=12\nheader.hop_limit=64\ndata=bf000035000c124daa0000ff\n";
 
+fn check_error(rt: &impl Abort, alloc: Global, header: &str, want: &str) -> Result<(), Fail> {
+    let line = format!(in alloc; "{BETWEEN} {header}{QUOTE}")?;
+    let want = format!(in alloc; "{want}{QUOTED}")?;
+    check_line(rt, alloc, line.as_str(), want.as_str())
+}
+
 #[test]
 fn errors_of_icmpv6(rt: HostRuntime) -> Result<(), Fail> {
     for (header, want) in [
@@ -76,9 +84,7 @@ fn errors_of_icmpv6(rt: HostRuntime) -> Result<(), Fail> {
         ("0402137b00000028", "ParamProblem\nreason=2\npointer=40\n"),
         ("0403137a00000028", "ParamProblem\nreason=3\npointer=40\n"),
     ] {
-        let line = format!(in rt.alloc(); "{BETWEEN} {header}{QUOTE}")?;
-        let want = format!(in rt.alloc(); "{want}{QUOTED}")?;
-        check_line(&rt, rt.alloc(), line.as_str(), want.as_str())?;
+        check_error(&rt, rt.alloc(), header, want)?;
     }
     // A packet too big with a code.
     let line = format!(in rt.alloc(); "{BETWEEN} 02010fc8000005dc{QUOTE}")?;

@@ -2,11 +2,24 @@
 
 use crate::testing::{same, same_of};
 use crate::{read_word, run, status};
+use std::alloc::Global;
+use std::process::Abort;
 use std::test::Fail;
+
+// Each input prints this and ends with this status.
+fn check_lines(rt: &impl Abort, alloc: Global, rows: &[(&str, &str, u8)]) -> Result<(), Fail> {
+    for (input, want, code) in rows {
+        let mut output = Vec::new(alloc);
+        let answer = run(alloc, input.as_bytes(), &mut output);
+        same_of(rt, input, status(&answer), *code);
+        same_of(rt, input, output.as_slice(), want.as_bytes());
+    }
+    Ok(())
+}
 
 #[test]
 fn lines_of_every_shape(rt: HostRuntime) -> Result<(), Fail> {
-    for (input, want, code) in [
+    let rows = [
         // Without a word.
         ("", "", 0),
         ("\n\n", "", 0),
@@ -21,6 +34,16 @@ fn lines_of_every_shape(rt: HostRuntime) -> Result<(), Fail> {
         ("hbh 0100\r \n", "bad line\n", 2),
         ("hbh\t0100\n\thbh 00\n", "bad line\nbad line\n", 2),
         ("hbh 01\0\nhbh\x0b00\n", "bad line\nbad line\n", 2),
+        // A bad line among others, and a refused one.
+        ("hbh 00\nhbh\nhbh 00\n", "Pad1\nbad line\nPad1\n", 2),
+        ("hbh 00\nhbh -\nhbh 00\n", "Pad1\nrefused\nPad1\n", 0),
+    ];
+    check_lines(&rt, rt.alloc(), &rows)
+}
+
+#[test]
+fn lines_with_a_wrong_word(rt: HostRuntime) -> Result<(), Fail> {
+    let rows = [
         // Words that are no packet.
         ("hbh 5\nhbh 010\n", "bad line\nbad line\n", 2),
         ("hbh 0g\nhbh 0x00\n", "bad line\nbad line\n", 2),
@@ -30,6 +53,13 @@ fn lines_of_every_shape(rt: HostRuntime) -> Result<(), Fail> {
         ("HBH 00\nhbhh 00\n00\n", "bad line\nbad line\nbad line\n", 2),
         ("hbh - -\nhbh 00 00\n", "bad line\nbad line\n", 2),
         ("hbh 0 0 0 00\n1 2 3 4 5 6\n", "bad line\nbad line\n", 2),
+    ];
+    check_lines(&rt, rt.alloc(), &rows)
+}
+
+#[test]
+fn lines_with_a_wrong_offset_or_address(rt: HostRuntime) -> Result<(), Fail> {
+    let rows = [
         // Offsets and addresses that are none, and an offset past its message.
         ("name 00\nname 0 0 00\n", "bad line\nbad line\n", 2),
         (
@@ -67,16 +97,8 @@ fn lines_of_every_shape(rt: HostRuntime) -> Result<(), Fail> {
             "bad line\n",
             2,
         ),
-        // A bad line among others, and a refused one.
-        ("hbh 00\nhbh\nhbh 00\n", "Pad1\nbad line\nPad1\n", 2),
-        ("hbh 00\nhbh -\nhbh 00\n", "Pad1\nrefused\nPad1\n", 0),
-    ] {
-        let mut output = Vec::new(rt.alloc());
-        let answer = run(rt.alloc(), input.as_bytes(), &mut output);
-        same_of(&rt, input, status(&answer), code);
-        same_of(&rt, input, output.as_slice(), want.as_bytes());
-    }
-    Ok(())
+    ];
+    check_lines(&rt, rt.alloc(), &rows)
 }
 
 #[test]
@@ -94,6 +116,26 @@ fn lines_that_are_no_text(rt: HostRuntime) -> Result<(), Fail> {
     Ok(())
 }
 
+// A word of so many digits is so many octets, or none, and a line of it prints this.
+fn check_digits(
+    rt: &impl Abort,
+    alloc: Global,
+    digits: usize,
+    length: Option<usize>,
+    want: &str,
+) -> Result<(), Fail> {
+    let mut line = Vec::from_slice(alloc, b"hbh ")?;
+    let text = vec![in alloc; b'0'; digits]?;
+    line.extend_from_slice(text.as_slice())?;
+    let word = read_word(alloc, text.as_slice())?;
+    same_of(rt, digits, word.as_ref().map(|word| word.len()), length);
+    let mut output = Vec::new(alloc);
+    let answer = run(alloc, line.as_slice(), &mut output);
+    same_of(rt, digits, answer, Ok(length.is_some()));
+    same_of(rt, digits, output.as_slice(), want.as_bytes());
+    Ok(())
+}
+
 #[test]
 fn words_of_the_most_digits(rt: HostRuntime) -> Result<(), Fail> {
     for (digits, length, want) in [
@@ -105,22 +147,41 @@ fn words_of_the_most_digits(rt: HostRuntime) -> Result<(), Fail> {
         (131_071, None, "bad line\n"),
         (131_072, None, "bad line\n"),
     ] {
-        let mut line = Vec::from_slice(rt.alloc(), b"hbh ")?;
-        let text = vec![in rt.alloc(); b'0'; digits]?;
-        line.extend_from_slice(text.as_slice())?;
-        let word = read_word(rt.alloc(), text.as_slice())?;
-        same_of(&rt, digits, word.as_ref().map(|word| word.len()), length);
-        let mut output = Vec::new(rt.alloc());
-        let answer = run(rt.alloc(), line.as_slice(), &mut output);
-        same_of(&rt, digits, answer, Ok(length.is_some()));
-        same_of(&rt, digits, output.as_slice(), want.as_bytes());
+        check_digits(&rt, rt.alloc(), digits, length, want)?;
     }
+    Ok(())
+}
+
+// A line that is made of texts, each so often, with another behind it.
+fn repeated(alloc: Global, texts: [(&str, usize); 3]) -> Result<Vec<u8>, Fail> {
+    let mut input = Vec::new(alloc);
+    for (text, count) in texts {
+        for _ in 0..count {
+            input.extend_from_slice(text.as_bytes())?;
+        }
+    }
+    input.extend_from_slice(b"\nhbh 00")?;
+    Ok(input)
+}
+
+fn check_repeated(
+    rt: &impl Abort,
+    alloc: Global,
+    texts: [(&str, usize); 3],
+    known: bool,
+    want: &str,
+) -> Result<(), Fail> {
+    let input = repeated(alloc, texts)?;
+    let mut output = Vec::new(alloc);
+    let answer = run(alloc, input.as_slice(), &mut output);
+    let want = format!(in alloc; "{want}Pad1\n")?;
+    same_of(rt, texts, answer, Ok(known));
+    same_of(rt, texts, output.as_slice(), want.as_bytes());
     Ok(())
 }
 
 #[test]
 fn lines_at_their_limits(rt: HostRuntime) -> Result<(), Fail> {
-    // Each line is made of texts, each so often, and another follows it.
     for (texts, known, want) in [
         (
             [("hbh ", 1), ("0", 131_070), ("\r", 1)],
@@ -174,28 +235,23 @@ fn lines_at_their_limits(rt: HostRuntime) -> Result<(), Fail> {
         ([("hbh 0100", 1), (" ", 1), ("\r", 1)], true, "PadN=0\n"),
         ([("hbh", 1), (" 0100", 4), (" \r", 1)], false, "bad line\n"),
     ] {
-        let mut input = Vec::new(rt.alloc());
-        for (text, count) in texts {
-            for _ in 0..count {
-                input.extend_from_slice(text.as_bytes())?;
-            }
-        }
-        input.extend_from_slice(b"\nhbh 00")?;
-        let mut output = Vec::new(rt.alloc());
-        let answer = run(rt.alloc(), input.as_slice(), &mut output);
-        let want = format!(in rt.alloc(); "{want}Pad1\n")?;
-        same_of(&rt, texts, answer, Ok(known));
-        same_of(&rt, texts, output.as_slice(), want.as_bytes());
+        check_repeated(&rt, rt.alloc(), texts, known, want)?;
     }
     Ok(())
 }
 
+// The digits of all octets but the last.
+fn digits_of_octets(alloc: Global) -> Result<String, Fail> {
+    let mut digits = String::new(alloc);
+    for octet in 0..255u8 {
+        digits.push_str(format!(in alloc; "{octet:02x}")?.as_str())?;
+    }
+    Ok(digits)
+}
+
 #[test]
 fn octets_of_every_value(rt: HostRuntime) -> Result<(), Fail> {
-    let mut digits = String::new(rt.alloc());
-    for octet in 0..255u8 {
-        digits.push_str(format!(in rt.alloc(); "{octet:02x}")?.as_str())?;
-    }
+    let digits = digits_of_octets(rt.alloc())?;
     let line = format!(in rt.alloc(); "hbh 11ff{digits}")?;
     let want = format!(in rt.alloc(); "Unknown\ntype_=17\nlength=255\ndata={digits}\n")?;
     let mut output = Vec::new(rt.alloc());

@@ -19,6 +19,16 @@ const BAD: &[u8] = b"bad line\n";
 
 /// What a line without its end prints, and whether its shape is known.
 pub fn printed(alloc: Global, line: &[u8]) -> Result<(Vec<u8>, bool), Fail> {
+    let mut text = Vec::new(alloc);
+    match show_line(alloc, &mut text, line)? {
+        Some(true) => Ok((text, true)),
+        Some(false) => Ok((Vec::from_slice(alloc, REFUSED)?, true)),
+        None => Ok((Vec::from_slice(alloc, BAD)?, false)),
+    }
+}
+
+// What the words of a line print: whether the packet is read, or None where the line is bad.
+fn show_line(alloc: Global, text: &mut Vec<u8>, line: &[u8]) -> Result<Option<bool>, Fail> {
     let mut words: [&[u8]; 4] = [b""; 4];
     let mut count = 0;
     for word in line.split(|octet| *octet == b' ') {
@@ -26,23 +36,17 @@ pub fn printed(alloc: Global, line: &[u8]) -> Result<(Vec<u8>, bool), Fail> {
             continue;
         }
         if count >= 4 {
-            return Ok((Vec::from_slice(alloc, BAD)?, false));
+            return Ok(None);
         }
         words[count] = word;
         count += 1;
     }
-    let mut text = Vec::new(alloc);
-    let answer = match count {
-        0 => Some(true),
-        2 => show_alone(alloc, &mut text, words[0], words[1])?,
-        3 => show_name(alloc, &mut text, words[0], words[1], words[2])?,
-        4 => show_icmp6(alloc, &mut text, &words)?,
-        _ => None,
-    };
-    match answer {
-        Some(true) => Ok((text, true)),
-        Some(false) => Ok((Vec::from_slice(alloc, REFUSED)?, true)),
-        None => Ok((Vec::from_slice(alloc, BAD)?, false)),
+    match count {
+        0 => Ok(Some(true)),
+        2 => show_alone(alloc, text, words[0], words[1]),
+        3 => show_name(alloc, text, words[0], words[1], words[2]),
+        4 => show_icmp6(alloc, text, &words),
+        _ => Ok(None),
     }
 }
 
@@ -58,23 +62,23 @@ fn show_alone(
     };
     let packet = packet.as_slice();
     let read = if word == b"hbh".as_slice() {
-        options::show_header(text, packet)?
+        options::show_header(text, packet)
     } else if word == b"icmp4".as_slice() {
-        icmp4::show_icmp4(text, packet)?
+        icmp4::show_icmp4(text, packet)
     } else if word == b"igmp".as_slice() {
-        icmp4::show_igmp(text, packet)?
+        icmp4::show_igmp(text, packet)
     } else if word == b"mld".as_slice() {
-        icmp6::show_mld(text, packet)?
+        icmp6::show_mld(text, packet)
     } else if word == b"ndopt".as_slice() {
-        options::show_neighbor_option(text, packet)?
+        options::show_neighbor_option(text, packet)
     } else if word == b"dhcp".as_slice() {
-        dhcp::show(text, packet)?
+        dhcp::show(text, packet)
     } else if word == b"question".as_slice() {
-        dns::show_question(text, packet)?
+        dns::show_question(text, packet)
     } else {
         return Ok(None);
     };
-    Ok(Some(read))
+    Ok(Some(read?))
 }
 
 // The same of a word, an offset and digits.
@@ -100,17 +104,32 @@ fn show_name(
 
 // The same of a word, two addresses and digits.
 fn show_icmp6(alloc: Global, text: &mut Vec<u8>, words: &[&[u8]; 4]) -> Result<Option<bool>, Fail> {
-    let (Some(source), Some(destination), Some(packet)) = (
-        spelled(alloc, words[1])?,
-        spelled(alloc, words[2])?,
-        spelled(alloc, words[3])?,
-    ) else {
+    let (Some(source), Some(destination)) = (spelled(alloc, words[1])?, spelled(alloc, words[2])?)
+    else {
         return Ok(None);
     };
     if words[0] != b"icmp6".as_slice() || source.len() != 16 || destination.len() != 16 {
         return Ok(None);
     }
-    let (source, destination) = (source.as_slice(), destination.as_slice());
+    show_between(
+        alloc,
+        text,
+        source.as_slice(),
+        destination.as_slice(),
+        words[3],
+    )
+}
+
+fn show_between(
+    alloc: Global,
+    text: &mut Vec<u8>,
+    source: &[u8],
+    destination: &[u8],
+    digits: &[u8],
+) -> Result<Option<bool>, Fail> {
+    let Some(packet) = spelled(alloc, digits)? else {
+        return Ok(None);
+    };
     let read = icmp6::show_icmp6(text, source, destination, packet.as_slice())?;
     Ok(Some(read))
 }

@@ -3,7 +3,20 @@
 use crate::read_word;
 use crate::testing::same_of;
 use crate::words::{read_address, read_offset};
+use std::alloc::Global;
+use std::process::Abort;
 use std::test::Fail;
+
+fn check_word(
+    rt: &impl Abort,
+    alloc: Global,
+    text: &str,
+    octets: Option<&[u8]>,
+) -> Result<(), Fail> {
+    let word = read_word(alloc, text.as_bytes())?;
+    same_of(rt, text, word.as_ref().map(|word| word.as_slice()), octets);
+    Ok(())
+}
 
 #[test]
 fn words_and_the_octets_they_spell(rt: HostRuntime) -> Result<(), Fail> {
@@ -26,8 +39,7 @@ fn words_and_the_octets_they_spell(rt: HostRuntime) -> Result<(), Fail> {
         ("0g", None),
         (" 00", None),
     ] {
-        let word = read_word(rt.alloc(), text.as_bytes())?;
-        same_of(&rt, text, word.as_ref().map(|word| word.as_slice()), octets);
+        check_word(&rt, rt.alloc(), text, octets)?;
     }
     Ok(())
 }

@@ -66,9 +66,14 @@ fn compare(rt: &impl Abort, octets: &[u8]) {
         octets.len() >= 8,
     );
     same_of(rt, octets, Repr::parse(&packet), read(octets).ok_or(Error));
+}
+
+// Compares the fields of the view with the octets at their places.
+fn compare_fields(rt: &impl Abort, octets: &[u8]) {
     let [kind, code, s0, s1, a, b, c, d, ..] = octets else {
         return;
     };
+    let packet = Packet::new_unchecked(octets);
     same_of(rt, octets, u8::from(packet.msg_type()), *kind);
     same_of(rt, octets, packet.max_resp_code(), *code);
     same_of(rt, octets, packet.checksum().to_be_bytes(), [*s0, *s1]);
@@ -79,11 +84,13 @@ fn compare(rt: &impl Abort, octets: &[u8]) {
 fn compare_damaged(rt: &impl Abort, alloc: Global, packet: &[u8]) -> Result<(), Fail> {
     for len in 0..=packet.len() {
         compare(rt, &packet[..len]);
+        compare_fields(rt, &packet[..len]);
     }
     for at in 0..packet.len() {
         for value in 0..=255u8 {
             let octets = damaged(alloc, packet, at, value)?;
             compare(rt, octets.as_slice());
+            compare_fields(rt, octets.as_slice());
         }
     }
     Ok(())

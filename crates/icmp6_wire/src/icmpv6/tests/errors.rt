@@ -1,10 +1,10 @@
-ghost use Rattle.std.specs.Prelude.{◌≡◌};
+ghost use Rattle.std.specs.Prelude.{◌≡◌, ◌≤◌, ◌+◌, ℕ, List, length, min};
+ghost use Rattle.icmp6_wire.specs.Icmpv6.{CanEmit, text_len, value_of};
 
-use super::{FILLS, TOO_BIG, all, destination, source};
+use super::{FILLS, TOO_BIG, all, behind, check_found, check_written, destination, read, source};
 use crate::icmpv6::{DstUnreachable, Packet, ParamProblem, Repr, TimeExceeded};
-use crate::testing::{same, same_of};
+use crate::testing::{holds_of, same, same_of};
 use std::process::Abort;
-use std::test::Fail;
 use wirebase::capabilities::Checksum;
 use wirebase::{IpProtocol, Ipv6Repr};
 
@@ -26,145 +26,96 @@ const QUOTED_DATA: [u8; 12] = [
 ];
 
 #[test]
-fn errors_are_written_and_read(rt: HostRuntime) -> Result<(), Fail> {
-    let caps = all(Checksum::Both);
-    let data = QUOTED_DATA;
+fn errors_are_written_and_read(rt: HostRuntime) {
+    let error = Repr::PktTooBig {
+        mtu: 1500,
+        header: quoted(),
+        data: &QUOTED_DATA,
+    };
     for fill in FILLS {
-        let mut octets = [fill; 60];
-        let mut packet = Packet::new_unchecked(octets.as_mut_slice());
-        Repr::PktTooBig {
-            mtu: 1500,
-            header: quoted(),
-            data: &data,
-        }
-        .emit(&source(), &destination(), &mut packet, &caps);
-        same_of(&rt, fill, octets.as_slice(), TOO_BIG.as_slice());
-        let mut octets = [fill; 60];
-        let mut packet = Packet::new_unchecked(octets.as_mut_slice());
-        Repr::DstUnreachable {
-            reason: DstUnreachable::NoRoute,
-            header: quoted(),
-            data: &data,
-        }
-        .emit(&source(), &destination(), &mut packet, &caps);
-        let front = [0x01, 0x00, 0x16, 0xa5, 0x00, 0x00, 0x00, 0x00];
-        same_of(&rt, fill, &octets[..8], front.as_slice());
-        same_of(&rt, fill, &octets[8..], &TOO_BIG[8..]);
+        check_written(&rt, &error, &mut [fill; 60], &TOO_BIG);
     }
-    let octets = TOO_BIG;
-    let packet = Packet::new_unchecked(octets.as_slice());
-    assert!(rt;
-        Repr::parse(&source(), &destination(), &packet, &caps)
-            == Ok(Repr::PktTooBig {
-                mtu: 1500,
-                header: quoted(),
-                data: &data
-            })
-    );
-    let packet = Packet::new_unchecked(&octets[..47]);
-    assert!(rt; Repr::parse(&source(), &destination(), &packet, &all(Checksum::None)).is_err());
-    let packet = Packet::new_unchecked(&octets[..48]);
-    assert!(rt; Repr::parse(&source(), &destination(), &packet, &all(Checksum::None)).is_ok());
-    Ok(())
+    check_found(&rt, &read(&TOO_BIG, Checksum::Both), &error);
+}
+
+#[test]
+fn unreachable_destinations_are_written_and_read(rt: HostRuntime) {
+    let wanted = behind(&[0x01, 0x00, 0x16, 0xa5, 0x00, 0x00, 0x00, 0x00]);
+    let error = Repr::DstUnreachable {
+        reason: DstUnreachable::NoRoute,
+        header: quoted(),
+        data: &QUOTED_DATA,
+    };
+    for fill in FILLS {
+        check_written(&rt, &error, &mut [fill; 60], &wanted);
+    }
+    check_found(&rt, &read(&wanted, Checksum::Both), &error);
+}
+
+#[test]
+fn errors_quote_a_whole_header(rt: HostRuntime) {
+    holds_of(&rt, 47, read(&TOO_BIG[..47], Checksum::None).is_err());
+    holds_of(&rt, 48, read(&TOO_BIG[..48], Checksum::None).is_ok());
 }
 
 #[test]
 fn times_exceeded_are_written_and_read(rt: HostRuntime) {
-    let caps = all(Checksum::Both);
-    let data = QUOTED_DATA;
-    let mut wanted = TOO_BIG;
-    wanted[..8].copy_from_slice(&[0x03, 0x01, 0x14, 0xa4, 0x00, 0x00, 0x00, 0x00]);
+    let wanted = behind(&[0x03, 0x01, 0x14, 0xa4, 0x00, 0x00, 0x00, 0x00]);
+    let error = Repr::TimeExceeded {
+        reason: TimeExceeded::FragReassemExceeded,
+        header: quoted(),
+        data: &QUOTED_DATA,
+    };
     for fill in FILLS {
-        let mut octets = [fill; 60];
-        let mut packet = Packet::new_unchecked(octets.as_mut_slice());
-        Repr::TimeExceeded {
-            reason: TimeExceeded::FragReassemExceeded,
-            header: quoted(),
-            data: &data,
-        }
-        .emit(&source(), &destination(), &mut packet, &caps);
-        same_of(&rt, fill, octets.as_slice(), wanted.as_slice());
+        check_written(&rt, &error, &mut [fill; 60], &wanted);
     }
-    let packet = Packet::new_unchecked(wanted.as_slice());
-    assert!(rt;
-        Repr::parse(&source(), &destination(), &packet, &caps)
-            == Ok(Repr::TimeExceeded {
-                reason: TimeExceeded::FragReassemExceeded,
-                header: quoted(),
-                data: &data
-            })
-    );
+    check_found(&rt, &read(&wanted, Checksum::Both), &error);
 }
 
 #[test]
 fn parameter_problems_are_written_and_read(rt: HostRuntime) {
-    let caps = all(Checksum::Both);
-    let data = QUOTED_DATA;
-    let mut wanted = TOO_BIG;
-    wanted[..8].copy_from_slice(&[0x04, 0x01, 0x0f, 0x9c, 0x01, 0x02, 0x03, 0x06]);
+    let wanted = behind(&[0x04, 0x01, 0x0f, 0x9c, 0x01, 0x02, 0x03, 0x06]);
+    let error = Repr::ParamProblem {
+        reason: ParamProblem::UnrecognizedNxtHdr,
+        pointer: 0x0102_0306,
+        header: quoted(),
+        data: &QUOTED_DATA,
+    };
     for fill in FILLS {
-        let mut octets = [fill; 60];
-        let mut packet = Packet::new_unchecked(octets.as_mut_slice());
-        Repr::ParamProblem {
-            reason: ParamProblem::UnrecognizedNxtHdr,
-            pointer: 0x0102_0306,
-            header: quoted(),
-            data: &data,
-        }
-        .emit(&source(), &destination(), &mut packet, &caps);
-        same_of(&rt, fill, octets.as_slice(), wanted.as_slice());
+        check_written(&rt, &error, &mut [fill; 60], &wanted);
     }
-    let packet = Packet::new_unchecked(wanted.as_slice());
-    assert!(rt;
-        Repr::parse(&source(), &destination(), &packet, &caps)
-            == Ok(Repr::ParamProblem {
-                reason: ParamProblem::UnrecognizedNxtHdr,
-                pointer: 0x0102_0306,
-                header: quoted(),
-                data: &data
-            })
-    );
+    check_found(&rt, &read(&wanted, Checksum::Both), &error);
 }
 
-// Writes an error with this data over octets that are all this one, and checks that it is read with what it quotes.
-fn check_quoted(rt: &impl Abort, data: &[u8], cut: &[u8], fill: u8) -> [u8; 1240] {
-    let caps = all(Checksum::Both);
-    let mut octets = [fill; 1240];
+// An error of a port, which quotes these data.
+fn port_unreachable(data: &[u8]) -> Repr<'_>
+    ensures { (bytes : List ℕ) → 48 + min (length «data».now) 1192 ≤ length bytes
+        → CanEmit (value_of result) bytes }
+{
     Repr::DstUnreachable {
         reason: DstUnreachable::PortUnreachable,
         header: quoted(),
         data,
     }
-    .emit_into(&source(), &destination(), &mut octets, &caps);
-    let packet = Packet::new_unchecked(octets.as_slice());
-    assert!(rt;
-        Repr::parse(&source(), &destination(), &packet, &caps)
-            == Ok(Repr::DstUnreachable {
-                reason: DstUnreachable::PortUnreachable,
-                header: quoted(),
-                data: cut
-            })
-    );
+}
+
+// Writes an error with this data over octets that are all this one, and checks that it is read with what it quotes.
+fn check_quoted(rt: &impl Abort, data: &[u8], cut: &[u8], fill: u8) -> [u8; 1240] {
+    let mut octets = [fill; 1240];
+    let caps = all(Checksum::Both);
+    port_unreachable(data).emit_into(&source(), &destination(), &mut octets, &caps);
+    check_found(rt, &read(&octets, Checksum::Both), &port_unreachable(cut));
     octets
 }
 
 // Checks that errors with these data differ, of which the first is read from the text of both.
 fn check_same_text(rt: &impl Abort, text: &[u8], cut: &[u8], whole: &[u8]) {
+    let one = port_unreachable(cut);
+    let other = port_unreachable(whole);
+    same(rt, one == other, false);
     let caps = all(Checksum::Both);
-    let one = Repr::DstUnreachable {
-        reason: DstUnreachable::PortUnreachable,
-        header: quoted(),
-        data: cut,
-    };
-    let other = Repr::DstUnreachable {
-        reason: DstUnreachable::PortUnreachable,
-        header: quoted(),
-        data: whole,
-    };
-    assert!(rt; one != other);
     Repr::same_text(&one, &other, &source(), &destination(), &caps);
-    let packet = Packet::new_unchecked(text);
-    assert!(rt; Repr::parse(&source(), &destination(), &packet, &caps) == Ok(one));
+    check_found(rt, &read(text, Checksum::Both), &one);
 }
 
 #[test]
@@ -179,54 +130,58 @@ fn errors_that_differ_past_what_they_quote_have_the_same_text(rt: HostRuntime) {
     check_same_text(&rt, &written, cut, &data);
 }
 
-#[test]
-fn errors_quote_1192_bytes_at_the_most(rt: HostRuntime) -> Result<(), Fail> {
-    let data = [0x11; 9999];
-    for (count, len) in [(0, 48), (1, 49), (1192, 1240), (1193, 1240), (9999, 1240)] {
-        let repr = Repr::PktTooBig {
-            mtu: 1280,
-            header: quoted(),
-            data: &data[..count],
-        };
-        same_of(&rt, count, repr.buffer_len(), len);
-        same_of(&rt, count, repr.packet_len(), len);
-    }
-    let caps = all(Checksum::Both);
-    let mut octets = [0xff; 1240];
-    let mut packet = Packet::new_unchecked(octets.as_mut_slice());
+// A packet that is too big, of which these data are quoted.
+fn too_big(data: &[u8]) -> Repr<'_>
+    ensures writes { (bytes : List ℕ) → 48 + min (length «data».now) 1192 ≤ length bytes
+        → CanEmit (value_of result) bytes }
+    ensures len { text_len (value_of result) ≤ 1240 }
+{
     Repr::PktTooBig {
         mtu: 1280,
         header: quoted(),
-        data: &data,
+        data,
     }
-    .emit(&source(), &destination(), &mut packet, &caps);
-    let packet = Packet::new_unchecked(octets.as_slice());
-    assert!(rt;
-        Repr::parse(&source(), &destination(), &packet, &caps)
-            == Ok(Repr::PktTooBig {
-                mtu: 1280,
-                header: quoted(),
-                data: &data[..1192]
-            })
+}
+
+// Checks that an error with this data has so many bytes.
+fn check_len(rt: &impl Abort, data: &[u8], len: usize) {
+    let error = too_big(data);
+    same_of(
+        rt,
+        data,
+        [error.buffer_len(), error.packet_len()],
+        [len, len],
     );
-    Ok(())
+}
+
+#[test]
+fn errors_quote_1192_bytes_at_the_most(rt: HostRuntime) {
+    let data = [0x11; 9999];
+    check_len(&rt, &[], 48);
+    check_len(&rt, &data[..1], 49);
+    check_len(&rt, &data[..1192], 1240);
+    check_len(&rt, &data[..1193], 1240);
+    check_len(&rt, &data, 1240);
+}
+
+#[test]
+fn what_an_error_quotes_is_read(rt: HostRuntime) {
+    let data = [0x11; 9999];
+    let mut octets = [0xff; 1240];
+    let mut packet = Packet::new_unchecked(octets.as_mut_slice());
+    too_big(&data).emit(&source(), &destination(), &mut packet, &all(Checksum::Both));
+    check_found(&rt, &read(&octets, Checksum::Both), &too_big(&data[..1192]));
 }
 
 #[test]
 fn an_error_in_a_longer_buffer_has_the_checksum_of_the_whole(rt: HostRuntime) {
     let data = [0x11; 1193];
-    let caps = all(Checksum::Both);
-    let repr = Repr::PktTooBig {
-        mtu: 1280,
-        header: quoted(),
-        data: &data,
-    };
     let mut octets = [0xff; 1300];
-    repr.emit_into(&source(), &destination(), &mut octets, &caps);
-    assert!(rt; octets[1240..].iter().all(|octet| *octet == 0xff));
+    let caps = all(Checksum::Both);
+    too_big(&data).emit_into(&source(), &destination(), &mut octets, &caps);
+    same(&rt, &octets[1240..], [0xff; 60].as_slice());
     // The checksum is verified over the whole, and all behind the quoted header is read as its data.
-    let packet = Packet::new_unchecked(octets.as_slice());
-    let data_len = match Repr::parse(&source(), &destination(), &packet, &caps) {
+    let data_len = match read(&octets, Checksum::Both) {
         Ok(Repr::PktTooBig { data, .. }) => data.len(),
         _ => 0,
     };
@@ -234,12 +189,10 @@ fn an_error_in_a_longer_buffer_has_the_checksum_of_the_whole(rt: HostRuntime) {
 }
 
 #[test]
-fn a_quote_is_not_looked_into(rt: HostRuntime) -> Result<(), Fail> {
+fn a_quote_is_not_looked_into(rt: HostRuntime) {
     let mut octets = TOO_BIG;
     // Version 4, and a payload that is longer than what is there.
     octets[8] = 0x45;
     octets[12] = 0xff;
-    let packet = Packet::new_unchecked(octets.as_slice());
-    assert!(rt; Repr::parse(&source(), &destination(), &packet, &all(Checksum::None)).is_ok());
-    Ok(())
+    holds_of(&rt, "version 4", read(&octets, Checksum::None).is_ok());
 }

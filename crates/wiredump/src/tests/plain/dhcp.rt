@@ -18,19 +18,27 @@ pub fn show(text: &mut Vec<u8>, packet: &[u8]) -> Result<bool, Fail> {
         return Ok(false);
     }
     number(text, "message_type", u64::from(message))?;
+    show_sender(text, packet)?;
+    show_addresses(text, packet, options)?;
+    truth(text, "broadcast", octet(packet, 10) >= 0x80)?;
+    show_request(text, options)?;
+    show_limits(text, options)?;
+    Ok(true)
+}
+
+fn show_sender(text: &mut Vec<u8>, packet: &[u8]) -> Result<(), Fail> {
     number(text, "transaction_id", u64::from(be32(packet, 4)))?;
     number(text, "secs", u64::from(be16(packet, 8)))?;
-    octets(text, "client_hardware_address", part(packet, 28, 6))?;
+    octets(text, "client_hardware_address", part(packet, 28, 6))
+}
+
+fn show_addresses(text: &mut Vec<u8>, packet: &[u8], options: &[u8]) -> Result<(), Fail> {
     dotted(text, "client_ip", part(packet, 12, 4))?;
     dotted(text, "your_ip", part(packet, 16, 4))?;
     dotted(text, "server_ip", part(packet, 20, 4))?;
     show_address(text, "router", last(options, 3, Some(4)))?;
     show_address(text, "subnet_mask", last(options, 1, Some(4)))?;
-    dotted(text, "relay_agent_ip", part(packet, 24, 4))?;
-    truth(text, "broadcast", octet(packet, 10) >= 0x80)?;
-    show_request(text, options)?;
-    show_limits(text, options)?;
-    Ok(true)
+    dotted(text, "relay_agent_ip", part(packet, 24, 4))
 }
 
 fn show_request(text: &mut Vec<u8>, options: &[u8]) -> Result<(), Fail> {
@@ -40,6 +48,10 @@ fn show_request(text: &mut Vec<u8>, options: &[u8]) -> Result<(), Fail> {
         None => none(text, "client_identifier")?,
     }
     show_address(text, "server_identifier", last(options, 54, Some(4)))?;
+    show_lists(text, options)
+}
+
+fn show_lists(text: &mut Vec<u8>, options: &[u8]) -> Result<(), Fail> {
     match last(options, 55, None) {
         Some(data) => octets(text, "parameter_request_list", data)?,
         None => none(text, "parameter_request_list")?,

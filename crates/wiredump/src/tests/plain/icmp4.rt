@@ -37,13 +37,17 @@ fn show_error(text: &mut Vec<u8>, name: &str, code: u8, quote: &[u8]) -> Result<
     }
     line(text, name)?;
     number(text, "reason", u64::from(code))?;
+    show_quote(text, quote, data)?;
+    Ok(true)
+}
+
+fn show_quote(text: &mut Vec<u8>, quote: &[u8], data: &[u8]) -> Result<(), Fail> {
     dotted(text, "header.src_addr", part(quote, 12, 4))?;
     dotted(text, "header.dst_addr", part(quote, 16, 4))?;
     number(text, "header.next_header", u64::from(octet(quote, 9)))?;
     number(text, "header.payload_len", data.len() as u64)?;
     number(text, "header.hop_limit", u64::from(octet(quote, 8)))?;
-    octets(text, "data", data)?;
-    Ok(true)
+    octets(text, "data", data)
 }
 
 /// Writes a message of IGMP; false where it is none.
@@ -55,22 +59,9 @@ pub fn show_igmp(text: &mut Vec<u8>, packet: &[u8]) -> Result<bool, Fail> {
     }
     let code = octet(packet, 1);
     match octet(packet, 0) {
-        0x11 => {
-            line(text, "MembershipQuery")?;
-            number(text, "max_resp_time", millis(code))?;
-            dotted(text, "group_addr", group)?;
-            number(text, "version", if code == 0 { 1 } else { 2 })?;
-        }
-        0x12 => {
-            line(text, "MembershipReport")?;
-            dotted(text, "group_addr", group)?;
-            number(text, "version", 1)?;
-        }
-        0x16 => {
-            line(text, "MembershipReport")?;
-            dotted(text, "group_addr", group)?;
-            number(text, "version", 2)?;
-        }
+        0x11 => show_query(text, code, group)?,
+        0x12 => show_report(text, group, 1)?,
+        0x16 => show_report(text, group, 2)?,
         0x17 => {
             line(text, "LeaveGroup")?;
             dotted(text, "group_addr", group)?;
@@ -78,6 +69,19 @@ pub fn show_igmp(text: &mut Vec<u8>, packet: &[u8]) -> Result<bool, Fail> {
         _ => return Ok(false),
     }
     Ok(true)
+}
+
+fn show_query(text: &mut Vec<u8>, code: u8, group: &[u8]) -> Result<(), Fail> {
+    line(text, "MembershipQuery")?;
+    number(text, "max_resp_time", millis(code))?;
+    dotted(text, "group_addr", group)?;
+    number(text, "version", if code == 0 { 1 } else { 2 })
+}
+
+fn show_report(text: &mut Vec<u8>, group: &[u8], version: u64) -> Result<(), Fail> {
+    line(text, "MembershipReport")?;
+    dotted(text, "group_addr", group)?;
+    number(text, "version", version)
 }
 
 // Tenths of a second; from 128 on four bits of a number behind a one, and three for its places (RFC 3376 section

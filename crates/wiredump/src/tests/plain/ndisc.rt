@@ -20,35 +20,49 @@ pub fn show_neighbor_message(text: &mut Vec<u8>, packet: &[u8]) -> Result<bool, 
     match kind {
         0x85 => line(text, "RouterSolicit")?,
         0x86 => show_router(text, packet)?,
-        0x87 => {
-            line(text, "NeighborSolicit")?;
-            octets(text, "target_addr", part(packet, 8, 16))?;
-        }
-        0x88 => {
-            line(text, "NeighborAdvert")?;
-            number(text, "flags", u64::from(octet(packet, 4) & 0xe0))?;
-            octets(text, "target_addr", part(packet, 8, 16))?;
-        }
-        _ => {
-            line(text, "Redirect")?;
-            octets(text, "target_addr", part(packet, 8, 16))?;
-            octets(text, "dest_addr", part(packet, 24, 16))?;
-        }
+        _ => show_addresses(text, packet)?,
     }
     // A router and one who asks tell their own address, and the others that of whom they speak of.
-    match last(options, if kind >= 0x88 { 2 } else { 1 }) {
-        Some(block) => octets(text, "lladdr", part(block, 2, 8))?,
-        None => none(text, "lladdr")?,
-    }
+    show_lladdr(text, last(options, if kind >= 0x88 { 2 } else { 1 }))?;
     match kind {
         0x86 => show_router_options(text, options)?,
-        0x89 => match last(options, 4) {
-            Some(block) => show_redirected(text, "redirected_hdr.", block)?,
-            None => none(text, "redirected_hdr")?,
-        },
+        0x89 => show_redirected_option(text, options)?,
         _ => {}
     }
     Ok(true)
+}
+
+// What a message that names its target has before its options.
+fn show_addresses(text: &mut Vec<u8>, packet: &[u8]) -> Result<(), Fail> {
+    let kind = octet(packet, 0);
+    let name = match kind {
+        0x87 => "NeighborSolicit",
+        0x88 => "NeighborAdvert",
+        _ => "Redirect",
+    };
+    line(text, name)?;
+    if kind == 0x88 {
+        number(text, "flags", u64::from(octet(packet, 4) & 0xe0))?;
+    }
+    octets(text, "target_addr", part(packet, 8, 16))?;
+    if kind == 0x89 {
+        octets(text, "dest_addr", part(packet, 24, 16))?;
+    }
+    Ok(())
+}
+
+fn show_lladdr(text: &mut Vec<u8>, block: Option<&[u8]>) -> Result<(), Fail> {
+    match block {
+        Some(block) => octets(text, "lladdr", part(block, 2, 8)),
+        None => none(text, "lladdr"),
+    }
+}
+
+fn show_redirected_option(text: &mut Vec<u8>, options: &[u8]) -> Result<(), Fail> {
+    match last(options, 4) {
+        Some(block) => show_redirected(text, "redirected_hdr.", block),
+        None => none(text, "redirected_hdr"),
+    }
 }
 
 fn show_router(text: &mut Vec<u8>, packet: &[u8]) -> Result<(), Fail> {

@@ -1,7 +1,9 @@
 //! Options of IPv6 (RFC 8200 section 4.2) and of neighbour discovery (RFC 4861 section 4.6).
 
 use super::icmp6::show_quoted_header;
-use super::text::{be16, be32, behind, line, number, octet, octets, part, word};
+use super::text::{
+    be16, be32, behind, line, number, octet, octets, part, part_number, part_octets,
+};
 use std::test::Fail;
 
 // The most options that are kept; the next one is looked at.
@@ -99,26 +101,23 @@ pub fn show_neighbor_option(text: &mut Vec<u8>, packet: &[u8]) -> Result<bool, F
 
 /// Writes a prefix, behind the name of its part.
 pub fn show_prefix(text: &mut Vec<u8>, name: &str, block: &[u8]) -> Result<(), Fail> {
-    word(text, name)?;
-    number(text, "prefix_len", u64::from(octet(block, 2)))?;
-    word(text, name)?;
-    number(text, "flags", u64::from(octet(block, 3) & 0xc0))?;
-    word(text, name)?;
-    number(text, "valid_lifetime", u64::from(be32(block, 4)) * 1_000)?;
-    word(text, name)?;
-    number(
-        text,
-        "preferred_lifetime",
-        u64::from(be32(block, 8)) * 1_000,
-    )?;
-    word(text, name)?;
-    octets(text, "prefix", part(block, 16, 16))
+    let valid = u64::from(be32(block, 4)) * 1_000;
+    let preferred = u64::from(be32(block, 8)) * 1_000;
+    part_number(text, name, "prefix_len", u64::from(octet(block, 2)))?;
+    part_number(text, name, "flags", u64::from(octet(block, 3) & 0xc0))?;
+    part_number(text, name, "valid_lifetime", valid)?;
+    part_number(text, name, "preferred_lifetime", preferred)?;
+    part_octets(text, name, "prefix", part(block, 16, 16))
 }
 
 /// Writes a redirected packet, behind the name of its part.
 pub fn show_redirected(text: &mut Vec<u8>, name: &str, block: &[u8]) -> Result<(), Fail> {
     let quote = behind(block, 8);
     show_quoted_header(text, name, quote)?;
-    word(text, name)?;
-    octets(text, "data", part(quote, 40, usize::from(be16(quote, 4))))
+    part_octets(
+        text,
+        name,
+        "data",
+        part(quote, 40, usize::from(be16(quote, 4))),
+    )
 }

@@ -75,6 +75,17 @@ pub fn number(text: &mut Vec<u8>, name: &str, value: u64) -> Result<(), Fail> {
     Ok(())
 }
 
+/// Writes a field of a part, behind the part's name.
+pub fn part_number(text: &mut Vec<u8>, of: &str, name: &str, value: u64) -> Result<(), Fail> {
+    word(text, of)?;
+    number(text, name, value)
+}
+
+pub fn part_octets(text: &mut Vec<u8>, of: &str, name: &str, value: &[u8]) -> Result<(), Fail> {
+    word(text, of)?;
+    octets(text, name, value)
+}
+
 /// Writes a field that is true or false.
 pub fn truth(text: &mut Vec<u8>, name: &str, value: bool) -> Result<(), Fail> {
     word(text, name)?;

@@ -1,0 +1,105 @@
+ghost use Rattle.icmp6_wire.specs.Icmpv6.{CanEmit, value_of};
+
+use super::{FILLS, QUERY, REPORT, SOURCE_REPORT};
+use crate::icmpv6::{Packet, Repr};
+use crate::mld;
+use crate::mld::{AddressRecordRepr, RecordType};
+use crate::testing::{holds_of, same};
+use std::process::Abort;
+use wirebase::{
+    ChecksumCapabilities, IPV6_LINK_LOCAL_ALL_NODES, IPV6_LINK_LOCAL_ALL_ROUTERS, Result,
+};
+
+// The message from ff02::1 to ff02::2 in the octets.
+fn read<'a>(octets: &'a [u8], caps: &ChecksumCapabilities) -> Result<Repr<'a>> {
+    Repr::parse(
+        &IPV6_LINK_LOCAL_ALL_NODES,
+        &IPV6_LINK_LOCAL_ALL_ROUTERS,
+        &Packet::new_unchecked(octets),
+        caps,
+    )
+}
+
+// Writes a message from ff02::1 to ff02::2 over these octets, and checks that it is those which are wanted.
+fn check_written(
+    rt: &impl Abort,
+    message: &Repr<'_>,
+    caps: &ChecksumCapabilities,
+    octets: &mut [u8],
+    wanted: &[u8],
+)
+    requires { CanEmit (value_of message.now) octets.old }
+{
+    message.emit(
+        &IPV6_LINK_LOCAL_ALL_NODES,
+        &IPV6_LINK_LOCAL_ALL_ROUTERS,
+        &mut Packet::new_unchecked(&mut *octets),
+        caps,
+    );
+    same(rt, &*octets, wanted);
+}
+
+#[test]
+fn queries_inside_icmpv6_have_a_checksum(rt: HostRuntime) {
+    let caps = ChecksumCapabilities::default();
+    let mut sealed = QUERY;
+    sealed[2] = 0x73;
+    sealed[3] = 0x74;
+    let query = Repr::Mld(mld::Repr::Query {
+        max_resp_code: 0x400,
+        mcast_addr: IPV6_LINK_LOCAL_ALL_NODES,
+        s_flag: true,
+        qrv: 2,
+        qqic: 0x12,
+        num_srcs: 1,
+        data: &QUERY[28..],
+    });
+    same(&rt, [query.buffer_len(), query.packet_len()], [44, 44]);
+    for fill in FILLS {
+        check_written(&rt, &query, &caps, &mut [fill; 44], &sealed);
+    }
+    same(&rt, &read(&sealed, &caps), &Ok(query));
+}
+
+#[test]
+fn queries_inside_icmpv6_without_a_checksum_are_refused(rt: HostRuntime) {
+    let caps = ChecksumCapabilities::default();
+    holds_of(&rt, "no checksum", read(&QUERY, &caps).is_err());
+}
+
+#[test]
+fn reports_inside_icmpv6_have_a_checksum(rt: HostRuntime) {
+    let caps = ChecksumCapabilities::default();
+    let report = Repr::Mld(mld::Repr::Report {
+        nr_mcast_addr_rcrds: 1,
+        data: &SOURCE_REPORT[8..],
+    });
+    same(&rt, [report.buffer_len(), report.packet_len()], [44, 44]);
+    for fill in FILLS {
+        check_written(&rt, &report, &caps, &mut [fill; 44], &SOURCE_REPORT);
+    }
+    same(&rt, &read(&SOURCE_REPORT, &caps), &Ok(report));
+}
+
+#[test]
+fn a_list_of_records_is_read_back_as_a_report(rt: HostRuntime) {
+    let caps = ChecksumCapabilities::ignored();
+    let records = [AddressRecordRepr::new(
+        RecordType::ChangeToExclude,
+        IPV6_LINK_LOCAL_ALL_ROUTERS,
+    )];
+    let by_records = Repr::Mld(mld::Repr::ReportRecordReprs(&records));
+    same(
+        &rt,
+        [by_records.buffer_len(), by_records.packet_len()],
+        [8, 28],
+    );
+    for fill in FILLS {
+        check_written(&rt, &by_records, &caps, &mut [fill; 28], &REPORT);
+    }
+    let report = Repr::Mld(mld::Repr::Report {
+        nr_mcast_addr_rcrds: 1,
+        data: &REPORT[8..],
+    });
+    same(&rt, &read(&REPORT, &caps), &Ok(report));
+}
