@@ -1,5 +1,5 @@
 -- IPv6 addresses and headers: their texts as they are written, and what is read in them.
-use Rattle.std.proofs.Common.{◌≡◌, ℕ, ◌+◌, ◌<◌, ◌≤◌, ◌^◌, List, [], ◌∷◌, ◌++◌, length, take, drop, refl, sym, ap, subst}
+use Rattle.std.proofs.Common.{◌≡◌, ℕ, ◌<◌, ◌^◌, List, [], ◌∷◌, ◌++◌, length, take, drop, refl, sym, ap, subst}
 use Rattle.std.proofs.Common.{◌∙◌, arith, length-append}
 use Rattle.std.proofs.Math.Nat.{ℕ_set}
 use Rattle.std.proofs.lemmas.List.{append-nil, append_assoc, drop_at, take_at}
@@ -13,7 +13,7 @@ use Rattle.wirebase.specs.ByteWriter.{Sheet, blank, put_all, be8, be16, be32, fi
 use Rattle.wirebase.specs.declared.ip.IpProtocol.TheVariants as protocol
 use Rattle.wirebase.specs.Ip.{protocol_number, protocol_rows}
 use Rattle.wirebase.specs.Numbered.{IsProper}
-use Rattle.wirebase.specs.Ipv6.{IsHeader, IsPacket, header_fields, header_text, pseudo_fields}
+use Rattle.wirebase.specs.Ipv6.{IsHeader, header_fields, header_text, pseudo_fields}
 use Rattle.wirebase.specs.Ipv6Address.{octets_of}
 use Rattle.wirebase.proofs.Pieces.{over-exact}
 use Rattle.wirebase.proofs.IpProtocols.{protocol_of-number}

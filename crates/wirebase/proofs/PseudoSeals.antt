@@ -1,5 +1,5 @@
 -- Checksums that count a pseudo header: its sum may be folded first.
-use Rattle.std.proofs.Common.{◌≡◌, ◌↔◌, ℕ, ◌+◌, ◌-◌, ◌%◌, ◌^◌, List, refl, sym, ap, ◌∙◌, arith}
+use Rattle.std.proofs.Common.{◌≡◌, ℕ, ◌+◌, ◌-◌, List, sym, ap, ◌∙◌, arith}
 use Rattle.byteorder.specs.Endian.{big_bytes}
 use Rattle.wirebase.specs.Bytes.{Field, with_field}
 use Rattle.wirebase.specs.Checksum.{word_sum, fold, IsGood, zeroed, sealed}

@@ -1,6 +1,5 @@
-use Rattle.std.proofs.Common.{◌≡◌, ◌≤◌, ◌+◌, ℕ, length, sym, ap, ◌∙◌, arith}
-use Rattle.wirebase.specs.ByteWriter.{free, after_part}
-use Rattle.wirebase.proofs.Chains.{length-free_part, puts-part, part-room}
+use Rattle.std.proofs.Common.{arith}
+use Rattle.wirebase.proofs.Chains.{length-free_part, fills-part}
 use Rattle.opt_wire.specs.Ipv6Option.{value_of, text}
 use Rattle.opt_wire.proofs.Ipv6OptionText.{length-text}
 use Rattle.opt_wire.proofs.ipv6hbh.put_option.Goals as goal
@@ -15,23 +14,14 @@ emit_into-requires-clause-room c =
 -- the part holds the option's text at the end of the borrow
 pub returns-clause-puts : goal.returns-clause-puts
 returns-clause-puts c =
-    let w = c.args.w.now in
-    let n = c.buffer_len.result in
     let v = value_of c.args.option.now in
-    let len = c.buffer_len.ensures.value in
-    let room : n ≤ length (free w) = omega (arith, c.requires.room, len) in
-    let whole : c.emit_into.new.octets ≡ text v =
-    c.emit_into.ensures.exact (length-free_part w n c.part.result.now room c.part.ensures.value ∙ len) in
-    rw whole (puts-part w n (text v) room (length-text v c.requires.enough ∙ sym len))
+    let fills = fills-part c.args.w.now _ _ c.part.result.now _ (text v) c.requires.room c.part.ensures.value
+    c.buffer_len.ensures.value (length-text v c.requires.enough) c.emit_into.ensures.exact in
+    fills.0
 
 pub returns-clause-room : goal.returns-clause-room
 returns-clause-room c =
-    let w = c.args.w.now in
-    let n = c.buffer_len.result in
     let v = value_of c.args.option.now in
-    let len = c.buffer_len.ensures.value in
-    let room : n ≤ length (free w) = omega (arith, c.requires.room, len) in
-    let whole : c.emit_into.new.octets ≡ text v =
-    c.emit_into.ensures.exact (length-free_part w n c.part.result.now room c.part.ensures.value ∙ len) in
-    let counts = part-room w n (text v) room (length-text v c.requires.enough ∙ sym len) in
-    rw whole (counts ∙ ap (λ (k : ℕ). k + length (free (after_part w n (text v)))) len)
+    let fills = fills-part c.args.w.now _ _ c.part.result.now _ (text v) c.requires.room c.part.ensures.value
+    c.buffer_len.ensures.value (length-text v c.requires.enough) c.emit_into.ensures.exact in
+    fills.1

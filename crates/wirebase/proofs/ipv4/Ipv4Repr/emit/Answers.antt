@@ -1,0 +1,9 @@
+use Rattle.std.proofs.Common.{sym}
+use Rattle.wirebase.proofs.Chains.{lent}
+use Rattle.wirebase.specs.Ipv4.{Emits}
+use Rattle.wirebase.proofs.ipv4.Ipv4Repr.emit.Goals as goal
+
+pub returns-clause-emits : goal.returns-clause-emits
+returns-clause-emits g c =
+    lent (Emits c.args.checksum_caps.now c.args.self.now) c.octets_mut.ensures.value
+    (sym (g.met.T.OctetsMut.bytes_put c.args.packet.now.buffer _)) c.emit_into.ensures

@@ -1,0 +1,12 @@
+use Rattle.std.proofs.Common.{ℕ, List, ap, ◌∙◌, arith}
+use Rattle.wirebase.specs.Bytes.{splice}
+use Rattle.wirebase.proofs.Pieces.{append-drop_whole}
+use Rattle.wirebase.proofs.octets.OctetsMut.set_u16.Goals as goal
+
+pub returns-clause-writes : goal.returns-clause-writes
+returns-clause-writes g c =
+    let octets = c.args.self.now in
+    let field = c.args.field in
+    ap (λ (w : List ℕ). g.Self.OctetsMut.put octets (splice (g.Self.Octets.bytes octets) field.start field.end w))
+    (c.write_u16.ensures
+    ∙ append-drop_whole _ c.range_mut.result.now 2 (omega (arith, c.range_mut.ensures.len, c.requires.two)))

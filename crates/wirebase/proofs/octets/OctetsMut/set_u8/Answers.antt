@@ -1,0 +1,11 @@
+use Rattle.std.proofs.Common.{ℕ, List, ap, arith}
+use Rattle.wirebase.specs.Bytes.{splice}
+use Rattle.wirebase.proofs.Pieces.{slice_set-one}
+use Rattle.wirebase.proofs.octets.OctetsMut.set_u8.Goals as goal
+
+pub returns-clause-writes : goal.returns-clause-writes
+returns-clause-writes g c =
+    let octets = c.args.self.now in
+    let field = c.args.field in
+    ap (λ (w : List ℕ). g.Self.OctetsMut.put octets (splice (g.Self.Octets.bytes octets) field.start field.end w))
+    (slice_set-one c.range_mut.result.now c.args.value (omega (arith, c.range_mut.ensures.len, c.requires.one)))
