@@ -17,6 +17,7 @@ use wirebase::{Duration, Ipv6Address, Octets, OctetsMut};
 
 mod flags;
 mod found;
+mod options;
 mod repr;
 
 pub use flags::{NeighborFlags, RouterFlags};

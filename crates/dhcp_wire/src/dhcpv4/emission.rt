@@ -1,7 +1,8 @@
 //! Values as they are written.
 #![tactic(auto, using(crate::proofs::Dhcpv4Emission::emission))]
 
-ghost use Rattle.std.specs.Prelude.{◌≡◌, ◌≤◌, ◌<◌, ◌^◌, ◌∷◌, Ok, Some, length, map, flat_map};
+ghost use Rattle.std.specs.Prelude.{◌≡◌, ◌≤◌, ◌<◌, ◌+◌, ◌^◌, ◌∷◌, Ok, Some, length, map, flat_map};
+ghost use Rattle.std.specs.Prelude.{take, drop};
 ghost use Rattle.std.specs.Option.{option_map};
 ghost use Rattle.wirebase.specs.Bytes.{Reaches, over};
 ghost use Rattle.wirebase.specs.ByteWriter.{Puts, be8, be16, be32, free as free_bytes, the_slice as the_bytes};
@@ -123,6 +124,18 @@ impl Repr<'_> {
         ensures puts { Puts w.old w.new (header_fields (value_of self.now)) }
         ensures same_slice { the_bytes w.new ≡ the_bytes w.old }
     {
+        self.put_numbers(w);
+        self.put_header_addresses(w);
+    }
+
+    // Writes the numbers in front of the addresses of the fixed part.
+    #[tactic(auto)]
+    fn put_numbers(&self, w: &mut ByteWriter<'_>)
+        requires { 240 ≤ length (free_bytes w.old) }
+        ensures puts { Puts w.old w.new (take 7 (header_fields (value_of self.now))) }
+        ensures room { length (free_bytes w.old) ≡ 12 + length (free_bytes w.new) }
+        ensures same_slice { the_bytes w.new ≡ the_bytes w.old }
+    {
         let flags = if self.broadcast { 0x8000 } else { 0 };
         w.put_u8(self.message_type.opcode().into());
         w.put_u8(1);
@@ -131,6 +144,15 @@ impl Repr<'_> {
         w.put_u32(self.transaction_id);
         w.put_u16(self.secs);
         w.put_u16(flags);
+    }
+
+    // Writes the addresses of the fixed part, and what stands behind them.
+    #[tactic(auto)]
+    fn put_header_addresses(&self, w: &mut ByteWriter<'_>)
+        requires { 228 ≤ length (free_bytes w.old) }
+        ensures puts { Puts w.old w.new (drop 7 (header_fields (value_of self.now))) }
+        ensures same_slice { the_bytes w.new ≡ the_bytes w.old }
+    {
         w.put_bytes(&self.client_ip.octets());
         w.put_bytes(&self.your_ip.octets());
         w.put_bytes(&self.server_ip.octets());
@@ -168,14 +190,32 @@ impl Repr<'_> {
             ≡ steps (progress w.old (Ok tt)) (slots_of (value_of self.now)) }
         ensures same_slice { the_slice w.new ≡ the_slice w.old }
     {
-        let list = self.parameter_request_list;
+        let so_far = self.put_addresses_and_size(w);
+        self.put_times_and_lists(w, so_far)
+    }
+
+    // Writes the options from the type of the message to the greatest size.
+    fn put_addresses_and_size(&self, w: &mut DhcpOptionWriter<'_>) -> Result<()>
+        ensures steps { progress w.new result
+            ≡ steps (progress w.old (Ok tt)) (take 7 (slots_of (value_of self.now))) }
+        ensures same_slice { the_slice w.new ≡ the_slice w.old }
+    {
         let so_far = put_message_type(w, OPT_DHCP_MESSAGE_TYPE, self.message_type);
         let so_far = put_identifier(w, so_far, OPT_CLIENT_ID, self.client_identifier);
         let so_far = put_address(w, so_far, OPT_SERVER_IDENTIFIER, self.server_identifier);
         let so_far = put_address(w, so_far, OPT_ROUTER, self.router);
         let so_far = put_address(w, so_far, OPT_SUBNET_MASK, self.subnet_mask);
         let so_far = put_address(w, so_far, OPT_REQUESTED_IP, self.requested_ip);
-        let so_far = put_size(w, so_far, OPT_MAX_DHCP_MESSAGE_SIZE, self.max_size);
+        put_size(w, so_far, OPT_MAX_DHCP_MESSAGE_SIZE, self.max_size)
+    }
+
+    // Writes the options behind them, unless one before was refused.
+    fn put_times_and_lists(&self, w: &mut DhcpOptionWriter<'_>, so_far: Result<()>) -> Result<()>
+        ensures steps { progress w.new result
+            ≡ steps (progress w.old so_far) (drop 7 (slots_of (value_of self.now))) }
+        ensures same_slice { the_slice w.new ≡ the_slice w.old }
+    {
+        let list = self.parameter_request_list;
         let so_far = put_seconds(w, so_far, OPT_IP_LEASE_TIME, self.lease_duration);
         let so_far = put_seconds(w, so_far, OPT_RENEWAL_TIME_VALUE, self.renew_duration);
         let so_far = put_seconds(w, so_far, OPT_REBINDING_TIME_VALUE, self.rebind_duration);

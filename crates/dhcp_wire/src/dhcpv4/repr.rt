@@ -2,6 +2,7 @@
 #![tactic(auto, using(wirebase::proofs::Pieces::pieces))]
 
 ghost use Rattle.std.specs.Prelude.{◌≡◌, ◌≤◌, ◌↔◌, ⊤, length, IsOk, IfOk, IsOkAnd};
+ghost use Rattle.std.specs.Option.{option_map};
 ghost use Rattle.dhcp_wire.specs.Dhcpv4.{Value, value_of, has_broadcast, HasHeader, IsPacket};
 ghost use Rattle.dhcp_wire.specs.Dhcpv4Format.{format};
 ghost use Rattle.dhcp_wire.specs.Dhcpv4Found.{kept_of, IsMadeOf};
@@ -77,12 +78,22 @@ impl Clone for Repr<'_> {
     ghost is_infallible = { λ _. ⊤ };
 
     fn clone(&self) -> std::result::Result<Self, AllocError> {
-        let dns_servers = self.dns_servers.clone()?;
+        let dns_servers = cloned(&self.dns_servers)?;
         Ok(Repr {
             dns_servers,
             ..*self
         })
     }
+}
+
+// A copy of the servers, told by an equation: the clone of a whole value is proved with it in less time.
+fn cloned(
+    servers: &Option<ArrayVec<Ipv4Address, MAX_DNS_SERVER_COUNT>>,
+) -> std::result::Result<Option<ArrayVec<Ipv4Address, MAX_DNS_SERVER_COUNT>>, AllocError>
+    ensures { IsOkAnd result (λ copy.
+        option_map (λ l. l.items) copy ≡ option_map (λ l. l.items) servers.now) }
+{
+    servers.clone()
 }
 
 impl<'a> Repr<'a> {

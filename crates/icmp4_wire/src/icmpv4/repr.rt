@@ -2,16 +2,17 @@
 #![tactic(auto, using(wirebase::proofs::Pieces::pieces))]
 
 ghost use Rattle.std.specs.Prelude.{◌≡◌, ◌≤◌, ◌<◌, ◌+◌, ◌^◌, ℕ, List, length, IfOk, IsOkAnd, Some};
-ghost use Rattle.wirebase.specs.Bytes.{over, Reaches};
+ghost use Rattle.wirebase.specs.Bytes.{byte_of, over, Reaches};
 ghost use Rattle.wirebase.specs.ByteWriter.{free, Puts, the_slice};
 ghost use Rattle.wirebase.specs.Format.{Rewrites, SameText};
-ghost use Rattle.wirebase.specs.Icmp.{checksum_field, echo_fields};
+ghost use Rattle.wirebase.specs.Icmp.{type_field, checksum_field, header, echo_fields};
 ghost use Rattle.wirebase.specs.declared.capabilities.ChecksumCapabilities.{ChecksumCapabilities};
 ghost use Rattle.wirebase.specs.declared.ipv4.Ipv4Repr.{Ipv4Repr};
 ghost use Rattle.icmp4_wire.specs.Icmpv4Tables.{message_number};
-ghost use Rattle.icmp4_wire.specs.Icmpv4.{inner, view_octets, MessageValue, value_of, error_fields, text, text_len};
-ghost use Rattle.icmp4_wire.specs.Icmpv4.{packet_text, CanEmit, IsQuote, IsMessage, seal as sealed_octets, format};
-ghost use Rattle.icmp4_wire.specs.Icmpv4.{Emits};
+ghost use Rattle.icmp4_wire.specs.Icmpv4.{inner, view_octets, MessageValue, value_of, error_fields, message_fields};
+ghost use Rattle.icmp4_wire.specs.Icmpv4.{text, text_len};
+ghost use Rattle.icmp4_wire.specs.Icmpv4.{packet_text, CanEmit, IsQuote, IsContent, IsMessage};
+ghost use Rattle.icmp4_wire.specs.Icmpv4.{seal as sealed_octets, format, Emits};
 ghost use Rattle.icmp4_wire.specs.Icmpv4Display.{repr_display};
 
 use super::field;
@@ -100,6 +101,16 @@ impl<'a> Repr<'a> {
         if checksum_caps.icmpv4.rx() && !packet.verify_checksum() {
             return Err(Error);
         }
+        Repr::read_content(packet)
+    }
+
+    // The message in octets that have its header, whatever their checksum.
+    fn read_content(packet: &Packet<&'a [u8]>) -> Result<Repr<'a>>
+        requires { Reaches header (view_octets packet.now) }
+        ensures sound { IfOk result (λ repr. IsContent (view_octets packet.now) (value_of repr)) }
+        ensures complete { (value : MessageValue) → IsContent (view_octets packet.now) value
+            → IsOkAnd result (λ repr. value_of repr ≡ value) }
+    {
         match (packet.msg_type(), packet.msg_code()) {
             (Message::EchoRequest, 0) => Ok(Repr::EchoRequest {
                 ident: packet.echo_ident(),
@@ -111,24 +122,42 @@ impl<'a> Repr<'a> {
                 seq_no: packet.echo_seq_no(),
                 data: packet.data(),
             }),
-            (Message::DstUnreachable, code) => {
-                let (header, data) = read_quote(packet.data())?;
-                Ok(Repr::DstUnreachable {
-                    reason: code.into(),
-                    header,
-                    data,
-                })
-            }
-            (Message::TimeExceeded, code) => {
-                let (header, data) = read_quote(packet.data())?;
-                Ok(Repr::TimeExceeded {
-                    reason: code.into(),
-                    header,
-                    data,
-                })
-            }
+            (Message::DstUnreachable, _) => Repr::read_unreachable(packet),
+            (Message::TimeExceeded, _) => Repr::read_time_exceeded(packet),
             _ => Err(Error),
         }
+    }
+
+    // The same of the error that its destination is unreachable.
+    fn read_unreachable(packet: &Packet<&'a [u8]>) -> Result<Repr<'a>>
+        requires whole { Reaches header (view_octets packet.now) }
+        requires kind { byte_of type_field (view_octets packet.now) ≡ 3 }
+        ensures sound { IfOk result (λ repr. IsContent (view_octets packet.now) (value_of repr)) }
+        ensures complete { (value : MessageValue) → IsContent (view_octets packet.now) value
+            → IsOkAnd result (λ repr. value_of repr ≡ value) }
+    {
+        let (header, data) = read_quote(packet.data())?;
+        Ok(Repr::DstUnreachable {
+            reason: packet.msg_code().into(),
+            header,
+            data,
+        })
+    }
+
+    // The same of the error that a time was exceeded.
+    fn read_time_exceeded(packet: &Packet<&'a [u8]>) -> Result<Repr<'a>>
+        requires whole { Reaches header (view_octets packet.now) }
+        requires kind { byte_of type_field (view_octets packet.now) ≡ 11 }
+        ensures sound { IfOk result (λ repr. IsContent (view_octets packet.now) (value_of repr)) }
+        ensures complete { (value : MessageValue) → IsContent (view_octets packet.now) value
+            → IsOkAnd result (λ repr. value_of repr ≡ value) }
+    {
+        let (header, data) = read_quote(packet.data())?;
+        Ok(Repr::TimeExceeded {
+            reason: packet.msg_code().into(),
+            header,
+            data,
+        })
     }
 
     /// The bytes that the message takes. Asks that a `usize` holds their number.
@@ -185,17 +214,26 @@ impl<'a> Repr<'a> {
         ensures { octets.new ≡ over octets.old (text checksum_caps.now (value_of self.now)) }
     {
         let mut w = ByteWriter::new(octets);
+        self.put(&mut w, checksum_caps);
+    }
+
+    // The same with this writer.
+    fn put(&self, w: &mut ByteWriter<'_>, checksum_caps: &ChecksumCapabilities)
+        requires { CanEmit (value_of self.now) (free w.old) }
+        ensures puts { Puts w.old w.new (message_fields checksum_caps.now (value_of self.now)) }
+        ensures same_slice { the_slice w.new ≡ the_slice w.old }
+    {
         match *self {
             Repr::EchoRequest {
                 ident,
                 seq_no,
                 data,
-            } => put_echo(&mut w, Message::EchoRequest, ident, seq_no, data),
+            } => put_echo(w, Message::EchoRequest, ident, seq_no, data),
             Repr::EchoReply {
                 ident,
                 seq_no,
                 data,
-            } => put_echo(&mut w, Message::EchoReply, ident, seq_no, data),
+            } => put_echo(w, Message::EchoReply, ident, seq_no, data),
             Repr::DstUnreachable {
                 reason,
                 header,
@@ -203,7 +241,7 @@ impl<'a> Repr<'a> {
             } => {
                 let code = reason.into();
                 put_error(
-                    &mut w,
+                    w,
                     Message::DstUnreachable,
                     code,
                     &header,
@@ -217,14 +255,7 @@ impl<'a> Repr<'a> {
                 data,
             } => {
                 let code = reason.into();
-                put_error(
-                    &mut w,
-                    Message::TimeExceeded,
-                    code,
-                    &header,
-                    data,
-                    checksum_caps,
-                );
+                put_error(w, Message::TimeExceeded, code, &header, data, checksum_caps);
             }
         }
     }

@@ -3,7 +3,8 @@
 #![tactic(auto, using(wirebase::proofs::Pieces::pieces))]
 
 ghost use Rattle.std.specs.Prelude.{◌≡◌, ◌≤◌, min, length, drop};
-ghost use Rattle.wirebase.specs.ByteWriter.{free, Puts, the_slice};
+ghost use Rattle.wirebase.specs.Bytes.{over};
+ghost use Rattle.wirebase.specs.ByteWriter.{free, Puts, the_slice, fields};
 ghost use Rattle.wirebase.specs.Ipv6.{IsHeader, header_text};
 ghost use Rattle.icmp6_wire.specs.Icmpv6.{quoted_data, error_fields, error_len};
 ghost use Rattle.icmp6_wire.specs.Icmpv6Tables.{message_number};
@@ -19,9 +20,27 @@ pub(super) fn error_len(quoted: &Ipv6Repr, data: &[u8]) -> usize
     field::HEADER_END + quoted.buffer_len() + quotable(data).len()
 }
 
-// Writes an error of this type, with as much of its data as it may quote.
+// Writes an error of this type over the front of the octets, with as much of its data as it may quote.
+#[tactic(auto, using(wirebase::proofs::Chains::chain))]
+pub(super) fn write_error(
+    octets: &mut [u8],
+    kind: Message,
+    code: u8,
+    word: u32,
+    quoted: &Ipv6Repr,
+    data: &[u8],
+)
+    requires room { error_len «data».now ≤ length octets.old }
+    requires count { quoted.now.payload_len ≤ 65535 }
+    ensures { octets.new ≡ over octets.old
+        (fields (error_fields (message_number kind) code word quoted.now «data».now)) }
+{
+    put_error(&mut ByteWriter::new(octets), kind, code, word, quoted, data);
+}
+
+// The same through a writer.
 #[tactic(auto, using(wirebase::proofs::Chains::parts, wirebase::proofs::Ipv6Header::header_texts))]
-pub(super) fn put_error(
+fn put_error(
     w: &mut ByteWriter<'_>,
     kind: Message,
     code: u8,

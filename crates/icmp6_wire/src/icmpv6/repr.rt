@@ -3,7 +3,7 @@
 
 ghost use Rattle.std.specs.Prelude.{true, ◌≡◌, ◌≤◌, ◌<◌, ◌+◌, ◌^◌, length, IsOk, IfOk, IsOkAnd};
 ghost use Rattle.wirebase.specs.Bytes.{Reaches, byte_of, over};
-ghost use Rattle.wirebase.specs.ByteWriter.{free, Puts, the_slice};
+ghost use Rattle.wirebase.specs.ByteWriter.{free, Puts, the_slice, fields};
 ghost use Rattle.wirebase.specs.Format.{Rewrites, SameText};
 ghost use Rattle.wirebase.specs.Icmp.{header, code_field, checksum_field, echo_fields};
 ghost use Rattle.wirebase.specs.declared.capabilities.ChecksumCapabilities.{ChecksumCapabilities};
@@ -18,7 +18,7 @@ ghost use Rattle.icmp6_wire.specs.Icmpv6.{Emits};
 
 use super::field;
 use super::packet::{Packet, fill};
-use super::quote::{error_len, put_error, read_quote};
+use super::quote::{error_len, read_quote, write_error};
 use super::tables::{DstUnreachable, Message, ParamProblem, TimeExceeded};
 use crate::{mld, ndisc};
 use wirebase::{
@@ -131,53 +131,19 @@ impl<'a> Repr<'a> {
         ensures reads { (value : MessageValue) → IsContent (view_octets packet.now) value
             → IsOk result }
     {
-        let payload = packet.payload();
-        if packet.msg_type().is_error() && payload.len() < IPV6_HEADER_LEN {
-            return Err(Error);
+        if packet.msg_type().is_error() {
+            return read_error(packet);
         }
         match (packet.msg_type(), packet.msg_code()) {
-            (Message::DstUnreachable, code) => {
-                let (header, data) = read_quote(payload);
-                Ok(Repr::DstUnreachable {
-                    reason: code.into(),
-                    header,
-                    data,
-                })
-            }
-            (Message::PktTooBig, 0) => {
-                let (header, data) = read_quote(payload);
-                Ok(Repr::PktTooBig {
-                    mtu: packet.pkt_too_big_mtu(),
-                    header,
-                    data,
-                })
-            }
-            (Message::TimeExceeded, code) => {
-                let (header, data) = read_quote(payload);
-                Ok(Repr::TimeExceeded {
-                    reason: code.into(),
-                    header,
-                    data,
-                })
-            }
-            (Message::ParamProblem, code) => {
-                let (header, data) = read_quote(payload);
-                Ok(Repr::ParamProblem {
-                    reason: code.into(),
-                    pointer: packet.param_problem_ptr(),
-                    header,
-                    data,
-                })
-            }
             (Message::EchoRequest, 0) => Ok(Repr::EchoRequest {
                 ident: packet.echo_ident(),
                 seq_no: packet.echo_seq_no(),
-                data: payload,
+                data: packet.payload(),
             }),
             (Message::EchoReply, 0) => Ok(Repr::EchoReply {
                 ident: packet.echo_ident(),
                 seq_no: packet.echo_seq_no(),
-                data: payload,
+                data: packet.payload(),
             }),
             (Message::MldQuery | Message::MldReport, 0) => {
                 let message = mld::Repr::parse(packet)?;
@@ -280,7 +246,6 @@ impl<'a> Repr<'a> {
     {}
 
     // Writes the message, with the checksum zero.
-    #[tactic(auto, using(wirebase::proofs::Chains::chain))]
     fn write(&self, octets: &mut [u8])
         requires { CanEmit (value_of self.now) octets.old }
         ensures { octets.new ≡ over octets.old (text (value_of self.now)) }
@@ -290,74 +255,82 @@ impl<'a> Repr<'a> {
                 reason,
                 header,
                 data,
-            } => put_error(
-                &mut ByteWriter::new(octets),
-                Message::DstUnreachable,
-                (*reason).into(),
-                0,
-                header,
-                data,
-            ),
+            } => {
+                let code = (*reason).into();
+                write_error(octets, Message::DstUnreachable, code, 0, header, data);
+            }
             Repr::PktTooBig { mtu, header, data } => {
-                put_error(
-                    &mut ByteWriter::new(octets),
-                    Message::PktTooBig,
-                    0,
-                    *mtu,
-                    header,
-                    data,
-                );
+                write_error(octets, Message::PktTooBig, 0, *mtu, header, data);
             }
             Repr::TimeExceeded {
                 reason,
                 header,
                 data,
-            } => put_error(
-                &mut ByteWriter::new(octets),
-                Message::TimeExceeded,
-                (*reason).into(),
-                0,
-                header,
-                data,
-            ),
+            } => {
+                let code = (*reason).into();
+                write_error(octets, Message::TimeExceeded, code, 0, header, data);
+            }
             Repr::ParamProblem {
                 reason,
                 pointer,
                 header,
                 data,
-            } => put_error(
-                &mut ByteWriter::new(octets),
-                Message::ParamProblem,
-                (*reason).into(),
-                *pointer,
-                header,
-                data,
-            ),
+            } => {
+                let code = (*reason).into();
+                write_error(octets, Message::ParamProblem, code, *pointer, header, data);
+            }
             Repr::EchoRequest {
                 ident,
                 seq_no,
                 data,
-            } => put_echo(
-                &mut ByteWriter::new(octets),
-                Message::EchoRequest,
-                *ident,
-                *seq_no,
-                data,
-            ),
+            } => write_echo(octets, Message::EchoRequest, *ident, *seq_no, data),
             Repr::EchoReply {
                 ident,
                 seq_no,
                 data,
-            } => put_echo(
-                &mut ByteWriter::new(octets),
-                Message::EchoReply,
-                *ident,
-                *seq_no,
-                data,
-            ),
+            } => write_echo(octets, Message::EchoReply, *ident, *seq_no, data),
             Repr::Mld(message) => message.emit_into(octets),
             Repr::Ndisc(message) => message.emit_into(octets),
         }
+    }
+}
+
+// The error in octets of such a type.
+fn read_error<'a>(packet: &Packet<&'a [u8]>) -> Result<Repr<'a>>
+    requires whole { BeginsWhole (view_octets packet.now) }
+    requires kind { message_number (message_in (view_octets packet.now)) < 128 }
+    ensures sound { IfOk result (λ repr. IsContent (view_octets packet.now) (value_of repr)) }
+    ensures reads { (value : MessageValue) → IsContent (view_octets packet.now) value
+        → IsOk result }
+{
+    let payload = packet.payload();
+    if payload.len() < IPV6_HEADER_LEN {
+        return Err(Error);
+    }
+    let (header, data) = read_quote(payload);
+    match (packet.msg_type(), packet.msg_code()) {
+        (Message::DstUnreachable, code) => Ok(Repr::DstUnreachable {
+            reason: code.into(),
+            header,
+            data,
+        }),
+        (Message::PktTooBig, 0) => Ok(Repr::PktTooBig {
+            mtu: packet.pkt_too_big_mtu(),
+            header,
+            data,
+        }),
+        (Message::TimeExceeded, code) => Ok(Repr::TimeExceeded {
+            reason: code.into(),
+            header,
+            data,
+        }),
+        (Message::ParamProblem, code) => Ok(Repr::ParamProblem {
+            reason: code.into(),
+            pointer: packet.param_problem_ptr(),
+            header,
+            data,
+        }),
+        _ => Err(Error),
     }
 }
 
@@ -373,6 +346,16 @@ fn read_neighbor<'a>(packet: &Packet<&'a [u8]>) -> Result<Repr<'a>>
         Ok(message) => Ok(Repr::Ndisc(message)),
         Err(_) => Err(Error),
     }
+}
+
+// Writes an echo of this type over the front of the octets.
+#[tactic(auto, using(wirebase::proofs::Chains::chain))]
+fn write_echo(octets: &mut [u8], kind: Message, ident: u16, seq_no: u16, data: &[u8])
+    requires { Reaches header octets.old }
+    ensures { octets.new ≡ over octets.old
+        (fields (echo_fields (message_number kind) ident seq_no «data».now)) }
+{
+    put_echo(&mut ByteWriter::new(octets), kind, ident, seq_no, data);
 }
 
 // Writes an echo of this type, as much of its data as there is room for.

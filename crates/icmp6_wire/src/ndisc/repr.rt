@@ -5,22 +5,26 @@ ghost use Rattle.std.specs.Prelude.{◌≡◌, ◌+◌, ◌<◌, ◌≤◌, ◌^
 ghost use Rattle.std.specs.Option.{option_map};
 ghost use Rattle.wirebase.specs.ByteWriter.{free, Puts, the_slice, be8, be16, be32};
 ghost use Rattle.wirebase.specs.Format.{Rewrites, SameText};
-ghost use Rattle.opt_wire.specs.NdiscOptionRepr.{value_of as option_value, text as text_of_option};
-ghost use Rattle.opt_wire.specs.NdiscOptionRepr.{text_len as len_of_option, CanEmit as CanEmitOption};
+ghost use Rattle.opt_wire.specs.NdiscOptionRepr.{CanEmit as CanEmitOption};
 ghost use Rattle.icmp6_wire.specs.Icmpv6Packet.{inner, view_octets};
-ghost use Rattle.icmp6_wire.specs.Ndisc.{NdiscValue, value_of, sources, targets, mtus, prefixes, packets, option_text};
-ghost use Rattle.icmp6_wire.specs.Ndisc.{option_len, IfThere, message_fields, text, text_len, CanEmit, IsMessage};
-ghost use Rattle.icmp6_wire.specs.Ndisc.{format, Emits};
+ghost use Rattle.icmp6_wire.specs.Ndisc.{NdiscValue, value_of, sources, mtus, prefixes, option_lens, option_texts};
+ghost use Rattle.icmp6_wire.specs.Ndisc.{Each, message_fields, text};
+ghost use Rattle.icmp6_wire.specs.Ndisc.{router_solicit, neighbor_solicit, neighbor_advert, redirect};
+ghost use Rattle.icmp6_wire.specs.Ndisc.{text_len, CanEmit, IsMessage, format, Emits};
 ghost use Rattle.icmp6_wire.specs.NdiscFound.{packet_of};
 ghost use Rattle.icmp6_wire.specs.Icmpv6Tables.{message_number};
 ghost use Rattle.icmp6_wire.specs.NdiscPacket.{seconds, millis};
+ghost use Rattle.icmp6_wire.specs.NdiscTables.{router_bits};
 
 use super::field;
 use super::flags::{NeighborFlags, RouterFlags};
 use super::found::Found;
+use super::options::{
+    mtu_option, option_len, prefix_option, put_option, redirected_option, source_option,
+    target_option,
+};
 use crate::icmpv6::{Message, Packet};
 use bitflags::Flags as _;
-use opt_wire::ndiscoption;
 use opt_wire::ndiscoption::{PrefixInformation, RedirectedHeader};
 use wirebase::{
     ByteWriter, Duration, Error, Ipv6Address, OctetsMut, RawHardwareAddress, Result, are_bytes,
@@ -218,10 +222,7 @@ impl<'a> Repr<'a> {
         ensures same_slice { the_slice w.new ≡ the_slice w.old }
     {
         match *self {
-            Repr::RouterSolicit { lladdr } => {
-                put_reserved(w, Message::RouterSolicit);
-                put_option(w, &source_option(lladdr));
-            }
+            Repr::RouterSolicit { lladdr } => put_router_solicit(w, lladdr),
             Repr::RouterAdvert {
                 hop_limit,
                 flags,
@@ -232,109 +233,129 @@ impl<'a> Repr<'a> {
                 mtu,
                 prefix_info,
             } => {
-                put_type(w, Message::RouterAdvert);
-                w.put_u8(hop_limit);
-                w.put_u8(flags.bits());
+                put_router(w, hop_limit, flags);
                 put_times(w, router_lifetime, reachable_time, retrans_time);
-                put_option(w, &source_option(lladdr));
-                put_option(w, &mtu_option(mtu));
-                put_option(w, &prefix_option(prefix_info));
+                put_router_options(w, lladdr, mtu, prefix_info);
             }
             Repr::NeighborSolicit {
                 target_addr,
                 lladdr,
-            } => {
-                put_reserved(w, Message::NeighborSolicit);
-                w.put_bytes(&target_addr.octets());
-                put_option(w, &source_option(lladdr));
-            }
+            } => put_neighbor_solicit(w, target_addr, lladdr),
             Repr::NeighborAdvert {
                 flags,
                 target_addr,
                 lladdr,
-            } => {
-                put_type(w, Message::NeighborAdvert);
-                w.put_u8(flags.bits());
-                w.put_u8(0);
-                w.put_u16(0);
-                w.put_bytes(&target_addr.octets());
-                put_option(w, &target_option(lladdr));
-            }
+            } => put_neighbor_advert(w, flags, target_addr, lladdr),
             Repr::Redirect {
                 target_addr,
                 dest_addr,
                 lladdr,
                 redirected_hdr,
-            } => {
-                put_reserved(w, Message::Redirect);
-                w.put_bytes(&target_addr.octets());
-                w.put_bytes(&dest_addr.octets());
-                put_option(w, &target_option(lladdr));
-                put_option(w, &redirected_option(redirected_hdr));
-            }
+            } => put_redirect(w, target_addr, dest_addr, lladdr, redirected_hdr),
         }
     }
 }
 
-// The option of a link-layer address of the sender.
-fn source_option<'a>(lladdr: Option<RawHardwareAddress>) -> Option<ndiscoption::Repr<'a>>
-    ensures { option_map option_value result ≡ sources lladdr }
+// Writes a router solicitation.
+fn put_router_solicit(w: &mut ByteWriter<'_>, lladdr: Option<RawHardwareAddress>)
+    requires sound { CanEmit (router_solicit lladdr) }
+    requires room { text_len (router_solicit lladdr) ≤ length (free w.old) }
+    ensures puts { Puts w.old w.new (message_fields (router_solicit lladdr)) }
+    ensures same_slice { the_slice w.new ≡ the_slice w.old }
 {
-    match lladdr {
-        Some(addr) => Some(ndiscoption::Repr::SourceLinkLayerAddr(addr)),
-        None => None,
-    }
+    put_reserved(w, Message::RouterSolicit);
+    put_option(w, &source_option(lladdr));
 }
 
-// The option of a link-layer address of the target.
-fn target_option<'a>(lladdr: Option<RawHardwareAddress>) -> Option<ndiscoption::Repr<'a>>
-    ensures { option_map option_value result ≡ targets lladdr }
+// Writes a router advertisement up to its times.
+fn put_router(w: &mut ByteWriter<'_>, hop_limit: u8, flags: RouterFlags)
+    requires room { 6 ≤ length (free w.old) }
+    ensures puts { Puts w.old w.new
+        (be8 0x86 ∷ be8 0 ∷ be16 0 ∷ be8 hop_limit ∷ be8 (router_bits flags) ∷ []) }
+    ensures room { length (free w.old) ≡ 6 + length (free w.new) }
+    ensures same_slice { the_slice w.new ≡ the_slice w.old }
 {
-    match lladdr {
-        Some(addr) => Some(ndiscoption::Repr::TargetLinkLayerAddr(addr)),
-        None => None,
-    }
+    put_type(w, Message::RouterAdvert);
+    w.put_u8(hop_limit);
+    w.put_u8(flags.bits());
 }
 
-// The option of an MTU.
-fn mtu_option<'a>(mtu: Option<u32>) -> Option<ndiscoption::Repr<'a>>
-    ensures { option_map option_value result ≡ mtus mtu }
+// Writes the options of a router advertisement.
+fn put_router_options(
+    w: &mut ByteWriter<'_>,
+    lladdr: Option<RawHardwareAddress>,
+    mtu: Option<u32>,
+    prefix_info: Option<PrefixInformation>,
+)
+    requires sound { Each CanEmitOption (sources lladdr ∷ mtus mtu ∷ prefixes prefix_info ∷ []) }
+    requires room { option_lens (sources lladdr ∷ mtus mtu ∷ prefixes prefix_info ∷ [])
+        ≤ length (free w.old) }
+    ensures puts { Puts w.old w.new
+        (option_texts (sources lladdr ∷ mtus mtu ∷ prefixes prefix_info ∷ [])) }
+    ensures same_slice { the_slice w.new ≡ the_slice w.old }
 {
-    match mtu {
-        Some(mtu) => Some(ndiscoption::Repr::Mtu(mtu)),
-        None => None,
-    }
+    put_option(w, &source_option(lladdr));
+    put_option(w, &mtu_option(mtu));
+    put_option(w, &prefix_option(prefix_info));
 }
 
-// The option of a prefix.
-fn prefix_option<'a>(prefix_info: Option<PrefixInformation>) -> Option<ndiscoption::Repr<'a>>
-    ensures { option_map option_value result ≡ prefixes prefix_info }
+// Writes a neighbor solicitation.
+fn put_neighbor_solicit(
+    w: &mut ByteWriter<'_>,
+    target_addr: Ipv6Address,
+    lladdr: Option<RawHardwareAddress>,
+)
+    requires sound { CanEmit (neighbor_solicit target_addr lladdr) }
+    requires room { text_len (neighbor_solicit target_addr lladdr) ≤ length (free w.old) }
+    ensures puts { Puts w.old w.new (message_fields (neighbor_solicit target_addr lladdr)) }
+    ensures same_slice { the_slice w.new ≡ the_slice w.old }
 {
-    match prefix_info {
-        Some(info) => Some(ndiscoption::Repr::PrefixInformation(info)),
-        None => None,
-    }
+    put_reserved(w, Message::NeighborSolicit);
+    w.put_bytes(&target_addr.octets());
+    put_option(w, &source_option(lladdr));
 }
 
-// The option of a redirected packet.
-fn redirected_option(header: Option<RedirectedHeader<'_>>) -> Option<ndiscoption::Repr<'_>>
-    ensures { option_map option_value result ≡ packets (option_map packet_of header.entry) }
+// Writes a neighbor advertisement.
+fn put_neighbor_advert(
+    w: &mut ByteWriter<'_>,
+    flags: NeighborFlags,
+    target_addr: Ipv6Address,
+    lladdr: Option<RawHardwareAddress>,
+)
+    requires sound { CanEmit (neighbor_advert flags target_addr lladdr) }
+    requires room { text_len (neighbor_advert flags target_addr lladdr) ≤ length (free w.old) }
+    ensures puts { Puts w.old w.new (message_fields (neighbor_advert flags target_addr lladdr)) }
+    ensures same_slice { the_slice w.new ≡ the_slice w.old }
 {
-    match header {
-        Some(header) => Some(ndiscoption::Repr::RedirectedHeader(header)),
-        None => None,
-    }
+    put_type(w, Message::NeighborAdvert);
+    w.put_u8(flags.bits());
+    w.put_u8(0);
+    w.put_u16(0);
+    w.put_bytes(&target_addr.octets());
+    put_option(w, &target_option(lladdr));
 }
 
-// The bytes of an option, where there is one.
-fn option_len(option: &Option<ndiscoption::Repr<'_>>) -> usize
-    requires { option_len (option_map option_value option.now) < 2 ^ 64 }
-    ensures { result ≡ option_len (option_map option_value option.now) }
+// Writes a redirect.
+fn put_redirect(
+    w: &mut ByteWriter<'_>,
+    target_addr: Ipv6Address,
+    dest_addr: Ipv6Address,
+    lladdr: Option<RawHardwareAddress>,
+    header: Option<RedirectedHeader<'_>>,
+)
+    requires sound { CanEmit
+        (redirect target_addr dest_addr lladdr (option_map packet_of header)) }
+    requires room { text_len (redirect target_addr dest_addr lladdr (option_map packet_of header))
+        ≤ length (free w.old) }
+    ensures puts { Puts w.old w.new (message_fields
+        (redirect target_addr dest_addr lladdr (option_map packet_of header.entry))) }
+    ensures same_slice { the_slice w.new ≡ the_slice w.old }
 {
-    match option {
-        Some(option) => option.buffer_len(),
-        None => 0,
-    }
+    put_reserved(w, Message::Redirect);
+    w.put_bytes(&target_addr.octets());
+    w.put_bytes(&dest_addr.octets());
+    put_option(w, &target_option(lladdr));
+    put_option(w, &redirected_option(header));
 }
 
 // Writes the type, the code 0 and no checksum.
@@ -374,34 +395,4 @@ fn put_times(w: &mut ByteWriter<'_>, lifetime: Duration, reachable: Duration, re
     w.put_u16(lifetime.secs() as u16);
     w.put_u32(reachable.total_millis() as u32);
     w.put_u32(retrans.total_millis() as u32);
-}
-
-// Writes an option, where there is one.
-fn put_option(w: &mut ByteWriter<'_>, option: &Option<ndiscoption::Repr<'_>>)
-    requires sound { IfThere CanEmitOption (option_map option_value option.now) }
-    requires small { option_len (option_map option_value option.now) < 2 ^ 64 }
-    requires room { option_len (option_map option_value option.now) ≤ length (free w.old) }
-    ensures puts { Puts w.old w.new (option_text (option_map option_value option.now) ∷ []) }
-    ensures room { length (free w.old)
-        ≡ option_len (option_map option_value option.now) + length (free w.new) }
-    ensures same_slice { the_slice w.new ≡ the_slice w.old }
-{
-    match option {
-        Some(option) => put_some(w, option),
-        None => w.put_bytes(&[]),
-    }
-}
-
-// Writes an option.
-#[tactic(auto, using(wirebase::proofs::Chains::parts, opt_wire::proofs::NdiscOptionTexts::texts))]
-fn put_some(w: &mut ByteWriter<'_>, option: &ndiscoption::Repr<'_>)
-    requires sound { CanEmitOption (option_value option.now) }
-    requires small { len_of_option (option_value option.now) < 2 ^ 64 }
-    requires room { len_of_option (option_value option.now) ≤ length (free w.old) }
-    ensures puts { Puts w.old w.new (text_of_option (option_value option.now) ∷ []) }
-    ensures room { length (free w.old)
-        ≡ len_of_option (option_value option.now) + length (free w.new) }
-    ensures same_slice { the_slice w.new ≡ the_slice w.old }
-{
-    option.emit_into(w.part(option.buffer_len()));
 }

@@ -1,16 +1,10 @@
-use Rattle.dhcp_wire.proofs.Dhcpv4Emission.{next}
+use Rattle.std.proofs.Common.{drop, ap, ◌∙◌}
+use Rattle.dhcp_wire.specs.Dhcpv4.{slots_of, value_of}
+use Rattle.dhcp_wire.specs.Dhcpv4Emission.{Progress, steps}
 use Rattle.dhcp_wire.proofs.dhcpv4.repr.Repr.put_fields.Goals as goal
 
 pub returns-clause-steps : goal.returns-clause-steps
 returns-clause-steps c =
-    let first = next _ _ _ _ c.put_message_type-so_far.ensures.step c.put_identifier-so_far.ensures.step in
-    let server = next _ _ _ _ first c.put_address-so_far.ensures.step in
-    let router = next _ _ _ _ server c.put_address-so_far-2.ensures.step in
-    let mask = next _ _ _ _ router c.put_address-so_far-3.ensures.step in
-    let requested = next _ _ _ _ mask c.put_address-so_far-4.ensures.step in
-    let size = next _ _ _ _ requested c.put_size-so_far.ensures.step in
-    let lease = next _ _ _ _ size c.put_seconds-so_far.ensures.step in
-    let renewal = next _ _ _ _ lease c.put_seconds-so_far-2.ensures.step in
-    let rebinding = next _ _ _ _ renewal c.put_seconds-so_far-3.ensures.step in
-    let list = next _ _ _ _ rebinding c.put-so_far.ensures.step in
-    next _ _ _ _ list c.put_addresses.ensures.step
+    c.put_times_and_lists.ensures.steps
+    ∙ ap (λ (p : Progress). steps p (drop 7 (slots_of (value_of c.args.self.now))))
+    c.put_addresses_and_size-so_far.ensures.steps

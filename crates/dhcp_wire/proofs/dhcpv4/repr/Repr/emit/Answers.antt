@@ -1,0 +1,10 @@
+use Rattle.std.proofs.Common.{ℕ, List, sym}
+use Rattle.wirebase.proofs.Chains.{lent}
+use Rattle.dhcp_wire.specs.Dhcpv4.{value_of}
+use Rattle.dhcp_wire.specs.Dhcpv4Format.{Emits}
+use Rattle.dhcp_wire.proofs.dhcpv4.repr.Repr.emit.Goals as goal
+
+pub returns-clause-emits : goal.returns-clause-emits
+returns-clause-emits g c =
+    lent (λ (old new : List ℕ). Emits (value_of c.args.self.now) old c.emit_into.result new) c.octets_mut.ensures.value
+    (sym (g.met.T.OctetsMut.bytes_put c.args.packet.now.buffer _)) c.emit_into.ensures

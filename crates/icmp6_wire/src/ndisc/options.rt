@@ -1,0 +1,110 @@
+//! The options of a message that is written, each there or not.
+#![tactic(auto, using(wirebase::proofs::Pieces::pieces))]
+
+ghost use Rattle.std.specs.Prelude.{◌≡◌, ◌+◌, ◌<◌, ◌≤◌, ◌^◌, [], ◌∷◌, length};
+ghost use Rattle.std.specs.Option.{option_map};
+ghost use Rattle.wirebase.specs.ByteWriter.{free, Puts, the_slice};
+ghost use Rattle.opt_wire.specs.NdiscOptionRepr.{value_of as option_value, text as text_of_option};
+ghost use Rattle.opt_wire.specs.NdiscOptionRepr.{text_len as len_of_option, CanEmit as CanEmitOption};
+ghost use Rattle.icmp6_wire.specs.Ndisc.{sources, targets, mtus, prefixes, packets};
+ghost use Rattle.icmp6_wire.specs.Ndisc.{option_text, option_len, IfThere};
+ghost use Rattle.icmp6_wire.specs.NdiscFound.{packet_of};
+
+use opt_wire::ndiscoption;
+use opt_wire::ndiscoption::{PrefixInformation, RedirectedHeader};
+use wirebase::{ByteWriter, RawHardwareAddress};
+
+// The option of a link-layer address of the sender.
+pub(super) fn source_option<'a>(lladdr: Option<RawHardwareAddress>) -> Option<ndiscoption::Repr<'a>>
+    ensures { option_map option_value result ≡ sources lladdr }
+{
+    match lladdr {
+        Some(addr) => Some(ndiscoption::Repr::SourceLinkLayerAddr(addr)),
+        None => None,
+    }
+}
+
+// The option of a link-layer address of the target.
+pub(super) fn target_option<'a>(lladdr: Option<RawHardwareAddress>) -> Option<ndiscoption::Repr<'a>>
+    ensures { option_map option_value result ≡ targets lladdr }
+{
+    match lladdr {
+        Some(addr) => Some(ndiscoption::Repr::TargetLinkLayerAddr(addr)),
+        None => None,
+    }
+}
+
+// The option of an MTU.
+pub(super) fn mtu_option<'a>(mtu: Option<u32>) -> Option<ndiscoption::Repr<'a>>
+    ensures { option_map option_value result ≡ mtus mtu }
+{
+    match mtu {
+        Some(mtu) => Some(ndiscoption::Repr::Mtu(mtu)),
+        None => None,
+    }
+}
+
+// The option of a prefix.
+pub(super) fn prefix_option<'a>(
+    prefix_info: Option<PrefixInformation>,
+) -> Option<ndiscoption::Repr<'a>>
+    ensures { option_map option_value result ≡ prefixes prefix_info }
+{
+    match prefix_info {
+        Some(info) => Some(ndiscoption::Repr::PrefixInformation(info)),
+        None => None,
+    }
+}
+
+// The option of a redirected packet.
+pub(super) fn redirected_option(
+    header: Option<RedirectedHeader<'_>>,
+) -> Option<ndiscoption::Repr<'_>>
+    ensures { option_map option_value result ≡ packets (option_map packet_of header.entry) }
+{
+    match header {
+        Some(header) => Some(ndiscoption::Repr::RedirectedHeader(header)),
+        None => None,
+    }
+}
+
+// The bytes of an option, where there is one.
+pub(super) fn option_len(option: &Option<ndiscoption::Repr<'_>>) -> usize
+    requires { option_len (option_map option_value option.now) < 2 ^ 64 }
+    ensures { result ≡ option_len (option_map option_value option.now) }
+{
+    match option {
+        Some(option) => option.buffer_len(),
+        None => 0,
+    }
+}
+
+// Writes an option, where there is one.
+pub(super) fn put_option(w: &mut ByteWriter<'_>, option: &Option<ndiscoption::Repr<'_>>)
+    requires sound { IfThere CanEmitOption (option_map option_value option.now) }
+    requires small { option_len (option_map option_value option.now) < 2 ^ 64 }
+    requires room { option_len (option_map option_value option.now) ≤ length (free w.old) }
+    ensures puts { Puts w.old w.new (option_text (option_map option_value option.now) ∷ []) }
+    ensures room { length (free w.old)
+        ≡ option_len (option_map option_value option.now) + length (free w.new) }
+    ensures same_slice { the_slice w.new ≡ the_slice w.old }
+{
+    match option {
+        Some(option) => put_some(w, option),
+        None => w.put_bytes(&[]),
+    }
+}
+
+// Writes an option.
+#[tactic(auto, using(wirebase::proofs::Chains::parts, opt_wire::proofs::NdiscOptionTexts::texts))]
+fn put_some(w: &mut ByteWriter<'_>, option: &ndiscoption::Repr<'_>)
+    requires sound { CanEmitOption (option_value option.now) }
+    requires small { len_of_option (option_value option.now) < 2 ^ 64 }
+    requires room { len_of_option (option_value option.now) ≤ length (free w.old) }
+    ensures puts { Puts w.old w.new (text_of_option (option_value option.now) ∷ []) }
+    ensures room { length (free w.old)
+        ≡ len_of_option (option_value option.now) + length (free w.new) }
+    ensures same_slice { the_slice w.new ≡ the_slice w.old }
+{
+    option.emit_into(w.part(option.buffer_len()));
+}
