@@ -3,7 +3,7 @@
 #![tactic(auto, using(crate::proofs::Printing::gains_both))]
 
 ghost use Rattle.std.specs.Prelude.{◌≡◌, IfOk, IsErr, OnOk};
-ghost use Rattle.opt_wire.specs.NdiscOptionRepr.{OptionValue, value_of, BeginsWith};
+ghost use Rattle.opt_wire.specs.NdiscOptionRepr.{OptionValue, prefix_, redirected, unknown, value_of, BeginsWith};
 ghost use Rattle.wiredump.specs.ListingNdopt.{NdoptPrints, ndopt_listing, prefix_listing, redirected_listing};
 ghost use Rattle.wiredump.specs.Output.{Gains, GainsSome};
 
@@ -45,26 +45,42 @@ fn show_option<W: Write>(output: &mut W, option: &Repr<'_>) -> io::Result<()>
         Repr::TargetLinkLayerAddr(address) => {
             field(output, "TargetLinkLayerAddr", address.as_bytes())
         }
-        Repr::PrefixInformation(prefix) => {
-            line(output, "PrefixInformation")?;
-            show_prefix(output, "", &prefix)
-        }
-        Repr::RedirectedHeader(redirected) => {
-            line(output, "RedirectedHeader")?;
-            show_redirected(output, "header.", "", &redirected)
-        }
+        Repr::PrefixInformation(prefix) => show_prefix_information(output, &prefix),
+        Repr::RedirectedHeader(redirected) => show_redirected_header(output, &redirected),
         Repr::Mtu(mtu) => field(output, "Mtu", mtu),
         Repr::Unknown {
             type_,
             length,
             data,
-        } => {
-            line(output, "Unknown")?;
-            field(output, "type_", type_)?;
-            field(output, "length", length)?;
-            field(output, "data", data)
-        }
+        } => show_unknown(output, type_, length, data),
     }
+}
+
+fn show_prefix_information<W: Write>(output: &mut W, prefix: &PrefixInformation) -> io::Result<()>
+    ensures { OnOk result (Gains (W.contents output.old) (W.contents output.new)
+        (ndopt_listing (prefix_ prefix.now))) }
+{
+    line(output, "PrefixInformation")?;
+    show_prefix(output, "", prefix)
+}
+
+fn show_redirected_header<W: Write>(output: &mut W, packet: &RedirectedHeader<'_>) -> io::Result<()>
+    ensures { OnOk result (Gains (W.contents output.old) (W.contents output.new)
+        (ndopt_listing (redirected packet.now.header packet.now.«data».now))) }
+{
+    line(output, "RedirectedHeader")?;
+    show_redirected(output, "header.", "", packet)
+}
+
+/// Prints an unknown option of either kind.
+pub fn show_unknown<W: Write>(output: &mut W, type_: u8, length: u8, data: &[u8]) -> io::Result<()>
+    ensures { OnOk result (Gains (W.contents output.old) (W.contents output.new)
+        (ndopt_listing (unknown type_ length «data».now))) }
+{
+    line(output, "Unknown")?;
+    field(output, "type_", type_)?;
+    field(output, "length", length)?;
+    field(output, "data", data)
 }
 
 /// Prints a prefix, as a part whose name and a dot are `part`.
