@@ -14,7 +14,7 @@ use Rattle.wirebase.specs.Ipv4.{octets_of}
 use Rattle.wirebase.specs.Numbered.{IsProper}
 use Rattle.wirebase.specs.declared.ipv4.Ipv4Address.{Ipv4Address}
 use Rattle.wirebase.proofs.ByteParts.{IsBytes-drop, IsBytes-front, IsBytes-rest}
-use Rattle.wirebase.proofs.Numbered.{case_in-proper}
+use Rattle.wirebase.proofs.Numbered.{case-read}
 use Rattle.wirebase.specs.LastOf.{last_of}
 use Rattle.dhcp_wire.specs.declared.dhcpv4.tables.MessageType.{MessageType}
 use Rattle.dhcp_wire.specs.declared.dhcpv4.tables.MessageType.TheVariants as message
@@ -24,7 +24,7 @@ use Rattle.dhcp_wire.specs.Dhcpv4Format.{AllShort, AreAdditional, IsBelow, IsFew
 use Rattle.dhcp_wire.specs.Dhcpv4Options.{OptionValue, option, option_text, Options, none, ended, padded, lone, torn}
 use Rattle.dhcp_wire.specs.Dhcpv4Options.{goes_on}
 use Rattle.dhcp_wire.specs.Dhcpv4Packet.{op_field}
-use Rattle.dhcp_wire.specs.Dhcpv4Tables.{message_number, message_of, message_rows}
+use Rattle.dhcp_wire.specs.Dhcpv4Tables.{message_number, messages, message_of, message_rows}
 use Rattle.dhcp_wire.proofs.Dhcpv4Lengths.{octets-len, be16-len, be32-len, text_len-options, text_len-whole}
 
 -- ---- what holds of each option holds of the last
@@ -149,28 +149,18 @@ map-within f n long (Some x) = omega (arith, long x)
 -- ---- the type of a message
 
 is_unknown : MessageType → Bool
-is_unknown message.Discover = false
-is_unknown message.Offer = false
-is_unknown message.Request = false
-is_unknown message.Decline = false
-is_unknown message.Ack = false
-is_unknown message.Nak = false
-is_unknown message.Release = false
-is_unknown message.Inform = false
 is_unknown (message.Unknown n) = true
-
-named : (n : ℕ) → IsProper message.Unknown message_rows (message_of n)
-unfolding is_unknown
-named n = case_in-proper message_number message.Unknown (λ k. refl) is_unknown (λ k. refl) message_rows n refl
+is_unknown _ = false
 
 type-small : (op : ℕ) (o : OptionValue) (t : MessageType) → IsSmall o → said 53 (type_in op) o ≡ Some t
     → IsProper message.Unknown message_rows t
+unfolding is_unknown
 type-small op o t small e =
     let n : ℕ = slice_index o.body 0 in
     let one : type_in op o.body ≡ Some t = where-true (eqb o.kind 53) (type_in op o.body) t e in
     let two : Some (message_of n) ≡ Some t = where-true _ (Some (message_of n)) t one in
-    let same : message_of n ≡ t = cc in
-    subst (λ (m : MessageType). IsProper message.Unknown message_rows m) same (named n)
+    let same : t ≡ message_of n = cc in
+    (case-read message_number message.Unknown (λ k. refl) is_unknown (λ k. refl) messages n refl same).0
 
 -- ---- the options of the fields
 

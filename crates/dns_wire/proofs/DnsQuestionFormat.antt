@@ -9,7 +9,7 @@ use Rattle.wirebase.specs.Format.{Rewrites, SameText}
 use Rattle.wirebase.specs.Numbered.{IsProper}
 use Rattle.wirebase.proofs.ByteParts.{IsBytes-drop, number_of-small}
 use Rattle.wirebase.proofs.Format.{IsFormat, round_trips, same_text}
-use Rattle.wirebase.proofs.Numbered.{case_in-unnamed, number-case_in, case_in-proper}
+use Rattle.wirebase.proofs.Numbered.{case_in-unnamed, case-read}
 use Rattle.wirebase.proofs.Pieces.{over-exact, over-fits}
 use Rattle.dns_wire.specs.declared.dns.tables.Type.{«Type» as RecordType}
 use Rattle.dns_wire.specs.declared.dns.tables.Type.TheVariants as kind
@@ -28,12 +28,9 @@ pub type_of-number : (t : RecordType) → IsProper kind.Unknown type_rows t → 
 type_of-number (kind.Unknown n) p = sym (case_in-unnamed kind.Unknown type_rows n (p n refl))
 type_of-number _ p = refl
 
-pub type_of-proper : (n : ℕ) → IsProper kind.Unknown type_rows (type_of n)
+type-read : {t : RecordType} (n : ℕ) → t ≡ type_of n → IsProper kind.Unknown type_rows t × (type_number t ≡ n)
 unfolding is_unknown_type
-type_of-proper n = case_in-proper type_number kind.Unknown (λ k. refl) is_unknown_type (λ k. refl) type_rows n refl
-
-pub number-type_of : (n : ℕ) → type_number (type_of n) ≡ n
-number-type_of n = number-case_in type_number kind.Unknown (λ k. refl) types n
+type-read n is = case-read type_number kind.Unknown (λ k. refl) is_unknown_type (λ k. refl) types n refl is
 
 -- ---- the text
 
@@ -98,14 +95,14 @@ question_one bytes v w rest other h k =
 pub question_accepted : (bytes : List ℕ) (v : QuestionValue) (rest : List ℕ) → IsBytes bytes → length bytes ≤ 65535
     → IsQuestion bytes v rest → IsCanonical v
 question_accepted bytes v rest are small h =
-    let n = number_of type_field h.after in
+    let read = type-read (number_of type_field h.after) h.kind_ in
     let behind : IsBytes h.after =
     subst IsBytes (ap (λ t. drop (length v.name) t) h.whole ∙ drop_at v.name h.after (length v.name) refl)
     (IsBytes-drop (length v.name) bytes are) in
     record {
       name_ = h.name_;
-      proper = subst (λ t. IsProper kind.Unknown type_rows t) (sym h.kind_) (type_of-proper n);
-      fits = omega (arith, ap type_number h.kind_, number-type_of n, number_of-small 0 2 h.after refl behind);
+      proper = read.0;
+      fits = omega (arith, read.1, number_of-small 0 2 h.after refl behind);
       small = omega (arith, small, ap length h.whole, length-append v.name h.after, h.reaches);
     }
 

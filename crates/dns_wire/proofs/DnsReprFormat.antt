@@ -9,7 +9,7 @@ use Rattle.wirebase.specs.Format.{SameText}
 use Rattle.wirebase.specs.Numbered.{IsProper}
 use Rattle.wirebase.proofs.ByteParts.{IsBytes-drop, number_of-small}
 use Rattle.wirebase.proofs.Format.{IsFormat, round_trips, same_text}
-use Rattle.wirebase.proofs.Numbered.{case_in-unnamed, number-case_in, case_in-proper}
+use Rattle.wirebase.proofs.Numbered.{case_in-unnamed, case-read}
 use Rattle.wirebase.proofs.Pieces.{over-exact}
 use Rattle.dns_wire.specs.declared.dns.tables.Opcode.{Opcode}
 use Rattle.dns_wire.specs.declared.dns.tables.Opcode.TheVariants as opcode
@@ -31,13 +31,9 @@ opcode_of-number : (k : Opcode) → IsProper opcode.Unknown opcode_rows k → k 
 opcode_of-number (opcode.Unknown n) p = sym (case_in-unnamed opcode.Unknown opcode_rows n (p n refl))
 opcode_of-number _ p = refl
 
-opcode_of-proper : (n : ℕ) → IsProper opcode.Unknown opcode_rows (opcode_of n)
+opcode-read : {k : Opcode} (n : ℕ) → k ≡ opcode_of n → IsProper opcode.Unknown opcode_rows k × (opcode_number k ≡ n)
 unfolding is_unknown_opcode
-opcode_of-proper n =
-    case_in-proper opcode_number opcode.Unknown (λ k. refl) is_unknown_opcode (λ k. refl) opcode_rows n refl
-
-number-opcode_of : (n : ℕ) → opcode_number (opcode_of n) ≡ n
-number-opcode_of n = number-case_in opcode_number opcode.Unknown (λ k. refl) opcodes n
+opcode-read n is = case-read opcode_number opcode.Unknown (λ k. refl) is_unknown_opcode (λ k. refl) opcodes n refl is
 
 -- ---- the text
 
@@ -100,12 +96,13 @@ query_accepted : (bytes : List ℕ) (v : QueryValue) → IsBytes bytes → lengt
     → IsCanonical v
 query_accepted bytes v are small h =
     let word = number_of flags_field bytes in
+    let read = opcode-read (opcode_in word) h.kind_ in
     let asks = question_accepted (payload_in bytes) v.asks [] (IsBytes-drop 12 bytes are)
     (omega (arith, length-drop 12 bytes)) h.asks_ in
     record {
       id = omega (arith, h.id, number_of-small 0 2 bytes refl are);
-      proper = subst (λ k. IsProper opcode.Unknown opcode_rows k) (sym h.kind_) (opcode_of-proper (opcode_in word));
-      four_bits = omega (arith, ap opcode_number h.kind_, number-opcode_of (opcode_in word));
+      proper = read.0;
+      four_bits = omega (arith, read.1);
       known = subst IsKnown (sym h.flags_) (known-flags_in word);
       asks_ = asks;
       small = omega (

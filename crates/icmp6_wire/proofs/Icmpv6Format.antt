@@ -16,7 +16,8 @@ use Rattle.wirebase.specs.Ipv6.{next_header_field, hop_limit_field, IsHeader}
 use Rattle.wirebase.specs.Numbered.{IsProper}
 use Rattle.wirebase.proofs.ByteParts.{IsBytes-drop, number_of-small}
 use Rattle.wirebase.proofs.Format.{IsFormat, same_text-by}
-use Rattle.wirebase.proofs.Numbered.{number-case_in, case_in-proper}
+use Rattle.wirebase.proofs.IpProtocols.{protocol-read}
+use Rattle.wirebase.proofs.Numbered.{case-read}
 use Rattle.wirebase.proofs.WideParts.{number_of-small4}
 use Rattle.icmp6_wire.specs.declared.icmpv6.tables.DstUnreachable.{DstUnreachable}
 use Rattle.icmp6_wire.specs.declared.icmpv6.tables.DstUnreachable.TheVariants as reasons
@@ -39,10 +40,6 @@ use Rattle.icmp6_wire.proofs.Icmpv6Texts.{quoted-quoted, quoted-whole, message_t
 
 -- ---- what was read
 
-is_unknown_protocol : IpProtocol → Bool
-is_unknown_protocol (protocol.Unknown n) = true
-is_unknown_protocol _ = false
-
 is_unknown_reason : DstUnreachable → Bool
 is_unknown_reason (reasons.Unknown n) = true
 is_unknown_reason _ = false
@@ -56,75 +53,48 @@ is_unknown_time (times.Unknown n) = true
 is_unknown_time _ = false
 
 header-read_canonical : (bytes : List ℕ) (quoted : Ipv6Repr) → IsBytes bytes → IsHeader bytes quoted → CanQuote quoted
-unfolding is_unknown_protocol
 header-read_canonical bytes quoted are q =
-    let n : ℕ = byte_of next_header_field bytes in
-    let named : IsProper protocol.Unknown protocol_rows quoted.next_header =
-    subst (λ (p : IpProtocol). IsProper protocol.Unknown protocol_rows p) (sym q.protocol)
-    (case_in-proper protocol_number protocol.Unknown (λ k. refl) is_unknown_protocol
-    (λ k. refl) protocol_rows n refl) in
-    let number : protocol_number quoted.next_header ≡ n =
-    ap protocol_number q.protocol ∙ number-case_in protocol_number protocol.Unknown (λ k. refl) protocols n in
-    let fits : n < 256 = are 6 in
+    let read = protocol-read (byte_of next_header_field bytes) q.protocol in
+    let next : byte_of next_header_field bytes < 256 = are 6 in
     let hops : byte_of hop_limit_field bytes < 256 = are 7 in (
-      named,
-      omega (arith, number, fits),
+      read.0,
+      omega (arith, read.1, next),
       omega (arith, q.hops, hops),
       omega (arith, q.payload, number_of-small 4 6 bytes refl are),
     )
 
-reason-read : (reason : DstUnreachable) (n : ℕ) → n < 256 → reason ≡ unreachable_of n
-    → IsProper reasons.Unknown unreachable_rows reason × (unreachable_number reason < 256)
-unfolding is_unknown_reason
-reason-read reason n small e =
-    let number =
-    ap unreachable_number e ∙ number-case_in unreachable_number reasons.Unknown (λ k. refl) unreachables n in (
-      subst (λ (r : DstUnreachable). IsProper reasons.Unknown unreachable_rows r) (sym e)
-          (case_in-proper unreachable_number reasons.Unknown (λ k. refl) is_unknown_reason
-          (λ k. refl) unreachable_rows n refl),
-      omega (arith, number, small),
-    )
-
-problem-read : (reason : ParamProblem) (n : ℕ) → n < 256 → reason ≡ param_problem_of n
-    → IsProper problems.Unknown param_problem_rows reason × (param_problem_number reason < 256)
-unfolding is_unknown_problem
-problem-read reason n small e =
-    let number =
-    ap param_problem_number e ∙ number-case_in param_problem_number problems.Unknown (λ k. refl) param_problems n in (
-      subst (λ (r : ParamProblem). IsProper problems.Unknown param_problem_rows r) (sym e)
-          (case_in-proper param_problem_number problems.Unknown (λ k. refl) is_unknown_problem
-          (λ k. refl) param_problem_rows n refl),
-      omega (arith, number, small),
-    )
-
-time-read : (reason : TimeExceeded) (n : ℕ) → n < 256 → reason ≡ time_exceeded_of n
-    → IsProper times.Unknown time_exceeded_rows reason × (time_exceeded_number reason < 256)
-unfolding is_unknown_time
-time-read reason n small e =
-    let number =
-    ap time_exceeded_number e ∙ number-case_in time_exceeded_number times.Unknown (λ k. refl) time_exceededs n in (
-      subst (λ (r : TimeExceeded). IsProper times.Unknown time_exceeded_rows r) (sym e)
-          (case_in-proper time_exceeded_number times.Unknown (λ k. refl) is_unknown_time
-          (λ k. refl) time_exceeded_rows n refl),
-      omega (arith, number, small),
-    )
-
 content-canonical : (bytes : List ℕ) (v : MessageValue) → IsBytes bytes → 8 ≤ length bytes → length bytes ≤ 65515
     → IsContent bytes v → IsCanonical v
+unfolding is_unknown_reason is_unknown_problem is_unknown_time
 content-canonical bytes (unreachable reason quoted d) are some small m =
-    let read = reason-read reason (byte_of code_field bytes) (are 1) m.1 in
-    (read.0, read.1, header-read_canonical (data_in bytes) quoted (IsBytes-drop 8 bytes are) m.0.header_)
+    let read =
+    case-read unreachable_number reasons.Unknown (λ k. refl) is_unknown_reason (λ k. refl) unreachables
+    (byte_of code_field bytes) refl m.1 in
+    let code = are 1 in (
+      read.0,
+      omega (arith, read.1, code),
+      header-read_canonical (data_in bytes) quoted (IsBytes-drop 8 bytes are) m.0.header_,
+    )
 content-canonical bytes (too_big mtu quoted d) are some small m = (
   omega (arith, m.2, number_of-small4 4 8 bytes refl are),
   header-read_canonical (data_in bytes) quoted (IsBytes-drop 8 bytes are) m.0.header_,
 )
 content-canonical bytes (time_exceeded reason quoted d) are some small m =
-    let read = time-read reason (byte_of code_field bytes) (are 1) m.1 in
-    (read.0, read.1, header-read_canonical (data_in bytes) quoted (IsBytes-drop 8 bytes are) m.0.header_)
-content-canonical bytes (param_problem reason pointer quoted d) are some small m =
-    let read = problem-read reason (byte_of code_field bytes) (are 1) m.1 in (
+    let read =
+    case-read time_exceeded_number times.Unknown (λ k. refl) is_unknown_time (λ k. refl) time_exceededs
+    (byte_of code_field bytes) refl m.1 in
+    let code = are 1 in (
       read.0,
-      read.1,
+      omega (arith, read.1, code),
+      header-read_canonical (data_in bytes) quoted (IsBytes-drop 8 bytes are) m.0.header_,
+    )
+content-canonical bytes (param_problem reason pointer quoted d) are some small m =
+    let read =
+    case-read param_problem_number problems.Unknown (λ k. refl) is_unknown_problem (λ k. refl) param_problems
+    (byte_of code_field bytes) refl m.1 in
+    let code = are 1 in (
+      read.0,
+      omega (arith, read.1, code),
       omega (arith, m.2, number_of-small4 4 8 bytes refl are),
       header-read_canonical (data_in bytes) quoted (IsBytes-drop 8 bytes are) m.0.header_,
     )

@@ -14,7 +14,7 @@ use Rattle.wirebase.specs.declared.ipv6.address.Ipv6Address.{Ipv6Address}
 use Rattle.wirebase.proofs.ByteParts.{number_of-small}
 use Rattle.wirebase.proofs.Format.{IsFormat, same_text}
 use Rattle.wirebase.proofs.Ipv6Header.{same_address}
-use Rattle.wirebase.proofs.Numbered.{case_in-unnamed, case_in-proper, number-case_in}
+use Rattle.wirebase.proofs.Numbered.{case_in-unnamed, case-read}
 use Rattle.icmp6_wire.specs.MldTables.{record_type_number, record_types, record_type_rows, record_type_of}
 use Rattle.icmp6_wire.specs.MldRecord.{RecordValue, address_record, record_type_field, text, group_of, IsFields}
 use Rattle.icmp6_wire.specs.MldRecord.{IsRecord, IsCanonical, norm, IsCut, IsGroupRecord, format}
@@ -80,16 +80,13 @@ is_unknown _ = false
 record-canonical : (bytes : List ℕ) (v : RecordValue) → IsBytes bytes → IsGroupRecord bytes v → IsCanonical v
 unfolding is_unknown
 record-canonical bytes (address_record kind words sources group rest) are m =
-    let n : ℕ = byte_of record_type_field bytes in
-    let first : n < 256 = are 0 in
-    let second = are 1 in
-    let number =
-    ap record_type_number m.0.kind_ ∙ number-case_in record_type_number record_type.Unknown
-    (λ k. refl) record_types n in (
-      subst (λ (r : RecordType). IsProper record_type.Unknown record_type_rows r) (sym m.0.kind_)
-          (case_in-proper record_type_number record_type.Unknown (λ k. refl) is_unknown
-          (λ k. refl) record_type_rows n refl),
-      omega (arith, number, first),
+    let read =
+    case-read record_type_number record_type.Unknown (λ k. refl) is_unknown (λ k. refl) record_types
+    (byte_of record_type_field bytes) refl m.0.kind_ in
+    let first : byte_of record_type_field bytes < 256 = are 0 in
+    let second = are 1 in (
+      read.0,
+      omega (arith, read.1, first),
       omega (arith, m.0.words_, second),
       omega (arith, m.0.sources_, number_of-small 2 4 bytes refl are),
       m.1,

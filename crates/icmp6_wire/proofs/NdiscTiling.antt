@@ -13,8 +13,9 @@ use Rattle.wirebase.proofs.Numbered.{number-case_in}
 use Rattle.opt_wire.specs.NdiscOption.{units_in}
 use Rattle.opt_wire.specs.NdiscOptionRepr.{OptionValue, BeginsWith}
 use Rattle.opt_wire.proofs.NdiscOptionGrammar.{one_option}
-use Rattle.icmp6_wire.specs.Icmpv6Packet.{message_in}
+use Rattle.icmp6_wire.specs.Icmpv6Packet.{message_in, BeginsWhole, payload_in}
 use Rattle.icmp6_wire.specs.Icmpv6Tables.{message_number, messages}
+use Rattle.icmp6_wire.specs.Ndisc.{NdiscValue, IsContent, IsMessage}
 use Rattle.icmp6_wire.specs.NdiscBlocks.{IsBlock, AreBlocks, ends, goes_on, skips, source_in, target_in}
 use Rattle.icmp6_wire.specs.NdiscBlocks.{mtu_in, prefix_in, redirected_in}
 use Rattle.icmp6_wire.specs.NdiscFound.{Kept, nothing, keep, Says, HasBlocks, Notes, noted, passed}
@@ -113,26 +114,36 @@ says_all bytes k so_far = so_far [] ends
 
 said : {A : Type 0} (field : Kept → Option A) (says : OptionValue → Option A)
     → ((k : Kept) (o : OptionValue) → field (keep k o) ≡ option_or (says o) (field k)) → field nothing ≡ None
-    → (bytes : List ℕ) (k : Kept) (s : Says bytes k) → field k ≡ last_of says s.options
-said field says h none bytes k s = ap field (sym s.kept) ∙ kept keep field says h nothing none s.options
+    → {bytes : List ℕ} {k : Kept} (s : Says bytes k) → field k ≡ last_of says s.options
+said field says h none s = ap field (sym s.kept) ∙ kept keep field says h nothing none s.options
 
-pub said_source : (bytes : List ℕ) (k : Kept) (s : Says bytes k) → k.source ≡ last_of source_in s.options
-said_source bytes k s = said (λ j. j.source) source_in (λ j o. refl) refl bytes k s
+pub said_source : {bytes : List ℕ} {k : Kept} (s : Says bytes k) → k.source ≡ last_of source_in s.options
+said_source s = said (λ j. j.source) source_in (λ j o. refl) refl s
 
-pub said_target : (bytes : List ℕ) (k : Kept) (s : Says bytes k) → k.target ≡ last_of target_in s.options
-said_target bytes k s = said (λ j. j.target) target_in (λ j o. refl) refl bytes k s
+pub said_target : {bytes : List ℕ} {k : Kept} (s : Says bytes k) → k.target ≡ last_of target_in s.options
+said_target s = said (λ j. j.target) target_in (λ j o. refl) refl s
 
-pub said_mtu : (bytes : List ℕ) (k : Kept) (s : Says bytes k) → k.mtu ≡ last_of mtu_in s.options
-said_mtu bytes k s = said (λ j. j.mtu) mtu_in (λ j o. refl) refl bytes k s
+pub said_mtu : {bytes : List ℕ} {k : Kept} (s : Says bytes k) → k.mtu ≡ last_of mtu_in s.options
+said_mtu s = said (λ j. j.mtu) mtu_in (λ j o. refl) refl s
 
-pub said_prefix : (bytes : List ℕ) (k : Kept) (s : Says bytes k) → k.prefix_info ≡ last_of prefix_in s.options
-said_prefix bytes k s = said (λ j. j.prefix_info) prefix_in (λ j o. refl) refl bytes k s
+pub said_prefix : {bytes : List ℕ} {k : Kept} (s : Says bytes k) → k.prefix_info ≡ last_of prefix_in s.options
+said_prefix s = said (λ j. j.prefix_info) prefix_in (λ j o. refl) refl s
 
-pub said_packet : (bytes : List ℕ) (k : Kept) (s : Says bytes k) → k.redirected_hdr ≡ last_of redirected_in s.options
-said_packet bytes k s = said (λ j. j.redirected_hdr) redirected_in (λ j o. refl) refl bytes k s
+pub said_packet : {bytes : List ℕ} {k : Kept} (s : Says bytes k) → k.redirected_hdr ≡ last_of redirected_in s.options
+said_packet s = said (λ j. j.redirected_hdr) redirected_in (λ j o. refl) refl s
 
 -- the number of the type that was read
 pub kind_read : (bytes : List ℕ) (m : Message) → message_in bytes ≡ m → byte_of type_field bytes ≡ message_number m
 kind_read bytes m is =
     sym (number-case_in message_number message.Unknown (λ k. refl) messages (byte_of type_field bytes))
     ∙ ap message_number is
+
+-- a message, of which this was kept of the blocks behind its header
+pub message_said : {octets bytes : List ℕ} {k : Kept} {v : NdiscValue} → BeginsWhole octets → bytes ≡ payload_in octets
+    → (s : Says bytes k) → IsContent octets s.options v → IsMessage octets v
+message_said whole payload s content = record {
+  options = s.options;
+  whole = whole;
+  tiling = subst (λ (l : List ℕ). AreBlocks l s.options) payload s.tiling;
+  content = content;
+}

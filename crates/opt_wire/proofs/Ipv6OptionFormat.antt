@@ -7,7 +7,7 @@ use Rattle.wirebase.specs.Format.{SameText}
 use Rattle.wirebase.specs.Numbered.{IsProper}
 use Rattle.wirebase.proofs.Format.{IsFormat, round_trips, same_text}
 use Rattle.wirebase.proofs.ByteParts.{IsBytes-front}
-use Rattle.wirebase.proofs.Numbered.{number-case_in, case_in-proper}
+use Rattle.wirebase.proofs.Numbered.{case-read}
 use Rattle.wirebase.proofs.Pieces.{over-exact, over-fits}
 use Rattle.opt_wire.specs.declared.ipv6option.tables.Type as Kind
 use Rattle.opt_wire.specs.declared.ipv6option.tables.Type.TheVariants as kind
@@ -31,12 +31,6 @@ is_unknown_alert : RouterAlert → Bool
 is_unknown_alert (alert.Unknown n) = true
 is_unknown_alert _ = false
 
-number-type : (n : ℕ) → type_number (type_of n) ≡ n
-number-type n = number-case_in type_number kind.Unknown (λ k. refl) types n
-
-number-alert : (n : ℕ) → alert_number (alert_of n) ≡ n
-number-alert n = number-case_in alert_number alert.Unknown (λ k. refl) alerts n
-
 pub option-canonical : (w : List ℕ) (v : OptionValue) → IsBytes w → IsOption w v → IsCanonical v
 unfolding is_unknown_type is_unknown_alert
 option-canonical w pad1 are h = tt
@@ -47,23 +41,21 @@ option-canonical w (router_alert a) are h =
     let here : IsBytes (5 ∷ 2 ∷ h.0 ∷ h.1 ∷ []) = subst IsBytes h.2 are in
     let high : h.0 < 256 = here 2 in
     let low : h.1 < 256 = here 3 in
-    let number = ap alert_number h.3 ∙ number-alert (256 * h.0 + h.1) in (
-      subst (λ (x : RouterAlert). IsProper alert.Unknown alert_rows x) (sym h.3)
-          (case_in-proper alert_number alert.Unknown (λ k. refl) is_unknown_alert (λ k. refl) alert_rows
-          (256 * h.0 + h.1) refl),
-      omega (arith, number, high, low),
+    let read =
+    case-read alert_number alert.Unknown (λ k. refl) is_unknown_alert (λ k. refl) alerts (256 * h.0 + h.1) refl h.3 in (
+      read.0,
+      omega (arith, read.1, high, low),
     )
 option-canonical w (unknown k n d) are h =
     let t = h.0 in
     let here : IsBytes (t ∷ n ∷ d) = subst IsBytes h.1 are in
-    let number = ap type_number h.3 ∙ number-type t in
+    let read = case-read type_number kind.Unknown (λ k. refl) is_unknown_type (λ k. refl) types t refl h.3 in
     let first : t < 256 = here 0 in (
-      subst (λ (x : Kind.Type). IsProper kind.Unknown type_rows x) (sym h.3)
-          (case_in-proper type_number kind.Unknown (λ k. refl) is_unknown_type (λ k. refl) type_rows t refl),
-      λ e. h.4 (sym number ∙ ap type_number e),
-      λ e. h.5 (sym number ∙ ap type_number e),
-      λ e. h.6 (sym number ∙ ap type_number e),
-      omega (arith, number, first),
+      read.0,
+      λ e. h.4 (sym read.1 ∙ ap type_number e),
+      λ e. h.5 (sym read.1 ∙ ap type_number e),
+      λ e. h.6 (sym read.1 ∙ ap type_number e),
+      omega (arith, read.1, first),
       here 1,
       omega (arith, h.2),
     )

@@ -19,7 +19,7 @@ use Rattle.wirebase.specs.declared.ip.IpProtocol.TheVariants as protocol
 use Rattle.wirebase.specs.declared.ipv6.Ipv6Repr.{Ipv6Repr}
 use Rattle.wirebase.proofs.ByteParts.{IsBytes-drop}
 use Rattle.wirebase.proofs.Format.{IsFormat, round_trips, same_text}
-use Rattle.wirebase.proofs.Numbered.{number-case_in, case_in-proper}
+use Rattle.wirebase.proofs.IpProtocols.{protocol-read}
 use Rattle.wirebase.proofs.Pieces.{length-part, over-exact}
 use Rattle.opt_wire.specs.NdiscOption.{prefix_flags_field, units_in, redirected_field, BeginsWithBlock}
 use Rattle.opt_wire.specs.NdiscOptionTables.{flag_bits, known, known_bits}
@@ -151,20 +151,12 @@ link-full : (address : List ℕ) → (length address ≡ 6) ⊎ (length address 
 link-full address (inl six) = filled-whole address (inl six)
 link-full address (inr eight) = filled-whole address (inr (omega (arith, eight)))
 
-is_unknown_protocol : IpProtocol → Bool
-is_unknown_protocol (protocol.Unknown n) = true
-is_unknown_protocol _ = false
-
 redirected-canonical : (bytes : List ℕ) (h : Ipv6Repr) (d : List ℕ) → IsBytes bytes → BeginsWithBlock bytes
     → IsRedirected bytes h d → IsCanonicalRedirected h d
-unfolding is_unknown_protocol
 redirected-canonical bytes h d are block r =
     let packet : List ℕ = bytes_of (redirected_field bytes) bytes in
     let in_packet = IsBytes-part 8 (8 * units_in bytes) bytes are in
-    let n : ℕ = byte_of next_header_field packet in
-    let number : protocol_number h.next_header ≡ n =
-    ap protocol_number r.packet.header.protocol ∙ number-case_in protocol_number protocol.Unknown
-    (λ k. refl) protocols n in
+    let read = protocol-read (byte_of next_header_field packet) r.packet.header.protocol in
     let next = in_packet 6 in
     let hop = in_packet 7 in
     let count = are 1 in
@@ -175,10 +167,8 @@ redirected-canonical bytes h d are block r =
     ap (λ (l : List ℕ). length l) r.payload ∙ length-part packet 40 (40 + payload_len_in packet)
     (omega arith) fits in
     record {
-      proper = subst (λ (p : IpProtocol). IsProper protocol.Unknown protocol_rows p) (sym r.packet.header.protocol)
-          (case_in-proper protocol_number protocol.Unknown (λ k. refl) is_unknown_protocol
-          (λ k. refl) protocol_rows n refl);
-      protocol_ = omega (arith, number, next);
+      proper = read.0;
+      protocol_ = omega (arith, read.1, next);
       hops = omega (arith, r.packet.header.hops, hop);
       payload = omega (arith, r.packet.header.payload, data_);
       small = omega (arith, data_, fits, long, count);

@@ -1,97 +1,66 @@
-use Rattle.std.proofs.Common.{ℕ, List, refl, sym, subst, ◌∙◌}
+use Rattle.std.proofs.Common.{refl, sym, ◌∙◌}
 use Rattle.icmp6_wire.specs.Icmpv6Packet.{view_octets}
-use Rattle.icmp6_wire.specs.NdiscBlocks.{AreBlocks}
-use Rattle.icmp6_wire.specs.NdiscFound.{Says, kept_of}
 use Rattle.icmp6_wire.specs.declared.icmpv6.tables.Message.TheVariants as message
 use Rattle.icmp6_wire.proofs.NdiscTiling.{said_source, said_target, said_mtu, said_prefix, said_packet, kind_read}
+use Rattle.icmp6_wire.proofs.NdiscTiling.{message_said}
 use Rattle.icmp6_wire.proofs.ndisc.repr.Repr.read.Goals as goal
 
 pub returns-in-RouterSolicit-clause-sound : goal.returns-in-RouterSolicit-clause-sound
 returns-in-RouterSolicit-clause-sound c =
     let octets = view_octets c.args.packet.now in
-    let bytes = c.payload.result.now in
-    let s : Says bytes (kept_of c.in-Ok.found) = c.in-Ok.ensures.sound in
-    record {
-      options = s.options;
-      whole = c.in_ok-check_len.ensures.accepts.0 refl;
-      tiling = subst (λ (l : List ℕ). AreBlocks l s.options) c.payload.ensures s.tiling;
-      content = (
-        kind_read octets message.RouterSolicit (sym c.msg_type.ensures ∙ c.in-RouterSolicit.is),
-        said_source bytes (kept_of c.in-Ok.found) s,
-      );
-    }
+    let s = c.in-Ok.ensures.sound in
+    message_said (c.in_ok-check_len.ensures.accepts.0 refl) c.payload.ensures s (
+      kind_read octets message.RouterSolicit (sym c.msg_type.ensures ∙ c.in-RouterSolicit.is),
+      said_source s,
+    )
 
 pub returns-in-RouterAdvert-clause-sound : goal.returns-in-RouterAdvert-clause-sound
 returns-in-RouterAdvert-clause-sound c =
     let octets = view_octets c.args.packet.now in
-    let bytes = c.payload.result.now in
-    let s : Says bytes (kept_of c.in-Ok.found) = c.in-Ok.ensures.sound in
-    record {
-      options = s.options;
-      whole = c.in_ok-check_len.ensures.accepts.0 refl;
-      tiling = subst (λ (l : List ℕ). AreBlocks l s.options) c.payload.ensures s.tiling;
-      content = (
-        record {
-          kind = kind_read octets message.RouterAdvert (sym c.msg_type.ensures ∙ c.in-RouterAdvert.is);
-          hops_ = c.current_hop_limit.ensures;
-          flags_ = c.router_flags.ensures;
-          lifetime_ = c.router_lifetime.ensures;
-          reachable_ = c.reachable_time.ensures;
-          retrans_ = c.retrans_time.ensures;
-        },
-        said_source bytes (kept_of c.in-Ok.found) s,
-        said_mtu bytes (kept_of c.in-Ok.found) s,
-        said_prefix bytes (kept_of c.in-Ok.found) s,
-      );
-    }
+    let s = c.in-Ok.ensures.sound in
+    message_said (c.in_ok-check_len.ensures.accepts.0 refl) c.payload.ensures s (
+      record {
+        kind = kind_read octets message.RouterAdvert (sym c.msg_type.ensures ∙ c.in-RouterAdvert.is);
+        hops_ = c.current_hop_limit.ensures;
+        flags_ = c.router_flags.ensures;
+        lifetime_ = c.router_lifetime.ensures;
+        reachable_ = c.reachable_time.ensures;
+        retrans_ = c.retrans_time.ensures;
+      },
+      said_source s,
+      said_mtu s,
+      said_prefix s,
+    )
 
 pub returns-in-NeighborSolicit-clause-sound : goal.returns-in-NeighborSolicit-clause-sound
 returns-in-NeighborSolicit-clause-sound c =
     let octets = view_octets c.args.packet.now in
-    let bytes = c.payload.result.now in
-    let s : Says bytes (kept_of c.in-Ok.found) = c.in-Ok.ensures.sound in
-    record {
-      options = s.options;
-      whole = c.in_ok-check_len.ensures.accepts.0 refl;
-      tiling = subst (λ (l : List ℕ). AreBlocks l s.options) c.payload.ensures s.tiling;
-      content = (
-        kind_read octets message.NeighborSolicit (sym c.msg_type.ensures ∙ c.in-NeighborSolicit.is),
-        c.target_addr.ensures,
-        said_source bytes (kept_of c.in-Ok.found) s,
-      );
-    }
+    let s = c.in-Ok.ensures.sound in
+    message_said (c.in_ok-check_len.ensures.accepts.0 refl) c.payload.ensures s (
+      kind_read octets message.NeighborSolicit (sym c.msg_type.ensures ∙ c.in-NeighborSolicit.is),
+      c.target_addr.ensures,
+      said_source s,
+    )
 
 pub returns-in-NeighborAdvert-clause-sound : goal.returns-in-NeighborAdvert-clause-sound
 returns-in-NeighborAdvert-clause-sound c =
     let octets = view_octets c.args.packet.now in
-    let bytes = c.payload.result.now in
-    let s : Says bytes (kept_of c.in-Ok.found) = c.in-Ok.ensures.sound in
-    record {
-      options = s.options;
-      whole = c.in_ok-check_len.ensures.accepts.0 refl;
-      tiling = subst (λ (l : List ℕ). AreBlocks l s.options) c.payload.ensures s.tiling;
-      content = (
-        kind_read octets message.NeighborAdvert (sym c.msg_type.ensures ∙ c.in-NeighborAdvert.is),
-        c.neighbor_flags.ensures,
-        c.target_addr-in-NeighborAdvert.ensures,
-        said_target bytes (kept_of c.in-Ok.found) s,
-      );
-    }
+    let s = c.in-Ok.ensures.sound in
+    message_said (c.in_ok-check_len.ensures.accepts.0 refl) c.payload.ensures s (
+      kind_read octets message.NeighborAdvert (sym c.msg_type.ensures ∙ c.in-NeighborAdvert.is),
+      c.neighbor_flags.ensures,
+      c.target_addr-in-NeighborAdvert.ensures,
+      said_target s,
+    )
 
 pub returns-in-Redirect-clause-sound : goal.returns-in-Redirect-clause-sound
 returns-in-Redirect-clause-sound c =
     let octets = view_octets c.args.packet.now in
-    let bytes = c.payload.result.now in
-    let s : Says bytes (kept_of c.in-Ok.found) = c.in-Ok.ensures.sound in
-    record {
-      options = s.options;
-      whole = c.in_ok-check_len.ensures.accepts.0 refl;
-      tiling = subst (λ (l : List ℕ). AreBlocks l s.options) c.payload.ensures s.tiling;
-      content = (
-        kind_read octets message.Redirect (sym c.msg_type.ensures ∙ c.in-Redirect.is),
-        c.target_addr-in-Redirect.ensures,
-        c.dest_addr.ensures,
-        said_target bytes (kept_of c.in-Ok.found) s,
-        said_packet bytes (kept_of c.in-Ok.found) s,
-      );
-    }
+    let s = c.in-Ok.ensures.sound in
+    message_said (c.in_ok-check_len.ensures.accepts.0 refl) c.payload.ensures s (
+      kind_read octets message.Redirect (sym c.msg_type.ensures ∙ c.in-Redirect.is),
+      c.target_addr-in-Redirect.ensures,
+      c.dest_addr.ensures,
+      said_target s,
+      said_packet s,
+    )
