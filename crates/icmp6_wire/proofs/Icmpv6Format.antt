@@ -1,19 +1,15 @@
 -- The format of messages: what was read is canonical, and a normal form has the text of its value.
-use Rattle.std.proofs.Common.{◌≡◌, ℕ, ◌<◌, ◌≤◌, Bool, true, false, List, length, refl, sym, ap, subst, ◌∙◌}
+use Rattle.std.proofs.Common.{◌≡◌, ℕ, ◌<◌, ◌≤◌, Bool, true, false, List, length, refl, ap}
 use Rattle.std.proofs.Common.{arith}
 use Rattle.std.proofs.lemmas.List.{length-drop}
 use Rattle.wirebase.specs.declared.capabilities.ChecksumCapabilities.{ChecksumCapabilities}
-use Rattle.wirebase.specs.declared.ip.IpProtocol.{IpProtocol}
-use Rattle.wirebase.specs.declared.ip.IpProtocol.TheVariants as protocol
 use Rattle.wirebase.specs.declared.ipv6.address.Ipv6Address.{Ipv6Address}
 use Rattle.wirebase.specs.declared.ipv6.Ipv6Repr.{Ipv6Repr}
 use Rattle.wirebase.specs.Bytes.{IsBytes, byte_of}
 use Rattle.wirebase.specs.ByteWriter.{fields}
 use Rattle.wirebase.specs.Format.{SameText}
 use Rattle.wirebase.specs.Icmp.{code_field, data_in}
-use Rattle.wirebase.specs.Ip.{protocol_number, protocol_rows, protocols}
 use Rattle.wirebase.specs.Ipv6.{next_header_field, hop_limit_field, IsHeader}
-use Rattle.wirebase.specs.Numbered.{IsProper}
 use Rattle.wirebase.proofs.ByteParts.{IsBytes-drop, number_of-small}
 use Rattle.wirebase.proofs.Format.{IsFormat, same_text-by}
 use Rattle.wirebase.proofs.IpProtocols.{protocol-read}
@@ -25,9 +21,9 @@ use Rattle.icmp6_wire.specs.declared.icmpv6.tables.ParamProblem.{ParamProblem}
 use Rattle.icmp6_wire.specs.declared.icmpv6.tables.ParamProblem.TheVariants as problems
 use Rattle.icmp6_wire.specs.declared.icmpv6.tables.TimeExceeded.{TimeExceeded}
 use Rattle.icmp6_wire.specs.declared.icmpv6.tables.TimeExceeded.TheVariants as times
-use Rattle.icmp6_wire.specs.Icmpv6Tables.{unreachable_number, unreachables, unreachable_rows, unreachable_of}
-use Rattle.icmp6_wire.specs.Icmpv6Tables.{param_problem_number, param_problems, param_problem_rows, param_problem_of}
-use Rattle.icmp6_wire.specs.Icmpv6Tables.{time_exceeded_number, time_exceededs, time_exceeded_rows, time_exceeded_of}
+use Rattle.icmp6_wire.specs.Icmpv6Tables.{unreachable_number, unreachables}
+use Rattle.icmp6_wire.specs.Icmpv6Tables.{param_problem_number, param_problems}
+use Rattle.icmp6_wire.specs.Icmpv6Tables.{time_exceeded_number, time_exceededs}
 use Rattle.icmp6_wire.specs.Icmpv6.{MessageValue, unreachable, too_big, time_exceeded, param_problem, echo_request}
 use Rattle.icmp6_wire.specs.Icmpv6.{echo_reply, mld, ndisc, quoted_data, error_fields, text, seal, IsContent, CanQuote}
 use Rattle.icmp6_wire.specs.Icmpv6.{IsCanonical, norm, IsCut, format}

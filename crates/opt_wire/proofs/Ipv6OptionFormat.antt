@@ -4,7 +4,6 @@ use Rattle.std.proofs.Common.{sym, ap, subst, ◌∙◌, arith}
 use Rattle.std.proofs.lemmas.List.{append-nil, take_all}
 use Rattle.wirebase.specs.Bytes.{IsBytes, over}
 use Rattle.wirebase.specs.Format.{SameText}
-use Rattle.wirebase.specs.Numbered.{IsProper}
 use Rattle.wirebase.proofs.Format.{IsFormat, round_trips, same_text}
 use Rattle.wirebase.proofs.ByteParts.{IsBytes-front}
 use Rattle.wirebase.proofs.Numbered.{case-read}
@@ -13,8 +12,7 @@ use Rattle.opt_wire.specs.declared.ipv6option.tables.Type as Kind
 use Rattle.opt_wire.specs.declared.ipv6option.tables.Type.TheVariants as kind
 use Rattle.opt_wire.specs.declared.ipv6option.tables.RouterAlert.{RouterAlert}
 use Rattle.opt_wire.specs.declared.ipv6option.tables.RouterAlert.TheVariants as alert
-use Rattle.opt_wire.specs.Ipv6OptionTables.{type_number, types, type_rows, type_of, alert_number, alerts, alert_rows}
-use Rattle.opt_wire.specs.Ipv6OptionTables.{alert_of}
+use Rattle.opt_wire.specs.Ipv6OptionTables.{type_number, types, alert_number, alerts}
 use Rattle.opt_wire.specs.Ipv6Option.{OptionValue, pad1, pad_n, router_alert, unknown, text, text_len, HasData}
 use Rattle.opt_wire.specs.Ipv6Option.{IsOption, BeginsWith, IsCanonical, norm, format, Emits}
 use Rattle.opt_wire.proofs.Ipv6OptionGrammar.{begins_with-unique}

@@ -1,6 +1,6 @@
 -- The format of options: what was read is canonical and its own normal form, and a normal form has the text of its
 -- value.
-use Rattle.std.proofs.Common.{◌≡◌, ℕ, ◌+◌, ◌-◌, ◌*◌, ◌<◌, ◌≤◌, ◌^◌, ◌⊎◌, inl, inr, Bool, true, false, min, List, []}
+use Rattle.std.proofs.Common.{◌≡◌, ℕ, ◌+◌, ◌-◌, ◌*◌, ◌<◌, ◌≤◌, ◌^◌, ◌⊎◌, inl, inr, true, false, min, List, []}
 use Rattle.std.proofs.Common.{◌++◌, length, take, drop, replicate, refl, sym, ap, subst, ◌∙◌, arith, length-append}
 use Rattle.std.proofs.Common.{◌∷◌, ltb}
 use Rattle.std.proofs.lemmas.Bool.{cases_lt, lt-ltb, le-ltb}
@@ -10,12 +10,8 @@ use Rattle.byteorder.specs.Endian.{big_number}
 use Rattle.wirebase.specs.Bytes.{IsBytes, part, over, byte_of, bytes_of}
 use Rattle.wirebase.specs.ByteWriter.{be8, be32, fields}
 use Rattle.wirebase.specs.Format.{SameText}
-use Rattle.wirebase.specs.Ip.{protocol_number, protocol_rows, protocols}
 use Rattle.wirebase.specs.Ipv6.{next_header_field, payload_len_in}
 use Rattle.wirebase.specs.Ipv6Address.{octets_of}
-use Rattle.wirebase.specs.Numbered.{IsProper}
-use Rattle.wirebase.specs.declared.ip.IpProtocol.{IpProtocol}
-use Rattle.wirebase.specs.declared.ip.IpProtocol.TheVariants as protocol
 use Rattle.wirebase.specs.declared.ipv6.Ipv6Repr.{Ipv6Repr}
 use Rattle.wirebase.proofs.ByteParts.{IsBytes-drop}
 use Rattle.wirebase.proofs.Format.{IsFormat, round_trips, same_text}
