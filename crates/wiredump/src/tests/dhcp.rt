@@ -27,7 +27,7 @@ const WHOLE: &str = "0201060012345678010280000a00000a0a00000b0a00000c0a00000d525
 const OPTIONS_AT: usize = 485;
 
 // The fields in turn, and what is printed of those of which a packet says nothing.
-const FIELDS: [(&str, &str); 20] = [
+const FIELDS: &[(&str, &str)] = &[
     ("message_type=", ""),
     ("transaction_id=", "0"),
     ("secs=", "0"),
@@ -88,7 +88,7 @@ fn check_fields(
 
 #[test]
 fn dhcp_messages_by_their_type(rt: HostRuntime) -> Result<(), Fail> {
-    let requests = [
+    const REQUESTS: &[(&str, &str)] = &[
         ("350101ff", "message_type=1"),
         ("350103ff", "message_type=3"),
         ("350104ff", "message_type=4"),
@@ -99,20 +99,20 @@ fn dhcp_messages_by_their_type(rt: HostRuntime) -> Result<(), Fail> {
         ("350101350103ff", "message_type=3"),
         ("3501013502030300ff", "message_type=1"),
     ];
-    check_fields(&rt, rt.alloc(), REQUEST, &requests)?;
-    let replies = [
+    check_fields(&rt, rt.alloc(), REQUEST, REQUESTS)?;
+    const REPLIES: &[(&str, &str)] = &[
         ("350102ff", "message_type=2"),
         ("350105ff", "message_type=5"),
         ("350106ff", "message_type=6"),
     ];
-    check_fields(&rt, rt.alloc(), REPLY, &replies)?;
-    let unknown = [("350109ff", "message_type=9"), ("350100", "message_type=0")];
-    check_fields(&rt, rt.alloc(), UNKNOWN, &unknown)
+    check_fields(&rt, rt.alloc(), REPLY, REPLIES)?;
+    const OTHERS: &[(&str, &str)] = &[("350109ff", "message_type=9"), ("350100", "message_type=0")];
+    check_fields(&rt, rt.alloc(), UNKNOWN, OTHERS)
 }
 
 #[test]
 fn dhcp_options(rt: HostRuntime) -> Result<(), Fail> {
-    let requests = [
+    const REQUESTS: &[(&str, &str)] = &[
         (
             "3501010104ffffff000104ffff0000ff",
             "message_type=1 subnet_mask=255.255.0.0",
@@ -141,12 +141,12 @@ fn dhcp_options(rt: HostRuntime) -> Result<(), Fail> {
              parameter_request_list=01030642 max_size=576",
         ),
     ];
-    check_fields(&rt, rt.alloc(), REQUEST, &requests)?;
-    let replies = [(
+    check_fields(&rt, rt.alloc(), REQUEST, REQUESTS)?;
+    const REPLIES: &[(&str, &str)] = &[(
         "350105330400000e103a04000007083b0400000c4eff",
         "message_type=5 lease_duration=3600 renew_duration=1800 rebind_duration=3150",
     )];
-    check_fields(&rt, rt.alloc(), REPLY, &replies)
+    check_fields(&rt, rt.alloc(), REPLY, REPLIES)
 }
 
 #[test]

@@ -6,7 +6,7 @@ use std::test::Fail;
 
 #[test]
 fn questions(rt: HostRuntime) -> Result<(), Fail> {
-    let rows = [
+    const ROWS: &[(&str, &str)] = &[
         ("01610000010001", "name=016100\ntype_=1\nrest=0\n"),
         ("0000020001", "name=00\ntype_=2\nrest=0\n"),
         ("0000050001aa", "name=00\ntype_=5\nrest=1\n"),
@@ -26,12 +26,12 @@ fn questions(rt: HostRuntime) -> Result<(), Fail> {
         ("0361", "refused\n"),
         ("-", "refused\n"),
     ];
-    check_changed(&rt, rt.alloc(), "question", &rows)
+    check_changed(&rt, rt.alloc(), "question", ROWS)
 }
 
 #[test]
 fn names(rt: HostRuntime) -> Result<(), Fail> {
-    for (line, want) in [
+    const ROWS: &[(&str, &str)] = &[
         (
             "name 12 0000000000000000000000000161c0100162c00c",
             "61\n62\n61\nerror steps=5\n",
@@ -56,7 +56,8 @@ fn names(rt: HostRuntime) -> Result<(), Fail> {
         ("name 0 40", "error steps=0\n"),
         ("name 0 c0", "error steps=0\n"),
         ("name 5 00c000c001c003", "end steps=3\n"),
-    ] {
+    ];
+    for (line, want) in ROWS {
         check_line(&rt, rt.alloc(), line, want)?;
     }
     Ok(())
@@ -80,7 +81,7 @@ const RESPONSE: &str =
 
 #[test]
 fn names_of_a_response(rt: HostRuntime) -> Result<(), Fail> {
-    for (words, want) in [
+    const ROWS: &[(&str, &str)] = &[
         ("name 12", "777777\n66616365626f6f6b\n636f6d\nend steps=3\n"),
         ("name 34", "777777\n66616365626f6f6b\n636f6d\nend steps=4\n"),
         (
@@ -91,7 +92,8 @@ fn names_of_a_response(rt: HostRuntime) -> Result<(), Fail> {
             "name 63",
             "737461722d6d696e69\n63313072\n66616365626f6f6b\n636f6d\nend steps=6\n",
         ),
-    ] {
+    ];
+    for (words, want) in ROWS {
         check(&rt, rt.alloc(), words, &[(RESPONSE, want)])?;
     }
     Ok(())

@@ -7,7 +7,7 @@ use std::test::Fail;
 
 #[test]
 fn echoes_of_icmpv4(rt: HostRuntime) -> Result<(), Fail> {
-    let rows = [
+    const ROWS: &[(&str, &str)] = &[
         (
             "08008efe1234abcdaa0000ff",
             "EchoRequest\nident=4660\nseq_no=43981\ndata=aa0000ff\n",
@@ -32,7 +32,7 @@ fn echoes_of_icmpv4(rt: HostRuntime) -> Result<(), Fail> {
         ("0000000000000000", "refused\n"),
         ("-", "refused\n"),
     ];
-    check(&rt, rt.alloc(), "icmp4", &rows)
+    check(&rt, rt.alloc(), "icmp4", ROWS)
 }
 
 // A datagram from 10.0.0.1 to 10.0.0.2, and what a message that quotes it prints of it.
@@ -54,22 +54,24 @@ fn check_refused(rt: &impl Abort, alloc: Global, header: &str) -> Result<(), Fai
 
 #[test]
 fn errors_of_icmpv4(rt: HostRuntime) -> Result<(), Fail> {
-    for (header, want) in [
+    const ERRORS: &[(&str, &str)] = &[
         ("0303fc8a00000000", "DstUnreachable\nreason=3\n"),
         ("0b00f48d00000000", "TimeExceeded\nreason=0\n"),
         ("0b01f48c00000000", "TimeExceeded\nreason=1\n"),
-    ] {
+    ];
+    for (header, want) in ERRORS {
         check_error(&rt, rt.alloc(), header, want)?;
     }
     // Types that are not read.
-    for header in [
+    const REFUSED: &[&str] = &[
         "0500fa8d00000000",
         "0900f68d00000000",
         "0a00f58d00000000",
         "0c00f38d00000000",
         "0d00f28d00000000",
         "0e00f18d00000000",
-    ] {
+    ];
+    for header in REFUSED {
         check_refused(&rt, rt.alloc(), header)?;
     }
     Ok(())
@@ -77,7 +79,7 @@ fn errors_of_icmpv4(rt: HostRuntime) -> Result<(), Fail> {
 
 #[test]
 fn errors_of_icmpv4_by_their_quote(rt: HostRuntime) -> Result<(), Fail> {
-    let rows = [
+    const ROWS: &[(&str, &str)] = &[
         // The quote's own checksum is not looked at.
         (
             "0303235a000000004500001c00004000401100000a0000010a0000020035003500080000",
@@ -109,12 +111,12 @@ fn errors_of_icmpv4_by_their_quote(rt: HostRuntime) -> Result<(), Fail> {
             "refused\n",
         ),
     ];
-    check(&rt, rt.alloc(), "icmp4", &rows)
+    check(&rt, rt.alloc(), "icmp4", ROWS)
 }
 
 #[test]
 fn messages_of_igmp(rt: HostRuntime) -> Result<(), Fail> {
-    let rows = [
+    const ROWS: &[(&str, &str)] = &[
         (
             "1180ee7f00000000",
             "MembershipQuery\nmax_resp_time=12800\ngroup_addr=0.0.0.0\nversion=2\n",
@@ -150,5 +152,5 @@ fn messages_of_igmp(rt: HostRuntime) -> Result<(), Fail> {
         ("22000000e0000001", "refused\n"),
         ("-", "refused\n"),
     ];
-    check_changed(&rt, rt.alloc(), "igmp", &rows)
+    check_changed(&rt, rt.alloc(), "igmp", ROWS)
 }

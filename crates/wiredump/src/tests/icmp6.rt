@@ -10,7 +10,7 @@ pub const BETWEEN: &str = "icmp6 fe800000000000000000000000000001 fe800000000000
 
 #[test]
 fn echoes_of_icmpv6(rt: HostRuntime) -> Result<(), Fail> {
-    let rows = [
+    const ROWS: &[(&str, &str)] = &[
         (
             "800019b31234abcdaa0000ff",
             "EchoRequest\nident=4660\nseq_no=43981\ndata=aa0000ff\n",
@@ -28,12 +28,12 @@ fn echoes_of_icmpv6(rt: HostRuntime) -> Result<(), Fail> {
         ("84007eb800000000", "refused\n"),
         ("-", "refused\n"),
     ];
-    check(&rt, rt.alloc(), BETWEEN, &rows)
+    check(&rt, rt.alloc(), BETWEEN, ROWS)
 }
 
 #[test]
 fn echoes_between_other_addresses(rt: HostRuntime) -> Result<(), Fail> {
-    for (line, want) in [
+    const ROWS: &[(&str, &str)] = &[
         (
             "icmp6 FE800000000000000000000000000001 FE800000000000000000000000000002 \
              800019b31234abcdaa0000ff",
@@ -49,7 +49,8 @@ fn echoes_between_other_addresses(rt: HostRuntime) -> Result<(), Fail> {
              800019b31234abcdaa0000ff",
             "refused\n",
         ),
-    ] {
+    ];
+    for (line, want) in ROWS {
         check_line(&rt, rt.alloc(), line, want)?;
     }
     Ok(())
@@ -71,7 +72,7 @@ fn check_error(rt: &impl Abort, alloc: Global, header: &str, want: &str) -> Resu
 
 #[test]
 fn errors_of_icmpv6(rt: HostRuntime) -> Result<(), Fail> {
-    for (header, want) in [
+    const ROWS: &[(&str, &str)] = &[
         ("010016a500000000", "DstUnreachable\nreason=0\n"),
         ("010116a400000000", "DstUnreachable\nreason=1\n"),
         ("010416a100000000", "DstUnreachable\nreason=4\n"),
@@ -83,7 +84,8 @@ fn errors_of_icmpv6(rt: HostRuntime) -> Result<(), Fail> {
         ("0401137c00000028", "ParamProblem\nreason=1\npointer=40\n"),
         ("0402137b00000028", "ParamProblem\nreason=2\npointer=40\n"),
         ("0403137a00000028", "ParamProblem\nreason=3\npointer=40\n"),
-    ] {
+    ];
+    for (header, want) in ROWS {
         check_error(&rt, rt.alloc(), header, want)?;
     }
     // A packet too big with a code.
@@ -93,7 +95,7 @@ fn errors_of_icmpv6(rt: HostRuntime) -> Result<(), Fail> {
 
 #[test]
 fn errors_of_icmpv6_by_their_quote(rt: HostRuntime) -> Result<(), Fail> {
-    let rows = [
+    const ROWS: &[(&str, &str)] = &[
         // A header alone, and a header less an octet.
         (
             "0301913e0000000060000000000c1140fe800000000000000000000000000001fe8000000000000000\
@@ -108,7 +110,7 @@ fn errors_of_icmpv6_by_their_quote(rt: HostRuntime) -> Result<(), Fail> {
             "refused\n",
         ),
     ];
-    check(&rt, rt.alloc(), BETWEEN, &rows)
+    check(&rt, rt.alloc(), BETWEEN, ROWS)
 }
 
 // As much of a datagram of 9,999 bytes as an error has room for.
@@ -133,7 +135,7 @@ fn a_packet_too_big_of_1240_bytes(rt: HostRuntime) -> Result<(), Fail> {
 
 #[test]
 fn messages_of_mld(rt: HostRuntime) -> Result<(), Fail> {
-    let rows = [
+    const ROWS: &[(&str, &str)] = &[
         (
             "8f0000000000000104000000ff020000000000000000000000000002",
             "Report\nnr_mcast_addr_rcrds=1\ndata=04000000ff020000000000000000000000000002\n",
@@ -163,12 +165,12 @@ fn messages_of_mld(rt: HostRuntime) -> Result<(), Fail> {
         ),
         ("-", "refused\n"),
     ];
-    check_changed(&rt, rt.alloc(), "mld", &rows)
+    check_changed(&rt, rt.alloc(), "mld", ROWS)
 }
 
 #[test]
 fn messages_of_mld_inside_icmpv6(rt: HostRuntime) -> Result<(), Fail> {
-    let rows = [
+    const ROWS: &[(&str, &str)] = &[
         (
             "8200737404000000ff0200000000000000000000000000010a120001ff02000000000000000000000000\
              0002",
@@ -188,5 +190,5 @@ fn messages_of_mld_inside_icmpv6(rt: HostRuntime) -> Result<(), Fail> {
         ),
     ];
     let between = "icmp6 ff020000000000000000000000000001 ff020000000000000000000000000002";
-    check(&rt, rt.alloc(), between, &rows)
+    check(&rt, rt.alloc(), between, ROWS)
 }

@@ -19,7 +19,7 @@ fn check_lines(rt: &impl Abort, alloc: Global, rows: &[(&str, &str, u8)]) -> Res
 
 #[test]
 fn lines_of_every_shape(rt: HostRuntime) -> Result<(), Fail> {
-    let rows = [
+    const ROWS: &[(&str, &str, u8)] = &[
         // Without a word.
         ("", "", 0),
         ("\n\n", "", 0),
@@ -38,12 +38,12 @@ fn lines_of_every_shape(rt: HostRuntime) -> Result<(), Fail> {
         ("hbh 00\nhbh\nhbh 00\n", "Pad1\nbad line\nPad1\n", 2),
         ("hbh 00\nhbh -\nhbh 00\n", "Pad1\nrefused\nPad1\n", 0),
     ];
-    check_lines(&rt, rt.alloc(), &rows)
+    check_lines(&rt, rt.alloc(), ROWS)
 }
 
 #[test]
 fn lines_with_a_wrong_word(rt: HostRuntime) -> Result<(), Fail> {
-    let rows = [
+    const ROWS: &[(&str, &str, u8)] = &[
         // Words that are no packet.
         ("hbh 5\nhbh 010\n", "bad line\nbad line\n", 2),
         ("hbh 0g\nhbh 0x00\n", "bad line\nbad line\n", 2),
@@ -54,12 +54,12 @@ fn lines_with_a_wrong_word(rt: HostRuntime) -> Result<(), Fail> {
         ("hbh - -\nhbh 00 00\n", "bad line\nbad line\n", 2),
         ("hbh 0 0 0 00\n1 2 3 4 5 6\n", "bad line\nbad line\n", 2),
     ];
-    check_lines(&rt, rt.alloc(), &rows)
+    check_lines(&rt, rt.alloc(), ROWS)
 }
 
 #[test]
 fn lines_with_a_wrong_offset_or_address(rt: HostRuntime) -> Result<(), Fail> {
-    let rows = [
+    const ROWS: &[(&str, &str, u8)] = &[
         // Offsets and addresses that are none, and an offset past its message.
         ("name 00\nname 0 0 00\n", "bad line\nbad line\n", 2),
         (
@@ -98,17 +98,18 @@ fn lines_with_a_wrong_offset_or_address(rt: HostRuntime) -> Result<(), Fail> {
             2,
         ),
     ];
-    check_lines(&rt, rt.alloc(), &rows)
+    check_lines(&rt, rt.alloc(), ROWS)
 }
 
 #[test]
 fn lines_that_are_no_text(rt: HostRuntime) -> Result<(), Fail> {
-    for input in [
-        b"hbh \xff\n".as_slice(),
-        b"\xc3\x28 00\n".as_slice(),
-        b"hbh 00\xa0\n".as_slice(),
-        b"\xef\xbb\xbfhbh 00\n".as_slice(),
-    ] {
+    const INPUTS: &[&[u8]] = &[
+        b"hbh \xff\n",
+        b"\xc3\x28 00\n",
+        b"hbh 00\xa0\n",
+        b"\xef\xbb\xbfhbh 00\n",
+    ];
+    for &input in INPUTS {
         let mut output = Vec::new(rt.alloc());
         same_of(&rt, input, run(rt.alloc(), input, &mut output), Ok(false));
         same_of(&rt, input, output.as_slice(), b"bad line\n".as_slice());
@@ -182,7 +183,7 @@ fn check_repeated(
 
 #[test]
 fn lines_at_their_limits(rt: HostRuntime) -> Result<(), Fail> {
-    for (texts, known, want) in [
+    const ROWS: &[([(&str, usize); 3], bool, &str)] = &[
         (
             [("hbh ", 1), ("0", 131_070), ("\r", 1)],
             true,
@@ -234,7 +235,8 @@ fn lines_at_their_limits(rt: HostRuntime) -> Result<(), Fail> {
         ),
         ([("hbh 0100", 1), (" ", 1), ("\r", 1)], true, "PadN=0\n"),
         ([("hbh", 1), (" 0100", 4), (" \r", 1)], false, "bad line\n"),
-    ] {
+    ];
+    for &(texts, known, want) in ROWS {
         check_repeated(&rt, rt.alloc(), texts, known, want)?;
     }
     Ok(())

@@ -6,7 +6,7 @@ use std::test::Fail;
 
 #[test]
 fn router_solicitations(rt: HostRuntime) -> Result<(), Fail> {
-    let rows = [
+    const ROWS: &[(&str, &str)] = &[
         ("85007db800000000", "RouterSolicit\nlladdr=none\n"),
         (
             "8500f5f2000000000101525400123456",
@@ -23,12 +23,12 @@ fn router_solicitations(rt: HostRuntime) -> Result<(), Fail> {
         ),
         ("85007db10000000000000000000000", "refused\n"),
     ];
-    check(&rt, rt.alloc(), BETWEEN, &rows)
+    check(&rt, rt.alloc(), BETWEEN, ROWS)
 }
 
 #[test]
 fn router_advertisements(rt: HostRuntime) -> Result<(), Fail> {
-    let rows = [
+    const ROWS: &[(&str, &str)] = &[
         (
             "8600a9de4080038400000384000003840101525400123456",
             "RouterAdvert\nhop_limit=64\nflags=128\nrouter_lifetime=900000\n\
@@ -72,12 +72,12 @@ fn router_advertisements(rt: HostRuntime) -> Result<(), Fail> {
             "refused\n",
         ),
     ];
-    check(&rt, rt.alloc(), BETWEEN, &rows)
+    check(&rt, rt.alloc(), BETWEEN, ROWS)
 }
 
 #[test]
 fn neighbor_solicitations_and_advertisements(rt: HostRuntime) -> Result<(), Fail> {
-    let rows = [
+    const ROWS: &[(&str, &str)] = &[
         (
             "87007d2500000000fe800000000000000000000000000002",
             "NeighborSolicit\ntarget_addr=fe800000000000000000000000000002\nlladdr=none\n",
@@ -98,12 +98,12 @@ fn neighbor_solicitations_and_advertisements(rt: HostRuntime) -> Result<(), Fail
              lladdr=525400123456\n",
         ),
     ];
-    check(&rt, rt.alloc(), BETWEEN, &rows)
+    check(&rt, rt.alloc(), BETWEEN, ROWS)
 }
 
 #[test]
 fn redirects(rt: HostRuntime) -> Result<(), Fail> {
-    let rows = [
+    const ROWS: &[(&str, &str)] = &[
         (
             "89007c9300000000fe800000000000000000000000000002fe800000000000000000000000000001",
             "Redirect\ntarget_addr=fe800000000000000000000000000002\n\
@@ -133,5 +133,5 @@ fn redirects(rt: HostRuntime) -> Result<(), Fail> {
             "refused\n",
         ),
     ];
-    check(&rt, rt.alloc(), BETWEEN, &rows)
+    check(&rt, rt.alloc(), BETWEEN, ROWS)
 }

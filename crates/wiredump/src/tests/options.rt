@@ -5,8 +5,8 @@ use std::test::Fail;
 
 #[test]
 fn hop_by_hop_headers(rt: HostRuntime) -> Result<(), Fail> {
-    let pads = "Pad1\nPad1\nPad1\nPad1\nPad1\nPad1\nPad1\nPad1\n";
-    let rows = [
+    const PADS: &str = "Pad1\nPad1\nPad1\nPad1\nPad1\nPad1\nPad1\nPad1\n";
+    const ROWS: &[(&str, &str)] = &[
         ("010400000000", "PadN=4\n"),
         ("1100", "Unknown\ntype_=17\nlength=0\ndata=-\n"),
         (
@@ -30,8 +30,8 @@ fn hop_by_hop_headers(rt: HostRuntime) -> Result<(), Fail> {
             "Unknown\ntype_=58\nlength=0\ndata=-\nRouterAlert=0\nPadN=0\n",
         ),
         // A ninth option is looked at and left out, and a tenth is not looked at.
-        ("00000000000000000502beef", pads),
-        ("000000000000000000ff", pads),
+        ("00000000000000000502beef", PADS),
+        ("000000000000000000ff", PADS),
         ("00000000000000000503000000", "refused\n"),
         ("0000000011", "refused\n"),
         ("000000000503000000", "refused\n"),
@@ -39,12 +39,12 @@ fn hop_by_hop_headers(rt: HostRuntime) -> Result<(), Fail> {
         ("0101", "refused\n"),
         ("-", "refused\n"),
     ];
-    check_changed(&rt, rt.alloc(), "hbh", &rows)
+    check_changed(&rt, rt.alloc(), "hbh", ROWS)
 }
 
 #[test]
 fn neighbor_options(rt: HostRuntime) -> Result<(), Fail> {
-    let rows = [
+    const ROWS: &[(&str, &str)] = &[
         ("05010000000005dc", "Mtu=1500\n"),
         ("05010000000005dcffff", "Mtu=1500\n"),
         (
@@ -81,5 +81,5 @@ fn neighbor_options(rt: HostRuntime) -> Result<(), Fail> {
         ("0e00000000000000", "refused\n"),
         ("-", "refused\n"),
     ];
-    check_changed(&rt, rt.alloc(), "ndopt", &rows)
+    check_changed(&rt, rt.alloc(), "ndopt", ROWS)
 }

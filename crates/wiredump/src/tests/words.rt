@@ -20,12 +20,12 @@ fn check_word(
 
 #[test]
 fn words_and_the_octets_they_spell(rt: HostRuntime) -> Result<(), Fail> {
-    for (text, octets) in [
-        ("-", Some(b"".as_slice())),
-        ("00", Some(b"\0".as_slice())),
-        ("0f", Some(b"\x0f".as_slice())),
-        ("f0", Some(b"\xf0".as_slice())),
-        ("09afAF", Some(b"\x09\xaf\xaf".as_slice())),
+    const ROWS: &[(&str, Option<&[u8]>)] = &[
+        ("-", Some(b"")),
+        ("00", Some(b"\0")),
+        ("0f", Some(b"\x0f")),
+        ("f0", Some(b"\xf0")),
+        ("09afAF", Some(b"\x09\xaf\xaf")),
         ("", None),
         ("0", None),
         ("012", None),
@@ -38,7 +38,8 @@ fn words_and_the_octets_they_spell(rt: HostRuntime) -> Result<(), Fail> {
         ("`0", None),
         ("0g", None),
         (" 00", None),
-    ] {
+    ];
+    for &(text, octets) in ROWS {
         check_word(&rt, rt.alloc(), text, octets)?;
     }
     Ok(())
@@ -46,7 +47,7 @@ fn words_and_the_octets_they_spell(rt: HostRuntime) -> Result<(), Fail> {
 
 #[test]
 fn words_that_are_addresses(rt: HostRuntime) -> Result<(), Fail> {
-    for (text, octets) in [
+    const ROWS: &[(&str, Option<[u8; 16]>)] = &[
         (
             "FE80000000000000000000000000abCD",
             Some(*b"\xfe\x80\0\0\0\0\0\0\0\0\0\0\0\0\xab\xcd"),
@@ -58,7 +59,8 @@ fn words_that_are_addresses(rt: HostRuntime) -> Result<(), Fail> {
         ("000000000000000g0000000000000000", None),
         ("-", None),
         ("", None),
-    ] {
+    ];
+    for &(text, octets) in ROWS {
         same_of(&rt, text, read_address(text.as_bytes()), octets);
     }
     Ok(())
@@ -66,7 +68,7 @@ fn words_that_are_addresses(rt: HostRuntime) -> Result<(), Fail> {
 
 #[test]
 fn words_that_are_offsets(rt: HostRuntime) -> Result<(), Fail> {
-    for (text, offset) in [
+    const ROWS: &[(&str, Option<usize>)] = &[
         ("0", Some(0)),
         ("9", Some(9)),
         ("10", Some(10)),
@@ -84,7 +86,8 @@ fn words_that_are_offsets(rt: HostRuntime) -> Result<(), Fail> {
         ("1:", None),
         ("0x1", None),
         ("a", None),
-    ] {
+    ];
+    for &(text, offset) in ROWS {
         same_of(&rt, text, read_offset(text.as_bytes()), offset);
     }
     Ok(())
