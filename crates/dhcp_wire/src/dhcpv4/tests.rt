@@ -39,7 +39,7 @@ fn listed(alloc: Global, packet: &[u8]) -> Result<Vec<u8>, Fail> {
 
 #[test]
 fn options_in_turn(rt: HostRuntime) -> Result<(), Fail> {
-    let rows: [(&[u8], &[u8]); 9] = [
+    const ROWS: &[(&[u8], &[u8])] = &[
         (&[], &[]),
         (&[0xff, 1, 0], &[]),
         (&[0, 0, 12, 1, 0x61], &[12, 0x61, 0xee]),
@@ -53,7 +53,7 @@ fn options_in_turn(rt: HostRuntime) -> Result<(), Fail> {
         (&[12, 1, 0x61, 13, 2, 0x62], &[12, 0x61, 0xee]),
         (&[0, 0xff], &[]),
     ];
-    for (bytes, wanted) in rows {
+    for &(bytes, wanted) in ROWS {
         let octets = packet(rt.alloc(), 1, bytes)?;
         let options = listed(rt.alloc(), octets.as_slice())?;
         same_of(&rt, bytes, options.as_slice(), wanted);
@@ -89,13 +89,13 @@ fn a_thousand_bytes_of_padding_before_an_option(rt: HostRuntime) -> Result<(), F
 
 #[test]
 fn names_before_the_first_zero(rt: HostRuntime) -> Result<(), Fail> {
-    let rows: [(u8, u8, Option<&str>); 4] = [
+    const ROWS: &[(u8, u8, Option<&str>)] = &[
         (0x00, 0x00, None),
         (0x61, 0x61, None),
         (0xff, 0x00, None),
         (0x61, 0x00, Some("a")),
     ];
-    for (first, rest, wanted) in rows {
+    for &(first, rest, wanted) in ROWS {
         let mut octets = [rest; 240];
         octets[34] = first;
         octets[108] = first;
@@ -254,7 +254,7 @@ fn numbers_of_operations(rt: HostRuntime) {
 
 #[test]
 fn numbers_of_types_of_message(rt: HostRuntime) {
-    for (number, message) in [
+    const ROWS: &[(u8, MessageType)] = &[
         (1, MessageType::Discover),
         (2, MessageType::Offer),
         (3, MessageType::Request),
@@ -265,7 +265,8 @@ fn numbers_of_types_of_message(rt: HostRuntime) {
         (8, MessageType::Inform),
         (9, MessageType::Unknown(9)),
         (0, MessageType::Unknown(0)),
-    ] {
+    ];
+    for &(number, message) in ROWS {
         same(&rt, MessageType::from(number), message);
         same(&rt, u8::from(message), number);
     }

@@ -20,7 +20,7 @@ fn numbers_of_messages(rt: HostRuntime) {
         same(&rt, Opcode::from(number), opcode);
         same(&rt, u8::from(opcode), number);
     }
-    for (number, rcode) in [
+    const OUTCOMES: &[(u8, Rcode)] = &[
         (0, Rcode::NoError),
         (1, Rcode::FormErr),
         (2, Rcode::ServFail),
@@ -33,18 +33,20 @@ fn numbers_of_messages(rt: HostRuntime) {
         (9, Rcode::NotAuth),
         (10, Rcode::NotZone),
         (11, Rcode::Unknown(11)),
-    ] {
+    ];
+    for &(number, rcode) in OUTCOMES {
         same(&rt, Rcode::from(number), rcode);
         same(&rt, u8::from(rcode), number);
     }
-    for (number, kind) in [
+    const TYPES: &[(u16, Type)] = &[
         (1u16, Type::A),
         (2, Type::Ns),
         (5, Type::Cname),
         (6, Type::Soa),
         (28, Type::Aaaa),
         (255, Type::Unknown(255)),
-    ] {
+    ];
+    for &(number, kind) in TYPES {
         same(&rt, Type::from(number), kind);
         same(&rt, u16::from(kind), number);
     }

@@ -122,7 +122,7 @@ fn echo_replies_are_written_and_read(rt: HostRuntime) {
 fn three_errors_have_any_code_and_the_others_code_0(rt: HostRuntime) -> Result<(), Fail> {
     let caps = all(Checksum::None);
     for code in 0..=255 {
-        for (kind, any) in [
+        const ROWS: &[(u8, bool)] = &[
             (1u8, true),
             (2, false),
             (3, true),
@@ -131,7 +131,8 @@ fn three_errors_have_any_code_and_the_others_code_0(rt: HostRuntime) -> Result<(
             (0x81, false),
             (0x82, false),
             (0x8f, false),
-        ] {
+        ];
+        for &(kind, any) in ROWS {
             let mut octets = TOO_BIG;
             octets[0] = kind;
             octets[1] = code;

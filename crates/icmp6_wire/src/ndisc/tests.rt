@@ -312,7 +312,7 @@ const THREE_MTUS: [u8; 48] = [
 
 #[test]
 fn damaged_messages(rt: HostRuntime) -> Result<(), Fail> {
-    let rows: [&[u8]; 7] = [
+    const ROWS: &[&[u8]] = &[
         &ROUTER_SOLICIT,
         &ROUTER_ADVERT,
         &FULL_ROUTER_ADVERT,
@@ -321,7 +321,7 @@ fn damaged_messages(rt: HostRuntime) -> Result<(), Fail> {
         &NEIGHBOR_ADVERT,
         &REDIRECT,
     ];
-    for octets in rows {
+    for &octets in ROWS {
         compare_damaged(&rt, rt.alloc(), octets)?;
     }
     Ok(())

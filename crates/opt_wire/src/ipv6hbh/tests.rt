@@ -35,7 +35,7 @@ const RPL: [Option<'static>; 1] = [Option::Unknown {
 
 #[test]
 fn headers_and_the_options_that_they_keep(rt: HostRuntime) -> Result<(), Fail> {
-    let rows: [(&'static [u8], &'static [Option<'static>]); 7] = [
+    const ROWS: &[(&'static [u8], &'static [Option<'static>])] = &[
         (
             &[0x00, 0x00, 0x00, 0x00, 0x05, 0x02, 0xbe, 0xef],
             &PADS_AND_ALERT,
@@ -48,7 +48,7 @@ fn headers_and_the_options_that_they_keep(rt: HostRuntime) -> Result<(), Fail> {
         (&[0x11, 0x00], &NO_DATA),
         (&[0x63, 0x02, 0xaa, 0xbb], &RPL),
     ];
-    for (octets, options) in rows {
+    for &(octets, options) in ROWS {
         let header = Repr::parse(&Header::new_checked(octets)?)?;
         same_of(&rt, octets, header.options.as_slice(), options);
         compare_damaged(&rt, rt.alloc(), octets)?;
@@ -58,7 +58,7 @@ fn headers_and_the_options_that_they_keep(rt: HostRuntime) -> Result<(), Fail> {
 
 #[test]
 fn headers_refused(rt: HostRuntime) -> Result<(), Fail> {
-    let rows: [&[u8]; 6] = [
+    const ROWS: &[&[u8]] = &[
         &[],
         // A bad option: a router alert of 3 bytes of data, and one whose length is left out.
         &[0x00, 0x00, 0x00, 0x00, 0x05, 0x03, 0x00, 0x00, 0x00],
@@ -68,7 +68,7 @@ fn headers_refused(rt: HostRuntime) -> Result<(), Fail> {
         &[0, 0, 0, 0, 0, 0, 0, 0, 0x11],
         &[0, 0, 0, 0, 0, 0, 0, 0, 0x05, 0x03, 0x00, 0x00, 0x00],
     ];
-    for octets in rows {
+    for &octets in ROWS {
         let header = Header::new_unchecked(octets);
         holds_of(&rt, octets, Repr::parse(&header).is_err());
         compare_damaged(&rt, rt.alloc(), octets)?;

@@ -14,7 +14,7 @@ mod printing;
 
 #[test]
 fn option_types_and_their_numbers(rt: HostRuntime) {
-    for (number, kind) in [
+    const ROWS: &[(u8, Type)] = &[
         (0x00, Type::Pad1),
         (0x01, Type::PadN),
         (0x05, Type::RouterAlert),
@@ -23,7 +23,8 @@ fn option_types_and_their_numbers(rt: HostRuntime) {
         (0x04, Type::Unknown(0x04)),
         (0x06, Type::Unknown(0x06)),
         (0xff, Type::Unknown(0xff)),
-    ] {
+    ];
+    for &(number, kind) in ROWS {
         same_of(&rt, number, Type::from(number), kind);
         same_of(&rt, kind, u8::from(kind), number);
     }
@@ -31,14 +32,15 @@ fn option_types_and_their_numbers(rt: HostRuntime) {
 
 #[test]
 fn router_alerts_and_their_numbers(rt: HostRuntime) {
-    for (number, alert) in [
+    const ROWS: &[(u16, RouterAlert)] = &[
         (0, RouterAlert::MulticastListenerDiscovery),
         (1, RouterAlert::Rsvp),
         (2, RouterAlert::ActiveNetworks),
         (3, RouterAlert::Unknown(3)),
         (0xbeef, RouterAlert::Unknown(0xbeef)),
         (0xffff, RouterAlert::Unknown(0xffff)),
-    ] {
+    ];
+    for &(number, alert) in ROWS {
         same_of(&rt, number, RouterAlert::from(number), alert);
         same_of(&rt, alert, u16::from(alert), number);
     }
@@ -52,7 +54,7 @@ fn hash_of(failure: FailureType) -> u64 {
 
 #[test]
 fn failure_types_are_the_two_highest_bits(rt: HostRuntime) {
-    for (number, failure) in [
+    const ROWS: &[(u8, FailureType)] = &[
         (0x00, FailureType::Skip),
         (0x3f, FailureType::Skip),
         (0x40, FailureType::Discard),
@@ -60,7 +62,8 @@ fn failure_types_are_the_two_highest_bits(rt: HostRuntime) {
         (0xa0, FailureType::DiscardSendAll),
         (0xc0, FailureType::DiscardSendUnicast),
         (0xff, FailureType::DiscardSendUnicast),
-    ] {
+    ];
+    for &(number, failure) in ROWS {
         same_of(&rt, number, FailureType::from(number), failure);
         same_of(&rt, failure, u8::from(failure), number & 0xc0);
     }
@@ -85,7 +88,7 @@ fn failure_types_of_options(rt: HostRuntime) {
 
 #[test]
 fn order_of_types(rt: HostRuntime) {
-    let types = [
+    const TYPES: &[Type] = &[
         Type::Pad1,
         Type::PadN,
         Type::RouterAlert,
@@ -93,41 +96,41 @@ fn order_of_types(rt: HostRuntime) {
         Type::Unknown(0),
         Type::Unknown(7),
     ];
-    for pair in types.windows(2) {
+    for pair in TYPES.windows(2) {
         holds_of(&rt, pair, pair[0] < pair[1]);
     }
 }
 
 #[test]
 fn order_of_router_alerts(rt: HostRuntime) {
-    let alerts = [
+    const ALERTS: &[RouterAlert] = &[
         RouterAlert::MulticastListenerDiscovery,
         RouterAlert::Rsvp,
         RouterAlert::ActiveNetworks,
         RouterAlert::Unknown(0),
         RouterAlert::Unknown(7),
     ];
-    for pair in alerts.windows(2) {
+    for pair in ALERTS.windows(2) {
         holds_of(&rt, pair, pair[0] < pair[1]);
     }
 }
 
 #[test]
 fn order_of_failure_types(rt: HostRuntime) {
-    let failures = [
+    const FAILURES: &[FailureType] = &[
         FailureType::Skip,
         FailureType::Discard,
         FailureType::DiscardSendAll,
         FailureType::DiscardSendUnicast,
     ];
-    for pair in failures.windows(2) {
+    for pair in FAILURES.windows(2) {
         holds_of(&rt, pair, pair[0] < pair[1]);
     }
 }
 
 #[test]
 fn views_of_whole_options_alone(rt: HostRuntime) {
-    let rows: [(&[u8], bool); 12] = [
+    const ROWS: &[(&[u8], bool)] = &[
         (&[], false),
         (&[0x00], true),
         (&[0x00, 0xff], true),
@@ -142,7 +145,7 @@ fn views_of_whole_options_alone(rt: HostRuntime) {
         (&[0x11, 0x03, 0xa1, 0xa2, 0xa3], true),
         (&[0x11, 0x03, 0xa1, 0xa2, 0xa3, 0xa4], true),
     ];
-    for (octets, whole) in rows {
+    for &(octets, whole) in ROWS {
         let view = Ipv6Option::new_checked(octets);
         same_of(&rt, octets, view.is_ok(), whole);
         let view = Ipv6Option::new_unchecked(octets);
@@ -262,7 +265,7 @@ fn longest_padding(rt: HostRuntime) -> Result<(), Fail> {
 
 #[test]
 fn options_refused(rt: HostRuntime) -> Result<(), Fail> {
-    let rows: [&[u8]; 7] = [
+    const ROWS: &[&[u8]] = &[
         &[],
         &[0x01],
         // Router alerts of 0, 1 and 3 bytes of data, and of 2 where 1 stands.
@@ -272,7 +275,7 @@ fn options_refused(rt: HostRuntime) -> Result<(), Fail> {
         &[0x05, 0x02, 0x00],
         &[0x11, 0x01],
     ];
-    for octets in rows {
+    for &octets in ROWS {
         let view = Ipv6Option::new_unchecked(octets);
         same_of(&rt, octets, Repr::parse(&view), Err(Error));
         compare_damaged(&rt, rt.alloc(), octets)?;

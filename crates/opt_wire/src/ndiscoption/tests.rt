@@ -100,7 +100,7 @@ const LONG_SOURCE: [u8; 16] = [0x01, 0x02, 1, 2, 3, 4, 5, 6, 7, 0, 0, 0, 0, 0, 0
 
 #[test]
 fn damaged_options(rt: HostRuntime) -> Result<(), Fail> {
-    let rows: [&[u8]; 7] = [
+    const ROWS: &[&[u8]] = &[
         &[0x01, 0x01, 0x52, 0x54, 0x00, 0x12, 0x34, 0x56],
         &[0x02, 0x01, 0x52, 0x54, 0x00, 0x12, 0x34, 0x56],
         &LONG_SOURCE,
@@ -109,7 +109,7 @@ fn damaged_options(rt: HostRuntime) -> Result<(), Fail> {
         &MTU,
         &UNKNOWN,
     ];
-    for octets in rows {
+    for &octets in ROWS {
         compare_damaged(&rt, rt.alloc(), octets)?;
     }
     Ok(())
@@ -179,7 +179,7 @@ fn check_address_is_written(rt: &impl Abort, address: &[u8], bytes: &[u8]) {
 #[test]
 fn addresses_of_other_lengths(rt: HostRuntime) {
     // An address, its option, and the address that is read in it.
-    let rows: [(&[u8], &[u8], &[u8]); 4] = [
+    const ROWS: &[(&[u8], &[u8], &[u8])] = &[
         (&[], &[0x01, 0x01, 0, 0, 0, 0, 0, 0], &[0; 6]),
         (
             &[0xaa],
@@ -197,7 +197,7 @@ fn addresses_of_other_lengths(rt: HostRuntime) {
             &[1, 2, 3, 4, 5, 6, 7, 8],
         ),
     ];
-    for (address, bytes, again) in rows {
+    for &(address, bytes, again) in ROWS {
         check_address_is_written(&rt, address, bytes);
         let value = Repr::SourceLinkLayerAddr(RawHardwareAddress::from_bytes(again));
         same(&rt, &read(bytes), &Ok(value));
@@ -223,7 +223,7 @@ fn long_address_options_are_written_shorter(rt: HostRuntime) {
 #[test]
 fn options_of_each_type_and_number_of_units(rt: HostRuntime) {
     // The type, and for 0 to 6 units whether the option is whole, and whether it is read.
-    let rows = [
+    const ROWS: &[(u8, [bool; 7], [bool; 7])] = &[
         (0x00, [true; 7], [false, true, true, true, true, true, true]),
         (0x01, [true; 7], [false, true, true, true, true, true, true]),
         (0x02, [true; 7], [false, true, true, true, true, true, true]),
@@ -245,7 +245,7 @@ fn options_of_each_type_and_number_of_units(rt: HostRuntime) {
         (0x06, [true; 7], [false, true, true, true, true, true, true]),
         (0xff, [true; 7], [false, true, true, true, true, true, true]),
     ];
-    for (kind, whole, reads) in rows {
+    for &(kind, whole, reads) in ROWS {
         for units in 0..7 {
             let mut bytes = [0; 48];
             bytes[0] = kind;
@@ -282,7 +282,7 @@ fn an_option_of_the_most_units(rt: HostRuntime) {
 #[test]
 fn redirected_packets_that_are_not_whole(rt: HostRuntime) {
     // A byte of the option that is another, and whether the option is still read.
-    let rows = [
+    const ROWS: &[(usize, u8, bool)] = &[
         (8, 0x6f, true),
         (8, 0x40, false),
         (13, 0x08, true),
@@ -290,7 +290,7 @@ fn redirected_packets_that_are_not_whole(rt: HostRuntime) {
         (12, 0x01, false),
         (7, 0xff, true),
     ];
-    for (at, value, reads) in rows {
+    for &(at, value, reads) in ROWS {
         let mut bytes = REDIRECTED;
         bytes[at] = value;
         same_of(&rt, (at, value), read(&bytes).is_ok(), reads);

@@ -48,7 +48,7 @@ fn equality_of_addresses(rt: HostRuntime) {
 
 #[test]
 fn addresses_in_hexadecimal(rt: HostRuntime) -> Result<(), Fail> {
-    let rows: [(&[u8], &str); 4] = [
+    const ROWS: &[(&[u8], &str)] = &[
         (&[], ""),
         (&[0x0a], "0a"),
         (&[0xff, 0x00], "ff:00"),
@@ -57,7 +57,7 @@ fn addresses_in_hexadecimal(rt: HostRuntime) -> Result<(), Fail> {
             "01:23:45:67:89:ab:cd:ef",
         ),
     ];
-    for (bytes, text) in rows {
+    for &(bytes, text) in ROWS {
         let address = RawHardwareAddress::from_bytes(bytes);
         prints(&rt, rt.alloc(), address, text)?;
     }

@@ -200,7 +200,7 @@ fn damaged_questions_are_read_as_by_a_plain_reader(rt: HostRuntime) -> Result<()
 
 #[test]
 fn damaged_records_are_read_as_by_a_plain_reader(rt: HostRuntime) -> Result<(), Fail> {
-    let rows: [&[u8]; 5] = [
+    const ROWS: &[&[u8]] = &[
         &[
             0xc0, 0x0c, 0x00, 0x01, 0x00, 0x01, 0x00, 0x00, 0x00, 0xca, 0x00, 0x04, 0xac, 0xd9,
             0xa8, 0xae,
@@ -221,7 +221,7 @@ fn damaged_records_are_read_as_by_a_plain_reader(rt: HostRuntime) -> Result<(), 
             0x00, 0x00, 0xff, 0x00, 0x01, 0xff, 0xff, 0xff, 0xff, 0x00, 0x00,
         ],
     ];
-    for octets in rows {
+    for &octets in ROWS {
         holds_of(&rt, octets, Record::parse(octets).is_ok());
         compare_damaged(&rt, rt.alloc(), octets)?;
     }
@@ -230,7 +230,7 @@ fn damaged_records_are_read_as_by_a_plain_reader(rt: HostRuntime) -> Result<(), 
 
 #[test]
 fn damaged_messages_are_read_as_by_a_plain_reader(rt: HostRuntime) -> Result<(), Fail> {
-    let rows: [&[u8]; 3] = [
+    const ROWS: &[&[u8]] = &[
         &[
             0x51, 0x84, 0x01, 0x20, 0x00, 0x01, 0x00, 0x00, 0x00, 0x00, 0x00, 0x00, 0x06, 0x67,
             0x6f, 0x6f, 0x67, 0x6c, 0x65, 0x03, 0x63, 0x6f, 0x6d, 0x00, 0x00, 0x01, 0x00, 0x01,
@@ -242,7 +242,7 @@ fn damaged_messages_are_read_as_by_a_plain_reader(rt: HostRuntime) -> Result<(),
             0x63, 0xc4, 0x81, 0x83, 0x00, 0x01, 0x00, 0x00, 0x00, 0x01, 0x00, 0x00,
         ],
     ];
-    for octets in rows {
+    for &octets in ROWS {
         holds_of(&rt, octets, Packet::new_checked(octets).is_ok());
         compare_damaged(&rt, rt.alloc(), octets)?;
     }

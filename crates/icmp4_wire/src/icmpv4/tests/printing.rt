@@ -7,7 +7,7 @@ use std::test::Fail;
 
 #[test]
 fn types_and_reasons_print_their_words(rt: HostRuntime) -> Result<(), Fail> {
-    let messages = [
+    const MESSAGES: &[(u8, &str)] = &[
         (0, "echo reply"),
         (3, "destination unreachable"),
         (5, "message redirect"),
@@ -20,11 +20,11 @@ fn types_and_reasons_print_their_words(rt: HostRuntime) -> Result<(), Fail> {
         (14, "timestamp reply"),
         (255, "255"),
     ];
-    for (number, text) in messages {
+    for &(number, text) in MESSAGES {
         let message = Message::from(number);
         prints(&rt, rt.alloc(), message, text)?;
     }
-    let unreachables = [
+    const UNREACHABLES: &[(u8, &str)] = &[
         (0, "destination network unreachable"),
         (1, "destination host unreachable"),
         (2, "destination protocol unreachable"),
@@ -43,16 +43,16 @@ fn types_and_reasons_print_their_words(rt: HostRuntime) -> Result<(), Fail> {
         (15, "precedence cutoff in effect"),
         (16, "16"),
     ];
-    for (number, text) in unreachables {
+    for &(number, text) in UNREACHABLES {
         let reason = DstUnreachable::from(number);
         prints(&rt, rt.alloc(), reason, text)?;
     }
-    let times = [
+    const TIMES: &[(u8, &str)] = &[
         (0, "time-to-live exceeded in transit"),
         (1, "fragment reassembly time exceeded"),
         (2, "2"),
     ];
-    for (number, text) in times {
+    for &(number, text) in TIMES {
         let reason = TimeExceeded::from(number);
         prints(&rt, rt.alloc(), reason, text)?;
     }
@@ -61,7 +61,7 @@ fn types_and_reasons_print_their_words(rt: HostRuntime) -> Result<(), Fail> {
 
 #[test]
 fn packets_print_their_message_or_why_not(rt: HostRuntime) -> Result<(), Fail> {
-    let rows: [(&[u8], &str); 10] = [
+    const ROWS: &[(&[u8], &str)] = &[
         (&ECHO_REQUEST, "ICMPv4 echo request id=4660 seq=43981 len=4"),
         (
             &[0x00, 0x00, 0xff, 0xff, 0x00, 0x00, 0x00, 0x00],
@@ -94,7 +94,7 @@ fn packets_print_their_message_or_why_not(rt: HostRuntime) -> Result<(), Fail> {
         (&[0x08], "ICMPv4 (wire::Error)"),
         (&[], "ICMPv4 (wire::Error)"),
     ];
-    for (octets, text) in rows {
+    for &(octets, text) in ROWS {
         let packet = Packet::new_unchecked(octets);
         prints(&rt, rt.alloc(), packet, text)?;
     }
@@ -116,13 +116,13 @@ fn packets_print_their_message_or_why_not(rt: HostRuntime) -> Result<(), Fail> {
 
 #[test]
 fn printing_fails_only_with_its_writer(rt: HostRuntime) {
-    let rows: [(&[u8], u32); 4] = [
+    const ROWS: &[(&[u8], u32)] = &[
         (&ECHO_REQUEST, 6),
         (&PORT_UNREACHABLE, 3),
         (&[0x2a, 0xff], 6),
         (&[0x08], 1),
     ];
-    for (octets, calls) in rows {
+    for &(octets, calls) in ROWS {
         takes_writes(&rt, &Packet::new_unchecked(octets), calls);
     }
 }

@@ -44,7 +44,7 @@ fn quoting(first: u8, total_len: u16) -> [u8; 68] {
 fn quotes_are_read_by_their_own_lengths(rt: HostRuntime) -> Result<(), Fail> {
     let ignored = ChecksumCapabilities::ignored();
     // The first byte and the total length of a quote of 60 bytes, and the bytes of its data where it is read.
-    for (first, total_len, data_len) in [
+    const ROWS: &[(u8, u16, Option<usize>)] = &[
         (0x45, 60, Some(40)),
         (0x45, 28, Some(40)),
         (0x45, 20, Some(40)),
@@ -58,7 +58,8 @@ fn quotes_are_read_by_their_own_lengths(rt: HostRuntime) -> Result<(), Fail> {
         (0x4d, 60, Some(8)),
         (0x4e, 60, None),
         (0x4f, 60, None),
-    ] {
+    ];
+    for &(first, total_len, data_len) in ROWS {
         let octets = quoting(first, total_len);
         let read = Repr::parse(&Packet::new_unchecked(&octets[..]), &ignored);
         let read_len = match read {
@@ -101,7 +102,7 @@ fn a_checksum_that_is_wrong_by_a_bit_is_refused(rt: HostRuntime) -> Result<(), F
 #[test]
 fn other_messages_are_refused(rt: HostRuntime) -> Result<(), Fail> {
     let ignored = ChecksumCapabilities::ignored();
-    for (kind, code, accepted) in [
+    const ROWS: &[(u8, u8, bool)] = &[
         (8, 0, true),
         (8, 1, false),
         (0, 0, true),
@@ -111,7 +112,8 @@ fn other_messages_are_refused(rt: HostRuntime) -> Result<(), Fail> {
         (9, 0, false),
         (13, 0, false),
         (255, 0, false),
-    ] {
+    ];
+    for &(kind, code, accepted) in ROWS {
         let octets = [kind, code, 0, 0, 0, 0, 0, 0];
         let read = Repr::parse(&Packet::new_unchecked(&octets[..]), &ignored);
         same_of(&rt, (kind, code), read.is_ok(), accepted);

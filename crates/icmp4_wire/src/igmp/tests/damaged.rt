@@ -98,7 +98,7 @@ fn compare_damaged(rt: &impl Abort, alloc: Global, packet: &[u8]) -> Result<(), 
 
 #[test]
 fn damaged_messages_are_read_as_by_a_plain_reader(rt: HostRuntime) -> Result<(), Fail> {
-    let rows: [&[u8]; 7] = [
+    const ROWS: &[&[u8]] = &[
         &[0x11, 0x80, 0xee, 0x7f, 0, 0, 0, 0],
         &[0x11, 0x00, 0xee, 0xff, 0, 0, 0, 0],
         &[0x11, 0x64, 0x08, 0x05, 0xe0, 0x00, 0x06, 0x96],
@@ -107,7 +107,7 @@ fn damaged_messages_are_read_as_by_a_plain_reader(rt: HostRuntime) -> Result<(),
         &[0x16, 0x00, 0x08, 0xda, 0xe1, 0x00, 0x00, 0x25],
         &[0x12, 0x00, 0x0c, 0xda, 0xe1, 0x00, 0x00, 0x25],
     ];
-    for packet in rows {
+    for &packet in ROWS {
         holds_of(&rt, packet, Packet::new_unchecked(packet).verify_checksum());
         holds_of(
             &rt,

@@ -6,7 +6,7 @@ use std::test::Fail;
 
 #[test]
 fn each_type_asks_its_header(rt: HostRuntime) -> Result<(), Fail> {
-    let rows = [
+    const ROWS: &[(u8, usize)] = &[
         (1u8, 8usize),
         (2, 8),
         (3, 8),
@@ -21,7 +21,7 @@ fn each_type_asks_its_header(rt: HostRuntime) -> Result<(), Fail> {
         (0x89, 40),
         (0x8f, 8),
     ];
-    for (kind, least) in rows {
+    for &(kind, least) in ROWS {
         let mut octets = [0; 41];
         octets[0] = kind;
         same_of(
@@ -70,26 +70,28 @@ fn check_type(rt: &impl Abort, alloc: Global, message: Message, classes: [bool; 
 
 #[test]
 fn types_of_errors(rt: HostRuntime) {
-    for (message, text) in [
+    const ROWS: &[(Message, &str)] = &[
         (Message::DstUnreachable, "destination unreachable"),
         (Message::PktTooBig, "packet too big"),
         (Message::TimeExceeded, "time exceeded"),
         (Message::ParamProblem, "parameter problem"),
         (Message::Unknown(5), "5"),
-    ] {
+    ];
+    for &(message, text) in ROWS {
         check_type(&rt, rt.alloc(), message, [true, false, false], text);
     }
 }
 
 #[test]
 fn types_of_neighbor_discovery(rt: HostRuntime) {
-    for (message, text) in [
+    const ROWS: &[(Message, &str)] = &[
         (Message::RouterSolicit, "router solicitation"),
         (Message::RouterAdvert, "router advertisement"),
         (Message::NeighborSolicit, "neighbor solicitation"),
         (Message::NeighborAdvert, "neighbor advert"),
         (Message::Redirect, "redirect"),
-    ] {
+    ];
+    for &(message, text) in ROWS {
         check_type(&rt, rt.alloc(), message, [false, true, false], text);
     }
 }
@@ -106,12 +108,13 @@ fn types_of_listener_discovery(rt: HostRuntime) {
 
 #[test]
 fn types_of_no_class(rt: HostRuntime) {
-    for (message, text) in [
+    const ROWS: &[(Message, &str)] = &[
         (Message::EchoRequest, "echo request"),
         (Message::EchoReply, "echo reply"),
         (Message::RplControl, "RPL control message"),
         (Message::Unknown(0xff), "255"),
-    ] {
+    ];
+    for &(message, text) in ROWS {
         check_type(&rt, rt.alloc(), message, [false, false, false], text);
     }
 }

@@ -6,13 +6,14 @@ use std::test::Fail;
 
 #[test]
 fn what_types_print(rt: HostRuntime) -> Result<(), Fail> {
-    for (kind, text) in [
+    const ROWS: &[(Type, &str)] = &[
         (Type::Pad1, "Pad1"),
         (Type::PadN, "PadN"),
         (Type::RouterAlert, "RouterAlert"),
         (Type::Rpl, "RPL"),
         (Type::Unknown(0xc5), "197"),
-    ] {
+    ];
+    for &(kind, text) in ROWS {
         prints(&rt, rt.alloc(), kind, text)?;
     }
     Ok(())
@@ -20,7 +21,7 @@ fn what_types_print(rt: HostRuntime) -> Result<(), Fail> {
 
 #[test]
 fn what_failure_types_print(rt: HostRuntime) -> Result<(), Fail> {
-    for (failure, text) in [
+    const ROWS: &[(FailureType, &str)] = &[
         (FailureType::Skip, "skip"),
         (FailureType::Discard, "discard"),
         (FailureType::DiscardSendAll, "discard and send error"),
@@ -28,7 +29,8 @@ fn what_failure_types_print(rt: HostRuntime) -> Result<(), Fail> {
             FailureType::DiscardSendUnicast,
             "discard and send error if unicast",
         ),
-    ] {
+    ];
+    for &(failure, text) in ROWS {
         prints(&rt, rt.alloc(), failure, text)?;
     }
     Ok(())
@@ -36,7 +38,7 @@ fn what_failure_types_print(rt: HostRuntime) -> Result<(), Fail> {
 
 #[test]
 fn what_options_print(rt: HostRuntime) -> Result<(), Fail> {
-    let rows: [(&[u8], &str); 10] = [
+    const ROWS: &[(&[u8], &str)] = &[
         (&[0x00], "IPv6 Option Pad1 "),
         (&[0x01, 0x04, 0, 0, 0, 0], "IPv6 Option PadN length=4 "),
         (
@@ -57,7 +59,7 @@ fn what_options_print(rt: HostRuntime) -> Result<(), Fail> {
         (&[0x05, 0x01, 0xaa], "IPv6 Extension Option (wire::Error)"),
         (&[], "IPv6 Extension Option (wire::Error)"),
     ];
-    for (octets, text) in rows {
+    for &(octets, text) in ROWS {
         let view = Ipv6Option::new_unchecked(octets);
         same_of(&rt, octets, view.to_string(rt.alloc())?.as_str(), text);
         if let Ok(repr) = Repr::parse(&view) {
@@ -69,7 +71,7 @@ fn what_options_print(rt: HostRuntime) -> Result<(), Fail> {
 
 #[test]
 fn printing_fails_only_with_its_writer(rt: HostRuntime) {
-    let rows: [(&[u8], u32); 6] = [
+    const ROWS: &[(&[u8], u32)] = &[
         (&[0x00], 1),
         (&[0x01, 0x04, 0, 0, 0, 0], 3),
         (&[0x05, 0x02, 0, 1], 2),
@@ -77,7 +79,7 @@ fn printing_fails_only_with_its_writer(rt: HostRuntime) {
         (&[0x63, 0x01, 0xaa], 5),
         (&[], 3),
     ];
-    for (octets, calls) in rows {
+    for &(octets, calls) in ROWS {
         takes_writes(&rt, &Ipv6Option::new_unchecked(octets), calls);
     }
     takes_writes(&rt, &Type::Unknown(7), 1);

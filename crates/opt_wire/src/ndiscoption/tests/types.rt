@@ -5,7 +5,7 @@ use std::test::Fail;
 
 #[test]
 fn types_and_their_numbers(rt: HostRuntime) -> Result<(), Fail> {
-    let rows = [
+    const ROWS: &[(u8, Type, &str)] = &[
         (1, Type::SourceLinkLayerAddr, "source link-layer address"),
         (2, Type::TargetLinkLayerAddr, "target link-layer address"),
         (3, Type::PrefixInformation, "prefix information"),
@@ -14,7 +14,7 @@ fn types_and_their_numbers(rt: HostRuntime) -> Result<(), Fail> {
         (0, Type::Unknown(0), "0"),
         (14, Type::Unknown(14), "14"),
     ];
-    for (number, kind, text) in rows {
+    for &(number, kind, text) in ROWS {
         same(&rt, Type::from(number), kind);
         same(&rt, u8::from(kind), number);
         prints(&rt, rt.alloc(), kind, text)?;

@@ -76,7 +76,7 @@ fn data_is_lent_for_writing(rt: HostRuntime) {
 
 #[test]
 fn views_in_words(rt: HostRuntime) -> Result<(), Fail> {
-    let rows: [(&[u8], &str); 4] = [
+    const ROWS: &[(&[u8], &str)] = &[
         (
             &[0x05, 0x01, 0, 0, 0, 0, 0x05, 0xdc],
             "NDISC Option: MTU mtu=1500",
@@ -88,7 +88,7 @@ fn views_in_words(rt: HostRuntime) -> Result<(), Fail> {
         ),
         (&[], "NDISC Option (wire::Error)"),
     ];
-    for (bytes, text) in rows {
+    for &(bytes, text) in ROWS {
         let view = NdiscOption::new_unchecked(bytes);
         prints(&rt, rt.alloc(), view, text)?;
     }
@@ -97,8 +97,8 @@ fn views_in_words(rt: HostRuntime) -> Result<(), Fail> {
 
 #[test]
 fn printing_fails_only_with_its_writer(rt: HostRuntime) {
-    let rows: [(&[u8], u32); 3] = [(&MTU, 2), (&PREFIX, 6), (&[], 3)];
-    for (bytes, calls) in rows {
+    const ROWS: &[(&[u8], u32)] = &[(&MTU, 2), (&PREFIX, 6), (&[], 3)];
+    for &(bytes, calls) in ROWS {
         takes_writes(&rt, &NdiscOption::new_unchecked(bytes), calls);
     }
     takes_writes(&rt, &Type::Mtu, 1);

@@ -61,7 +61,7 @@ fn compare_held(
 
 #[test]
 fn addresses_a_byte_shorter_and_a_byte_longer(rt: HostRuntime) -> Result<(), Fail> {
-    let rows: [(&[u8], Option<u64>); 12] = [
+    const ROWS: &[(&[u8], Option<u64>)] = &[
         (&[1, 3, 255, 255, 255], None),
         (&[1, 4, 255, 255, 255, 0], Some(0xffff_ff00)),
         (&[1, 5, 255, 255, 255, 0, 0], None),
@@ -75,7 +75,7 @@ fn addresses_a_byte_shorter_and_a_byte_longer(rt: HostRuntime) -> Result<(), Fai
         (&[54, 4, 10, 0, 1, 4], Some(0x0a00_0104)),
         (&[54, 5, 10, 0, 1, 4, 0], None),
     ];
-    for (option, wanted) in rows {
+    for &(option, wanted) in ROWS {
         compare_held(&rt, rt.alloc(), option, wanted)?;
     }
     Ok(())
@@ -83,7 +83,7 @@ fn addresses_a_byte_shorter_and_a_byte_longer(rt: HostRuntime) -> Result<(), Fai
 
 #[test]
 fn numbers_a_byte_shorter_and_a_byte_longer(rt: HostRuntime) -> Result<(), Fail> {
-    let rows: [(&[u8], Option<u64>); 12] = [
+    const ROWS: &[(&[u8], Option<u64>)] = &[
         (&[51, 3, 0, 0x0e, 0x10], None),
         (&[51, 4, 0, 0, 0x0e, 0x10], Some(3600)),
         (&[51, 5, 0, 0, 0, 0x0e, 0x10], None),
@@ -97,7 +97,7 @@ fn numbers_a_byte_shorter_and_a_byte_longer(rt: HostRuntime) -> Result<(), Fail>
         (&[59, 4, 0, 0, 0x0c, 0x4e], Some(3150)),
         (&[59, 5, 0, 0, 0, 0x0c, 0x4e], None),
     ];
-    for (option, wanted) in rows {
+    for &(option, wanted) in ROWS {
         compare_held(&rt, rt.alloc(), option, wanted)?;
     }
     Ok(())
@@ -106,7 +106,7 @@ fn numbers_a_byte_shorter_and_a_byte_longer(rt: HostRuntime) -> Result<(), Fail>
 // The packet is a Discover already, which a type of another length leaves; a list may have any length.
 #[test]
 fn types_identifiers_and_lists_of_three_lengths(rt: HostRuntime) -> Result<(), Fail> {
-    let rows: [(&[u8], Option<u64>); 12] = [
+    const ROWS: &[(&[u8], Option<u64>)] = &[
         (&[53, 0], Some(1)),
         (&[53, 1, 3], Some(3)),
         (&[53, 2, 3, 3], Some(1)),
@@ -120,7 +120,7 @@ fn types_identifiers_and_lists_of_three_lengths(rt: HostRuntime) -> Result<(), F
         (&[55, 1, 42], Some(1)),
         (&[55, 2, 42, 3], Some(2)),
     ];
-    for (option, wanted) in rows {
+    for &(option, wanted) in ROWS {
         compare_held(&rt, rt.alloc(), option, wanted)?;
     }
     Ok(())

@@ -23,7 +23,7 @@ fn type_in(packet: &[u8]) -> Option<MessageType> {
 
 #[test]
 fn types_of_message_with_the_operation_of_the_packet(rt: HostRuntime) -> Result<(), Fail> {
-    let rows: [(u8, &[u8], Option<MessageType>); 10] = [
+    const ROWS: &[(u8, &[u8], Option<MessageType>)] = &[
         (
             1,
             &[0x35, 1, 1, 0x35, 1, 2, 0xff],
@@ -49,7 +49,7 @@ fn types_of_message_with_the_operation_of_the_packet(rt: HostRuntime) -> Result<
             None,
         ),
     ];
-    for (op, options, wanted) in rows {
+    for &(op, options, wanted) in ROWS {
         let octets = packet(rt.alloc(), op, options)?;
         same_of(&rt, (op, options), type_in(octets.as_slice()), wanted);
         compare_damaged(&rt, rt.alloc(), octets.as_slice())?;
@@ -59,7 +59,7 @@ fn types_of_message_with_the_operation_of_the_packet(rt: HostRuntime) -> Result<
 
 #[test]
 fn packets_that_are_not_of_ethernet_or_of_dhcp(rt: HostRuntime) -> Result<(), Fail> {
-    for (place, byte) in [
+    const ROWS: &[(usize, u8)] = &[
         (1, 0),
         (1, 2),
         (2, 5),
@@ -67,7 +67,8 @@ fn packets_that_are_not_of_ethernet_or_of_dhcp(rt: HostRuntime) -> Result<(), Fa
         (236, 0x62),
         (239, 0x64),
         (0, 2),
-    ] {
+    ];
+    for &(place, byte) in ROWS {
         let mut octets = packet(rt.alloc(), 1, &[0x35, 1, 1, 0xff])?;
         assert!(rt; Repr::parse(&Packet::new_unchecked(octets.as_slice())).is_ok());
         set(&mut octets, place, byte);
