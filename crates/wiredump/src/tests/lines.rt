@@ -183,7 +183,7 @@ fn check_repeated(
 
 #[test]
 fn lines_at_their_limits(rt: HostRuntime) -> Result<(), Fail> {
-    const ROWS: &[([(&str, usize); 3], bool, &str)] = &[
+    for (texts, known, want) in [
         (
             [("hbh ", 1), ("0", 131_070), ("\r", 1)],
             true,
@@ -235,8 +235,7 @@ fn lines_at_their_limits(rt: HostRuntime) -> Result<(), Fail> {
         ),
         ([("hbh 0100", 1), (" ", 1), ("\r", 1)], true, "PadN=0\n"),
         ([("hbh", 1), (" 0100", 4), (" \r", 1)], false, "bad line\n"),
-    ];
-    for &(texts, known, want) in ROWS {
+    ] {
         check_repeated(&rt, rt.alloc(), texts, known, want)?;
     }
     Ok(())
