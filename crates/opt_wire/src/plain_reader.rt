@@ -90,31 +90,36 @@ pub(crate) fn compare_damaged(rt: &impl Abort, alloc: Global, packet: &[u8]) -> 
 // Compares the iterator and the header's reader with the plain reader.
 fn compare(rt: &impl Abort, alloc: Global, octets: &[u8]) -> Result<(), Fail> {
     let plain = answers(alloc, octets)?;
+    compare_options(rt, octets, plain.as_slice());
+    compare_header(rt, octets, plain.as_slice());
+    Ok(())
+}
 
+fn compare_options(rt: &impl Abort, octets: &[u8], plain: &[wirebase::Result<Repr<'_>>]) {
     let mut options = Ipv6OptionsIterator::new(octets);
-    for answer in plain.as_slice() {
+    for answer in plain {
         same_of(rt, octets, options.next(), Some(*answer));
     }
     holds_of(rt, octets, options.next().is_none());
     holds_of(rt, octets, options.next().is_none());
+}
 
+fn compare_header(rt: &impl Abort, octets: &[u8], plain: &[wirebase::Result<Repr<'_>>]) {
     let read = &plain[..plain.len().min(IPV6_HBH_MAX_OPTIONS + 1)];
     let is_header = !octets.is_empty() && read.iter().all(|answer| answer.is_ok());
-    match ipv6hbh::Repr::parse(&Header::new_unchecked(octets)) {
-        Ok(header) => {
-            holds_of(rt, octets, is_header);
-            let kept = header.options.as_slice();
-            same_of(
-                rt,
-                octets,
-                kept.len(),
-                plain.len().min(IPV6_HBH_MAX_OPTIONS),
-            );
-            for (option, answer) in kept.iter().zip(plain.as_slice()) {
-                same_of(rt, octets, Ok(*option), *answer);
-            }
-        }
-        Err(_) => holds_of(rt, octets, !is_header),
+    let Ok(header) = ipv6hbh::Repr::parse(&Header::new_unchecked(octets)) else {
+        holds_of(rt, octets, !is_header);
+        return;
+    };
+    holds_of(rt, octets, is_header);
+    let kept = header.options.as_slice();
+    same_of(
+        rt,
+        octets,
+        kept.len(),
+        plain.len().min(IPV6_HBH_MAX_OPTIONS),
+    );
+    for (option, answer) in kept.iter().zip(plain) {
+        same_of(rt, octets, Ok(*option), *answer);
     }
-    Ok(())
 }

@@ -241,12 +241,13 @@ fn fields_of_a_packet(rt: HostRuntime) -> Result<(), Fail> {
 
 #[test]
 fn numbers_of_operations(rt: HostRuntime) {
-    for (number, opcode) in [
+    const ROWS: &[(u8, OpCode)] = &[
         (0, OpCode::Unknown(0)),
         (1, OpCode::Request),
         (2, OpCode::Reply),
         (3, OpCode::Unknown(3)),
-    ] {
+    ];
+    for &(number, opcode) in ROWS {
         same(&rt, OpCode::from(number), opcode);
         same(&rt, u8::from(opcode), number);
     }

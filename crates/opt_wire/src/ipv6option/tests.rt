@@ -71,11 +71,12 @@ fn failure_types_are_the_two_highest_bits(rt: HostRuntime) {
 
 #[test]
 fn failure_types_of_options(rt: HostRuntime) {
-    for (kind, failure) in [
+    const ROWS: &[(Type, FailureType)] = &[
         (Type::PadN, FailureType::Skip),
         (Type::Rpl, FailureType::Discard),
         (Type::Unknown(0xc5), FailureType::DiscardSendUnicast),
-    ] {
+    ];
+    for &(kind, failure) in ROWS {
         same_of(&rt, kind, FailureType::from(kind), failure);
         same_of(
             &rt,
@@ -228,8 +229,7 @@ fn options_in_turn(rt: HostRuntime) -> Result<(), Fail> {
         0x00, 0x01, 0x01, 0x00, 0x01, 0x02, 0x00, 0x00, 0x01, 0x00, 0x00, 0x11, 0x00, 0x05, 0x02,
         0x00, 0x01, 0x01, 0x08, 0x00,
     ];
-    let mut options = Ipv6OptionsIterator::new(&octets);
-    for option in [
+    const OPTIONS: &[Repr<'static>] = &[
         Repr::Pad1,
         Repr::PadN(1),
         Repr::PadN(2),
@@ -241,7 +241,9 @@ fn options_in_turn(rt: HostRuntime) -> Result<(), Fail> {
             data: &[],
         },
         Repr::RouterAlert(RouterAlert::Rsvp),
-    ] {
+    ];
+    let mut options = Ipv6OptionsIterator::new(&octets);
+    for &option in OPTIONS {
         same(&rt, options.next(), Some(Ok(option)));
     }
     same(&rt, options.next(), Some(Err(Error)));
@@ -321,28 +323,31 @@ fn check_written(
 
 #[test]
 fn options_written_over_octets_of_any_kind(rt: HostRuntime) -> Result<(), Fail> {
+    const ALERT: Repr<'static> = Repr::RouterAlert(RouterAlert::Unknown(0xbeef));
     // An option, its text, and what is read back: data past the length is not written.
-    let unknown = |data| Repr::Unknown {
-        type_: Type::Unknown(0x11),
-        length: 2,
-        data,
-    };
-    let alert = Repr::RouterAlert(RouterAlert::Unknown(0xbeef));
-    let rows: [(Repr<'_>, &[u8], Repr<'_>); 4] = [
+    const ROWS: &[(Repr<'static>, &[u8], Repr<'static>)] = &[
         (Repr::Pad1, &[0x00], Repr::Pad1),
         (
             Repr::PadN(3),
             &[0x01, 0x03, 0x00, 0x00, 0x00],
             Repr::PadN(3),
         ),
-        (alert, &[0x05, 0x02, 0xbe, 0xef], alert),
+        (ALERT, &[0x05, 0x02, 0xbe, 0xef], ALERT),
         (
-            unknown(&[0xa1, 0xa2, 0xa3]),
+            Repr::Unknown {
+                type_: Type::Unknown(0x11),
+                length: 2,
+                data: &[0xa1, 0xa2, 0xa3],
+            },
             &[0x11, 0x02, 0xa1, 0xa2],
-            unknown(&[0xa1, 0xa2]),
+            Repr::Unknown {
+                type_: Type::Unknown(0x11),
+                length: 2,
+                data: &[0xa1, 0xa2],
+            },
         ),
     ];
-    for (option, text, read) in rows {
+    for &(option, text, read) in ROWS {
         for fill in [0x00, 0xff, 0x2a, 0xa5] {
             for len in [text.len(), text.len() + 3] {
                 let octets = check_written(&rt, rt.alloc(), option, text, fill, len)?;

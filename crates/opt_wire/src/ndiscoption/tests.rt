@@ -118,19 +118,29 @@ fn damaged_options(rt: HostRuntime) -> Result<(), Fail> {
 #[test]
 fn options_are_read(rt: HostRuntime) {
     let source = [0x01, 0x01, 0x52, 0x54, 0x00, 0x12, 0x34, 0x56];
-    assert_eq!(rt; read(&source), Ok(Repr::SourceLinkLayerAddr(ethernet())));
+    same(
+        &rt,
+        &read(&source),
+        &Ok(Repr::SourceLinkLayerAddr(ethernet())),
+    );
     let target = [0x02, 0x01, 0x52, 0x54, 0x00, 0x12, 0x34, 0x56];
-    assert_eq!(rt; read(&target), Ok(Repr::TargetLinkLayerAddr(ethernet())));
-    assert_eq!(rt;
-        read(&PREFIX),
-        Ok(Repr::PrefixInformation(prefix_information()))
+    same(
+        &rt,
+        &read(&target),
+        &Ok(Repr::TargetLinkLayerAddr(ethernet())),
     );
-    assert_eq!(rt;
-        read(&REDIRECTED),
-        Ok(Repr::RedirectedHeader(redirected_header()))
+    same(
+        &rt,
+        &read(&PREFIX),
+        &Ok(Repr::PrefixInformation(prefix_information())),
     );
-    assert_eq!(rt; read(&MTU), Ok(Repr::Mtu(1_500)));
-    assert_eq!(rt; read(&UNKNOWN), Ok(unknown()));
+    same(
+        &rt,
+        &read(&REDIRECTED),
+        &Ok(Repr::RedirectedHeader(redirected_header())),
+    );
+    same(&rt, &read(&MTU), &Ok(Repr::Mtu(1_500)));
+    same(&rt, &read(&UNKNOWN), &Ok(unknown()));
 }
 
 #[test]
@@ -273,7 +283,8 @@ fn options_of_each_type_and_number_of_units(rt: HostRuntime) {
 fn an_option_of_the_most_units(rt: HostRuntime) {
     let mut octets = [0; 2041];
     octets[..2].copy_from_slice(&[0x0e, 0xff]);
-    for (len, is_whole) in [(2039, false), (2040, true), (2041, true)] {
+    const ROWS: &[(usize, bool)] = &[(2039, false), (2040, true), (2041, true)];
+    for &(len, is_whole) in ROWS {
         let checked = NdiscOption::new_checked(&octets[..len]);
         same_of(&rt, len, checked.is_ok(), is_whole);
     }

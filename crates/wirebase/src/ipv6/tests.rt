@@ -10,7 +10,13 @@ use crate::testing::{holds_of, prints, same, same_of, takes_writes};
 use std::alloc::Global;
 use std::test::Fail;
 
-// The address fe80::1, and one whose groups all differ.
+// The address of these groups.
+fn address_of(groups: [u16; 8]) -> Ipv6Address {
+    let [a, b, c, d, e, f, g, h] = groups;
+    Ipv6Address::new(a, b, c, d, e, f, g, h)
+}
+
+// The addresses fe80::1 and fe80::2.
 fn first() -> Ipv6Address {
     Ipv6Address::new(0xfe80, 0, 0, 0, 0, 0, 0, 1)
 }
@@ -21,29 +27,28 @@ fn second() -> Ipv6Address {
 
 #[test]
 fn addresses_in_hexadecimal(rt: HostRuntime) -> Result<(), Fail> {
-    let rows = [
-        (Ipv6Address::new(1, 0, 0, 2, 3, 0, 0, 4), "1::2:3:0:0:4"),
-        (Ipv6Address::UNSPECIFIED, "::"),
-        (Ipv6Address::new(1, 0, 2, 3, 4, 5, 6, 7), "1:0:2:3:4:5:6:7"),
-        (Ipv6Address::new(0, 0, 1, 0, 0, 0, 1, 0), "0:0:1::1:0"),
-        (Ipv6Address::new(0, 1, 0, 0, 0, 0, 0, 0), "0:1::"),
-        (Ipv6Address::new(0, 0, 0, 0, 0, 0, 0, 1), "::1"),
+    const ROWS: &[([u16; 8], &str)] = &[
+        ([1, 0, 0, 2, 3, 0, 0, 4], "1::2:3:0:0:4"),
+        ([0; 8], "::"),
+        ([1, 0, 2, 3, 4, 5, 6, 7], "1:0:2:3:4:5:6:7"),
+        ([0, 0, 1, 0, 0, 0, 1, 0], "0:0:1::1:0"),
+        ([0, 1, 0, 0, 0, 0, 0, 0], "0:1::"),
+        ([0, 0, 0, 0, 0, 0, 0, 1], "::1"),
+        ([0, 0, 0, 0, 0, 0xffff, 0x0a00, 1], "::ffff:a00:1"),
         (
-            Ipv6Address::new(0, 0, 0, 0, 0, 0xffff, 0x0a00, 1),
-            "::ffff:a00:1",
-        ),
-        (
-            Ipv6Address::new(0x2001, 0xdb8, 0, 0xa, 0xb0, 0xc00, 0xd000, 0xefff),
+            [0x2001, 0xdb8, 0, 0xa, 0xb0, 0xc00, 0xd000, 0xefff],
             "2001:db8:0:a:b0:c00:d000:efff",
         ),
-        (first(), "fe80::1"),
-        (IPV6_LINK_LOCAL_ALL_NODES, "ff02::1"),
-        (IPV6_LINK_LOCAL_ALL_ROUTERS, "ff02::2"),
+        ([0xfe80, 0, 0, 0, 0, 0, 0, 1], "fe80::1"),
+        ([0xff02, 0, 0, 0, 0, 0, 0, 1], "ff02::1"),
+        ([0xff02, 0, 0, 0, 0, 0, 0, 2], "ff02::2"),
     ];
-    for (address, text) in rows {
-        prints(&rt, rt.alloc(), address, text)?;
+    for &(groups, text) in ROWS {
+        prints(&rt, rt.alloc(), address_of(groups), text)?;
     }
-    Ok(())
+    prints(&rt, rt.alloc(), Ipv6Address::UNSPECIFIED, "::")?;
+    prints(&rt, rt.alloc(), IPV6_LINK_LOCAL_ALL_NODES, "ff02::1")?;
+    prints(&rt, rt.alloc(), IPV6_LINK_LOCAL_ALL_ROUTERS, "ff02::2")
 }
 
 // A run of groups that are zero, in a text that begins and ends with a colon; the longest first.
@@ -107,9 +112,7 @@ fn addresses_of_every_pattern_of_zero_groups(rt: HostRuntime) -> Result<(), Fail
         let groups = groups_of(pattern);
         let whole = whole_text(rt.alloc(), &groups)?;
         let text = shortened(rt.alloc(), whole.as_str())?;
-        let [a, b, c, d, e, f, g, h] = groups;
-        let address = Ipv6Address::new(a, b, c, d, e, f, g, h);
-        prints(&rt, rt.alloc(), address, text.as_str())?;
+        prints(&rt, rt.alloc(), address_of(groups), text.as_str())?;
     }
     Ok(())
 }
@@ -128,64 +131,27 @@ fn printing_a_header_fails_only_with_its_writer(rt: HostRuntime) -> Result<(), F
 
 #[test]
 fn kinds_of_addresses(rt: HostRuntime) -> Result<(), Fail> {
-    let rows = [
-        (Ipv6Address::UNSPECIFIED, true, false, false),
-        (
-            Ipv6Address::new(0, 0, 0, 0, 0, 0, 0, 1),
-            false,
-            false,
-            false,
-        ),
-        (first(), false, false, true),
+    // The groups of an address, and whether it is unspecified, multicast and link-local.
+    const ROWS: &[([u16; 8], bool, bool, bool)] = &[
+        ([0; 8], true, false, false),
+        ([0, 0, 0, 0, 0, 0, 0, 1], false, false, false),
+        ([0xfe80, 0, 0, 0, 0, 0, 0, 1], false, false, true),
         // The first ten bits are those of a link, but not the 54 behind them.
-        (
-            Ipv6Address::new(0xfe81, 0, 0, 0, 0, 0, 0, 1),
-            false,
-            false,
-            false,
-        ),
-        (
-            Ipv6Address::new(0xfebf, 0, 0, 0, 0, 0, 0, 1),
-            false,
-            false,
-            false,
-        ),
-        (
-            Ipv6Address::new(0xfe80, 0, 0, 1, 0, 0, 0, 1),
-            false,
-            false,
-            false,
-        ),
-        (
-            Ipv6Address::new(0xfe00, 0, 0, 0, 0, 0, 0, 1),
-            false,
-            false,
-            false,
-        ),
-        (
-            Ipv6Address::new(0xff02, 0, 0, 0, 0, 0, 0, 1),
-            false,
-            true,
-            false,
-        ),
-        (
-            Ipv6Address::new(0xff00, 0, 0, 0, 0, 0, 0, 0),
-            false,
-            true,
-            false,
-        ),
-        (
-            Ipv6Address::new(0xfeff, 0, 0, 0, 0, 0, 0, 0),
-            false,
-            false,
-            false,
-        ),
+        ([0xfe81, 0, 0, 0, 0, 0, 0, 1], false, false, false),
+        ([0xfebf, 0, 0, 0, 0, 0, 0, 1], false, false, false),
+        ([0xfe80, 0, 0, 1, 0, 0, 0, 1], false, false, false),
+        ([0xfe00, 0, 0, 0, 0, 0, 0, 1], false, false, false),
+        ([0xff02, 0, 0, 0, 0, 0, 0, 1], false, true, false),
+        ([0xff00, 0, 0, 0, 0, 0, 0, 0], false, true, false),
+        ([0xfeff, 0, 0, 0, 0, 0, 0, 0], false, false, false),
     ];
-    for (address, unspecified, multicast, link_local) in rows {
+    for &(groups, unspecified, multicast, link_local) in ROWS {
+        let address = address_of(groups);
         same_of(&rt, address, address.is_unspecified(), unspecified);
         same_of(&rt, address, address.is_multicast(), multicast);
         same_of(&rt, address, address.is_link_local(), link_local);
     }
+    assert!(rt; Ipv6Address::UNSPECIFIED.is_unspecified());
     let octets = [0xfe, 0x80, 0, 0, 0, 0, 0, 0, 0, 0, 0, 0, 0, 0, 0, 1];
     assert!(rt; Ipv6Address::from_octets(octets) == first());
     assert!(rt; first() != second());

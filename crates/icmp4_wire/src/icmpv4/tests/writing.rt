@@ -127,10 +127,11 @@ fn errors_are_written(rt: HostRuntime) -> Result<(), Fail> {
         want[18] = 0;
         want[19] = 0;
         same_of(&rt, fill, unsealed_quote.as_slice(), want.as_slice());
-        for (reason, first) in [
+        const ROWS: &[(TimeExceeded, [u8; 4])] = &[
             (TimeExceeded::TtlExpired, [0x0b, 0x00, 0xf4, 0x8d]),
             (TimeExceeded::FragExpired, [0x0b, 0x01, 0xf4, 0x8c]),
-        ] {
+        ];
+        for &(reason, first) in ROWS {
             let mut octets = [fill; 36];
             write_time_exceeded(&mut octets, reason);
             same_of(&rt, fill, &octets[..4], first.as_slice());

@@ -126,20 +126,25 @@ fn the_last_option_of_a_kind_and_of_its_length(rt: HostRuntime) -> Result<(), Fa
 
 #[test]
 fn lists_of_servers(rt: HostRuntime) -> Result<(), Fail> {
-    let eight = Ipv4Address::new(8, 8, 8, 8);
-    let ten = |n| Ipv4Address::new(10, 0, 0, n);
-    let rows: [(&[u8], &[Ipv4Address]); 4] = [
-        (&[6, 6, 8, 8, 8, 8, 1, 2], &[eight]),
+    // Options, and the addresses of the list.
+    const ROWS: &[(&[u8], &[[u8; 4]])] = &[
+        (&[6, 6, 8, 8, 8, 8, 1, 2], &[[8, 8, 8, 8]]),
         (&[6, 4, 8, 8, 8, 8, 6, 0], &[]),
         (&[6, 4, 8, 8, 8, 8, 6, 3, 1, 2, 3], &[]),
         (
             &[
                 6, 24, 10, 0, 0, 1, 10, 0, 0, 2, 10, 0, 0, 3, 10, 0, 0, 4, 10, 0, 0, 5, 10, 0, 0, 6,
             ],
-            &[ten(1), ten(2), ten(3), ten(4), ten(5)],
+            &[
+                [10, 0, 0, 1],
+                [10, 0, 0, 2],
+                [10, 0, 0, 3],
+                [10, 0, 0, 4],
+                [10, 0, 0, 5],
+            ],
         ),
     ];
-    for (options, wanted) in rows {
+    for &(options, wanted) in ROWS {
         let mut octets = packet(rt.alloc(), 1, &[0x35, 1, 1])?;
         octets.extend_from_slice(options)?;
         octets.push(0xff)?;
@@ -152,7 +157,10 @@ fn lists_of_servers(rt: HostRuntime) -> Result<(), Fail> {
             fail(&rt, "the list is present");
             return Ok(());
         };
-        same_of(&rt, options, servers.as_slice(), wanted);
+        same_of(&rt, options, servers.len(), wanted.len());
+        for (server, octets) in servers.iter().zip(wanted) {
+            same_of(&rt, options, server.octets(), *octets);
+        }
         compare_damaged(&rt, rt.alloc(), octets.as_slice())?;
     }
     Ok(())
