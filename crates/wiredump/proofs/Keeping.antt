@@ -1,15 +1,14 @@
 -- What is kept of a line has the line's shape, whatever follows.
-use Rattle.std.proofs.Common.{◌≡◌, ◌≢◌, ℕ, suc, ◌+◌, ◌<◌, ◌≤◌, Bool, true, false, List, [], ◌∷◌, ◌++◌, All, length}
+use Rattle.std.proofs.Common.{◌≡◌, ◌≢◌, ℕ, ◌+◌, ◌<◌, Bool, true, false, List, [], ◌∷◌, ◌++◌, All, length}
 use Rattle.std.proofs.Common.{refl, ap, sym, ◌∙◌, arith, append_assoc, length-append}
-use borrow.Author.Tests.{ltb-true, ltb-false}
 use Rattle.std.proofs.lemmas.List.{append-nil}
 use Rattle.std.proofs.lemmas.List.Elements.{All-head, All-tail}
 use Rattle.std.specs.Prelude.{◌&&◌, nat_le, if◌then◌else◌}
 use Rattle.std.specs.Io.BufRead.{strip_last}
 use Rattle.wiredump.specs.Lines.{are_short, words_in}
-use Rattle.wiredump.specs.Listing.{Shape, bad, shape_of, shape_of_words, line_shape}
+use Rattle.wiredump.specs.Listing.{bad, shape_of, line_shape}
 use Rattle.wiredump.specs.Reading.{IsFront}
-use Rattle.wiredump.proofs.Parts.{Free, strip_last-append, strip_last-free, length-strip_last, All-strip_last}
+use Rattle.wiredump.proofs.Parts.{Free, strip_last-append, length-strip_last, All-strip_last}
 use Rattle.wiredump.proofs.Parts.{words_in-append, words_in-free, words_in-word}
 
 -- ---- shapes that are bad

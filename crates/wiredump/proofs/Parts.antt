@@ -1,6 +1,6 @@
 -- The words of octets that are put together, and the CR at their end.
 use Rattle.std.proofs.Common.{◌≡◌, ◌≢◌, ℕ, suc, ◌+◌, ◌-◌, ◌<◌, ◌≤◌, Bool, true, false, List, [], ◌∷◌, ◌++◌, All, length}
-use Rattle.std.proofs.Common.{take, refl, ap, sym, ◌∙◌, arith, append_assoc, ne_eqb, lt-ltb, length-append}
+use Rattle.std.proofs.Common.{take, refl, ap, sym, ◌∙◌, arith, ne_eqb, lt-ltb, length-append}
 use Rattle.std.proofs.Common.{length-take-le}
 use Rattle.std.proofs.lemmas.List.{append-nil}
 use Rattle.std.proofs.lemmas.List.Elements.{All-head, All-tail, All-take, filter-append}

@@ -1,13 +1,12 @@
 -- The shape of a line, of which the first five words are known.
-use Rattle.std.proofs.Common.{◌≡◌, ◌≢◌, ℕ, ◌+◌, ◌-◌, ◌<◌, ◌≤◌, Bool, true, false, List, [], ◌∷◌, length, get_or, take}
-use Rattle.std.proofs.Common.{drop, Option, None, refl, ap, sym, ◌∙◌, arith, drop-cons, add-one}
+use Rattle.std.proofs.Common.{◌≡◌, ◌≢◌, ℕ, ◌+◌, ◌-◌, ◌<◌, ◌≤◌, true, false, List, [], ◌∷◌, length, get_or, take}
+use Rattle.std.proofs.Common.{drop, None, refl, ap, sym, ◌∙◌, arith, drop-cons, add-one}
 use Rattle.std.proofs.lemmas.Bool.{le-leb}
 use Rattle.std.specs.Prelude.{map}
 use Rattle.wiredump.specs.Lines.{are_short}
 use Rattle.wiredump.specs.Words.{word_of, offset_of, address_of}
-use Rattle.wiredump.specs.Listing.{Shape, bad, command_of, command_alone, command_at, command_between, shape_with}
-use Rattle.wiredump.specs.Listing.{shape_of, shape_of_words}
-use Rattle.wiredump.specs.declared.command.Command.{Command}
+use Rattle.wiredump.specs.Listing.{bad, command_of, command_alone, command_at, command_between, shape_with}
+use Rattle.wiredump.specs.Listing.{shape_of}
 use Rattle.wiredump.proofs.Keeping.{both_bad, le-leb-false}
 
 few : (words : List (List ℕ)) → shape_of (take 5 words) ≡ shape_of words

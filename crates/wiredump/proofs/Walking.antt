@@ -1,12 +1,12 @@
 -- What the walk over a name prints, an answer at a time.
 use Rattle.std.proofs.Common.{◌≡◌, ℕ, ◌<◌, List, [], ◌∷◌, ◌++◌, length, codes, Option, None, Some, Result, Ok, Err}
-use Rattle.std.proofs.Common.{refl, ap, sym, arith}
+use Rattle.std.proofs.Common.{refl, ap, arith}
 use Rattle.std.specs.Borrow.{Bor}
 use Rattle.std.specs.Prelude.{decimal, slice_get}
 use Rattle.wirebase.specs.declared.error.Error.{Error}
-use Rattle.dns_wire.specs.DnsNameWalk.{Coming, Walk, GivesFirst, answer_of, after_first}
+use Rattle.dns_wire.specs.DnsNameWalk.{Coming, Walk, GivesFirst, answer_of}
 use Rattle.wiredump.specs.Layout.{line, field, octets_text}
-use Rattle.wiredump.specs.ListingDns.{answer_listing, answers_listing}
+use Rattle.wiredump.specs.ListingDns.{answers_listing}
 
 -- the first of the answers, by what a call gives
 first_listing : (ahead : List Coming) (result : Option (Result (Bor (List ℕ)) Error)) (steps : ℕ)

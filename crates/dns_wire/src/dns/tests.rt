@@ -12,11 +12,12 @@ mod damaged;
 
 #[test]
 fn numbers_of_messages(rt: HostRuntime) {
-    for (number, opcode) in [
+    const OPCODES: &[(u8, Opcode)] = &[
         (0, Opcode::Query),
         (1, Opcode::Status),
         (2, Opcode::Unknown(2)),
-    ] {
+    ];
+    for &(number, opcode) in OPCODES {
         same(&rt, Opcode::from(number), opcode);
         same(&rt, u8::from(opcode), number);
     }
@@ -215,13 +216,14 @@ fn questions_and_what_stands_behind_them(rt: HostRuntime) {
         }
         Err(_) => panic!(rt; "refused"),
     }
-    for refused in [
-        [0x01, 0x61, 0x00, 0x00, 0x01, 0x00, 0xff].as_slice(),
-        [0x40].as_slice(),
-        [0x80, 0x00, 0x00, 0x01, 0x00, 0x01].as_slice(),
-        [0x03, 0x61].as_slice(),
-        [0xc0].as_slice(),
-    ] {
+    const REFUSED: &[&[u8]] = &[
+        &[0x01, 0x61, 0x00, 0x00, 0x01, 0x00, 0xff],
+        &[0x40],
+        &[0x80, 0x00, 0x00, 0x01, 0x00, 0x01],
+        &[0x03, 0x61],
+        &[0xc0],
+    ];
+    for &refused in REFUSED {
         same(&rt, Question::parse(refused).is_err(), true);
     }
 }

@@ -161,7 +161,8 @@ fn check_turned(rt: &impl Abort, at: usize, mask: u8)
 
 #[test]
 fn a_turned_bit_of_the_checksum_is_refused(rt: HostRuntime) {
-    for mask in [0x01, 0x02, 0x04, 0x08, 0x10, 0x20, 0x40, 0x80] {
+    const MASKS: &[u8] = &[0x01, 0x02, 0x04, 0x08, 0x10, 0x20, 0x40, 0x80];
+    for &mask in MASKS {
         check_turned(&rt, 2, mask);
         check_turned(&rt, 3, mask);
     }
@@ -170,13 +171,14 @@ fn a_turned_bit_of_the_checksum_is_refused(rt: HostRuntime) {
 #[test]
 fn damaged_echoes_and_errors(rt: HostRuntime) -> Result<(), Fail> {
     compare_damaged(&rt, rt.alloc(), &ECHO)?;
-    for front in [
+    const FRONTS: &[[u8; 8]] = &[
         [0x01, 0x00, 0x16, 0xa5, 0x00, 0x00, 0x00, 0x00],
         [0x02, 0x00, 0x0f, 0xc9, 0x00, 0x00, 0x05, 0xdc],
         [0x03, 0x01, 0x14, 0xa4, 0x00, 0x00, 0x00, 0x00],
         [0x04, 0x01, 0x0f, 0x9c, 0x01, 0x02, 0x03, 0x06],
-    ] {
-        compare_damaged(&rt, rt.alloc(), &behind(&front))?;
+    ];
+    for front in FRONTS {
+        compare_damaged(&rt, rt.alloc(), &behind(front))?;
     }
     let mut octets = ECHO;
     octets[0] = 0x81;

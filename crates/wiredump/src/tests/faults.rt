@@ -40,14 +40,15 @@ fn whole_input(alloc: Global) -> Result<Vec<u8>, Fail> {
 
 #[test]
 fn statuses(rt: HostRuntime) -> Result<(), Fail> {
-    for (answer, code) in [
+    const ROWS: &[(Result<bool, Fault>, u8)] = &[
         (Ok(true), 0),
         (Ok(false), 2),
         (Err(Fault::Read), 3),
         (Err(Fault::Write), 3),
         (Err(Fault::Memory), 3),
-    ] {
-        same(&rt, status(&answer), code);
+    ];
+    for (answer, code) in ROWS {
+        same(&rt, status(answer), *code);
     }
     Ok(())
 }
@@ -105,12 +106,13 @@ fn reads_that_fail(rt: HostRuntime) -> Result<(), Fail> {
     same(&rt, answer, Ok(false));
     // Calls for all octets, and one more at the end.
     let calls = input.len() / GIVEN + 1;
-    for (kind, fails) in [
+    const ROWS: &[(ErrorKind, bool)] = &[
         (ErrorKind::ConnectionReset, true),
         (ErrorKind::OutOfMemory, true),
         // It is tried again.
         (ErrorKind::Interrupted, false),
-    ] {
+    ];
+    for &(kind, fails) in ROWS {
         for fails_at in 0..calls + 1 {
             let source = Source {
                 octets: input.as_slice(),
@@ -201,11 +203,12 @@ fn writes_that_fail(rt: HostRuntime) -> Result<(), Fail> {
         run(rt.alloc(), input.as_slice(), &mut undisturbed),
         Ok(false),
     );
-    for (kind, fault, for_good) in [
+    const ROWS: &[(ErrorKind, Fault, bool)] = &[
         (ErrorKind::BrokenPipe, Fault::Write, false),
         (ErrorKind::BrokenPipe, Fault::Write, true),
         (ErrorKind::OutOfMemory, Fault::Write, true),
-    ] {
+    ];
+    for &(kind, fault, for_good) in ROWS {
         let mut succeeded = false;
         for fails_at in 0..16 {
             let mut output = Vec::new(rt.alloc());

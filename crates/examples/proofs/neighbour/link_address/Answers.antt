@@ -1,4 +1,4 @@
-use Rattle.std.proofs.Common.{◌≡◌, ap, sym, subst, ◌∙◌}
+use Rattle.std.proofs.Common.{ap, sym, subst, ◌∙◌}
 use Rattle.control_wire.specs.Icmpv6.{ndisc, value_of}
 use Rattle.examples.specs.Neighbour.{LinkAddressIn}
 use Rattle.examples.proofs.Neighbours.{content_in}

@@ -39,7 +39,8 @@ fn each_type_asks_its_header(rt: HostRuntime) -> Result<(), Fail> {
             );
         }
     }
-    for kind in [0u8, 5, 127, 0x83, 0x84, 0x9b, 0xff] {
+    const OTHERS: &[u8] = &[0, 5, 127, 0x83, 0x84, 0x9b, 0xff];
+    for &kind in OTHERS {
         let mut octets = [0; 41];
         octets[0] = kind;
         same_of(
@@ -98,10 +99,11 @@ fn types_of_neighbor_discovery(rt: HostRuntime) {
 
 #[test]
 fn types_of_listener_discovery(rt: HostRuntime) {
-    for (message, text) in [
+    const ROWS: &[(Message, &str)] = &[
         (Message::MldQuery, "multicast listener query"),
         (Message::MldReport, "multicast listener report"),
-    ] {
+    ];
+    for &(message, text) in ROWS {
         check_type(&rt, rt.alloc(), message, [false, false, true], text);
     }
 }

@@ -1,6 +1,5 @@
 -- Each turn looks at one word.
-use Rattle.std.proofs.Common.{[], ◌∙◌, sym, ap, map, arith, drop_of_length-le}
-use Rattle.wiredump.specs.Lines.{are_short}
+use Rattle.std.proofs.Common.{[], ◌∙◌, sym, arith}
 use Rattle.wiredump.proofs.Shaping.{are_short-next, are_short-not}
 use Rattle.wiredump.proofs.shape.are_short.Goals as goal
 

@@ -1,6 +1,6 @@
 -- The words behind the command are looked at by their number.
-use Rattle.std.proofs.Common.{[], ◌∙◌, sym}
-use Rattle.wiredump.proofs.Shaping.{command_of-alone, command_of-at, command_of-between, command_of-many}
+use Rattle.std.proofs.Common.{sym}
+use Rattle.wiredump.proofs.Shaping.{command_of-many}
 use Rattle.wiredump.proofs.command.Command.of.Goals as goal
 
 pub returns : goal.returns

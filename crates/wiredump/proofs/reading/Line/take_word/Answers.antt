@@ -1,5 +1,5 @@
 -- A word gets too long, or it is kept.
-use Rattle.std.proofs.Common.{rules, ◌≡◌, ◌-◌, ◌<◌, ◌≤◌, ◌++◌, refl, arith, length}
+use Rattle.std.proofs.Common.{rules, ◌≡◌, ◌-◌, ◌<◌, ◌≤◌, ◌++◌, refl, length}
 use Rattle.wiredump.proofs.Taking.{takes_long, kept_longer}
 use Rattle.wiredump.proofs.reading.Line.take_word.Goals as goal
 
