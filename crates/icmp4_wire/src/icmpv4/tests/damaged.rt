@@ -26,28 +26,19 @@ fn is_good(octets: &[u8]) -> bool {
     sum == 0xffff
 }
 
+// The addresses of a header, from the one and to the other.
+fn read_addresses(header: &[u8]) -> Option<(Ipv4Address, Ipv4Address)> {
+    let [s0, s1, s2, s3, d0, d1, d2, d3, ..] = header.get(12..)? else {
+        return None;
+    };
+    let from = Ipv4Address::new(*s0, *s1, *s2, *s3);
+    Some((from, Ipv4Address::new(*d0, *d1, *d2, *d3)))
+}
+
 // The header that an error quotes, and what stands behind it. The version is not looked at, and the header's length
 // may be too short for a header.
 fn read_quote(quote: &[u8]) -> Option<(Ipv4Repr, &[u8])> {
-    let [
-        first,
-        _,
-        high,
-        low,
-        _,
-        _,
-        _,
-        _,
-        hop_limit,
-        protocol,
-        _,
-        _,
-        addresses @ ..,
-    ] = quote
-    else {
-        return None;
-    };
-    let [s0, s1, s2, s3, d0, d1, d2, d3, ..] = addresses else {
+    let [first, _, high, low, _, _, _, _, hop_limit, protocol, ..] = quote else {
         return None;
     };
     let header_len = 4 * (*first % 16) as usize;
@@ -55,10 +46,11 @@ fn read_quote(quote: &[u8]) -> Option<(Ipv4Repr, &[u8])> {
     if total_len < header_len || quote.len() < total_len || quote.len() < header_len + 8 {
         return None;
     }
+    let (src_addr, dst_addr) = read_addresses(quote)?;
     let data = quote.get(header_len..)?;
     let header = Ipv4Repr {
-        src_addr: Ipv4Address::new(*s0, *s1, *s2, *s3),
-        dst_addr: Ipv4Address::new(*d0, *d1, *d2, *d3),
+        src_addr,
+        dst_addr,
         next_header: IpProtocol::from(*protocol),
         payload_len: data.len(),
         hop_limit: *hop_limit,
@@ -66,59 +58,60 @@ fn read_quote(quote: &[u8]) -> Option<(Ipv4Repr, &[u8])> {
     Some((header, data))
 }
 
+// The error of this type and code with this behind its header.
+fn read_error(kind: u8, code: u8, quote: &[u8]) -> Option<Repr<'_>> {
+    let (header, data) = read_quote(quote)?;
+    match kind {
+        3 => Some(Repr::DstUnreachable {
+            reason: DstUnreachable::from(code),
+            header,
+            data,
+        }),
+        11 => Some(Repr::TimeExceeded {
+            reason: TimeExceeded::from(code),
+            header,
+            data,
+        }),
+        _ => None,
+    }
+}
+
 // The message in the octets, whatever their checksum.
 fn read(octets: &[u8]) -> Option<Repr<'_>> {
-    let [kind, code, _, _, i0, i1, n0, n1, rest @ ..] = octets else {
+    let [kind, code, _, _, i0, i1, n0, n1, data @ ..] = octets else {
         return None;
     };
     let ident = u16::from_be_bytes([*i0, *i1]);
     let seq_no = u16::from_be_bytes([*n0, *n1]);
-    let message = match (*kind, *code) {
-        (8, 0) => Repr::EchoRequest {
+    match (*kind, *code) {
+        (8, 0) => Some(Repr::EchoRequest {
             ident,
             seq_no,
-            data: rest,
-        },
-        (0, 0) => Repr::EchoReply {
+            data,
+        }),
+        (0, 0) => Some(Repr::EchoReply {
             ident,
             seq_no,
-            data: rest,
-        },
-        (3, code) => {
-            let (header, data) = read_quote(rest)?;
-            Repr::DstUnreachable {
-                reason: DstUnreachable::from(code),
-                header,
-                data,
-            }
-        }
-        (11, code) => {
-            let (header, data) = read_quote(rest)?;
-            Repr::TimeExceeded {
-                reason: TimeExceeded::from(code),
-                header,
-                data,
-            }
-        }
-        _ => return None,
-    };
-    Some(message)
+            data,
+        }),
+        (kind, code) => read_error(kind, code, data),
+    }
 }
 
-// Compares the crate with the plain reader over these octets.
-fn compare(rt: &impl Abort, octets: &[u8]) {
-    let good = is_good(octets);
-    let plain = read(octets).ok_or(Error);
-    let verified = if good { plain } else { Err(Error) };
+// Compares what is accepted with the plain reader's answers over these octets.
+fn compare_checks(rt: &impl Abort, octets: &[u8]) {
     let packet = Packet::new_unchecked(octets);
-    same_of(rt, octets, packet.verify_checksum(), good);
-    same_of(rt, octets, packet.check_len().is_ok(), octets.len() >= 8);
-    same_of(
-        rt,
-        octets,
-        Packet::new_checked(octets).is_ok(),
-        octets.len() >= 8,
-    );
+    let is_long = octets.len() >= 8;
+    same_of(rt, octets, packet.verify_checksum(), is_good(octets));
+    same_of(rt, octets, packet.check_len().is_ok(), is_long);
+    same_of(rt, octets, Packet::new_checked(octets).is_ok(), is_long);
+}
+
+// Compares the message that is read with the plain reader's over these octets.
+fn compare(rt: &impl Abort, octets: &[u8]) {
+    let plain = read(octets).ok_or(Error);
+    let verified = if is_good(octets) { plain } else { Err(Error) };
+    let packet = Packet::new_unchecked(octets);
     let ignored = ChecksumCapabilities::ignored();
     same_of(rt, octets, Repr::parse(&packet, &ignored), plain);
     same_of(rt, octets, Repr::parse(&packet, &ALL), verified);
@@ -137,53 +130,67 @@ fn compare_fields(rt: &impl Abort, octets: &[u8]) {
     same_of(rt, octets, packet.data(), data);
 }
 
-// Compares them over each shorter part of the packet, and over each copy of it in which one byte is another.
+// Compares all of it over these octets.
+fn compare_all(rt: &impl Abort, octets: &[u8]) {
+    compare_checks(rt, octets);
+    compare(rt, octets);
+    compare_fields(rt, octets);
+}
+
+// Compares them over each shorter part of a packet that is read, and over each copy of it in which one byte is another.
 fn compare_damaged(rt: &impl Abort, alloc: Global, packet: &[u8]) -> Result<(), Fail> {
+    let read = Repr::parse(&Packet::new_unchecked(packet), &ALL);
+    holds_of(rt, packet, read.is_ok());
     for len in 0..=packet.len() {
-        compare(rt, &packet[..len]);
-        compare_fields(rt, &packet[..len]);
+        compare_all(rt, &packet[..len]);
     }
     for at in 0..packet.len() {
         for value in 0..=255u8 {
             let octets = damaged(alloc, packet, at, value)?;
-            compare(rt, octets.as_slice());
-            compare_fields(rt, octets.as_slice());
+            compare_all(rt, octets.as_slice());
         }
     }
     Ok(())
 }
 
 #[test]
-fn damaged_messages_are_read_as_by_a_plain_reader(rt: HostRuntime) -> Result<(), Fail> {
-    let mut reply = ECHO_REQUEST;
-    reply[0] = 0;
-    reply[2] = 0x96;
-    let mut time_exceeded = PORT_UNREACHABLE;
-    time_exceeded[..4].copy_from_slice(&[0x0b, 0x00, 0xf4, 0x8d]);
-    let mut reassembly_time_exceeded = PORT_UNREACHABLE;
-    reassembly_time_exceeded[..4].copy_from_slice(&[0x0b, 0x01, 0xf4, 0x8c]);
-    // A quote of a header alone by its total length, and 16 bytes behind it.
-    let mut header_alone = [0; 44];
-    header_alone[..36].copy_from_slice(&PORT_UNREACHABLE);
-    header_alone[3] = 0x92;
-    header_alone[11] = 0x14;
-    let rows: [&[u8]; 8] = [
+fn damaged_echoes_are_read_as_by_a_plain_reader(rt: HostRuntime) -> Result<(), Fail> {
+    const ROWS: &[&[u8]] = &[
         &ECHO_REQUEST,
         &[0x08, 0x00, 0xf8, 0xfe, 0x00, 0x00, 0x00, 0x00, 0xff],
-        &reply,
+        &[
+            0x00, 0x00, 0x96, 0xfe, 0x12, 0x34, 0xab, 0xcd, 0xaa, 0x00, 0x00, 0xff,
+        ],
         &[0x00, 0x00, 0xff, 0xff, 0x00, 0x00, 0x00, 0x00],
-        &PORT_UNREACHABLE,
-        &time_exceeded,
-        &reassembly_time_exceeded,
-        &header_alone,
     ];
-    for packet in rows {
-        holds_of(
-            &rt,
-            packet,
-            Repr::parse(&Packet::new_unchecked(packet), &ALL).is_ok(),
-        );
+    for &packet in ROWS {
         compare_damaged(&rt, rt.alloc(), packet)?;
     }
     Ok(())
+}
+
+// The packet of an unreachable port behind another type, code and checksum.
+fn behind(front: [u8; 4]) -> [u8; 36] {
+    let mut octets = PORT_UNREACHABLE;
+    octets[..4].copy_from_slice(&front);
+    octets
+}
+
+#[test]
+fn damaged_errors_are_read_as_by_a_plain_reader(rt: HostRuntime) -> Result<(), Fail> {
+    compare_damaged(&rt, rt.alloc(), &PORT_UNREACHABLE)?;
+    compare_damaged(&rt, rt.alloc(), &behind([0x0b, 0x00, 0xf4, 0x8d]))?;
+    compare_damaged(&rt, rt.alloc(), &behind([0x0b, 0x01, 0xf4, 0x8c]))
+}
+
+#[test]
+fn damaged_errors_of_a_header_alone_are_read_as_by_a_plain_reader(
+    rt: HostRuntime,
+) -> Result<(), Fail> {
+    // A quote of a header alone by its total length, and 16 bytes behind it.
+    let mut octets = [0; 44];
+    octets[..36].copy_from_slice(&PORT_UNREACHABLE);
+    octets[3] = 0x92;
+    octets[11] = 0x14;
+    compare_damaged(&rt, rt.alloc(), &octets)
 }

@@ -6,7 +6,7 @@ use crate::testing::{prints, takes_writes};
 use std::test::Fail;
 
 #[test]
-fn types_and_reasons_print_their_words(rt: HostRuntime) -> Result<(), Fail> {
+fn types_print_their_words(rt: HostRuntime) -> Result<(), Fail> {
     const MESSAGES: &[(u8, &str)] = &[
         (0, "echo reply"),
         (3, "destination unreachable"),
@@ -24,6 +24,11 @@ fn types_and_reasons_print_their_words(rt: HostRuntime) -> Result<(), Fail> {
         let message = Message::from(number);
         prints(&rt, rt.alloc(), message, text)?;
     }
+    Ok(())
+}
+
+#[test]
+fn reasons_of_unreachables_print_their_words(rt: HostRuntime) -> Result<(), Fail> {
     const UNREACHABLES: &[(u8, &str)] = &[
         (0, "destination network unreachable"),
         (1, "destination host unreachable"),
@@ -47,6 +52,11 @@ fn types_and_reasons_print_their_words(rt: HostRuntime) -> Result<(), Fail> {
         let reason = DstUnreachable::from(number);
         prints(&rt, rt.alloc(), reason, text)?;
     }
+    Ok(())
+}
+
+#[test]
+fn reasons_of_exceeded_times_print_their_words(rt: HostRuntime) -> Result<(), Fail> {
     const TIMES: &[(u8, &str)] = &[
         (0, "time-to-live exceeded in transit"),
         (1, "fragment reassembly time exceeded"),
@@ -98,6 +108,11 @@ fn packets_print_their_message_or_why_not(rt: HostRuntime) -> Result<(), Fail> {
         let packet = Packet::new_unchecked(octets);
         prints(&rt, rt.alloc(), packet, text)?;
     }
+    Ok(())
+}
+
+#[test]
+fn an_exceeded_time_prints_its_reason(rt: HostRuntime) -> Result<(), Fail> {
     let time_exceeded = Repr::TimeExceeded {
         reason: TimeExceeded::FragExpired,
         header: quoted(8),
@@ -105,7 +120,11 @@ fn packets_print_their_message_or_why_not(rt: HostRuntime) -> Result<(), Fail> {
     };
     let text = "ICMPv4 time exceeded (fragment reassembly time exceeded)";
     prints(&rt, rt.alloc(), time_exceeded, text)?;
-    // A wrong checksum refuses the octets.
+    Ok(())
+}
+
+#[test]
+fn a_packet_of_a_wrong_checksum_prints_why_it_is_refused(rt: HostRuntime) -> Result<(), Fail> {
     let mut octets = ECHO_REQUEST;
     octets[3] ^= 1;
     let packet = Packet::new_unchecked(&mut octets[..]);

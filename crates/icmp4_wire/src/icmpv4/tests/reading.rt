@@ -3,30 +3,30 @@
 use super::{ALL, PORT_UNREACHABLE, QUOTED_DATA, all, quoted, write_unreachable};
 use crate::icmpv4::{DstUnreachable, Message, Packet, ParamProblem, Redirect, Repr, TimeExceeded};
 use crate::testing::{holds_of, same, same_of};
+use std::process::Abort;
 use std::test::Fail;
-use wirebase::ChecksumCapabilities;
 use wirebase::capabilities::Checksum;
+use wirebase::{ChecksumCapabilities, Error};
 
 #[test]
-fn a_quoted_length_is_read_as_that_of_the_data(rt: HostRuntime) -> Result<(), Fail> {
+fn a_quoted_length_is_read_as_that_of_the_data(rt: HostRuntime) {
     let mut octets = [0; 36];
     write_unreachable(&mut octets, 4, &ALL);
-    let read = Repr::parse(&Packet::new_unchecked(&octets[..]), &ALL)?;
-    let Repr::DstUnreachable {
-        reason,
-        header,
-        data,
-    } = read
-    else {
-        return Err(Fail::from("no unreachable"));
+    let unreachable = Repr::DstUnreachable {
+        reason: DstUnreachable::PortUnreachable,
+        header: quoted(8),
+        data: &QUOTED_DATA,
     };
-    same(&rt, reason, DstUnreachable::PortUnreachable);
-    same(&rt, header, quoted(8));
-    same(&rt, data, QUOTED_DATA.as_slice());
+    let read = Repr::parse(&Packet::new_unchecked(&octets[..]), &ALL);
+    same(&rt, read, Ok(unreachable));
+}
+
+#[test]
+fn a_quote_that_is_not_whole_is_refused(rt: HostRuntime) {
     let mut octets = [0; 36];
     write_unreachable(&mut octets, 16, &ALL);
-    assert!(rt; Repr::parse(&Packet::new_unchecked(&octets[..]), &ALL).is_err());
-    Ok(())
+    let read = Repr::parse(&Packet::new_unchecked(&octets[..]), &ALL);
+    same(&rt, read, Err(Error));
 }
 
 // The packet of an error whose quote has this first byte and total length, and 40 bytes behind it.
@@ -74,29 +74,34 @@ fn quotes_are_read_by_their_own_lengths(rt: HostRuntime) -> Result<(), Fail> {
     Ok(())
 }
 
+// A packet that has this bit turned is refused where its checksum is looked at.
+fn check_turned(rt: &impl Abort, turned: (usize, u32), octets: &[u8]) {
+    let packet = Packet::new_unchecked(octets);
+    holds_of(rt, turned, !packet.verify_checksum());
+    holds_of(rt, turned, Repr::parse(&packet, &ALL).is_err());
+    let receives = all(Checksum::Rx);
+    holds_of(rt, turned, Repr::parse(&packet, &receives).is_err());
+}
+
 #[test]
-fn a_checksum_that_is_wrong_by_a_bit_is_refused(rt: HostRuntime) -> Result<(), Fail> {
-    let ignored = ChecksumCapabilities::ignored();
+fn a_checksum_that_is_wrong_by_a_bit_is_refused(rt: HostRuntime) {
     for place in 0..36usize {
         for bit in 0..8u32 {
             let mut octets = PORT_UNREACHABLE;
             octets[place] ^= 1 << bit;
-            let packet = Packet::new_unchecked(&octets[..]);
-            holds_of(&rt, (place, bit), !packet.verify_checksum());
-            holds_of(&rt, (place, bit), Repr::parse(&packet, &ALL).is_err());
-            holds_of(
-                &rt,
-                (place, bit),
-                Repr::parse(&packet, &all(Checksum::Rx)).is_err(),
-            );
+            check_turned(&rt, (place, bit), &octets);
         }
     }
+}
+
+#[test]
+fn a_wrong_checksum_that_is_not_looked_at_is_taken(rt: HostRuntime) {
     let mut octets = PORT_UNREACHABLE;
     octets[3] ^= 1;
     let packet = Packet::new_unchecked(&octets[..]);
-    assert!(rt; Repr::parse(&packet, &ignored).is_ok());
-    assert!(rt; Repr::parse(&packet, &all(Checksum::Tx)).is_ok());
-    Ok(())
+    let ignored = ChecksumCapabilities::ignored();
+    same(&rt, Repr::parse(&packet, &ignored).is_ok(), true);
+    same(&rt, Repr::parse(&packet, &all(Checksum::Tx)).is_ok(), true);
 }
 
 #[test]
@@ -118,14 +123,24 @@ fn other_messages_are_refused(rt: HostRuntime) -> Result<(), Fail> {
         let read = Repr::parse(&Packet::new_unchecked(&octets[..]), &ignored);
         same_of(&rt, (kind, code), read.is_ok(), accepted);
     }
-    // A sum of zero does not verify.
-    assert!(rt; Repr::parse(&Packet::new_unchecked(&[0u8; 8][..]), &ALL).is_err());
-    for len in 0..8usize {
-        let octets = [0u8; 8];
-        assert!(rt; Packet::new_checked(&octets[..len]).is_err());
-        assert!(rt; Repr::parse(&Packet::new_unchecked(&octets[..len]), &ignored).is_err());
-    }
     Ok(())
+}
+
+#[test]
+fn a_packet_of_zeros_is_refused_where_its_checksum_is_looked_at(rt: HostRuntime) {
+    let read = Repr::parse(&Packet::new_unchecked(&[0u8; 8][..]), &ALL);
+    same(&rt, read, Err(Error));
+}
+
+#[test]
+fn packets_without_a_whole_header_are_refused(rt: HostRuntime) {
+    let ignored = ChecksumCapabilities::ignored();
+    let octets = [0u8; 8];
+    for len in 0..8usize {
+        holds_of(&rt, len, Packet::new_checked(&octets[..len]).is_err());
+        let packet = Packet::new_unchecked(&octets[..len]);
+        holds_of(&rt, len, Repr::parse(&packet, &ignored).is_err());
+    }
 }
 
 #[test]
@@ -138,8 +153,10 @@ fn packets_are_read_at_each_shorter_length(rt: HostRuntime) -> Result<(), Fail> 
     Ok(())
 }
 
+const TIMESTAMP: [u8; 10] = [0x0d, 0x07, 0x12, 0x34, 0x56, 0x78, 0x9a, 0xbc, 0xff, 0xff];
+
 #[test]
-fn accessors(rt: HostRuntime) -> Result<(), Fail> {
+fn fields_that_are_written(rt: HostRuntime) -> Result<(), Fail> {
     let mut octets = [0x2a; 10];
     let mut packet = Packet::new_checked(&mut octets[..])?;
     packet.set_msg_type(Message::Timestamp);
@@ -148,24 +165,38 @@ fn accessors(rt: HostRuntime) -> Result<(), Fail> {
     packet.set_echo_ident(0x5678);
     packet.set_echo_seq_no(0x9abc);
     packet.data_mut().fill(0xff);
-    same(
-        &rt,
-        packet.as_ref(),
-        [0x0d, 0x07, 0x12, 0x34, 0x56, 0x78, 0x9a, 0xbc, 0xff, 0xff].as_slice(),
-    );
+    same(&rt, packet.as_ref(), TIMESTAMP.as_slice());
+    Ok(())
+}
+
+#[test]
+fn a_checksum_that_is_filled_verifies(rt: HostRuntime) {
+    let mut octets = TIMESTAMP;
+    let mut packet = Packet::new_unchecked(&mut octets[..]);
     packet.fill_checksum();
-    assert!(rt; packet.verify_checksum());
-    let octets = packet.into_inner();
-    let packet = Packet::new_checked(&*octets)?;
+    same(&rt, packet.verify_checksum(), true);
+    let packet = Packet::new_unchecked(packet.into_inner());
+    same(&rt, packet.verify_checksum(), true);
+}
+
+#[test]
+fn fields_that_are_read(rt: HostRuntime) -> Result<(), Fail> {
+    let packet = Packet::new_checked(&TIMESTAMP[..])?;
+    same(&rt, packet.check_len(), Ok(()));
     same(&rt, packet.msg_type(), Message::Timestamp);
     same(&rt, packet.msg_code(), 7);
     same(&rt, packet.echo_ident(), 0x5678);
     same(&rt, packet.echo_seq_no(), 0x9abc);
     same(&rt, packet.header_len(), 8);
     same(&rt, packet.data(), [0xff, 0xff].as_slice());
-    assert!(rt; packet.check_len().is_ok());
+    Ok(())
+}
+
+#[test]
+fn a_copy_is_equal(rt: HostRuntime) -> Result<(), Fail> {
+    let packet = Packet::new_unchecked(&TIMESTAMP[..]);
     let copy = packet.clone()?;
-    assert!(rt; packet == copy);
+    same(&rt, packet == copy, true);
     Ok(())
 }
 
@@ -198,7 +229,7 @@ fn a_quoted_length_below_its_data_has_the_normal_form_of_the_whole(rt: HostRunti
     write_unreachable(&mut whole, 8, &ALL);
     let mut part = [0; 36];
     write_unreachable(&mut part, 4, &ALL);
-    assert!(rt; whole != part);
+    same(&rt, whole == part, false);
     let one = Repr::parse(&Packet::new_unchecked(&whole[..]), &ALL);
     let other = Repr::parse(&Packet::new_unchecked(&part[..]), &ALL);
     same(&rt, one, other);
