@@ -45,8 +45,7 @@ data_value (record_data.Cname name) = canonical_name name.now
 data_value (record_data.Other t bytes) = other t bytes.now
 
 -- these bytes are data of a type: an IPv4 address has 4 bytes (RFC 1035 section 3.4.1), an IPv6 address 16 (RFC 3596
--- section
--- 2.2), and all other data are what they are
+-- section 2.2), and all other data are what they are
 abbrev pub IsData : RecordType → List ℕ → DataValue → Type 0
 IsData t bytes (address4 address) = (t ≡ kind.A) × (length bytes ≡ 4) × (ipv4.octets_of address ≡ bytes)
 IsData t bytes (address6 address) = (t ≡ kind.Aaaa) × (length bytes ≡ 16) × (ipv6.octets_of address ≡ bytes)
