@@ -2,8 +2,8 @@
 -- of the name or a pointer to where it goes on. No code is followed here.
 --
 -- A part of a name stops with a mark. Where it goes on, the next part is found at the target in the message. A
--- falling path has targets that each lie below the one before, and each part stands between its target and the target
--- before it: so no byte of the message is in two of its windows, and the path ends.
+-- falling path has targets that each lie below the one before, and each part behind the first stands between its
+-- target and the target before it: so no byte of the message is in two of these windows, and the path ends.
 use Rattle.std.specs.Prelude.{◌≡◌, ℕ, ◌+◌, ◌*◌, ◌%◌, ◌<◌, ◌≤◌, ◌⊎◌, List, [], ◌∷◌, ◌++◌, length, drop, map, slice_range}
 use Rattle.std.specs.List.{AllByRecursion, flat_map}
 

@@ -1,7 +1,8 @@
 //! A host that leases its address: what a client of DHCP asks, and what it takes from a server's offer and its
 //! acknowledgement (RFC 2131 section 4.4).
 
-ghost use Rattle.std.specs.Prelude.{◌≡◌, ◌≤◌, ◌↔◌, ℕ, length, take, IsTrue, IfSome, IsSome, IsSomeAnd, None, Some};
+ghost use Rattle.std.specs.Prelude.{◌≡◌, ◌≤◌, ◌↔◌, ℕ, length, take, drop, IsTrue, IfSome, IsSome, IsSomeAnd};
+ghost use Rattle.std.specs.Prelude.{None, Some};
 ghost use Rattle.control_wire.specs.Dhcpv4.{text};
 ghost use Rattle.control_wire.specs.Dhcpv4Format.{text_len};
 ghost use Rattle.examples.specs.Lease.{LeaseValue, value_of, IsFor, Gives, asking, discovery, asking_for};
@@ -40,6 +41,7 @@ pub fn discover(transaction_id: u32, client: EthernetAddress, out: &mut [u8]) ->
     ensures written { IfSome result (λ n. take n out.new ≡ text (discovery transaction_id client)) }
     ensures len { IfSome result (λ n. n ≡ text_len (discovery transaction_id client)) }
     ensures room { text_len (discovery transaction_id client) ≤ length out.old → IsSome result }
+    ensures rest { IfSome result (λ n. drop n out.new ≡ drop n out.old) }
     ensures unwritten { result ≡ None → out.new ≡ out.old }
 {
     write(
@@ -66,6 +68,7 @@ pub fn request(
         ≡ text_len (asking_for transaction_id client server address)) }
     ensures room { text_len (asking_for transaction_id client server address) ≤ length out.old
         → IsSome result }
+    ensures rest { IfSome result (λ n. drop n out.new ≡ drop n out.old) }
     ensures unwritten { result ≡ None → out.new ≡ out.old }
 {
     let kind = MessageType::Request;
@@ -94,6 +97,7 @@ fn write(
         ≡ text_len (asking message_type transaction_id client server address)) }
     ensures room { text_len (asking message_type transaction_id client server address)
         ≤ length out.old → IsSome result }
+    ensures rest { IfSome result (λ n. drop n out.new ≡ drop n out.old) }
     ensures unwritten { result ≡ None → out.new ≡ out.old }
 {
     let none = Ipv4Address::UNSPECIFIED;

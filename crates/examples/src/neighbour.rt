@@ -2,7 +2,8 @@
 //! routers (RFC 4861 sections 6.3.4, 7.2.4 and 7.2.5). That a message came with hop limit 255, and that a
 //! solicitation did not come from ::, is the caller's to see.
 
-ghost use Rattle.std.specs.Prelude.{◌≡◌, ◌≤◌, ◌↔◌, ℕ, List, length, take, IfSome, IsOkAnd, IsTrue, None, Some};
+ghost use Rattle.std.specs.Prelude.{◌≡◌, ◌≤◌, ◌↔◌, ℕ, List, length, take, drop, IfSome, IsOkAnd, IsTrue};
+ghost use Rattle.std.specs.Prelude.{None, Some};
 ghost use Rattle.control_wire.specs.Ethernet.{octets_of};
 ghost use Rattle.control_wire.specs.Ipv6Address.{octets_of as octets_in};
 ghost use Rattle.control_wire.specs.Icmpv6.{value_of, ndisc as neighbor_message};
@@ -38,6 +39,8 @@ pub fn answer(
         → result ≡ Some 32 }
     ensures answered { IfSome result (λ n. Solicits peer.now asked.now own.now solicitation.now
         × IsAnswer own.now peer.now (octets_of lladdr) (take n reply.new)) }
+    ensures fits { IfSome result (λ n. n ≤ length reply.new) }
+    ensures rest { IfSome result (λ n. drop n reply.new ≡ drop n reply.old) }
     ensures unanswered { result ≡ None → reply.new ≡ reply.old }
 {
     if !solicits(peer, asked, own, solicitation) || reply.len() < ANSWER_LEN {
@@ -163,8 +166,8 @@ pub fn router(
 ) -> Option<RouterInformation>
     ensures told { IfSome result (λ router.
         TellsRouter source.now destination.now octets.now router) }
-    ensures all { (router : RouterInfoValue) → TellsRouter source.now destination.now octets.now router
-        → result ≡ Some router }
+    ensures all { (router : RouterInfoValue)
+        → TellsRouter source.now destination.now octets.now router → result ≡ Some router }
 {
     let caps = ChecksumCapabilities::default();
     let Ok(message) = Repr::parse(source, destination, &Packet::new_unchecked(octets), &caps) else {

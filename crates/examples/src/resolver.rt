@@ -3,7 +3,8 @@
 //! A name is given as it is written in messages: labels of 1 to 63 bytes, each after its length, and byte 0. Names are
 //! equal where their labels are, byte by byte: a server gives a name back in the case in which it was asked.
 
-ghost use Rattle.std.specs.Prelude.{◌≡◌, ◌≤◌, ◌<◌, ◌↔◌, ℕ, List, length, take, IsTrue, IfSome, IsSome, IsSomeAnd, None};
+ghost use Rattle.std.specs.Prelude.{◌≡◌, ◌≤◌, ◌<◌, ◌↔◌, ℕ, List, length, take, drop, IsTrue, IfSome, IsSome};
+ghost use Rattle.std.specs.Prelude.{None};
 ghost use Rattle.control_wire.specs.Bytes.{Reaches};
 ghost use Rattle.control_wire.specs.DnsName.{HaveSameLabels};
 ghost use Rattle.control_wire.specs.DnsNameWalk.{answer_of, label, ending};
@@ -33,10 +34,14 @@ pub enum Address {
 /// section 2.3.4).
 pub fn query(transaction_id: u16, name: &[u8], type_: Type, out: &mut [u8]) -> Option<usize>
     requires { length name.now ≤ 255 }
-    ensures written { let query = query_for transaction_id name.now type_ in
-        text_len query ≤ length out.old → IsSomeAnd result (λ n. take n out.new ≡ text query) }
+    ensures written { IfSome result (λ n. take n out.new
+        ≡ text (query_for transaction_id name.now type_)) }
     ensures read { let query = query_for transaction_id name.now type_ in
         IsCanonical query → IfSome result (λ n. IsQuery (take n out.new) query) }
+    ensures len { IfSome result (λ n. n ≡ text_len (query_for transaction_id name.now type_)) }
+    ensures room { text_len (query_for transaction_id name.now type_) ≤ length out.old
+        → IsSome result }
+    ensures rest { IfSome result (λ n. drop n out.new ≡ drop n out.old) }
     ensures unwritten { result ≡ None → out.new ≡ out.old }
 {
     let question = Question { name, type_ };
@@ -139,10 +144,12 @@ fn after_question<'a>(message: &'a [u8], name: &'a [u8], type_: Type) -> Option<
     Some(rest)
 }
 
-/// The next address of the name, and what is left to read after it. None where no record has another.
+/// The next address of the name, and what is left to read after it. None where no record has another up to the first
+/// that can't be read. An alias counts for the records behind it.
 pub fn next_address(answers: Answers<'_>) -> Option<(Address, Answers<'_>)>
     ensures found { IfSome result (λ next.
         Finds answers.entry.message.now next.0 (search_of next.1) (search_of answers.entry)) }
+    ensures message { IfSome result (λ next. next.1.message.now ≡ answers.entry.message.now) }
     ensures none { result ≡ None → (address : Address) (after : Search)
         → Finds answers.entry.message.now address after (search_of answers.entry) → ⊥ }
     ensures fewer { IfSome result (λ next. next.1.left < answers.entry.left) }

@@ -2,7 +2,8 @@
 //! 4443 section 3.1). No error is sent for a datagram to many receivers, or for an error (RFC 1122 section 3.2.2, RFC
 //! 4443 section 2.4): that is the caller's to see.
 
-ghost use Rattle.std.specs.Prelude.{◌≡◌, ◌≤◌, ◌+◌, List, ℕ, length, take, min, IfSome, IsSome, IsOkAnd, None};
+ghost use Rattle.std.specs.Prelude.{◌≡◌, ◌≤◌, ◌+◌, List, ℕ, length, take, drop, min, IfSome, IsSome, IsOkAnd};
+ghost use Rattle.std.specs.Prelude.{None};
 ghost use Rattle.control_wire.specs.Capabilities.{all_of};
 ghost use Rattle.control_wire.specs.ChecksumType.TheVariants.{Both};
 ghost use Rattle.control_wire.specs.Icmpv4.{packet_text, unreachable};
@@ -32,6 +33,8 @@ pub fn port_unreachable(datagram: &[u8], out: &mut [u8]) -> Option<usize>
     ensures tells { IfSome result (λ n. Tells datagram.now (take n out.new)) }
     ensures told { (header : Ipv4Repr) (payload : List ℕ) → IsDatagram datagram.now header payload
         → 28 + length (quoted payload) ≤ length out.old → IsSome result }
+    ensures fits { IfSome result (λ n. n ≤ length out.new) }
+    ensures rest { IfSome result (λ n. drop n out.new ≡ drop n out.old) }
     ensures untold { result ≡ None → out.new ≡ out.old }
 {
     let (header, payload) = match read_datagram(datagram) {
@@ -82,6 +85,8 @@ fn write_error(header: Ipv4Repr, data: &[u8], out: &mut [u8]) -> Option<usize>
     ensures written { IfSome result (λ n. take n out.new ≡ packet_text (all_of Both)
         (unreachable PortUnreachable header «data».now)) }
     ensures room { 28 + length «data».now ≤ length out.old → IsSome result }
+    ensures fits { IfSome result (λ n. n ≤ length out.new) }
+    ensures rest { IfSome result (λ n. drop n out.new ≡ drop n out.old) }
     ensures unwritten { result ≡ None → out.new ≡ out.old }
 {
     let message = icmpv4::Repr::DstUnreachable {
@@ -106,6 +111,8 @@ pub fn port_unreachable_v6(own: &Ipv6Address, datagram: &[u8], out: &mut [u8]) -
     ensures bound { IfSome result (λ n. n ≤ 1240) }
     ensures told { (header : Ipv6Repr) (payload : List ℕ) → IsDatagramV6 datagram.now header payload
         → 48 + min (length payload) 1192 ≤ length out.old → IsSome result }
+    ensures fits { IfSome result (λ n. n ≤ length out.new) }
+    ensures rest { IfSome result (λ n. drop n out.new ≡ drop n out.old) }
     ensures untold { result ≡ None → out.new ≡ out.old }
 {
     let (header, payload) = match read_datagram_v6(datagram) {
@@ -143,6 +150,8 @@ fn write_error_v6(
         (unreachable_v6 PortUnreachableV6 header payload.now)) }
     ensures bound { IfSome result (λ n. n ≤ 1240) }
     ensures room { 48 + min (length payload.now) 1192 ≤ length out.old → IsSome result }
+    ensures fits { IfSome result (λ n. n ≤ length out.new) }
+    ensures rest { IfSome result (λ n. drop n out.new ≡ drop n out.old) }
     ensures unwritten { result ≡ None → out.new ≡ out.old }
 {
     let Ok(message) = error_v6(header, payload) else {

@@ -43,7 +43,7 @@ num_srcs_field = field 26 28
 abbrev pub nr_mcast_addr_rcrds_field : Field
 nr_mcast_addr_rcrds_field = field 6 8
 
--- the flag S, by which routers do not answer, and the querier's robustness variable, three bits
+-- the flag S, by which routers leave their timers as they are, and the querier's robustness variable, three bits
 abbrev pub s_flag_in : List ℕ → ℕ
 s_flag_in bytes = byte_of sqrv_field bytes / 8 % 2
 

@@ -1,5 +1,5 @@
-// A second reader of messages, by the rules of RFC 4443, RFC 3810 and RFC 4861 alone. The tests compare the crate with
-// it.
+// A second reader of messages, by the layouts of RFC 4443, RFC 3810 and RFC 4861, and by smoltcp's rules of what is
+// refused. The tests compare the crate with it.
 
 use crate::icmpv6::Packet;
 use crate::testing::{holds_of, same_of};

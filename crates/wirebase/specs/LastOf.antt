@@ -1,4 +1,5 @@
--- A list of options of which the last that says anything of a field counts (RFC 2132, RFC 4861 section 4.6).
+-- A list of options (RFC 2132, RFC 4861 section 4.6) of which, as in smoltcp, the last that says anything of a field
+-- counts.
 use Rattle.std.specs.Prelude.{List, [], ◌∷◌, Option, None}
 use Rattle.std.specs.Option.{option_or}
 

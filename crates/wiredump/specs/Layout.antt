@@ -17,7 +17,7 @@ field name value = name ++ codes "=" ++ value ++ codes "\n"
 unfoldable pub part_field : List ℕ → List ℕ → List ℕ → List ℕ
 part_field part name value = part ++ field name value
 
--- ---- values: numbers are in decimal digits, addresses as IPv4 ones are written, and names as they are
+-- ---- values: numbers in decimal digits, IPv4 addresses with dots, other addresses as octets, and names as they are
 
 -- octets: two lower-case hexadecimal digits each, or `-` for none
 abbrev pub octets_text : List ℕ → List ℕ

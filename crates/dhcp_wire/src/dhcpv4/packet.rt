@@ -129,7 +129,7 @@ impl<T: Octets> Packet<T> {
         self.buffer
     }
 
-    /// What the packet is. Asks 1 byte.
+    /// Whether the packet is a client's request or a server's reply. Asks 1 byte.
     pub fn opcode(&self) -> OpCode
         requires { Reaches op_field (T.bytes (inner self.now)) }
         ensures { result ≡ opcode_of (byte_of op_field (T.bytes (inner self.now))) }
@@ -265,7 +265,7 @@ impl<T: OctetsMut> Packet<T> {
         self.buffer.field_mut(field::SNAME_AND_FILE).fill(0);
     }
 
-    /// Writes what the packet is. Asks 1 byte.
+    /// Writes whether the packet is a client's request or a server's reply. Asks 1 byte.
     pub fn set_opcode(&mut self, value: OpCode)
         requires { Reaches op_field (T.bytes (inner self.old)) }
         ensures writes { Sets T.bytes T.put self.old self.new op_field (opcode_number value ∷ []) }

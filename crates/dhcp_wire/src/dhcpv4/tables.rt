@@ -65,7 +65,7 @@ pub enum MessageType {
     Decline,
     /// A server grants what was asked.
     Ack,
-    /// A server does not.
+    /// A server refuses what was asked.
     Nak,
     /// A client gives its address back.
     Release,

@@ -8,7 +8,8 @@ use crate::dns::part::{Front, read_front};
 use std::marker::Model;
 use wirebase::{Error, Result};
 
-/// The labels of a name. A pointer leads to below all that was read of the message before, so the walk ends.
+/// The labels of a name. The first pointer leads to any place of the message, and each later one to below the place
+/// that the one before it led to, so the walk ends.
 #[derive(Drop)]
 pub struct NameIter<'a> {
     message: &'a [u8],

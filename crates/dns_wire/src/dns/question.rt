@@ -35,8 +35,8 @@ pub struct Question<'a> {
 }
 
 impl<'a> Question<'a> {
-    /// The question at the front of the octets, behind what stands after it. Refused where they do not begin with a
-    /// name of one part, a type and the class of the internet.
+    /// What stands behind the question at the front of the octets, and the question. Refused where they do not begin
+    /// with a name of one part, a type and the class of the internet.
     pub fn parse(buffer: &'a [u8]) -> Result<(&'a [u8], Question<'a>)>
         ensures sound { IfOk result (λ read. IsQuestion buffer.now (value_of read.1) read.0.now) }
         ensures complete { (value : QuestionValue) (rest : List ℕ)

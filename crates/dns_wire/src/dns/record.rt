@@ -35,8 +35,8 @@ pub struct Record<'a> {
 }
 
 impl<'a> Record<'a> {
-    /// The record at the front of the octets, behind what stands after it. Refused where they do not begin with a
-    /// name of one part, a type, the class of the internet, a time to live, a length and as many bytes; and where
+    /// What stands behind the record at the front of the octets, and the record. Refused where they do not begin with
+    /// a name of one part, a type, the class of the internet, a time to live, a length and as many bytes; and where
     /// these bytes are no data of the type.
     pub fn parse(buffer: &'a [u8]) -> Result<(&'a [u8], Record<'a>)>
         ensures sound { IfOk result (λ read. IsRecord buffer.now (value_of read.1) read.0.now) }

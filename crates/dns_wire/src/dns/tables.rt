@@ -15,7 +15,7 @@ use std::ops::{BitAnd, BitOr, BitXor, Not, Sub};
 pub enum Opcode {
     /// A standard query.
     Query,
-    /// A server status request.
+    /// A server status request. Its number is smoltcp's, 1, which RFC 1035 gives to an inverse query; there it is 2.
     Status,
     /// Any other kind, by its number.
     Unknown(u8),

@@ -82,3 +82,23 @@ fn no_address(rt: HostRuntime) -> Result<(), Fail> {
     assert!(rt; next_address(all).is_none());
     Ok(())
 }
+
+// A response with two addresses, each of the name that the question has, to which a pointer leads.
+const TWO_ADDRESSES: [u8; 51] = [
+    0x12, 0x34, 0x81, 0x80, 0x00, 0x01, 0x00, 0x02, 0x00, 0x00, 0x00, 0x00, 0x01, 0x61, 0x00, 0x00,
+    0x01, 0x00, 0x01, 0xc0, 0x0c, 0x00, 0x01, 0x00, 0x01, 0x00, 0x00, 0x00, 0x05, 0x00, 0x04, 0x0a,
+    0x00, 0x00, 0x01, 0xc0, 0x0c, 0x00, 0x01, 0x00, 0x01, 0x00, 0x00, 0x00, 0x05, 0x00, 0x04, 0x0a,
+    0x00, 0x00, 0x02,
+];
+
+#[test]
+fn both_addresses_of_a_name(rt: HostRuntime) -> Result<(), Fail> {
+    let message = TWO_ADDRESSES;
+    let all = read_answers(&message, 0x1234, b"\x01a\x00", Type::A).ok_or("no response")?;
+    let (first, rest) = next_address(all).ok_or("no address")?;
+    assert!(rt; first == Address::V4(Ipv4Address::new(10, 0, 0, 1)));
+    let (second, rest) = next_address(rest).ok_or("no second address")?;
+    assert!(rt; second == Address::V4(Ipv4Address::new(10, 0, 0, 2)));
+    assert!(rt; next_address(rest).is_none());
+    Ok(())
+}

@@ -38,7 +38,8 @@ impl<T: Octets> Packet<T> {
         )
     }
 
-    /// Whether routers are not to answer a query (RFC 3810 section 5.1.7). Asks 25 bytes.
+    /// The flag S of a query: whether routers that hear it are to leave their timers as they are (RFC 3810 section
+    /// 5.1.7). Asks 25 bytes.
     pub fn s_flag(&self) -> bool
         requires { Reaches sqrv_field (T.bytes (inner self.now)) }
         ensures { IsTrue result ↔ (s_flag_in (T.bytes (inner self.now)) ≡ 1) }
@@ -100,8 +101,7 @@ impl<T: OctetsMut> Packet<T> {
             .set_bytes(field::QUERY_MCAST_ADDR, &value.octets());
     }
 
-    /// Sets the flag by which routers are not to answer, and writes zeros into the reserved bits beside it. Asks 25
-    /// bytes.
+    /// Sets the flag S, and writes zeros into the reserved bits beside it. Asks 25 bytes.
     pub fn set_s_flag(&mut self)
         requires { Reaches sqrv_field (T.bytes (inner self.old)) }
         ensures writes { Sets T.bytes T.put self.old self.new sqrv_field
@@ -112,7 +112,7 @@ impl<T: OctetsMut> Packet<T> {
         self.buffer.set_u8(field::SQRV, S_FLAG + qrv);
     }
 
-    /// Clears the flag by which routers are not to answer, and the reserved bits beside it. Asks 25 bytes.
+    /// Clears the flag S, and the reserved bits beside it. Asks 25 bytes.
     pub fn clear_s_flag(&mut self)
         requires { Reaches sqrv_field (T.bytes (inner self.old)) }
         ensures writes { Sets T.bytes T.put self.old self.new sqrv_field

@@ -25,7 +25,7 @@ pub enum Repr<'a> {
         max_resp_code: u16,
         /// The group, or `::` for all.
         mcast_addr: Ipv6Address,
-        /// Whether other routers are not to answer.
+        /// The flag S: whether routers that hear the query are to leave their timers as they are.
         s_flag: bool,
         /// The querier's robustness variable, below 8.
         qrv: u8,

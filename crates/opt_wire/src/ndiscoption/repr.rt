@@ -55,7 +55,7 @@ impl PrefixInformation {
 pub struct RedirectedHeader<'a> {
     /// The header of that packet.
     pub header: Ipv6Repr,
-    /// The payload, as much of it as the option has.
+    /// The payload, all the bytes that the header counts.
     pub data: &'a [u8],
 }
 

@@ -1,5 +1,6 @@
-// A second reader of options, by the rules of RFC 4861 section 4.6 alone: a type, a length in units of 8 bytes that is
-// not 0, and the bytes up to that length; a prefix has 4 units and an MTU 1. The tests compare the crate with it.
+// A second reader of options, by the layouts of RFC 4861 section 4.6: a type, a length in units of 8 bytes that is not
+// 0, and the bytes up to that length; a prefix has 4 units and an MTU 1; by smoltcp's rules an address of 2 units or
+// more is its first 8 bytes, and a redirected packet is whole. The tests compare the crate with it.
 
 use crate::ndiscoption::{NdiscOption, PrefixInfoFlags, PrefixInformation, RedirectedHeader, Repr};
 use crate::plain_reader::{DAMAGE, damaged};
