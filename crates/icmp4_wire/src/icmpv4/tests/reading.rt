@@ -6,7 +6,7 @@ use crate::testing::{holds_of, same, same_of};
 use std::process::Abort;
 use std::test::Fail;
 use wirebase::capabilities::Checksum;
-use wirebase::{ChecksumCapabilities, Error};
+use wirebase::{ChecksumCapabilities, Error, IpProtocol, Ipv4Address, Ipv4Repr};
 
 #[test]
 fn a_quoted_length_is_read_as_that_of_the_data(rt: HostRuntime) {
@@ -72,6 +72,27 @@ fn quotes_are_read_by_their_own_lengths(rt: HostRuntime) -> Result<(), Fail> {
         same_of(&rt, (first, total_len), read_len, data_len);
     }
     Ok(())
+}
+
+#[test]
+fn a_quote_of_a_header_of_no_bytes_has_all_of_it_as_data(rt: HostRuntime) {
+    let mut octets = [0; 28];
+    octets[0] = 3;
+    octets[8] = 0x40;
+    let ignored = ChecksumCapabilities::ignored();
+    let read = Repr::parse(&Packet::new_unchecked(&octets[..]), &ignored);
+    let unreachable = Repr::DstUnreachable {
+        reason: DstUnreachable::NetUnreachable,
+        header: Ipv4Repr {
+            src_addr: Ipv4Address::UNSPECIFIED,
+            dst_addr: Ipv4Address::UNSPECIFIED,
+            next_header: IpProtocol::from(0),
+            payload_len: 20,
+            hop_limit: 0,
+        },
+        data: &octets[8..],
+    };
+    same(&rt, read, Ok(unreachable));
 }
 
 // A packet that has this bit turned is refused where its checksum is looked at.
