@@ -230,6 +230,36 @@ fn long_address_options_are_written_shorter(rt: HostRuntime) {
     same(&rt, octets.as_slice(), text.as_slice());
 }
 
+// The option that a source's address is written as when it was read in these bytes.
+fn rewritten(rt: &impl Abort, bytes: &[u8]) -> [u8; 16] {
+    let mut octets = [0x2a; 16];
+    let Ok(repr) = read(bytes) else {
+        holds_of(rt, bytes, false);
+        return octets;
+    };
+    let Repr::SourceLinkLayerAddr(address) = &repr else {
+        holds_of(rt, bytes, false);
+        return octets;
+    };
+    holds_of(rt, bytes, address.len() <= 8);
+    same_of(rt, bytes, repr.buffer_len(), 16);
+    repr.emit_into(&mut octets);
+    octets
+}
+
+#[test]
+fn long_address_options_are_written_the_same_again(rt: HostRuntime) {
+    let mut bytes = [0xaa; 24];
+    bytes[0] = 0x01;
+    bytes[1] = 0x03;
+    let text = [
+        0x01, 0x02, 0xaa, 0xaa, 0xaa, 0xaa, 0xaa, 0xaa, 0xaa, 0xaa, 0, 0, 0, 0, 0, 0,
+    ];
+    let once = rewritten(&rt, &bytes);
+    same(&rt, once, text);
+    same(&rt, rewritten(&rt, &once), text);
+}
+
 #[test]
 fn options_of_each_type_and_number_of_units(rt: HostRuntime) {
     // The type, and for 0 to 6 units whether the option is whole, and whether it is read.
