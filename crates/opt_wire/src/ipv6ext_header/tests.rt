@@ -1,6 +1,6 @@
 use super::{Header, Repr};
 use crate::ipv6option::RouterAlert;
-use crate::testing::same;
+use crate::testing::{same, same_of};
 use crate::{ipv6hbh, ipv6option};
 use std::test::Fail;
 use wirebase::IpProtocol;
@@ -39,9 +39,11 @@ fn a_header_is_written_by_its_first_two_bytes(rt: HostRuntime) {
         data: &[],
     };
     same(&rt, repr.header_len(), 2);
-    let mut octets = [0xff; 2];
-    repr.emit(&mut Header::new_unchecked(octets.as_mut_slice()));
-    same(&rt, octets.as_slice(), [0x06, 0x01].as_slice());
+    for fill in [0x00, 0xff, 0x2a] {
+        let mut octets = [fill; 2];
+        repr.emit(&mut Header::new_unchecked(octets.as_mut_slice()));
+        same_of(&rt, fill, octets, [0x06, 0x01]);
+    }
 }
 
 #[test]

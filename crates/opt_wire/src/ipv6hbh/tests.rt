@@ -114,6 +114,17 @@ fn multicast_listener_report_with_padding(rt: HostRuntime) -> Result<(), Fail> {
     compare_damaged(&rt, rt.alloc(), &octets)
 }
 
+#[test]
+fn a_router_alert_written_over_octets_of_any_kind(rt: HostRuntime) {
+    let mut header = Repr::mldv2_router_alert();
+    header.push_padn_option(0);
+    for fill in [0x00, 0xff, 0x2a] {
+        let mut octets = [fill; 6];
+        header.emit(&mut Header::new_unchecked(octets.as_mut_slice()));
+        same_of(&rt, fill, octets, [0x05, 0x02, 0x00, 0x00, 0x01, 0x00]);
+    }
+}
+
 // Writes a header over octets of this kind, and three more.
 fn check_written(rt: &impl Abort, header: &Repr<'_>, text: [u8; 14], fill: u8)
     requires { HaveData (value_of header.now) }

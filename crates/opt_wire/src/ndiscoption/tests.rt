@@ -180,10 +180,12 @@ fn options_are_written_over_octets_of_any_kind(rt: HostRuntime) {
 fn check_address_is_written(rt: &impl Abort, address: &[u8], bytes: &[u8]) {
     assert!(rt; address.len() <= 8);
     let repr = Repr::SourceLinkLayerAddr(RawHardwareAddress::from_bytes(address));
-    let mut buffer = [0xff; 16];
     let len = repr.buffer_len();
-    repr.emit_into(&mut buffer[..len]);
-    same(rt, &buffer[..len], bytes);
+    for filler in [0x00, 0xff, 0x2a] {
+        let mut buffer = [filler; 16];
+        repr.emit_into(&mut buffer[..len]);
+        same_of(rt, filler, &buffer[..len], bytes);
+    }
 }
 
 #[test]
