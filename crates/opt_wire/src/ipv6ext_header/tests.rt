@@ -1,7 +1,10 @@
 use super::{Header, Repr};
 use crate::ipv6option::RouterAlert;
-use crate::testing::{same, same_of};
+use crate::plain_reader::{DAMAGE, damaged};
+use crate::testing::{holds_of, same, same_of};
 use crate::{ipv6hbh, ipv6option};
+use std::alloc::Global;
+use std::process::Abort;
 use std::test::Fail;
 use wirebase::IpProtocol;
 
@@ -31,6 +34,60 @@ fn headers_that_are_too_short(rt: HostRuntime) {
     assert!(rt; Header::new_checked([0u8; 1].as_slice()).is_err());
 }
 
+// A second reader of headers, by the rule of RFC 8200 section 4.3 alone: the length counts units of 8 bytes, without the
+// first 8. The tests compare the crate with it.
+fn plain_header(octets: &[u8]) -> Option<Repr<'_>> {
+    let [next_header, length, ..] = octets else {
+        return None;
+    };
+    Some(Repr {
+        next_header: IpProtocol::from(*next_header),
+        length: *length,
+        data: octets.get(2..8 + 8 * *length as usize)?,
+    })
+}
+
+// Compares what is taken for a header, and what is read in it.
+fn compare(rt: &impl Abort, octets: &[u8]) {
+    let plain = plain_header(octets);
+    let checked = Header::new_checked(octets).is_ok();
+    same_of(rt, octets, checked, plain.is_some());
+    let Ok(read) = Repr::parse(&Header::new_unchecked(octets)) else {
+        holds_of(rt, octets, plain.is_none());
+        return;
+    };
+    same_of(rt, octets, Some(read), plain);
+}
+
+// Compares the crate with the plain reader over these octets, over each shorter part of them from their start on, and
+// over each copy of them in which one byte is damaged.
+fn compare_damaged(rt: &impl Abort, alloc: Global, packet: &[u8]) -> Result<(), Fail> {
+    for len in 0..=packet.len() {
+        compare(rt, &packet[..len]);
+    }
+    for at in 0..packet.len() {
+        for value in DAMAGE {
+            compare(rt, damaged(alloc, packet, at, value)?.as_slice());
+        }
+    }
+    Ok(())
+}
+
+#[test]
+fn damaged_headers(rt: HostRuntime) -> Result<(), Fail> {
+    // A header of one unit, one of two, one of one unit with bytes behind it, and one that lacks two of its units.
+    const ROWS: &[&[u8]] = &[
+        &[0x3a, 0x00, 0x05, 0x02, 0x00, 0x00, 0x01, 0x00],
+        &[0x06, 0x01, 1, 2, 3, 4, 5, 6, 7, 8, 9, 10, 11, 12, 13, 14],
+        &[0x11, 0x00, 0x01, 0x04, 0, 0, 0, 0, 0xaa, 0xbb, 0xcc],
+        &[0x06, 0x02, 0, 0, 0, 0, 0, 0],
+    ];
+    for &octets in ROWS {
+        compare_damaged(&rt, rt.alloc(), octets)?;
+    }
+    Ok(())
+}
+
 #[test]
 fn a_header_is_written_by_its_first_two_bytes(rt: HostRuntime) {
     let repr = Repr {
@@ -43,6 +100,23 @@ fn a_header_is_written_by_its_first_two_bytes(rt: HostRuntime) {
         let mut octets = [fill; 2];
         repr.emit(&mut Header::new_unchecked(octets.as_mut_slice()));
         same_of(&rt, fill, octets, [0x06, 0x01]);
+    }
+}
+
+#[test]
+fn octets_behind_a_header_stay(rt: HostRuntime) {
+    let repr = Repr {
+        next_header: IpProtocol::Tcp,
+        length: 1,
+        data: &[],
+    };
+    for fill in [0x00, 0xff, 0x2a] {
+        let mut octets = [fill; 5];
+        repr.emit(&mut Header::new_unchecked(octets.as_mut_slice()));
+        same_of(&rt, fill, octets, [0x06, 0x01, fill, fill, fill]);
+        let mut plain = [fill; 5];
+        repr.emit_into(&mut plain);
+        same_of(&rt, fill, plain, octets);
     }
 }
 
