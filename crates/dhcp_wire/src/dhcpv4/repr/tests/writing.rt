@@ -1,4 +1,5 @@
 use super::{bare, five_servers, with_options};
+use crate::dhcpv4::tests::packet;
 use crate::dhcpv4::{DhcpOption, MessageType, Packet, Repr};
 use crate::plain_reader::options_in;
 use crate::testing::{same, same_of};
@@ -91,6 +92,12 @@ fn ack() -> Repr<'static> {
 
 const ACK_OPTIONS: [u8; 22] = [
     0x35, 0x01, 0x05, 0x33, 0x04, 0x00, 0x00, 0x0e, 0x10, 0x3a, 0x04, 0x00, 0x00, 0x07, 0x08, 0x3b,
+    0x04, 0x00, 0x00, 0x0c, 0x4e, 0xff,
+];
+
+// Those of an Ack whose renewal time is a second later.
+const LATER_ACK_OPTIONS: [u8; 22] = [
+    0x35, 0x01, 0x05, 0x33, 0x04, 0x00, 0x00, 0x0e, 0x10, 0x3a, 0x04, 0x00, 0x00, 0x07, 0x09, 0x3b,
     0x04, 0x00, 0x00, 0x0c, 0x4e, 0xff,
 ];
 
@@ -245,5 +252,22 @@ fn a_value_written_into_a_view(rt: HostRuntime) -> Result<(), Fail> {
     wanted[236..244].copy_from_slice(&[0x63, 0x82, 0x53, 0x63, 0x35, 1, 8, 0xff]);
     same(&rt, octets, wanted);
     Repr::same_text(&repr, &bare(MessageType::Inform));
+    Ok(())
+}
+
+#[test]
+fn values_of_two_renewal_times_have_two_texts(rt: HostRuntime) -> Result<(), Fail> {
+    let mut later = ack();
+    later.renew_duration = Some(1801);
+    let mut octets = [0x2a; 262];
+    same(&rt, ack().emit_into(&mut octets), Ok(()));
+    let wanted = packet(rt.alloc(), 2, &ACK_OPTIONS)?;
+    same(&rt, &octets[..], wanted.as_slice());
+    let mut other_octets = [0x2a; 262];
+    same(&rt, later.emit_into(&mut other_octets), Ok(()));
+    let wanted = packet(rt.alloc(), 2, &LATER_ACK_OPTIONS)?;
+    same(&rt, &other_octets[..], wanted.as_slice());
+    assert!(rt; octets != other_octets);
+    compare_read_back(&rt, &later);
     Ok(())
 }
