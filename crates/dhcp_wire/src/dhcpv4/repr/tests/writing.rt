@@ -2,7 +2,7 @@ use super::{bare, five_servers, with_options};
 use crate::dhcpv4::tests::packet;
 use crate::dhcpv4::{DhcpOption, MessageType, Packet, Repr};
 use crate::plain_reader::options_in;
-use crate::testing::{same, same_of};
+use crate::testing::{fail, same, same_of};
 use std::alloc::Global;
 use std::process::Abort;
 use std::test::Fail;
@@ -269,5 +269,27 @@ fn values_of_two_renewal_times_have_two_texts(rt: HostRuntime) -> Result<(), Fai
     same(&rt, &other_octets[..], wanted.as_slice());
     assert!(rt; octets != other_octets);
     compare_read_back(&rt, &later);
+    Ok(())
+}
+
+// Reads a packet, and writes what it says.
+fn rewritten(rt: &impl Abort, packet: &[u8]) -> [u8; 250] {
+    let mut octets = [0x2a; 250];
+    match Repr::parse(&Packet::new_unchecked(packet)) {
+        Ok(read) => same(rt, read.emit_into(&mut octets), Ok(())),
+        Err(_) => fail(rt, "the packet is read"),
+    }
+    octets
+}
+
+#[test]
+fn a_list_with_half_an_address_is_rewritten_without_it(rt: HostRuntime) -> Result<(), Fail> {
+    let alloc = rt.alloc();
+    let octets = packet(alloc, 1, &[0x35, 1, 1, 6, 6, 8, 8, 8, 8, 1, 2, 0xff])?;
+    let wanted = packet(alloc, 1, &[0x35, 1, 1, 6, 4, 8, 8, 8, 8, 0xff])?;
+    let once = rewritten(&rt, octets.as_slice());
+    same(&rt, &once[..], wanted.as_slice());
+    let twice = rewritten(&rt, &once);
+    same(&rt, &twice[..], wanted.as_slice());
     Ok(())
 }
