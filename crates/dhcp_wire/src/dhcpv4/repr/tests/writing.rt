@@ -22,6 +22,12 @@ const HOST_NAME: &[DhcpOption<'static>] = &[DhcpOption {
     data: b"ab",
 }];
 
+// One of one byte.
+const SHORT_NAME: &[DhcpOption<'static>] = &[DhcpOption {
+    kind: 12,
+    data: b"a",
+}];
+
 // What stands in 340 bytes of this value after a packet was written over so many of them: its first fields, zeros for
 // the names, the cookie, its options up to the first for which there is no room, and the end mark behind the last.
 fn written(
@@ -291,5 +297,29 @@ fn a_list_with_half_an_address_is_rewritten_without_it(rt: HostRuntime) -> Resul
     same(&rt, &once[..], wanted.as_slice());
     let twice = rewritten(&rt, &once);
     same(&rt, &twice[..], wanted.as_slice());
+    Ok(())
+}
+
+// Reads a packet, which is to say this.
+fn compare_read(rt: &impl Abort, packet: &[u8], repr: &Repr<'_>) {
+    let read = Repr::parse(&Packet::new_unchecked(packet));
+    assert!(rt; read.is_ok_and(|read| read == *repr));
+}
+
+#[test]
+fn an_additional_option_is_all_that_two_texts_differ_by(rt: HostRuntime) -> Result<(), Fail> {
+    let alloc = rt.alloc();
+    let discover = bare(MessageType::Discover);
+    let mut octets = [0x2a; 244];
+    same(&rt, discover.emit_into(&mut octets), Ok(()));
+    let wanted = packet(alloc, 1, &[0x35, 1, 1, 0xff])?;
+    same(&rt, &octets[..], wanted.as_slice());
+    compare_read(&rt, &octets, &discover);
+    let named = with_options(MessageType::Discover, SHORT_NAME);
+    let mut octets = [0x2a; 247];
+    same(&rt, named.emit_into(&mut octets), Ok(()));
+    let wanted = packet(alloc, 1, &[0x35, 1, 1, 12, 1, 0x61, 0xff])?;
+    same(&rt, &octets[..], wanted.as_slice());
+    compare_read(&rt, &octets, &discover);
     Ok(())
 }
