@@ -8,7 +8,7 @@ use std::process::Abort;
 use std::test::Fail;
 use wirebase::{Error, Ipv4Address, Ipv6Address};
 
-mod damaged;
+pub(super) mod damaged;
 
 #[test]
 fn numbers_of_messages(rt: HostRuntime) {

@@ -2,7 +2,9 @@
 
 use super::NameIter;
 use crate::dns::Packet;
-use crate::testing::same;
+use crate::dns::tests::damaged::damaged;
+use crate::testing::{same, same_of};
+use std::alloc::Global;
 use std::process::Abort;
 use std::test::Fail;
 use wirebase::Error;
@@ -14,6 +16,24 @@ const RESPONSE: [u8; 79] = [
     0x00, 0x01, 0xc0, 0x0c, 0x00, 0x05, 0x00, 0x01, 0x00, 0x00, 0x05, 0xf3, 0x00, 0x11, 0x09, 0x73,
     0x74, 0x61, 0x72, 0x2d, 0x6d, 0x69, 0x6e, 0x69, 0x04, 0x63, 0x31, 0x30, 0x72, 0xc0, 0x10, 0xc0,
     0x2e, 0x00, 0x01, 0x00, 0x01, 0x00, 0x00, 0x00, 0x05, 0x00, 0x04, 0x1f, 0x0d, 0x53, 0x24,
+];
+
+// Two labels, and behind each a pointer to the other.
+const MEETING_POINTERS: [u8; 20] = [
+    0, 0, 0, 0, 0, 0, 0, 0, 0, 0, 0, 0, 1, 0x61, 0xc0, 0x10, 1, 0x62, 0xc0, 0x0c,
+];
+
+// A pointer to itself.
+const POINTER_TO_ITSELF: [u8; 14] = [0, 0, 0, 0, 0, 0, 0, 0, 0, 0, 0, 0, 0xc0, 0x0c];
+
+// A label, behind it a pointer forward, and there one into the label.
+const POINTER_FORWARD: [u8; 19] = [
+    0, 0, 0, 0, 0, 0, 0, 0, 0, 0, 0, 0, 2, 0x61, 0, 0xc0, 0x11, 0xc0, 0x0e,
+];
+
+// A label, among its own bytes a pointer to it, and behind it a pointer to that one.
+const CUT_LABEL: [u8; 18] = [
+    0, 0, 0, 0, 0, 0, 0, 0, 0, 0, 0, 0, 3, 0x61, 0xc0, 0x0c, 0xc0, 0x0e,
 ];
 
 // The walk gives these labels, an error where the name is broken, and then the end for good, after so many steps.
@@ -87,27 +107,21 @@ fn names_of_a_response(rt: HostRuntime) {
 
 #[test]
 fn pointers_that_meet_or_lead_to_themselves(rt: HostRuntime) {
-    let meet = [
-        0, 0, 0, 0, 0, 0, 0, 0, 0, 0, 0, 0, 1, 0x61, 0xc0, 0x10, 1, 0x62, 0xc0, 0x0c,
-    ];
+    let meet = MEETING_POINTERS;
     check(&rt, &meet, &meet[12..], &[b"a", b"b", b"a"], true, 5);
-    let itself = [0, 0, 0, 0, 0, 0, 0, 0, 0, 0, 0, 0, 0xc0, 0x0c];
+    let itself = POINTER_TO_ITSELF;
     check(&rt, &itself, &itself[12..], &[], true, 1);
 }
 
 #[test]
 fn a_first_pointer_forward_and_into_the_first_part(rt: HostRuntime) {
-    let message = [
-        0, 0, 0, 0, 0, 0, 0, 0, 0, 0, 0, 0, 2, 0x61, 0, 0xc0, 0x11, 0xc0, 0x0e,
-    ];
+    let message = POINTER_FORWARD;
     check(&rt, &message, &message[12..], &[b"a\x00"], false, 3);
 }
 
 #[test]
 fn a_label_cut_by_its_window(rt: HostRuntime) {
-    let message = [
-        0, 0, 0, 0, 0, 0, 0, 0, 0, 0, 0, 0, 3, 0x61, 0xc0, 0x0c, 0xc0, 0x0e,
-    ];
+    let message = CUT_LABEL;
     check(&rt, &message, &message[16..], &[], true, 2);
 }
 
@@ -149,8 +163,8 @@ fn five_thousand_pointers(rt: HostRuntime) -> Result<(), Fail> {
 type Found = (Vec<u8>, bool, usize);
 
 // The labels along the falling path, a window after another. Each turn is one step.
-fn plain_walk(rt: &HostRuntime, message: &[u8], slice: &[u8]) -> Result<Found, Fail> {
-    let mut labels = Vec::new(rt.alloc());
+fn plain_walk(alloc: Global, message: &[u8], slice: &[u8]) -> Result<Found, Fail> {
+    let mut labels = Vec::new(alloc);
     let mut window = slice;
     let mut above = message.len();
     for turn in 0..16usize {
@@ -175,8 +189,8 @@ fn plain_walk(rt: &HostRuntime, message: &[u8], slice: &[u8]) -> Result<Found, F
     Err(Fail::from("too many steps"))
 }
 
-fn iterated_walk(rt: &HostRuntime, message: &[u8], slice: &[u8]) -> Result<Found, Fail> {
-    let mut labels = Vec::new(rt.alloc());
+fn iterated_walk(alloc: Global, message: &[u8], slice: &[u8]) -> Result<Found, Fail> {
+    let mut labels = Vec::new(alloc);
     let mut walk = Packet::new_unchecked(message).parse_name(slice);
     while let Some(item) = walk.next() {
         match item {
@@ -188,6 +202,24 @@ fn iterated_walk(rt: &HostRuntime, message: &[u8], slice: &[u8]) -> Result<Found
         }
     }
     Ok((labels, true, walk.steps()))
+}
+
+// Compares the walks from each place of a message.
+fn compare_walks(rt: &impl Abort, alloc: Global, message: &[u8]) -> Result<(), Fail> {
+    for offset in 0..=message.len() {
+        let slice = &message[offset..];
+        let plain = plain_walk(alloc, message, slice)?;
+        let found = iterated_walk(alloc, message, slice)?;
+        same_of(
+            rt,
+            (offset, message),
+            found.0.as_slice(),
+            plain.0.as_slice(),
+        );
+        same_of(rt, (offset, message), found.1, plain.1);
+        same_of(rt, (offset, message), found.2, plain.2);
+    }
+    Ok(())
 }
 
 const SYMBOLS: [u8; 7] = [0x00, 0x01, 0x3f, 0x40, 0xc0, 0xc1, 0x02];
@@ -208,16 +240,40 @@ fn all_short_messages_and_offsets(rt: HostRuntime) -> Result<(), Fail> {
             symbol(number, 2401),
         ];
         for len in 0..6usize {
-            let message = &whole[..len];
-            for offset in 0..len + 1 {
-                let slice = &message[offset..];
-                let plain = plain_walk(&rt, message, slice)?;
-                let found = iterated_walk(&rt, message, slice)?;
-                same(&rt, found.0.as_slice(), plain.0.as_slice());
-                same(&rt, found.1, plain.1);
-                same(&rt, found.2, plain.2);
-            }
+            compare_walks(&rt, rt.alloc(), &whole[..len])?;
         }
+    }
+    Ok(())
+}
+
+// What a byte of a message is set to, one byte at a time.
+const DAMAGE: [u8; 6] = [0x00, 0x40, 0x7f, 0x80, 0xc0, 0xff];
+
+// Compares the walks over each shorter part of a message, and over each copy of it in which one byte is damaged.
+fn compare_damaged(rt: &impl Abort, alloc: Global, message: &[u8]) -> Result<(), Fail> {
+    for len in 0..=message.len() {
+        compare_walks(rt, alloc, &message[..len])?;
+    }
+    for at in 0..message.len() {
+        for value in DAMAGE {
+            let octets = damaged(alloc, message, at, value)?;
+            compare_walks(rt, alloc, octets.as_slice())?;
+        }
+    }
+    Ok(())
+}
+
+#[test]
+fn names_of_cut_and_of_damaged_messages(rt: HostRuntime) -> Result<(), Fail> {
+    const ROWS: &[&[u8]] = &[
+        &RESPONSE,
+        &MEETING_POINTERS,
+        &POINTER_TO_ITSELF,
+        &POINTER_FORWARD,
+        &CUT_LABEL,
+    ];
+    for &message in ROWS {
+        compare_damaged(&rt, rt.alloc(), message)?;
     }
     Ok(())
 }

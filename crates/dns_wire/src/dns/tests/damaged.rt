@@ -148,7 +148,7 @@ fn compare_header(rt: &impl Abort, octets: &[u8]) {
 }
 
 // A copy of the packet whose byte at this place is the value.
-fn damaged(alloc: Global, packet: &[u8], at: usize, value: u8) -> Result<Vec<u8>, Fail> {
+pub(crate) fn damaged(alloc: Global, packet: &[u8], at: usize, value: u8) -> Result<Vec<u8>, Fail> {
     let mut octets = Vec::new(alloc);
     octets.extend_from_slice(packet)?;
     if let Some(octet) = octets.as_mut_slice().get_mut(at) {
