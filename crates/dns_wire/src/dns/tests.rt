@@ -2,7 +2,7 @@ ghost use Rattle.std.specs.Prelude.{◌≡◌};
 ghost use Rattle.dns_wire.specs.DnsTables.{flag_bits, IsKnown};
 
 use super::{Flags, Opcode, Packet, Question, Rcode, Record, RecordData, Repr, Type};
-use crate::testing::{fail, same};
+use crate::testing::{fail, same, same_of};
 use bitflags::Flags as _;
 use std::process::Abort;
 use std::test::Fail;
@@ -291,15 +291,16 @@ fn a_query_is_written(rt: HostRuntime) {
         },
     };
     same(&rt, query.buffer_len(), 19);
-    let mut octets = [0xff; 19];
-    let mut packet = Packet::new_unchecked(octets.as_mut_slice());
-    query.emit(&mut packet);
     let written = [
         0x12, 0x34, 0x01, 0x00, 0x00, 0x01, 0x00, 0x00, 0x00, 0x00, 0x00, 0x00, 0x01, 0x61, 0x00,
         0x00, 0x01, 0x00, 0x01,
     ];
-    same(&rt, octets.as_slice(), written.as_slice());
-    check_question(&rt, &octets[12..], query.question);
+    for old in [0x00, 0xff, 0x2a] {
+        let mut octets = [old; 19];
+        query.emit(&mut Packet::new_unchecked(octets.as_mut_slice()));
+        same_of(&rt, old, octets, written);
+    }
+    check_question(&rt, &written[12..], query.question);
 }
 
 #[test]
