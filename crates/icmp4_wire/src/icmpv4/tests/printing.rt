@@ -145,3 +145,17 @@ fn printing_fails_only_with_its_writer(rt: HostRuntime) {
         takes_writes(&rt, &Packet::new_unchecked(octets), calls);
     }
 }
+
+#[test]
+fn types_are_printed_in_one_write(rt: HostRuntime) {
+    for number in [0, 3, 5, 8, 9, 10, 11, 12, 13, 14, 255] {
+        takes_writes(&rt, &Message::from(number), 1);
+    }
+}
+
+#[test]
+fn reasons_of_exceeded_times_are_printed_in_one_write(rt: HostRuntime) {
+    for number in [0, 1, 2] {
+        takes_writes(&rt, &TimeExceeded::from(number), 1);
+    }
+}
