@@ -144,6 +144,36 @@ fn three_errors_have_any_code_and_the_others_code_0(rt: HostRuntime) -> Result<(
     Ok(())
 }
 
+// Checks that a message of neighbor discovery of this type, which has so many octets, is read with code 0 alone.
+fn check_codes(rt: &impl Abort, kind: u8, len: usize) {
+    for code in 0..=255 {
+        let mut octets = TOO_BIG;
+        octets[0] = kind;
+        octets[1] = code;
+        let Some(message) = octets.get(..len) else {
+            fail(rt, "60 octets are enough");
+            return;
+        };
+        let is_read = read(message, Checksum::None).is_ok();
+        same_of(rt, (kind, code), is_read, code == 0);
+    }
+}
+
+#[test]
+fn messages_of_neighbor_discovery_have_code_0(rt: HostRuntime) {
+    // A type, and the octets of its messages without options.
+    const ROWS: &[(u8, usize)] = &[
+        (0x85u8, 8usize),
+        (0x86, 16),
+        (0x87, 24),
+        (0x88, 24),
+        (0x89, 40),
+    ];
+    for &(kind, len) in ROWS {
+        check_codes(&rt, kind, len);
+    }
+}
+
 // Turns this bit of a packet that is too big, and checks that it is read only where no checksum is verified.
 fn check_turned(rt: &impl Abort, at: usize, mask: u8)
     requires { at < 60 }
