@@ -1,5 +1,6 @@
-ghost use Rattle.std.specs.Prelude.{◌≡◌};
+ghost use Rattle.std.specs.Prelude.{◌≡◌, ◌≤◌};
 ghost use Rattle.icmp6_wire.specs.Ndisc.{value_of, text_len, CanEmit};
+ghost use Rattle.icmp6_wire.specs.NdiscPacket.{seconds};
 
 use super::{NeighborFlags, Repr, RouterFlags};
 use crate::icmpv6::Packet;
@@ -8,6 +9,7 @@ use crate::testing::{holds_of, same, same_of};
 use crate::{icmpv6, mld};
 use bitflags::Flags as _;
 use opt_wire::ndiscoption::{PrefixInfoFlags, PrefixInformation, RedirectedHeader};
+use std::process::Abort;
 use std::test::Fail;
 use wirebase::{
     ChecksumCapabilities, Duration, Error, IpProtocol, Ipv6Address, Ipv6Repr, RawHardwareAddress,
@@ -54,10 +56,19 @@ fn router_advert() -> Repr<'static>
     ensures can { CanEmit (value_of result) }
     ensures len { text_len (value_of result) ≡ 24 }
 {
+    router_advert_of(Duration::from_secs(900))
+}
+
+// The same with this lifetime.
+fn router_advert_of(router_lifetime: Duration) -> Repr<'static>
+    requires { seconds router_lifetime ≤ 65535 }
+    ensures can { CanEmit (value_of result) }
+    ensures len { text_len (value_of result) ≡ 24 }
+{
     Repr::RouterAdvert {
         hop_limit: 64,
         flags: RouterFlags::MANAGED,
-        router_lifetime: Duration::from_secs(900),
+        router_lifetime,
         reachable_time: Duration::from_millis(900),
         retrans_time: Duration::from_millis(900),
         lladdr: Some(RawHardwareAddress::from_bytes(&[0x52, 0x54, 0x00, 0x12, 0x34, 0x56])),
@@ -83,6 +94,39 @@ fn router_advertisements_are_written_and_read(rt: HostRuntime) {
     let mut octets = ROUTER_ADVERT;
     octets[5] = 0xbf;
     assert!(rt; reads(&octets, &repr));
+}
+
+// Checks that this router advertisement is written as these octets, whatever stood there.
+fn check_advert(rt: &impl Abort, repr: &Repr<'_>, text: &[u8])
+    requires can { CanEmit (value_of repr.now) }
+    requires len { text_len (value_of repr.now) ≡ 24 }
+{
+    for fill in FILLS {
+        let mut octets = [fill; 24];
+        repr.emit_into(&mut octets);
+        same_of(rt, fill, octets.as_slice(), text);
+    }
+}
+
+#[test]
+fn router_lifetimes_are_cut_to_whole_seconds(rt: HostRuntime) {
+    let repr = router_advert_of(Duration::from_micros(900_000_001));
+    check_advert(&rt, &repr, &ROUTER_ADVERT);
+    // What is read is another message.
+    assert!(rt; read(&ROUTER_ADVERT).is_ok());
+    assert!(rt; !reads(&ROUTER_ADVERT, &repr));
+    Repr::same_text(&repr, &router_advert());
+}
+
+#[test]
+fn router_lifetimes_that_differ_by_a_second_have_other_texts(rt: HostRuntime) {
+    let mut text = ROUTER_ADVERT;
+    text[7] = 0x85;
+    let repr = router_advert_of(Duration::from_secs(901));
+    check_advert(&rt, &repr, &text);
+    assert!(rt; reads(&text, &repr));
+    assert!(rt; read(&ROUTER_ADVERT).is_ok());
+    assert!(rt; !reads(&ROUTER_ADVERT, &repr));
 }
 
 // Whether these bytes are read as this message from fe80::1 to fe80::2.
