@@ -34,7 +34,7 @@ fn headers_that_are_too_short(rt: HostRuntime) {
     assert!(rt; Header::new_checked([0u8; 1].as_slice()).is_err());
 }
 
-// A second reader of headers, by the rule of RFC 8200 section 4.3 alone: the length counts units of 8 bytes, without the
+// A second reader of headers, by the rule of RFC 8200 section 4.3 alone: the length counts units of 8 bytes without the
 // first 8. The tests compare the crate with it.
 fn plain_header(octets: &[u8]) -> Option<Repr<'_>> {
     let [next_header, length, ..] = octets else {
