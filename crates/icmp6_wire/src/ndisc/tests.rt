@@ -129,6 +129,28 @@ fn router_lifetimes_that_differ_by_a_second_have_other_texts(rt: HostRuntime) {
     assert!(rt; !reads(&ROUTER_ADVERT, &repr));
 }
 
+// What a host asks of the routers on its link, with its own address there.
+fn router_solicit() -> Repr<'static>
+    ensures can { CanEmit (value_of result) }
+    ensures len { text_len (value_of result) ≡ 16 }
+{
+    Repr::RouterSolicit {
+        lladdr: Some(RawHardwareAddress::from_bytes(&[0x52, 0x54, 0x00, 0x12, 0x34, 0x56])),
+    }
+}
+
+#[test]
+fn a_router_solicitation_is_written_and_read(rt: HostRuntime) {
+    let repr = router_solicit();
+    for fill in FILLS {
+        let mut octets = [fill; 16];
+        repr.emit_into(&mut octets);
+        same_of(&rt, fill, octets.as_slice(), ROUTER_SOLICIT.as_slice());
+    }
+    assert!(rt; read(&ROUTER_SOLICIT).is_ok());
+    assert!(rt; reads(&ROUTER_SOLICIT, &repr));
+}
+
 // Whether these bytes are read as this message from fe80::1 to fe80::2.
 fn reads_icmpv6(bytes: &[u8], repr: &icmpv6::Repr<'_>, caps: &ChecksumCapabilities) -> bool {
     let packet = Packet::new_unchecked(bytes);
