@@ -182,9 +182,10 @@ fn check_address_is_written(rt: &impl Abort, address: &[u8], bytes: &[u8]) {
     let repr = Repr::SourceLinkLayerAddr(RawHardwareAddress::from_bytes(address));
     let len = repr.buffer_len();
     for filler in [0x00, 0xff, 0x2a] {
-        let mut buffer = [filler; 16];
-        repr.emit_into(&mut buffer[..len]);
+        let mut buffer = [filler; 20];
+        repr.emit_into(&mut buffer);
         same_of(rt, filler, &buffer[..len], bytes);
+        same_of(rt, filler, &buffer[len..], &[filler; 20][len..]);
     }
 }
 
