@@ -173,19 +173,27 @@ fn what_an_error_quotes_is_read(rt: HostRuntime) {
     check_found(&rt, &read(&octets, Checksum::Both), &too_big(&data[..1192]));
 }
 
-#[test]
-fn an_error_in_a_longer_buffer_has_the_checksum_of_the_whole(rt: HostRuntime) {
-    let data = [0x11; 1193];
+// Checks an error of these data, more than it quotes, that is written into a longer buffer.
+fn check_in_longer_buffer(rt: &impl Abort, data: &[u8]) {
     let mut octets = [0xff; 1300];
     let caps = all(Checksum::Both);
-    too_big(&data).emit_into(&source(), &destination(), &mut octets, &caps);
-    same(&rt, &octets[1240..], [0xff; 60].as_slice());
-    // The checksum is verified over the whole, and all behind the quoted header is read as its data.
+    too_big(data).emit_into(&source(), &destination(), &mut octets, &caps);
+    // The checksum is of all 1,300 octets, of which the last 60 stay as they were.
+    same(rt, &octets[2..4], [0xcc, 0x9f].as_slice());
+    same(rt, &octets[1240..], [0xff; 60].as_slice());
+    // All behind the quoted header is read as its data.
     let data_len = match read(&octets, Checksum::Both) {
         Ok(Repr::PktTooBig { data, .. }) => data.len(),
         _ => 0,
     };
-    same(&rt, data_len, 1252);
+    same(rt, data_len, 1252);
+}
+
+#[test]
+fn an_error_in_a_longer_buffer_has_the_checksum_of_the_whole(rt: HostRuntime) {
+    let data = [0x11; 9999];
+    check_in_longer_buffer(&rt, &data[..1193]);
+    check_in_longer_buffer(&rt, &data);
 }
 
 #[test]
