@@ -150,6 +150,3 @@ fn of_ndisc<'a>(message: &ndisc::Repr<'a>) -> Repr<'a>
         })),
     }
 }
-
-#[cfg(test)]
-mod tests;

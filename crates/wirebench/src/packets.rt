@@ -36,6 +36,12 @@ pub fn measure<R: Alloc + Clock + Print>(rt: &R) -> io::Result<()> {
     )?;
     let fixed = [0x5a; 1_500];
     row(rt, "fixed loop", &fixed, sum, sum)?;
+    measure_over_ipv4(rt)?;
+    measure_over_ipv6(rt)?;
+    measure_over_udp(rt)
+}
+
+fn measure_over_ipv4<R: Alloc + Clock + Print>(rt: &R) -> io::Result<()> {
     row(
         rt,
         "icmpv4 echo",
@@ -50,7 +56,10 @@ pub fn measure<R: Alloc + Clock + Print>(rt: &R) -> io::Result<()> {
         read_icmpv4,
         write_icmpv4,
     )?;
-    row(rt, "igmp query", &samples::QUERY, read_igmp, write_igmp)?;
+    row(rt, "igmp query", &samples::QUERY, read_igmp, write_igmp)
+}
+
+fn measure_over_ipv6<R: Alloc + Clock + Print>(rt: &R) -> io::Result<()> {
     row(
         rt,
         "hop-by-hop",
@@ -71,7 +80,10 @@ pub fn measure<R: Alloc + Clock + Print>(rt: &R) -> io::Result<()> {
         &samples::MTU,
         read_ndisc_option,
         write_ndisc_option,
-    )?;
+    )
+}
+
+fn measure_over_udp<R: Alloc + Clock + Print>(rt: &R) -> io::Result<()> {
     row(
         rt,
         "dhcp discover",

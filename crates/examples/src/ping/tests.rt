@@ -1,6 +1,6 @@
 use super::{answer, answer_v6};
 use crate::testing::same;
-use control_wire::Ipv6Address;
+use control_wire::{Ipv6Address, icmp, icmpv4, icmpv6};
 
 // An echo request with identifier 0x1234, sequence number 0xabcd and four bytes, and its reply.
 const REQUEST: [u8; 12] = [
@@ -58,4 +58,32 @@ fn echo_request_over_ipv6_is_answered_from_the_own_address(rt: HostRuntime) {
     );
     same(&rt, short, [0x2a; 11]);
     same(&rt, answer_v6(&own, &own, &own, &request, &mut reply), None);
+}
+
+#[test]
+fn a_message_of_icmpv4_is_one_of_either_icmp(rt: HostRuntime) {
+    let message = icmpv4::Repr::EchoRequest {
+        ident: 0x1234,
+        seq_no: 0xabcd,
+        data: &REQUEST[8..],
+    };
+    let is_kept = match icmp::Repr::from(message) {
+        icmp::Repr::Ipv4(kept) => kept == message,
+        icmp::Repr::Ipv6(_) => false,
+    };
+    same(&rt, is_kept, true);
+}
+
+#[test]
+fn a_message_of_icmpv6_is_one_of_either_icmp(rt: HostRuntime) {
+    let message = icmpv6::Repr::EchoReply {
+        ident: 0x1234,
+        seq_no: 0xabcd,
+        data: &REQUEST[8..],
+    };
+    let is_kept = match icmp::Repr::from(&message) {
+        icmp::Repr::Ipv6(kept) => kept == message,
+        icmp::Repr::Ipv4(_) => false,
+    };
+    same(&rt, is_kept, true);
 }
