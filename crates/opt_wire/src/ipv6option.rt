@@ -3,12 +3,15 @@
 
 ghost use Rattle.std.specs.Prelude.{◌≡◌, ◌≤◌, ◌-◌, ◌*◌, ◌/◌, ◌+◌, ◌↔◌, [], ◌∷◌, length, IsTrue, IsOk, IfOk, IsOkAnd};
 ghost use Rattle.std.specs.Borrow.{sem, Lends, Array, u8 as byte};
+ghost use Rattle.std.specs.Fmt.{WritesOnOk};
 ghost use Rattle.wirebase.specs.Bytes.{Reaches, bytes_of, byte_of, with_field};
-ghost use Rattle.wirebase.specs.ByteWriter.{free, Puts, the_slice};
+ghost use Rattle.wirebase.specs.ByteWriter.{be8, free, Puts, the_slice};
 ghost use Rattle.wirebase.specs.Format.{Rewrites, SameText};
 ghost use Rattle.opt_wire.specs.Ipv6Option.{inner, with_inner, view_octets, Sets, KeepsLen, option_type_field};
 ghost use Rattle.opt_wire.specs.Ipv6Option.{opt_data_len_field, option_data_field, BeginsWhole, OptionValue, value_of};
-ghost use Rattle.opt_wire.specs.Ipv6Option.{option_fields, text, text_len, HasData, BeginsWith, format, Emits};
+ghost use Rattle.opt_wire.specs.Ipv6Option.{pad_n, router_alert, unknown, option_fields, text, text_len, HasData};
+ghost use Rattle.opt_wire.specs.Ipv6Option.{BeginsWith, format, Emits};
+ghost use Rattle.opt_wire.specs.Ipv6OptionDisplay.{option_display};
 ghost use Rattle.opt_wire.specs.contracts.ipv6option.Ipv6Option.{the_row};
 ghost use Rattle.opt_wire.specs.Ipv6OptionTables.{type_number, type_of};
 
@@ -192,9 +195,8 @@ impl<T: Octets> Eq for Ipv6Option<T> {
 /// The option at the front of the octets; of octets that are refused `IPv6 Extension Option (wire::Error)`.
 impl<T: Octets> fmt::Display for Ipv6Option<T> {
     ghost use Rattle.std.specs.Prelude.{Some};
-    ghost use Rattle.std.specs.Fmt.{WritesOnOk};
     ghost use Rattle.wirebase.specs.Display.{Shows};
-    ghost use Rattle.opt_wire.specs.Ipv6OptionDisplay.{option_display, refusal_display, view_display};
+    ghost use Rattle.opt_wire.specs.Ipv6OptionDisplay.{refusal_display, view_display};
     ghost use Rattle.opt_wire.specs.Ipv6OptionModel.{front_of};
 
     ghost output = { λ view. Some (view_display (front_of (T.bytes (inner view)))) };
@@ -334,13 +336,11 @@ impl<'a> Repr<'a> {
         match *self {
             Repr::Pad1 => w.put_u8(Type::Pad1.into()),
             Repr::PadN(length) => {
-                w.put_u8(Type::PadN.into());
-                w.put_u8(length);
+                put_counted(w, Type::PadN, length);
                 w.put_zeros(length as usize);
             }
             Repr::RouterAlert(alert) => {
-                w.put_u8(Type::RouterAlert.into());
-                w.put_u8(RouterAlert::DATA_LEN);
+                put_counted(w, Type::RouterAlert, RouterAlert::DATA_LEN);
                 w.put_u16(alert.into());
             }
             Repr::Unknown {
@@ -348,32 +348,58 @@ impl<'a> Repr<'a> {
                 length,
                 data,
             } => {
-                w.put_u8(type_.into());
-                w.put_u8(length);
+                put_counted(w, type_, length);
                 w.put_bytes(&data[..length as usize]);
             }
         }
     }
 }
 
+// Writes a type and the bytes of data that the option counts.
+fn put_counted(w: &mut ByteWriter<'_>, kind: Type, data_len: u8)
+    requires { 2 ≤ length (free w.old) }
+    ensures puts { Puts w.old w.new (be8 (type_number kind) ∷ be8 data_len ∷ []) }
+    ensures room { length (free w.old) ≡ 2 + length (free w.new) }
+    ensures same_slice { the_slice w.new ≡ the_slice w.old }
+{
+    w.put_u8(kind.into());
+    w.put_u8(data_len);
+}
+
 impl fmt::Display for Repr<'_> {
     ghost use Rattle.std.specs.Prelude.{Some};
-    ghost use Rattle.opt_wire.specs.Ipv6OptionDisplay.{option_display};
 
     ghost output = { λ repr. Some (option_display (value_of repr)) };
 
     fn fmt<W: fmt::Write>(&self, f: &mut fmt::Formatter<W>) -> fmt::Result {
         match *self {
-            Repr::Pad1 => write!(f, "IPv6 Option Pad1 "),
-            Repr::PadN(length) => write!(f, "IPv6 Option PadN length={length} "),
-            Repr::RouterAlert(alert) => {
-                write!(f, "IPv6 Option RouterAlert value={}", AlertName(alert))
-            }
-            Repr::Unknown { type_, length, .. } => {
-                write!(f, "IPv6 Option {type_} length={length} ")
-            }
+            Repr::Pad1 => f.write_str("IPv6 Option Pad1 "),
+            Repr::PadN(length) => fmt_pad_n(f, length),
+            Repr::RouterAlert(alert) => fmt_router_alert(f, alert),
+            Repr::Unknown { type_, length, .. } => fmt_unknown(f, type_, length),
         }
     }
+}
+
+// What padding prints.
+fn fmt_pad_n<W: fmt::Write>(f: &mut fmt::Formatter<W>, length: u8) -> fmt::Result
+    ensures { WritesOnOk W.write_str_gives f.old result (option_display (pad_n length)) f.new }
+{
+    write!(f, "IPv6 Option PadN length={length} ")
+}
+
+// What a router alert prints.
+fn fmt_router_alert<W: fmt::Write>(f: &mut fmt::Formatter<W>, alert: RouterAlert) -> fmt::Result
+    ensures { WritesOnOk W.write_str_gives f.old result (option_display (router_alert alert)) f.new }
+{
+    write!(f, "IPv6 Option RouterAlert value={}", AlertName(alert))
+}
+
+// What an option of any other type prints, whatever its data.
+fn fmt_unknown<W: fmt::Write>(f: &mut fmt::Formatter<W>, type_: Type, length: u8) -> fmt::Result
+    ensures { WritesOnOk W.write_str_gives f.old result (option_display (unknown type_ length [])) f.new }
+{
+    write!(f, "IPv6 Option {type_} length={length} ")
 }
 
 /// The options of a header in turn (RFC 8200 section 4.2): each one while they read, one refusal where no option
