@@ -11,8 +11,8 @@ ghost use Rattle.wirebase.specs.Ipv6.{IsPacket, payload_field, header_text};
 ghost use Rattle.wirebase.specs.declared.ipv6.Ipv6Repr.{Ipv6Repr};
 ghost use Rattle.opt_wire.specs.NdiscOption.{inner, view_octets, redirected_field};
 ghost use Rattle.opt_wire.specs.NdiscOptionTables.{type_number};
-ghost use Rattle.opt_wire.specs.NdiscOptionRepr.{OptionValue, source, target, prefix_, redirected, mtu as mtu_option};
-ghost use Rattle.opt_wire.specs.NdiscOptionRepr.{unknown, value_of, units, link_fields, prefix_fields};
+ghost use Rattle.opt_wire.specs.NdiscOptionRepr.{OptionValue, prefix_, unknown};
+ghost use Rattle.opt_wire.specs.NdiscOptionRepr.{value_of, units, link_fields, prefix_fields};
 ghost use Rattle.opt_wire.specs.NdiscOptionRepr.{redirected_fields, HasSeconds, option_fields, text, text_len, CanEmit};
 ghost use Rattle.opt_wire.specs.NdiscOptionRepr.{BeginsWith, IsValidPrefix, format, Emits, display};
 ghost use Rattle.opt_wire.specs.declared.ndiscoption.repr.PrefixInformation.{PrefixInformation};
@@ -331,59 +331,43 @@ fn write_header(header: &Ipv6Repr, octets: &mut [u8])
 impl fmt::Display for Repr<'_> {
     ghost output = { λ repr. Some (display (value_of repr)) };
 
+    #[tactic(auto)]
     fn fmt<W: fmt::Write>(&self, f: &mut fmt::Formatter<W>) -> fmt::Result {
         match self {
-            Repr::SourceLinkLayerAddr(addr) => fmt_source(f, addr),
-            Repr::TargetLinkLayerAddr(addr) => fmt_target(f, addr),
+            Repr::SourceLinkLayerAddr(addr) => {
+                write!(f, "NDISC Option: SourceLinkLayer addr={addr}")
+            }
+            Repr::TargetLinkLayerAddr(addr) => {
+                write!(f, "NDISC Option: TargetLinkLayer addr={addr}")
+            }
             Repr::PrefixInformation(info) => fmt_prefix(f, info),
-            Repr::RedirectedHeader(redirected) => fmt_redirected(f, &redirected.header),
-            Repr::Mtu(mtu) => fmt_mtu(f, *mtu),
+            Repr::RedirectedHeader(redirected) => {
+                write!(
+                    f,
+                    "NDISC Option: RedirectedHeader header={}",
+                    redirected.header
+                )
+            }
+            Repr::Mtu(mtu) => write!(f, "NDISC Option: MTU mtu={mtu}"),
             Repr::Unknown { type_, length, .. } => fmt_unknown(f, *type_, *length),
         }
     }
 }
 
-// What the link-layer address of a source prints.
-fn fmt_source<W: fmt::Write>(f: &mut fmt::Formatter<W>, addr: &RawHardwareAddress) -> fmt::Result
-    ensures { WritesOnOk W.write_str_gives f.old result (display (source addr.now)) f.new }
-{
-    write!(f, "NDISC Option: SourceLinkLayer addr={addr}")
-}
-
-// What the link-layer address of a target prints.
-fn fmt_target<W: fmt::Write>(f: &mut fmt::Formatter<W>, addr: &RawHardwareAddress) -> fmt::Result
-    ensures { WritesOnOk W.write_str_gives f.old result (display (target addr.now)) f.new }
-{
-    write!(f, "NDISC Option: TargetLinkLayer addr={addr}")
-}
-
 // What a prefix prints.
+#[tactic(auto)]
 fn fmt_prefix<W: fmt::Write>(f: &mut fmt::Formatter<W>, info: &PrefixInformation) -> fmt::Result
     ensures { WritesOnOk W.write_str_gives f.old result (display (prefix_ info.now)) f.new }
 {
-    let prefix = info.prefix;
-    let prefix_len = info.prefix_len;
     write!(
         f,
-        "NDISC Option: PrefixInformation prefix={prefix}/{prefix_len}"
+        "NDISC Option: PrefixInformation prefix={}/{}",
+        info.prefix, info.prefix_len
     )
 }
 
-// What a redirected header prints, whatever its data.
-fn fmt_redirected<W: fmt::Write>(f: &mut fmt::Formatter<W>, header: &Ipv6Repr) -> fmt::Result
-    ensures { WritesOnOk W.write_str_gives f.old result (display (redirected header.now [])) f.new }
-{
-    write!(f, "NDISC Option: RedirectedHeader header={header}")
-}
-
-// What an MTU prints.
-fn fmt_mtu<W: fmt::Write>(f: &mut fmt::Formatter<W>, mtu: u32) -> fmt::Result
-    ensures { WritesOnOk W.write_str_gives f.old result (display (mtu_option mtu)) f.new }
-{
-    write!(f, "NDISC Option: MTU mtu={mtu}")
-}
-
 // What an option of any other type prints, whatever its data.
+#[tactic(auto)]
 fn fmt_unknown<W: fmt::Write>(f: &mut fmt::Formatter<W>, type_: u8, length: u8) -> fmt::Result
     ensures { WritesOnOk W.write_str_gives f.old result (display (unknown type_ length [])) f.new }
 {
