@@ -1,5 +1,4 @@
 //! The header that the extension headers of IPv6 with options have in common (RFC 8200 sections 4.3 and 4.6).
-#![tactic(auto, using(wirebase::proofs::Pieces::pieces))]
 
 ghost use Rattle.std.specs.Prelude.{◌≡◌, ◌≤◌, ◌<◌, ◌-◌, ◌+◌, ◌*◌, ◌↔◌, ℕ, List, [], ◌∷◌, length, IsTrue, IsOk, IfOk};
 ghost use Rattle.std.specs.Prelude.{IsOkAnd};

@@ -1,5 +1,4 @@
 //! Hop-by-hop options headers (RFC 8200 section 4.3), from their options on.
-#![tactic(auto, using(wirebase::proofs::Pieces::pieces))]
 
 ghost use Rattle.std.specs.Prelude.{◌≡◌, ◌≢◌, ◌+◌, ◌≤◌, ◌<◌, ◌↔◌, ◌++◌, [], ◌∷◌, List, length, map, IsOk, IfOk};
 ghost use Rattle.std.specs.Prelude.{⊤, IsOkAnd};

@@ -1,5 +1,4 @@
 //! Options of IPv6 extension headers (RFC 8200 section 4.2).
-#![tactic(auto, using(wirebase::proofs::Pieces::pieces))]
 
 ghost use Rattle.std.specs.Prelude.{◌≡◌, ◌≤◌, ◌-◌, ◌*◌, ◌/◌, ◌+◌, ◌↔◌, [], ◌∷◌, length, IsTrue, IsOk, IfOk, IsErr};
 ghost use Rattle.std.specs.Prelude.{IsOkAnd};

@@ -1,5 +1,4 @@
 //! The values of options of neighbour discovery (RFC 4861 section 4.6).
-#![tactic(auto, using(wirebase::proofs::Pieces::pieces))]
 
 ghost use Rattle.std.specs.Prelude.{◌≡◌, ◌+◌, ◌*◌, ◌≤◌, ◌<◌, ◌^◌, ◌↔◌, [], ◌∷◌, ℕ, List, length, IsTrue, IfOk, IsErr};
 ghost use Rattle.std.specs.Prelude.{IsOkAnd, Some};
@@ -331,7 +330,6 @@ fn write_header(header: &Ipv6Repr, octets: &mut [u8])
 impl fmt::Display for Repr<'_> {
     ghost output = { λ repr. Some (display (value_of repr)) };
 
-    #[tactic(auto)]
     fn fmt<W: fmt::Write>(&self, f: &mut fmt::Formatter<W>) -> fmt::Result {
         match self {
             Repr::SourceLinkLayerAddr(addr) => {
@@ -355,7 +353,6 @@ impl fmt::Display for Repr<'_> {
 }
 
 // What a prefix prints.
-#[tactic(auto)]
 fn fmt_prefix<W: fmt::Write>(f: &mut fmt::Formatter<W>, info: &PrefixInformation) -> fmt::Result
     ensures { WritesOnOk W.write_str_gives f.old result (display (prefix_ info.now)) f.new }
 {
@@ -367,7 +364,6 @@ fn fmt_prefix<W: fmt::Write>(f: &mut fmt::Formatter<W>, info: &PrefixInformation
 }
 
 // What an option of any other type prints, whatever its data.
-#[tactic(auto)]
 fn fmt_unknown<W: fmt::Write>(f: &mut fmt::Formatter<W>, type_: u8, length: u8) -> fmt::Result
     ensures { WritesOnOk W.write_str_gives f.old result (display (unknown type_ length [])) f.new }
 {
