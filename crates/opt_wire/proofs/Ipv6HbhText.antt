@@ -1,7 +1,10 @@
 -- The texts of options one after another.
-use Rattle.std.proofs.Common.{◌≡◌, ℕ, suc, List, [], ◌∷◌, ◌++◌, length, refl, sym, ap, ◌∙◌, arith, length-append}
-use Rattle.std.proofs.lemmas.List.Sums.{sum_by-cons}
+use Rattle.std.proofs.Common.{◌≡◌, ℕ, suc, ◌+◌, ◌<◌, List, [], ◌∷◌, ◌++◌, length, get_or, take, map, refl, sym, ap}
+use Rattle.std.proofs.Common.{◌∙◌, arith, length-append}
+use Rattle.std.proofs.lemmas.List.{map_more}
+use Rattle.std.proofs.lemmas.List.Sums.{sum_by-cons, sum_by_push}
 use Rattle.wirebase.specs.ByteWriter.{fields}
+use Rattle.opt_wire.specs.declared.ipv6option.Repr.{Repr}
 use Rattle.opt_wire.specs.Ipv6Option as option
 use Rattle.opt_wire.specs.Ipv6Option.{OptionValue, pad1, pad_n, router_alert, unknown}
 use Rattle.opt_wire.specs.Ipv6Hbh.{text, text_len, HaveData, norm}
@@ -19,6 +22,14 @@ length-texts [] h = refl
 length-texts (v ∷ options) h =
     length-append (option.text v) (text options) ∙ (omega (arith, texts.length-text v h.0, length-texts options h.1))
     ∙ sym (sum_by-cons option.text_len v options)
+
+-- the bytes of one option more
+pub text_len-more : (options : List Repr) (i : ℕ) (d : Repr) → i < length options
+    → text_len (map option.value_of (take (i + 1) options))
+    ≡ text_len (map option.value_of (take i options)) + option.text_len (option.value_of (get_or options i d))
+text_len-more options i d h =
+    ap text_len (map_more option.value_of options i d h)
+    ∙ sum_by_push option.text_len (map option.value_of (take i options)) (option.value_of (get_or options i d))
 
 -- ---- the normal form
 
