@@ -13,16 +13,14 @@ use wirebase::{Error, IPV6_HBH_MAX_OPTIONS};
 
 // The option at the front of the octets, and the octets after it.
 fn first_option(octets: &[u8]) -> Option<(Repr<'_>, &[u8])> {
-    let (kind, rest) = octets.split_first()?;
-    if *kind == 0 {
-        return Some((Repr::Pad1, rest));
+    match octets {
+        [0, rest @ ..] => Some((Repr::Pad1, rest)),
+        [kind, length, rest @ ..] => {
+            let data = rest.get(..*length as usize)?;
+            Some((option_of(*kind, *length, data)?, &rest[data.len()..]))
+        }
+        _ => None,
     }
-    let (length, rest) = rest.split_first()?;
-    if rest.len() < *length as usize {
-        return None;
-    }
-    let (data, rest) = rest.split_at(*length as usize);
-    Some((option_of(*kind, *length, data)?, rest))
 }
 
 // The option of a type other than 0, of its length and its data.
@@ -50,18 +48,23 @@ fn answers(alloc: Global, octets: &[u8]) -> Result<Vec<wirebase::Result<Repr<'_>
         if rest.is_empty() {
             break;
         }
-        let Some((option, after)) = first_option(rest) else {
-            answers.push(Err(Error))?;
-            break;
-        };
-        answers.push(Ok(option))?;
+        let (answer, after) = first_answer(rest);
+        answers.push(answer)?;
         rest = after;
     }
     Ok(answers)
 }
 
+// The first option and the octets after it, or its refusal and none.
+fn first_answer(octets: &[u8]) -> (wirebase::Result<Repr<'_>>, &[u8]) {
+    match first_option(octets) {
+        Some((option, rest)) => (Ok(option), rest),
+        None => (Err(Error), &[]),
+    }
+}
+
 // What a byte of a packet is set to, one byte at a time.
-pub(crate) const DAMAGE: [u8; 6] = [0x00, 0x40, 0x7f, 0x80, 0xc0, 0xff];
+pub(crate) const DAMAGE: &[u8] = &[0x00, 0x40, 0x7f, 0x80, 0xc0, 0xff];
 
 // A copy of a packet in which one byte is this one.
 pub(crate) fn damaged(alloc: Global, packet: &[u8], at: usize, value: u8) -> Result<Vec<u8>, Fail> {
@@ -80,7 +83,7 @@ pub(crate) fn compare_damaged(rt: &impl Abort, alloc: Global, packet: &[u8]) -> 
         compare(rt, alloc, &packet[..len])?;
     }
     for at in 0..packet.len() {
-        for value in DAMAGE {
+        for &value in DAMAGE {
             compare(rt, alloc, damaged(alloc, packet, at, value)?.as_slice())?;
         }
     }
@@ -107,12 +110,19 @@ fn compare_options(rt: &impl Abort, octets: &[u8], plain: &[wirebase::Result<Rep
 fn compare_header(rt: &impl Abort, octets: &[u8], plain: &[wirebase::Result<Repr<'_>>]) {
     let read = &plain[..plain.len().min(IPV6_HBH_MAX_OPTIONS + 1)];
     let is_header = !octets.is_empty() && read.iter().all(|answer| answer.is_ok());
-    let Ok(header) = ipv6hbh::Repr::parse(&Header::new_unchecked(octets)) else {
-        holds_of(rt, octets, !is_header);
-        return;
-    };
-    holds_of(rt, octets, is_header);
-    let kept = header.options.as_slice();
+    let header = ipv6hbh::Repr::parse(&Header::new_unchecked(octets));
+    same_of(rt, octets, header.is_ok(), is_header);
+    if let Ok(header) = header {
+        compare_kept(rt, octets, header.options.as_slice(), plain);
+    }
+}
+
+fn compare_kept(
+    rt: &impl Abort,
+    octets: &[u8],
+    kept: &[Repr<'_>],
+    plain: &[wirebase::Result<Repr<'_>>],
+) {
     same_of(
         rt,
         octets,

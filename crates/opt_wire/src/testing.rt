@@ -10,6 +10,9 @@ use std::process::Abort;
 use std::test::Fail;
 use wirebase::failing_writer::FailingWriter;
 
+// What octets hold before a test writes over them.
+pub(crate) const FILLERS: &[u8] = &[0x00, 0xff, 0x2a, 0xa5];
+
 // Ends the test where the two differ.
 pub(crate) fn same<T: PartialEq + Debug + Drop>(rt: &impl Abort, left: T, right: T)
     ensures { T.eq left right ≡ true }
@@ -34,6 +37,13 @@ pub(crate) fn holds_of(rt: &impl Abort, of: impl Debug + Drop, is_so: bool)
     ensures { is_so ≡ true }
 {
     same_of(rt, of, is_so, true);
+}
+
+// Ends the test unless each value is less than the one behind it.
+pub(crate) fn ascend<T: PartialOrd + Debug>(rt: &impl Abort, values: &[T]) {
+    for pair in values.windows(2) {
+        holds_of(rt, pair, pair[0] < pair[1]);
+    }
 }
 
 // Ends the test where the value prints another text.

@@ -1,10 +1,13 @@
+ghost use Rattle.std.specs.Prelude.{◌≡◌, [], ◌∷◌};
+ghost use Rattle.opt_wire.specs.Ipv6Option.{pad_n, router_alert};
 ghost use Rattle.opt_wire.specs.Ipv6Hbh.{value_of, HaveData};
+ghost use Rattle.opt_wire.specs.declared.ipv6option.tables.RouterAlert.TheVariants.{MulticastListenerDiscovery};
 
 use super::{Header, Repr};
 use crate::ipv6option;
 use crate::ipv6option::{RouterAlert, Type};
 use crate::plain_reader::compare_damaged;
-use crate::testing::{holds_of, same, same_of};
+use crate::testing::{FILLERS, holds_of, same, same_of};
 use arrayvec::ArrayVec;
 use std::process::Abort;
 use std::test::Fail;
@@ -33,6 +36,11 @@ const RPL: [Option<'static>; 1] = [Option::Unknown {
     data: &[0xaa, 0xbb],
 }];
 
+// What reading these octets gives.
+fn read(octets: &[u8]) -> wirebase::Result<Repr<'_>> {
+    Repr::parse(&Header::new_checked(octets)?)
+}
+
 #[test]
 fn headers_and_the_options_that_they_keep(rt: HostRuntime) -> Result<(), Fail> {
     const ROWS: &[(&'static [u8], &'static [Option<'static>])] = &[
@@ -49,8 +57,7 @@ fn headers_and_the_options_that_they_keep(rt: HostRuntime) -> Result<(), Fail> {
         (&[0x63, 0x02, 0xaa, 0xbb], &RPL),
     ];
     for &(octets, options) in ROWS {
-        let header = Repr::parse(&Header::new_checked(octets)?)?;
-        same_of(&rt, octets, header.options.as_slice(), options);
+        same_of(&rt, octets, read(octets)?.options.as_slice(), options);
         compare_damaged(&rt, rt.alloc(), octets)?;
     }
     Ok(())
@@ -78,50 +85,63 @@ fn headers_refused(rt: HostRuntime) -> Result<(), Fail> {
 
 #[test]
 fn views_of_some_octets_alone(rt: HostRuntime) {
-    let none: &[u8] = &[];
-    assert!(rt; Header::new_checked(none).is_err());
-    assert!(rt; Header::new_unchecked(none).check_len().is_err());
-    assert!(rt; Header::new_unchecked([0x11].as_slice()).check_len().is_ok());
+    const ROWS: &[(&[u8], bool)] = &[(&[], false), (&[0x11], true)];
+    for &(octets, whole) in ROWS {
+        same_of(&rt, octets, Header::new_checked(octets).is_ok(), whole);
+        let view = Header::new_unchecked(octets);
+        same_of(&rt, octets, view.check_len().is_ok(), whole);
+    }
 }
+
+const PADDING: &[u8] = &[0x01, 0x01, 0x00];
 
 #[test]
 fn options_are_lent_for_writing(rt: HostRuntime) -> Result<(), Fail> {
     let mut octets = [0xff, 0xff, 0xff];
     let mut view = Header::new_checked(octets.as_mut_slice())?;
-    view.options_mut().copy_from_slice(&[0x01, 0x01, 0x00]);
-    same(&rt, &*view.into_inner(), [0x01, 0x01, 0x00].as_slice());
-    let view = Header::new_checked(octets.as_slice())?;
-    same(&rt, view.options(), [0x01, 0x01, 0x00].as_slice());
+    view.options_mut().copy_from_slice(PADDING);
+    same(&rt, &*view.into_inner(), PADDING);
     Ok(())
 }
 
 #[test]
-fn multicast_listener_report_with_padding(rt: HostRuntime) -> Result<(), Fail> {
+fn options_are_all_the_octets(rt: HostRuntime) -> Result<(), Fail> {
+    same(&rt, Header::new_checked(PADDING)?.options(), PADDING);
+    Ok(())
+}
+
+// The options of a multicast listener report: a router alert, and padding.
+fn report() -> Repr<'static>
+    ensures { value_of result ≡ router_alert MulticastListenerDiscovery ∷ pad_n 0 ∷ [] }
+{
     let mut header = Repr::mldv2_router_alert();
     header.push_padn_option(0);
-    same(&rt, header.buffer_len(), 6);
+    header
+}
 
-    let mut octets = [0xff; 6];
-    header.emit(&mut Header::new_unchecked(octets.as_mut_slice()));
-    same(&rt, octets, [0x05, 0x02, 0x00, 0x00, 0x01, 0x00]);
-    let read = Repr::parse(&Header::new_unchecked(octets.as_slice()))?;
+const REPORT: &[u8] = &[0x05, 0x02, 0x00, 0x00, 0x01, 0x00];
+
+#[test]
+fn multicast_listener_report_with_padding(rt: HostRuntime) -> Result<(), Fail> {
+    let header = report();
+    let read = read(REPORT)?;
     same(&rt, &read, &header);
     Repr::same_text(&read, &header);
-    let mut plain = [0xff; 6];
-    header.emit_into(plain.as_mut_slice());
-    same(&rt, plain, octets);
     same(&rt, &header.clone()?, &header);
-    compare_damaged(&rt, rt.alloc(), &octets)
+    compare_damaged(&rt, rt.alloc(), REPORT)
 }
 
 #[test]
 fn a_router_alert_written_over_octets_of_any_kind(rt: HostRuntime) {
-    let mut header = Repr::mldv2_router_alert();
-    header.push_padn_option(0);
-    for fill in [0x00, 0xff, 0x2a] {
+    let header = report();
+    same(&rt, header.buffer_len(), 6);
+    for &fill in FILLERS {
         let mut octets = [fill; 6];
         header.emit(&mut Header::new_unchecked(octets.as_mut_slice()));
-        same_of(&rt, fill, octets, [0x05, 0x02, 0x00, 0x00, 0x01, 0x00]);
+        same_of(&rt, fill, octets.as_slice(), REPORT);
+        let mut plain = [fill; 6];
+        header.emit_into(plain.as_mut_slice());
+        same_of(&rt, fill, plain, octets);
     }
 }
 
@@ -152,7 +172,7 @@ fn options_written_one_after_another(rt: HostRuntime) -> Result<(), Fail> {
     let text = [
         0x01, 0x03, 0x00, 0x00, 0x00, 0x05, 0x02, 0xbe, 0xef, 0x11, 0x02, 0xa1, 0xa2, 0x00,
     ];
-    for fill in [0x00, 0xff, 0x2a, 0xa5] {
+    for &fill in FILLERS {
         check_written(&rt, &header, text, fill);
     }
     compare_damaged(&rt, rt.alloc(), &text)

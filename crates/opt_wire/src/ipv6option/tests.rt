@@ -1,9 +1,9 @@
-ghost use Rattle.std.specs.Prelude.{◌≡◌, true};
+ghost use Rattle.std.specs.Prelude.{◌≡◌, ◌<◌, ◌+◌, ◌^◌, length, true};
 ghost use Rattle.opt_wire.specs.Ipv6Option.{value_of, HasData};
 
 use super::{FailureType, Ipv6Option, Ipv6OptionsIterator, Repr, RouterAlert, Type};
 use crate::plain_reader::compare_damaged;
-use crate::testing::{holds_of, same, same_of};
+use crate::testing::{FILLERS, ascend, holds_of, same, same_of};
 use std::alloc::Global;
 use std::hash::{DefaultHasher, Hash, Hasher};
 use std::process::Abort;
@@ -97,9 +97,7 @@ fn order_of_types(rt: HostRuntime) {
         Type::Unknown(0),
         Type::Unknown(7),
     ];
-    for pair in TYPES.windows(2) {
-        holds_of(&rt, pair, pair[0] < pair[1]);
-    }
+    ascend(&rt, TYPES);
 }
 
 #[test]
@@ -111,9 +109,7 @@ fn order_of_router_alerts(rt: HostRuntime) {
         RouterAlert::Unknown(0),
         RouterAlert::Unknown(7),
     ];
-    for pair in ALERTS.windows(2) {
-        holds_of(&rt, pair, pair[0] < pair[1]);
-    }
+    ascend(&rt, ALERTS);
 }
 
 #[test]
@@ -124,9 +120,7 @@ fn order_of_failure_types(rt: HostRuntime) {
         FailureType::DiscardSendAll,
         FailureType::DiscardSendUnicast,
     ];
-    for pair in FAILURES.windows(2) {
-        holds_of(&rt, pair, pair[0] < pair[1]);
-    }
+    ascend(&rt, FAILURES);
 }
 
 #[test]
@@ -192,10 +186,13 @@ fn views_are_equal_as_their_octets(rt: HostRuntime) {
     assert!(rt; view == Ipv6Option::new_unchecked(there.as_slice()));
     assert!(rt; view != Ipv6Option::new_unchecked(other.as_slice()));
     assert!(rt; view != Ipv6Option::new_unchecked(&here[..2]));
+}
 
-    let mut here = here;
-    let mut there = there;
-    let mut other = other;
+#[test]
+fn views_for_writing_are_equal_as_their_octets(rt: HostRuntime) {
+    let mut here = [0x11, 0x01, 0xa1];
+    let mut there = [0x11, 0x01, 0xa1];
+    let mut other = [0x11, 0x01, 0xa2];
     let view = Ipv6Option::new_unchecked(here.as_mut_slice());
     assert!(rt; view == Ipv6Option::new_unchecked(there.as_mut_slice()));
     assert!(rt; view != Ipv6Option::new_unchecked(other.as_mut_slice()));
@@ -295,30 +292,43 @@ fn holds_its_data(option: &Repr<'_>) -> bool
     }
 }
 
-// Writes an option over so many octets of this kind.
-fn check_written(
+// What writing an option over so many octets of this kind leaves.
+fn written(
     rt: &impl Abort,
     alloc: Global,
     option: Repr<'_>,
-    text: &[u8],
     fill: u8,
     len: usize,
 ) -> Result<Vec<u8>, Fail> {
     let mut octets = vec![in alloc; fill; len]?;
     let mut plain = vec![in alloc; fill; len]?;
-    assert!(rt; text.len() <= len);
-    holds_of(
-        rt,
-        option,
-        holds_its_data(&option) && option.buffer_len() == text.len(),
-    );
+    assert!(rt; holds_its_data(&option) && option.buffer_len() <= len);
     option.emit(&mut Ipv6Option::new_unchecked(octets.as_mut_slice()));
     option.emit_into(plain.as_mut_slice());
     same_of(rt, option, octets.as_slice(), plain.as_slice());
-    let (front, left) = plain.as_slice().split_at(text.len());
-    same_of(rt, fill, front, text);
-    holds_of(rt, option, left.iter().all(|octet| *octet == fill));
     Ok(octets)
+}
+
+// Writes an option over so many octets of this kind as its text has, and some more, and reads it again.
+fn check_written(
+    rt: &impl Abort,
+    alloc: Global,
+    option: Repr<'_>,
+    text: &[u8],
+    read: Repr<'_>,
+    fill: u8,
+    more: usize,
+) -> Result<(), Fail>
+    requires { length text.now + more < 2 ^ 64 }
+{
+    same_of(rt, option, option.buffer_len(), text.len());
+    let octets = written(rt, alloc, option, fill, text.len() + more)?;
+    let view = Ipv6Option::new_unchecked(octets.as_slice());
+    same_of(rt, fill, Repr::parse(&view), Ok(read));
+    holds_of(rt, option, octets.as_slice().starts_with(text));
+    let mut left = octets.as_slice().iter().skip(text.len());
+    holds_of(rt, option, left.all(|octet| *octet == fill));
+    Ok(())
 }
 
 #[test]
@@ -348,12 +358,9 @@ fn options_written_over_octets_of_any_kind(rt: HostRuntime) -> Result<(), Fail> 
         ),
     ];
     for &(option, text, read) in ROWS {
-        for fill in [0x00, 0xff, 0x2a, 0xa5] {
-            for len in [text.len(), text.len() + 3] {
-                let octets = check_written(&rt, rt.alloc(), option, text, fill, len)?;
-                let view = Ipv6Option::new_unchecked(octets.as_slice());
-                same_of(&rt, fill, Repr::parse(&view), Ok(read));
-            }
+        for &fill in FILLERS {
+            check_written(&rt, rt.alloc(), option, text, read, fill, 0)?;
+            check_written(&rt, rt.alloc(), option, text, read, fill, 3)?;
         }
         compare_damaged(&rt, rt.alloc(), text)?;
     }
@@ -367,8 +374,9 @@ fn the_default_option_is_a_pad1(rt: HostRuntime) {
 
 #[test]
 fn padding_loses_what_it_is_filled_with_when_it_is_rewritten(rt: HostRuntime) -> Result<(), Fail> {
-    for octets in [[0x01, 0x02, 0xaa, 0xbb], [0x01, 0x02, 0x00, 0x00]] {
-        let option = Repr::parse(&Ipv6Option::new_checked(octets.as_slice())?)?;
+    const ROWS: &[&[u8]] = &[&[0x01, 0x02, 0xaa, 0xbb], &[0x01, 0x02, 0x00, 0x00]];
+    for &octets in ROWS {
+        let option = Repr::parse(&Ipv6Option::new_checked(octets)?)?;
         same(&rt, option, Repr::PadN(2));
         assert!(rt; holds_its_data(&option) && option.buffer_len() == 4);
         let mut text = [0xff; 4];
@@ -380,23 +388,45 @@ fn padding_loses_what_it_is_filled_with_when_it_is_rewritten(rt: HostRuntime) ->
 
 #[test]
 fn data_past_its_length_is_no_part_of_the_text(rt: HostRuntime) {
-    let of = |data| Repr::Unknown {
+    const ROWS: &[(Repr<'static>, bool)] = &[
+        (
+            Repr::Unknown {
+                type_: Type::Unknown(0x11),
+                length: 2,
+                data: &[0xa1, 0xa2, 0xa3],
+            },
+            true,
+        ),
+        (
+            Repr::Unknown {
+                type_: Type::Unknown(0x11),
+                length: 2,
+                data: &[0xa1, 0xa3],
+            },
+            false,
+        ),
+        (Repr::PadN(2), false),
+    ];
+    let whole = Repr::Unknown {
         type_: Type::Unknown(0x11),
         length: 2,
-        data,
+        data: &[0xa1, 0xa2],
     };
-    let whole = of(&[0xa1, 0xa2]);
-    for (other, same) in [
-        (of(&[0xa1, 0xa2, 0xa3]), true),
-        (of(&[0xa1, 0xa3]), false),
-        (Repr::PadN(2), false),
-    ] {
+    for &(other, same) in ROWS {
         Repr::same_text(&whole, &other);
-        let mut texts = [[0; 4]; 2];
-        assert!(rt; holds_its_data(&whole) && whole.buffer_len() == 4);
-        assert!(rt; holds_its_data(&other) && other.buffer_len() == 4);
-        whole.emit_into(texts[0].as_mut_slice());
-        other.emit_into(texts[1].as_mut_slice());
-        same_of(&rt, other, texts[0] == texts[1], same);
+        same_of(
+            &rt,
+            other,
+            text_of(&rt, &whole) == text_of(&rt, &other),
+            same,
+        );
     }
+}
+
+// The text of an option of four bytes.
+fn text_of(rt: &impl Abort, option: &Repr<'_>) -> [u8; 4] {
+    let mut text = [0; 4];
+    assert!(rt; holds_its_data(option) && option.buffer_len() == 4);
+    option.emit_into(text.as_mut_slice());
+    text
 }

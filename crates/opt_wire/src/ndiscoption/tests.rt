@@ -1,8 +1,9 @@
-ghost use Rattle.opt_wire.specs.NdiscOptionRepr.{HasSeconds, CanEmit, value_of};
+ghost use Rattle.std.specs.Prelude.{◌≤◌, ◌<◌, ◌^◌};
+ghost use Rattle.opt_wire.specs.NdiscOptionRepr.{HasSeconds, CanEmit, value_of, text_len};
 ghost use Rattle.opt_wire.specs.declared.ndiscoption.repr.Repr.TheVariants as repr;
 
 use super::{NdiscOption, PrefixInfoFlags, PrefixInformation, RedirectedHeader, Repr};
-use crate::testing::{holds_of, prints, same, same_of};
+use crate::testing::{FILLERS, holds_of, prints, same, same_of};
 use bitflags::Flags as _;
 use std::process::Abort;
 use std::test::Fail;
@@ -81,6 +82,10 @@ fn ethernet() -> RawHardwareAddress {
     RawHardwareAddress::from_bytes(&[0x52, 0x54, 0x00, 0x12, 0x34, 0x56])
 }
 
+const SOURCE: &[u8] = &[0x01, 0x01, 0x52, 0x54, 0x00, 0x12, 0x34, 0x56];
+
+const TARGET: &[u8] = &[0x02, 0x01, 0x52, 0x54, 0x00, 0x12, 0x34, 0x56];
+
 const MTU: [u8; 8] = [0x05, 0x01, 0x00, 0x00, 0x00, 0x00, 0x05, 0xdc];
 
 const UNKNOWN: [u8; 8] = [0x0e, 0x01, 1, 2, 3, 4, 5, 6];
@@ -101,8 +106,8 @@ const LONG_SOURCE: [u8; 16] = [0x01, 0x02, 1, 2, 3, 4, 5, 6, 7, 0, 0, 0, 0, 0, 0
 #[test]
 fn damaged_options(rt: HostRuntime) -> Result<(), Fail> {
     const ROWS: &[&[u8]] = &[
-        &[0x01, 0x01, 0x52, 0x54, 0x00, 0x12, 0x34, 0x56],
-        &[0x02, 0x01, 0x52, 0x54, 0x00, 0x12, 0x34, 0x56],
+        SOURCE,
+        TARGET,
         &LONG_SOURCE,
         &PREFIX,
         &REDIRECTED,
@@ -115,73 +120,60 @@ fn damaged_options(rt: HostRuntime) -> Result<(), Fail> {
     Ok(())
 }
 
+// Compares what is read in these bytes.
+fn check_read(rt: &impl Abort, bytes: &[u8], repr: &Repr<'_>) {
+    let Ok(read) = read(bytes) else {
+        holds_of(rt, bytes, false);
+        return;
+    };
+    same_of(rt, bytes, &read, repr);
+}
+
 #[test]
 fn options_are_read(rt: HostRuntime) {
-    let source = [0x01, 0x01, 0x52, 0x54, 0x00, 0x12, 0x34, 0x56];
-    same(
+    check_read(&rt, SOURCE, &Repr::SourceLinkLayerAddr(ethernet()));
+    check_read(&rt, TARGET, &Repr::TargetLinkLayerAddr(ethernet()));
+    check_read(&rt, &PREFIX, &Repr::PrefixInformation(prefix_information()));
+    check_read(
         &rt,
-        &read(&source),
-        &Ok(Repr::SourceLinkLayerAddr(ethernet())),
+        &REDIRECTED,
+        &Repr::RedirectedHeader(redirected_header()),
     );
-    let target = [0x02, 0x01, 0x52, 0x54, 0x00, 0x12, 0x34, 0x56];
-    same(
-        &rt,
-        &read(&target),
-        &Ok(Repr::TargetLinkLayerAddr(ethernet())),
-    );
-    same(
-        &rt,
-        &read(&PREFIX),
-        &Ok(Repr::PrefixInformation(prefix_information())),
-    );
-    same(
-        &rt,
-        &read(&REDIRECTED),
-        &Ok(Repr::RedirectedHeader(redirected_header())),
-    );
-    same(&rt, &read(&MTU), &Ok(Repr::Mtu(1_500)));
-    same(&rt, &read(&UNKNOWN), &Ok(unknown()));
+    check_read(&rt, &MTU, &Repr::Mtu(1_500));
+    check_read(&rt, &UNKNOWN, &unknown());
+}
+
+// Writes an option over as many octets as it takes, 56 at most, of any kind.
+fn check_written(rt: &impl Abort, repr: &Repr<'_>, text: &[u8])
+    requires sound { CanEmit (value_of repr.now) }
+    requires counted { text_len (value_of repr.now) < 2 ^ 64 }
+{
+    let len = repr.buffer_len();
+    assert!(rt; len <= 56);
+    for &filler in FILLERS {
+        let mut octets = [filler; 56];
+        repr.emit_into(&mut octets[..len]);
+        same_of(rt, filler, &octets[..len], text);
+    }
 }
 
 #[test]
 fn options_are_written_over_octets_of_any_kind(rt: HostRuntime) {
-    for filler in [0x00, 0xff, 0x2a] {
-        let mut octets = [filler; 32];
-        let repr = Repr::PrefixInformation(prefix_information());
-        same(&rt, repr.buffer_len(), 32);
-        repr.emit_into(&mut octets);
-        same(&rt, octets.as_slice(), PREFIX.as_slice());
-
-        let mut octets = [filler; 32];
-        let repr = Repr::PrefixInformation(longer_prefix_information());
-        repr.emit_into(&mut octets);
-        same(&rt, octets.as_slice(), PREFIX.as_slice());
-
-        let mut octets = [filler; 56];
-        let repr = Repr::RedirectedHeader(redirected_header());
-        same(&rt, repr.buffer_len(), 56);
-        repr.emit_into(&mut octets);
-        same(&rt, octets.as_slice(), REDIRECTED.as_slice());
-
-        let mut octets = [filler; 8];
-        let repr = Repr::Mtu(1_500);
-        same(&rt, repr.buffer_len(), 8);
-        repr.emit_into(&mut octets);
-        same(&rt, octets.as_slice(), MTU.as_slice());
-
-        let mut octets = [filler; 8];
-        let repr = unknown();
-        same(&rt, repr.buffer_len(), 8);
-        repr.emit_into(&mut octets);
-        same(&rt, octets.as_slice(), UNKNOWN.as_slice());
-    }
+    let prefix = Repr::PrefixInformation(prefix_information());
+    check_written(&rt, &prefix, &PREFIX);
+    let longer = Repr::PrefixInformation(longer_prefix_information());
+    check_written(&rt, &longer, &PREFIX);
+    let redirected = Repr::RedirectedHeader(redirected_header());
+    check_written(&rt, &redirected, &REDIRECTED);
+    check_written(&rt, &Repr::Mtu(1_500), &MTU);
+    check_written(&rt, &unknown(), &UNKNOWN);
 }
 
 fn check_address_is_written(rt: &impl Abort, address: &[u8], bytes: &[u8]) {
     assert!(rt; address.len() <= 8);
     let repr = Repr::SourceLinkLayerAddr(RawHardwareAddress::from_bytes(address));
     let len = repr.buffer_len();
-    for filler in [0x00, 0xff, 0x2a] {
+    for &filler in FILLERS {
         let mut buffer = [filler; 20];
         repr.emit_into(&mut buffer);
         same_of(rt, filler, &buffer[..len], bytes);
@@ -263,6 +255,24 @@ fn long_address_options_are_written_the_same_again(rt: HostRuntime) {
     same(&rt, rewritten(&rt, &once), text);
 }
 
+// Compares whether an option of so many units is whole, and whether it is read.
+fn check_units(rt: &impl Abort, kind: u8, units: usize, whole: bool, reads: bool)
+    requires { units ≤ 6 }
+{
+    let mut bytes = [0; 48];
+    bytes[0] = kind;
+    bytes[1] = units as u8;
+    let view = NdiscOption::new_unchecked(&bytes[..]);
+    same_of(rt, (kind, units), view.check_len().is_ok(), whole);
+    let checked = NdiscOption::new_checked(&bytes[..]);
+    same_of(rt, (kind, units), checked.is_ok(), whole && units > 0);
+    same_of(rt, (kind, units), read(&bytes).is_ok(), reads);
+    // All units but for a byte.
+    if units > 1 {
+        holds_of(rt, (kind, units), read(&bytes[..8 * units - 1]).is_err());
+    }
+}
+
 #[test]
 fn options_of_each_type_and_number_of_units(rt: HostRuntime) {
     // The type, and for 0 to 6 units whether the option is whole, and whether it is read.
@@ -290,23 +300,7 @@ fn options_of_each_type_and_number_of_units(rt: HostRuntime) {
     ];
     for &(kind, whole, reads) in ROWS {
         for units in 0..7 {
-            let mut bytes = [0; 48];
-            bytes[0] = kind;
-            bytes[1] = units as u8;
-            let view = NdiscOption::new_unchecked(&bytes[..]);
-            same_of(&rt, (kind, units), view.check_len().is_ok(), whole[units]);
-            let checked = NdiscOption::new_checked(&bytes[..]);
-            same_of(
-                &rt,
-                (kind, units),
-                checked.is_ok(),
-                whole[units] && units > 0,
-            );
-            same_of(&rt, (kind, units), read(&bytes).is_ok(), reads[units]);
-            // All units but for a byte.
-            if units > 1 {
-                holds_of(&rt, (kind, units), read(&bytes[..8 * units - 1]).is_err());
-            }
+            check_units(&rt, kind, units, whole[units], reads[units]);
         }
         holds_of(&rt, kind, read(&[kind, 1, 0, 0, 0, 0, 0]).is_err());
     }

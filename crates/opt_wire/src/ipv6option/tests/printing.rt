@@ -1,7 +1,7 @@
 //! What options and their parts print.
 
 use crate::ipv6option::{FailureType, Ipv6Option, Repr, Type};
-use crate::testing::{prints, same_of, takes_writes};
+use crate::testing::{prints, takes_writes};
 use std::test::Fail;
 
 #[test]
@@ -60,10 +60,9 @@ fn what_options_print(rt: HostRuntime) -> Result<(), Fail> {
         (&[], "IPv6 Extension Option (wire::Error)"),
     ];
     for &(octets, text) in ROWS {
-        let view = Ipv6Option::new_unchecked(octets);
-        same_of(&rt, octets, view.to_string(rt.alloc())?.as_str(), text);
-        if let Ok(repr) = Repr::parse(&view) {
-            same_of(&rt, octets, repr.to_string(rt.alloc())?.as_str(), text);
+        prints(&rt, rt.alloc(), Ipv6Option::new_unchecked(octets), text)?;
+        if let Ok(repr) = Repr::parse(&Ipv6Option::new_unchecked(octets)) {
+            prints(&rt, rt.alloc(), repr, text)?;
         }
     }
     Ok(())

@@ -58,57 +58,54 @@ fn link_address(data: &[u8]) -> Option<RawHardwareAddress> {
 }
 
 fn prefix(data: &[u8]) -> Option<Repr<'_>> {
-    let [prefix_len, flags, times @ ..] = data else {
+    let [prefix_len, flags, ..] = data else {
         return None;
     };
-    let (valid, rest) = times.split_first_chunk::<4>()?;
-    let (preferred, rest) = rest.split_first_chunk::<4>()?;
-    let (_, rest) = rest.split_first_chunk::<4>()?;
-    let (prefix, _) = rest.split_first_chunk::<16>()?;
     Some(Repr::PrefixInformation(PrefixInformation {
         prefix_len: *prefix_len,
         flags: PrefixInfoFlags::from_bits_retain(*flags & 0xc0),
-        valid_lifetime: Duration::from_secs(u32::from_be_bytes(*valid) as u64),
-        preferred_lifetime: Duration::from_secs(u32::from_be_bytes(*preferred) as u64),
-        prefix: Ipv6Address::from_octets(*prefix),
+        valid_lifetime: Duration::from_secs(number_at(data, 2)? as u64),
+        preferred_lifetime: Duration::from_secs(number_at(data, 6)? as u64),
+        prefix: address_at(data, 14)?,
     }))
 }
 
 // The packet behind 6 reserved bytes (RFC 8200 section 3).
 fn redirected(data: &[u8]) -> Option<Repr<'_>> {
-    let (_, packet) = data.split_first_chunk::<6>()?;
-    let [
-        0x60..=0x6f,
-        _,
-        _,
-        _,
-        high,
-        low,
-        next_header,
-        hop_limit,
-        rest @ ..,
-    ] = packet
-    else {
-        return None;
-    };
-    let payload_len = u16::from_be_bytes([*high, *low]) as usize;
-    let (src_addr, rest) = rest.split_first_chunk::<16>()?;
-    let (dst_addr, rest) = rest.split_first_chunk::<16>()?;
-    let header = Ipv6Repr {
-        src_addr: Ipv6Address::from_octets(*src_addr),
-        dst_addr: Ipv6Address::from_octets(*dst_addr),
-        next_header: IpProtocol::from(*next_header),
-        payload_len,
-        hop_limit: *hop_limit,
-    };
-    let data = rest.get(..payload_len)?;
+    let packet = data.get(6..)?;
+    let header = header(packet)?;
+    let data = packet.get(40..)?.get(..header.payload_len)?;
     Some(Repr::RedirectedHeader(RedirectedHeader { header, data }))
 }
 
+// The header of a packet.
+fn header(packet: &[u8]) -> Option<Ipv6Repr> {
+    let [0x60..=0x6f, _, _, _, high, low, next_header, hop_limit, ..] = packet else {
+        return None;
+    };
+    Some(Ipv6Repr {
+        src_addr: address_at(packet, 8)?,
+        dst_addr: address_at(packet, 24)?,
+        next_header: IpProtocol::from(*next_header),
+        payload_len: u16::from_be_bytes([*high, *low]) as usize,
+        hop_limit: *hop_limit,
+    })
+}
+
 fn mtu(data: &[u8]) -> Option<Repr<'_>> {
-    let (_, rest) = data.split_first_chunk::<2>()?;
-    let (mtu, _) = rest.split_first_chunk::<4>()?;
-    Some(Repr::Mtu(u32::from_be_bytes(*mtu)))
+    Some(Repr::Mtu(number_at(data, 2)?))
+}
+
+// The number of four bytes that stands there.
+fn number_at(octets: &[u8], at: usize) -> Option<u32> {
+    let number = octets.get(at..)?.first_chunk::<4>()?;
+    Some(u32::from_be_bytes(*number))
+}
+
+// The address that stands there.
+fn address_at(octets: &[u8], at: usize) -> Option<Ipv6Address> {
+    let address = octets.get(at..)?.first_chunk::<16>()?;
+    Some(Ipv6Address::from_octets(*address))
 }
 
 // Compares the crate with the plain reader over these octets, over each shorter part of them from their start on, and
@@ -118,7 +115,7 @@ pub(super) fn compare_damaged(rt: &impl Abort, alloc: Global, packet: &[u8]) -> 
         compare(rt, &packet[..len]);
     }
     for at in 0..packet.len() {
-        for value in DAMAGE {
+        for &value in DAMAGE {
             compare(rt, damaged(alloc, packet, at, value)?.as_slice());
         }
     }

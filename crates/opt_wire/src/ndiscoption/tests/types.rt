@@ -1,5 +1,5 @@
 use crate::ndiscoption::{PrefixInfoFlags, Type};
-use crate::testing::{prints, same};
+use crate::testing::{ascend, prints, same};
 use bitflags::Flags as _;
 use std::test::Fail;
 
@@ -19,10 +19,21 @@ fn types_and_their_numbers(rt: HostRuntime) -> Result<(), Fail> {
         same(&rt, u8::from(kind), number);
         prints(&rt, rt.alloc(), kind, text)?;
     }
-    assert!(rt; Type::SourceLinkLayerAddr < Type::TargetLinkLayerAddr);
-    assert!(rt; Type::Mtu < Type::Unknown(0));
-    assert!(rt; Type::Unknown(0) < Type::Unknown(14));
     Ok(())
+}
+
+#[test]
+fn order_of_types(rt: HostRuntime) {
+    const TYPES: &[Type] = &[
+        Type::SourceLinkLayerAddr,
+        Type::TargetLinkLayerAddr,
+        Type::PrefixInformation,
+        Type::RedirectedHeader,
+        Type::Mtu,
+        Type::Unknown(0),
+        Type::Unknown(14),
+    ];
+    ascend(&rt, TYPES);
 }
 
 #[test]
