@@ -16,8 +16,8 @@ fn first_option(octets: &[u8]) -> Option<(Repr<'_>, &[u8])> {
     match octets {
         [0, rest @ ..] => Some((Repr::Pad1, rest)),
         [kind, length, rest @ ..] => {
-            let data = rest.get(..*length as usize)?;
-            Some((option_of(*kind, *length, data)?, &rest[data.len()..]))
+            let (data, rest) = rest.split_at_checked(*length as usize)?;
+            Some((option_of(*kind, *length, data)?, rest))
         }
         _ => None,
     }

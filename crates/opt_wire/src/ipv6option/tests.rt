@@ -372,16 +372,21 @@ fn the_default_option_is_a_pad1(rt: HostRuntime) {
     same(&rt, Repr::default(), Repr::Pad1);
 }
 
+// The text of an option of four bytes.
+fn text_of(rt: &impl Abort, option: &Repr<'_>) -> [u8; 4] {
+    let mut text = [0xff; 4];
+    assert!(rt; holds_its_data(option) && option.buffer_len() == 4);
+    option.emit_into(text.as_mut_slice());
+    text
+}
+
 #[test]
 fn padding_loses_what_it_is_filled_with_when_it_is_rewritten(rt: HostRuntime) -> Result<(), Fail> {
     const ROWS: &[&[u8]] = &[&[0x01, 0x02, 0xaa, 0xbb], &[0x01, 0x02, 0x00, 0x00]];
     for &octets in ROWS {
         let option = Repr::parse(&Ipv6Option::new_checked(octets)?)?;
         same(&rt, option, Repr::PadN(2));
-        assert!(rt; holds_its_data(&option) && option.buffer_len() == 4);
-        let mut text = [0xff; 4];
-        option.emit_into(text.as_mut_slice());
-        same(&rt, text, [0x01, 0x02, 0x00, 0x00]);
+        same(&rt, text_of(&rt, &option), [0x01, 0x02, 0x00, 0x00]);
     }
     Ok(())
 }
@@ -421,12 +426,4 @@ fn data_past_its_length_is_no_part_of_the_text(rt: HostRuntime) {
             same,
         );
     }
-}
-
-// The text of an option of four bytes.
-fn text_of(rt: &impl Abort, option: &Repr<'_>) -> [u8; 4] {
-    let mut text = [0; 4];
-    assert!(rt; holds_its_data(option) && option.buffer_len() == 4);
-    option.emit_into(text.as_mut_slice());
-    text
 }
