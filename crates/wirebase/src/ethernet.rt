@@ -1,7 +1,8 @@
 //! Hardware addresses.
 #![tactic(auto, using(crate::proofs::Pieces::pieces))]
 
-ghost use Rattle.std.specs.Prelude.{◌≡◌, ◌≤◌, ◌↔◌, length, IsTrue, List, ℕ, Some};
+ghost use Rattle.std.specs.Prelude.{◌≡◌, ◌≤◌, ◌↔◌, ◌++◌, length, IsTrue, List, ℕ, Some, codes, flat_map};
+ghost use Rattle.std.specs.Fmt.{WritesOnOk};
 ghost use Rattle.wirebase.specs.Ethernet.{Ethernet, octets_of, hex_byte, hex_colons};
 
 use std::fmt;
@@ -90,7 +91,7 @@ impl fmt::Display for EthernetAddress {
     ghost output = { λ address. Some (hex_colons (octets_of address)) };
 
     fn fmt<W: fmt::Write>(&self, f: &mut fmt::Formatter<W>) -> fmt::Result {
-        write!(f, "{}", HexColons(self.as_bytes()))
+        HexColons(self.as_bytes()).fmt(f)
     }
 }
 
@@ -175,7 +176,7 @@ impl fmt::Display for RawHardwareAddress {
     ghost output = { λ address. Some (hex_colons address) };
 
     fn fmt<W: fmt::Write>(&self, f: &mut fmt::Formatter<W>) -> fmt::Result {
-        write!(f, "{}", HexColons(self.as_bytes()))
+        HexColons(self.as_bytes()).fmt(f)
     }
 }
 
@@ -201,12 +202,21 @@ impl fmt::Display for HexColons<'_> {
     ghost output = { λ bytes. Some (hex_colons bytes.0.now) };
 
     fn fmt<W: fmt::Write>(&self, f: &mut fmt::Formatter<W>) -> fmt::Result {
-        if let [first, rest @ ..] = self.0 {
-            write!(f, "{}", HexByte(*first))?;
-            for byte in rest {
-                write!(f, ":{}", HexByte(*byte))?;
-            }
-        }
-        Ok(())
+        let [first, rest @ ..] = self.0 else {
+            return Ok(());
+        };
+        HexByte(*first).fmt(f)?;
+        fmt_behind_colons(f, rest)
     }
+}
+
+// Prints each byte as two digits, behind a colon.
+fn fmt_behind_colons<W: fmt::Write>(f: &mut fmt::Formatter<W>, bytes: &[u8]) -> fmt::Result
+    ensures { WritesOnOk W.write_str_gives f.old result
+        (flat_map (λ next. codes ":" ++ hex_byte next) bytes.now) f.new }
+{
+    for byte in bytes {
+        write!(f, ":{}", HexByte(*byte))?;
+    }
+    Ok(())
 }

@@ -1,6 +1,11 @@
-use Rattle.std.proofs.Common.{refl}
+use Rattle.std.proofs.Common.{length, refl, ap, ◌∙◌}
+use Rattle.std.proofs.lemmas.List.{take_at}
 use Rattle.wirebase.proofs.HardwareAddresses.{same_front}
 use Rattle.wirebase.proofs.ethernet.RawHardwareAddress.from_bytes.Goals as goal
 
 pub returns-clause-equality : goal.returns-clause-equality
 returns-clause-equality c x y = same_front _ x y refl
+
+pub returns-clause-value : goal.returns-clause-value
+returns-clause-value c =
+    take_at c.copy_from_slice.new.self _ _ (ap length c.copy_from_slice.ensures.after) ∙ c.copy_from_slice.ensures.after
