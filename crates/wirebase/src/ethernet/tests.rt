@@ -35,15 +35,18 @@ fn addresses_of_each_length(rt: HostRuntime) {
 
 #[test]
 fn equality_of_addresses(rt: HostRuntime) {
-    let one = RawHardwareAddress::from_bytes(&[1]);
-    same(&rt, one, RawHardwareAddress::from_bytes(&[1]));
-    // Zeros behind an address are not a part of it.
-    assert_ne!(rt; one, RawHardwareAddress::from_bytes(&[1, 0]));
-    assert_ne!(rt; one, RawHardwareAddress::from_bytes(&[2]));
-    assert_ne!(rt;
-        RawHardwareAddress::from_bytes(&[]),
-        RawHardwareAddress::from_bytes(&[0; 8])
-    );
+    const ROWS: &[(&[u8], &[u8], bool)] = &[
+        (&[1], &[1], true),
+        // Zeros behind an address are not a part of it.
+        (&[1], &[1, 0], false),
+        (&[1], &[2], false),
+        (&[], &[0; 8], false),
+    ];
+    for &(one, other, equal) in ROWS {
+        let address = RawHardwareAddress::from_bytes(one);
+        let is_equal = address == RawHardwareAddress::from_bytes(other);
+        same_of(&rt, (one, other), is_equal, equal);
+    }
 }
 
 #[test]

@@ -4,12 +4,13 @@ use std::test::Fail;
 
 #[test]
 fn hardware_by_its_number(rt: HostRuntime) -> Result<(), Fail> {
-    for (number, hardware) in [
+    const ROWS: &[(u16, Hardware)] = &[
         (0, Hardware::Unknown(0)),
         (1, Hardware::Ethernet),
         (2, Hardware::Unknown(2)),
         (0xffff, Hardware::Unknown(0xffff)),
-    ] {
+    ];
+    for &(number, hardware) in ROWS {
         same_of(&rt, number, Hardware::from(number), hardware);
         same_of(&rt, hardware, u16::from(hardware), number);
     }

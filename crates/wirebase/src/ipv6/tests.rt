@@ -46,13 +46,18 @@ fn addresses_in_hexadecimal(rt: HostRuntime) -> Result<(), Fail> {
     for &(groups, text) in ROWS {
         prints(&rt, rt.alloc(), address_of(groups), text)?;
     }
+    Ok(())
+}
+
+#[test]
+fn addresses_that_have_a_name_in_hexadecimal(rt: HostRuntime) -> Result<(), Fail> {
     prints(&rt, rt.alloc(), Ipv6Address::UNSPECIFIED, "::")?;
     prints(&rt, rt.alloc(), IPV6_LINK_LOCAL_ALL_NODES, "ff02::1")?;
     prints(&rt, rt.alloc(), IPV6_LINK_LOCAL_ALL_ROUTERS, "ff02::2")
 }
 
 // A run of groups that are zero, in a text that begins and ends with a colon; the longest first.
-const RUNS: [&str; 7] = [
+const RUNS: &[&str] = &[
     ":0:0:0:0:0:0:0:0:",
     ":0:0:0:0:0:0:0:",
     ":0:0:0:0:0:0:",
@@ -86,7 +91,7 @@ fn whole_text(alloc: Global, groups: &[u16]) -> Result<String, Fail> {
 // What stands before and after the first of the longest runs.
 fn parted_by_a_run(text: &str) -> Option<(&str, &str)> {
     for run in RUNS {
-        if let Some(parts) = text.split_once(run) {
+        if let Some(parts) = text.split_once(*run) {
             return Some(parts);
         }
     }
@@ -151,11 +156,16 @@ fn kinds_of_addresses(rt: HostRuntime) -> Result<(), Fail> {
         same_of(&rt, address, address.is_multicast(), multicast);
         same_of(&rt, address, address.is_link_local(), link_local);
     }
-    assert!(rt; Ipv6Address::UNSPECIFIED.is_unspecified());
-    let octets = [0xfe, 0x80, 0, 0, 0, 0, 0, 0, 0, 0, 0, 0, 0, 0, 0, 1];
-    assert!(rt; Ipv6Address::from_octets(octets) == first());
-    assert!(rt; first() != second());
-    same(&rt, first().octets().as_slice(), octets.as_slice());
+    Ok(())
+}
+
+#[test]
+fn addresses_by_their_octets(rt: HostRuntime) -> Result<(), Fail> {
+    const OCTETS: [u8; 16] = [0xfe, 0x80, 0, 0, 0, 0, 0, 0, 0, 0, 0, 0, 0, 0, 0, 1];
+    same(&rt, Ipv6Address::from_octets(OCTETS), first());
+    same(&rt, first().octets().as_slice(), OCTETS.as_slice());
+    holds_of(&rt, "another octet", first() != second());
+    holds_of(&rt, "::", Ipv6Address::UNSPECIFIED.is_unspecified());
     Ok(())
 }
 
@@ -196,33 +206,40 @@ fn headers_are_written_over_the_front(rt: HostRuntime) -> Result<(), Fail> {
 
 #[test]
 fn headers_are_read(rt: HostRuntime) -> Result<(), Fail> {
-    let octets = PACKET;
-    let packet = Ipv6Packet::new_unchecked(octets.as_slice());
+    let packet = Ipv6Packet::new_unchecked(&PACKET[..]);
+    same(&rt, packet.src_addr(), first());
+    same(&rt, packet.dst_addr(), second());
+    same(&rt, Ipv6Repr::parse(&packet), Ok(quoted()));
+    Ok(())
+}
+
+#[test]
+fn numbers_of_a_header(rt: HostRuntime) -> Result<(), Fail> {
+    let packet = Ipv6Packet::new_unchecked(&PACKET[..]);
     same(&rt, packet.version(), 6);
     same(&rt, packet.header_len(), 40);
     same(&rt, packet.payload_len(), 12);
     same(&rt, packet.hop_limit(), 64);
-    assert!(rt; packet.next_header() == IpProtocol::Udp);
-    assert!(rt; packet.src_addr() == first());
-    assert!(rt; packet.dst_addr() == second());
-    assert!(rt; Ipv6Repr::parse(&packet) == Ok(quoted()));
+    same(&rt, packet.next_header(), IpProtocol::Udp);
     Ok(())
 }
 
 #[test]
 fn packets_are_whole_by_their_own_length(rt: HostRuntime) -> Result<(), Fail> {
-    let octets = PACKET;
     for len in 0..=52 {
+        let octets = &PACKET[..len];
         let whole = len == 52;
-        same_of(
-            &rt,
-            len,
-            Ipv6Packet::new_checked(&octets[..len]).is_ok(),
-            whole,
-        );
-        let packet = Ipv6Packet::new_unchecked(&octets[..len]);
+        same_of(&rt, len, Ipv6Packet::new_checked(octets).is_ok(), whole);
+        let packet = Ipv6Packet::new_unchecked(octets);
         same_of(&rt, len, Ipv6Repr::parse(&packet).is_ok(), whole);
     }
+    same(&rt, IPV6_HEADER_LEN, 40);
+    same(&rt, IPV6_MIN_MTU, 1280);
+    Ok(())
+}
+
+#[test]
+fn the_version_is_looked_at_by_the_parser_alone(rt: HostRuntime) -> Result<(), Fail> {
     let mut other = PACKET;
     other[0] = 0x4f;
     holds_of(
@@ -236,8 +253,6 @@ fn packets_are_whole_by_their_own_length(rt: HostRuntime) -> Result<(), Fail> {
         "the version is looked at",
         Ipv6Repr::parse(&packet).is_err(),
     );
-    same(&rt, IPV6_HEADER_LEN, 40);
-    same(&rt, IPV6_MIN_MTU, 1280);
     Ok(())
 }
 
