@@ -1,7 +1,10 @@
-use Rattle.std.proofs.Common.{sym}
+use Rattle.std.proofs.Common.{sym, arith}
 use Rattle.wirebase.proofs.Chains.{lent}
 use Rattle.wirebase.specs.Ipv4.{Emits}
 use Rattle.wirebase.proofs.ipv4.Ipv4Repr.emit.Goals as goal
+
+pub emit_into-requires-clause-room : goal.emit_into-requires-clause-room
+emit_into-requires-clause-room g c = omega (arith, c.octets_mut.ensures.len, c.requires.room)
 
 pub returns-clause-emits : goal.returns-clause-emits
 returns-clause-emits g c =
