@@ -47,6 +47,18 @@ pub(crate) fn prints(
     Ok(())
 }
 
+// Ends the test where the value of one of these numbers prints another text than stands beside it.
+pub(crate) fn prints_each<T: From<u8> + Display + Drop>(
+    rt: &impl Abort,
+    alloc: Global,
+    rows: &[(u8, &str)],
+) -> Result<(), Fail> {
+    for &(number, text) in rows {
+        prints(rt, alloc, T::from(number), text)?;
+    }
+    Ok(())
+}
+
 // Ends the test unless the value is printed in so many writes, and fails where its writer refuses one of them.
 pub(crate) fn takes_writes(rt: &impl Abort, value: &impl Display, writes: u32) {
     for left in 0..=writes {

@@ -137,13 +137,18 @@ fn compare_all(rt: &impl Abort, octets: &[u8]) {
     compare_fields(rt, octets);
 }
 
-// Compares them over each shorter part of a packet that is read, and over each copy of it in which one byte is another.
-fn compare_damaged(rt: &impl Abort, alloc: Global, packet: &[u8]) -> Result<(), Fail> {
+// Compares them over a packet that is read and each shorter part of it.
+fn compare_cut(rt: &impl Abort, packet: &[u8]) {
     let read = Repr::parse(&Packet::new_unchecked(packet), &ALL);
     holds_of(rt, packet, read.is_ok());
     for len in 0..=packet.len() {
         compare_all(rt, &packet[..len]);
     }
+}
+
+// Compares them over these, and over each copy of the packet in which one byte is another.
+fn compare_damaged(rt: &impl Abort, alloc: Global, packet: &[u8]) -> Result<(), Fail> {
+    compare_cut(rt, packet);
     for at in 0..packet.len() {
         for value in 0..=255u8 {
             let octets = damaged(alloc, packet, at, value)?;

@@ -2,7 +2,7 @@
 
 use super::{ECHO_REQUEST, PORT_UNREACHABLE, QUOTED_DATA, quoted};
 use crate::icmpv4::{DstUnreachable, Message, Packet, Repr, TimeExceeded};
-use crate::testing::{prints, takes_writes};
+use crate::testing::{prints, prints_each, takes_writes};
 use std::test::Fail;
 
 #[test]
@@ -20,11 +20,7 @@ fn types_print_their_words(rt: HostRuntime) -> Result<(), Fail> {
         (14, "timestamp reply"),
         (255, "255"),
     ];
-    for &(number, text) in MESSAGES {
-        let message = Message::from(number);
-        prints(&rt, rt.alloc(), message, text)?;
-    }
-    Ok(())
+    prints_each::<Message>(&rt, rt.alloc(), MESSAGES)
 }
 
 #[test]
@@ -48,11 +44,7 @@ fn reasons_of_unreachables_print_their_words(rt: HostRuntime) -> Result<(), Fail
         (15, "precedence cutoff in effect"),
         (16, "16"),
     ];
-    for &(number, text) in UNREACHABLES {
-        let reason = DstUnreachable::from(number);
-        prints(&rt, rt.alloc(), reason, text)?;
-    }
-    Ok(())
+    prints_each::<DstUnreachable>(&rt, rt.alloc(), UNREACHABLES)
 }
 
 #[test]
@@ -62,11 +54,7 @@ fn reasons_of_exceeded_times_print_their_words(rt: HostRuntime) -> Result<(), Fa
         (1, "fragment reassembly time exceeded"),
         (2, "2"),
     ];
-    for &(number, text) in TIMES {
-        let reason = TimeExceeded::from(number);
-        prints(&rt, rt.alloc(), reason, text)?;
-    }
-    Ok(())
+    prints_each::<TimeExceeded>(&rt, rt.alloc(), TIMES)
 }
 
 #[test]

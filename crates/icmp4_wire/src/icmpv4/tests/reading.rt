@@ -1,6 +1,6 @@
 //! What is read, and what is refused.
 
-use super::{ALL, PORT_UNREACHABLE, QUOTED_DATA, all, quoted, write_unreachable};
+use super::{ALL, PORT_UNREACHABLE, QUOTED_DATA, all, quoted, read, write_unreachable};
 use crate::icmpv4::{DstUnreachable, Message, Packet, ParamProblem, Redirect, Repr, TimeExceeded};
 use crate::testing::{holds_of, same, same_of};
 use std::process::Abort;
@@ -17,16 +17,14 @@ fn a_quoted_length_is_read_as_that_of_the_data(rt: HostRuntime) {
         header: quoted(8),
         data: &QUOTED_DATA,
     };
-    let read = Repr::parse(&Packet::new_unchecked(&octets[..]), &ALL);
-    same(&rt, read, Ok(unreachable));
+    same(&rt, read(&octets, &ALL), Ok(unreachable));
 }
 
 #[test]
 fn a_quote_that_is_not_whole_is_refused(rt: HostRuntime) {
     let mut octets = [0; 36];
     write_unreachable(&mut octets, 16, &ALL);
-    let read = Repr::parse(&Packet::new_unchecked(&octets[..]), &ALL);
-    same(&rt, read, Err(Error));
+    same(&rt, read(&octets, &ALL), Err(Error));
 }
 
 // The packet of an error whose quote has this first byte and total length, and 40 bytes behind it.
@@ -61,8 +59,7 @@ fn quotes_are_read_by_their_own_lengths(rt: HostRuntime) -> Result<(), Fail> {
     ];
     for &(first, total_len, data_len) in ROWS {
         let octets = quoting(first, total_len);
-        let read = Repr::parse(&Packet::new_unchecked(&octets[..]), &ignored);
-        let read_len = match read {
+        let read_len = match read(&octets, &ignored) {
             Ok(Repr::DstUnreachable { header, data, .. }) => {
                 same(&rt, header.payload_len, data.len());
                 Some(data.len())
@@ -80,7 +77,6 @@ fn a_quote_of_a_header_of_no_bytes_has_all_of_it_as_data(rt: HostRuntime) {
     octets[0] = 3;
     octets[8] = 0x40;
     let ignored = ChecksumCapabilities::ignored();
-    let read = Repr::parse(&Packet::new_unchecked(&octets[..]), &ignored);
     let unreachable = Repr::DstUnreachable {
         reason: DstUnreachable::NetUnreachable,
         header: Ipv4Repr {
@@ -92,16 +88,17 @@ fn a_quote_of_a_header_of_no_bytes_has_all_of_it_as_data(rt: HostRuntime) {
         },
         data: &octets[8..],
     };
-    same(&rt, read, Ok(unreachable));
+    same(&rt, read(&octets, &ignored), Ok(unreachable));
 }
 
 // A packet that has this bit turned is refused where its checksum is looked at.
 fn check_turned(rt: &impl Abort, turned: (usize, u32), octets: &[u8]) {
-    let packet = Packet::new_unchecked(octets);
-    holds_of(rt, turned, !packet.verify_checksum());
-    holds_of(rt, turned, Repr::parse(&packet, &ALL).is_err());
-    let receives = all(Checksum::Rx);
-    holds_of(rt, turned, Repr::parse(&packet, &receives).is_err());
+    let taken = [
+        Packet::new_unchecked(octets).verify_checksum(),
+        read(octets, &ALL).is_ok(),
+        read(octets, &all(Checksum::Rx)).is_ok(),
+    ];
+    same_of(rt, turned, taken, [false; 3]);
 }
 
 #[test]
@@ -119,10 +116,9 @@ fn a_checksum_that_is_wrong_by_a_bit_is_refused(rt: HostRuntime) {
 fn a_wrong_checksum_that_is_not_looked_at_is_taken(rt: HostRuntime) {
     let mut octets = PORT_UNREACHABLE;
     octets[3] ^= 1;
-    let packet = Packet::new_unchecked(&octets[..]);
     let ignored = ChecksumCapabilities::ignored();
-    same(&rt, Repr::parse(&packet, &ignored).is_ok(), true);
-    same(&rt, Repr::parse(&packet, &all(Checksum::Tx)).is_ok(), true);
+    same(&rt, read(&octets, &ignored).is_ok(), true);
+    same(&rt, read(&octets, &all(Checksum::Tx)).is_ok(), true);
 }
 
 #[test]
@@ -141,16 +137,14 @@ fn other_messages_are_refused(rt: HostRuntime) -> Result<(), Fail> {
     ];
     for &(kind, code, accepted) in ROWS {
         let octets = [kind, code, 0, 0, 0, 0, 0, 0];
-        let read = Repr::parse(&Packet::new_unchecked(&octets[..]), &ignored);
-        same_of(&rt, (kind, code), read.is_ok(), accepted);
+        same_of(&rt, (kind, code), read(&octets, &ignored).is_ok(), accepted);
     }
     Ok(())
 }
 
 #[test]
 fn a_packet_of_zeros_is_refused_where_its_checksum_is_looked_at(rt: HostRuntime) {
-    let read = Repr::parse(&Packet::new_unchecked(&[0u8; 8][..]), &ALL);
-    same(&rt, read, Err(Error));
+    same(&rt, read(&[0; 8], &ALL), Err(Error));
 }
 
 #[test]
@@ -159,8 +153,7 @@ fn packets_without_a_whole_header_are_refused(rt: HostRuntime) {
     let octets = [0u8; 8];
     for len in 0..8usize {
         holds_of(&rt, len, Packet::new_checked(&octets[..len]).is_err());
-        let packet = Packet::new_unchecked(&octets[..len]);
-        holds_of(&rt, len, Repr::parse(&packet, &ignored).is_err());
+        holds_of(&rt, len, read(&octets[..len], &ignored).is_err());
     }
 }
 
@@ -168,8 +161,7 @@ fn packets_without_a_whole_header_are_refused(rt: HostRuntime) {
 fn packets_are_read_at_each_shorter_length(rt: HostRuntime) -> Result<(), Fail> {
     let ignored = ChecksumCapabilities::ignored();
     for len in 0..36usize {
-        let packet = Packet::new_unchecked(&PORT_UNREACHABLE[..len]);
-        holds_of(&rt, len, Repr::parse(&packet, &ignored).is_err());
+        holds_of(&rt, len, read(&PORT_UNREACHABLE[..len], &ignored).is_err());
     }
     Ok(())
 }
@@ -203,14 +195,19 @@ fn a_checksum_that_is_filled_verifies(rt: HostRuntime) {
 #[test]
 fn fields_that_are_read(rt: HostRuntime) -> Result<(), Fail> {
     let packet = Packet::new_checked(&TIMESTAMP[..])?;
-    same(&rt, packet.check_len(), Ok(()));
     same(&rt, packet.msg_type(), Message::Timestamp);
     same(&rt, packet.msg_code(), 7);
     same(&rt, packet.echo_ident(), 0x5678);
     same(&rt, packet.echo_seq_no(), 0x9abc);
+    Ok(())
+}
+
+#[test]
+fn data_stand_behind_the_header(rt: HostRuntime) {
+    let packet = Packet::new_unchecked(&TIMESTAMP[..]);
+    same(&rt, packet.check_len(), Ok(()));
     same(&rt, packet.header_len(), 8);
     same(&rt, packet.data(), [0xff, 0xff].as_slice());
-    Ok(())
 }
 
 #[test]
@@ -251,8 +248,8 @@ fn a_quoted_length_below_its_data_has_the_normal_form_of_the_whole(rt: HostRunti
     let mut part = [0; 36];
     write_unreachable(&mut part, 4, &ALL);
     same(&rt, whole == part, false);
-    let one = Repr::parse(&Packet::new_unchecked(&whole[..]), &ALL);
-    let other = Repr::parse(&Packet::new_unchecked(&part[..]), &ALL);
+    let one = read(&whole, &ALL);
+    let other = read(&part, &ALL);
     same(&rt, one, other);
     if let (Ok(one), Ok(other)) = (one, other) {
         Repr::same_text(&one, &other, &ALL);

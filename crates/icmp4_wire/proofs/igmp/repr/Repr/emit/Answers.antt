@@ -1,7 +1,10 @@
-use Rattle.std.proofs.Common.{sym}
+use Rattle.std.proofs.Common.{sym, arith}
 use Rattle.wirebase.proofs.Chains.{lent}
 use Rattle.icmp4_wire.specs.Igmp.{Emits}
 use Rattle.icmp4_wire.proofs.igmp.repr.Repr.emit.Goals as goal
+
+pub emit_into-requires : goal.emit_into-requires
+emit_into-requires g c = omega (arith, c.octets_mut.ensures.len, c.requires)
 
 pub returns-clause-emits : goal.returns-clause-emits
 returns-clause-emits g c =
