@@ -5,7 +5,7 @@ ghost use Rattle.std.specs.Prelude.{◌≡◌, ◌≤◌, ◌↔◌, ◌++◌, l
 ghost use Rattle.std.specs.Fmt.{WritesOnOk};
 ghost use Rattle.wirebase.specs.Ethernet.{Ethernet, octets_of, hex_byte, hex_colons};
 
-use std::fmt;
+use std::fmt::{self, Display};
 use std::marker::Model;
 
 #[cfg(test)]
