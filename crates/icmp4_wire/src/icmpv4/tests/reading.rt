@@ -237,6 +237,10 @@ fn numbers_of_the_enums(rt: HostRuntime) {
     same(&rt, TimeExceeded::from(1), TimeExceeded::FragExpired);
     same(&rt, ParamProblem::from(2), ParamProblem::BadLength);
     same(&rt, ParamProblem::from(3), ParamProblem::Unknown(3));
+}
+
+#[test]
+fn order_of_types(rt: HostRuntime) {
     assert!(rt; Message::Redirect < Message::EchoRequest);
     assert!(rt; Message::TimestampReply < Message::Unknown(0));
 }

@@ -70,17 +70,25 @@ fn echo_requests_are_written(rt: HostRuntime) -> Result<(), Fail> {
     Ok(())
 }
 
+const REPLY: Repr<'static> = Repr::EchoReply {
+    ident: 0,
+    seq_no: 0,
+    data: &[],
+};
+
+// Writes the reply.
+fn write_reply(octets: &mut [u8], capabilities: &ChecksumCapabilities)
+    requires { 8 ≤ length octets.old }
+{
+    REPLY.emit(&mut Packet::new_unchecked(octets), capabilities);
+}
+
 #[test]
 fn echo_replies_are_written(rt: HostRuntime) -> Result<(), Fail> {
-    let reply = Repr::EchoReply {
-        ident: 0,
-        seq_no: 0,
-        data: &[],
-    };
-    same(&rt, reply.buffer_len(), 8);
+    same(&rt, REPLY.buffer_len(), 8);
     for fill in FILLS {
         let mut octets = [fill; 8];
-        reply.emit(&mut Packet::new_unchecked(&mut octets[..]), &ALL);
+        write_reply(&mut octets, &ALL);
         same_of(
             &rt,
             fill,
@@ -88,10 +96,7 @@ fn echo_replies_are_written(rt: HostRuntime) -> Result<(), Fail> {
             [0x00, 0x00, 0xff, 0xff, 0x00, 0x00, 0x00, 0x00].as_slice(),
         );
         let mut unsealed = [fill; 8];
-        reply.emit(
-            &mut Packet::new_unchecked(&mut unsealed[..]),
-            &all(Checksum::Rx),
-        );
+        write_reply(&mut unsealed, &all(Checksum::Rx));
         same_of(&rt, fill, unsealed.as_slice(), [0; 8].as_slice());
     }
     Ok(())
