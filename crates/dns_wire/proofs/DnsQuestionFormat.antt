@@ -16,6 +16,7 @@ use Rattle.dns_wire.specs.declared.dns.tables.Type.TheVariants as kind
 use Rattle.dns_wire.specs.DnsTables.{type_number, types, type_rows, type_of}
 use Rattle.dns_wire.specs.DnsQuestion.{QuestionValue, type_field, IsQuestion, text, text_len, IsCanonical, format}
 use Rattle.dns_wire.specs.DnsQuestion.{Emits}
+use Rattle.dns_wire.specs.DnsPart.{IsSplit}
 use Rattle.dns_wire.proofs.DnsPartLen.{split_begins, begins_one}
 
 -- ---- types of record
@@ -69,13 +70,17 @@ question_reads q bytes rest c e =
 abbrev question_of : List ℕ → RecordType → QuestionValue
 question_of n t = record { name = n; kind = t }
 
+pub question_split : (bytes : List ℕ) (v : QuestionValue) (rest : List ℕ) (h : IsQuestion bytes v rest)
+    → IsSplit bytes v.name h.after
+question_split bytes v rest h = record { name_ = h.name_; whole = h.whole }
+
 pub question_one : (bytes : List ℕ) (v w : QuestionValue) (rest other : List ℕ) → IsQuestion bytes v rest
     → IsQuestion bytes w other → (v ≡ w) × (rest ≡ other)
 question_one bytes v w rest other h k =
     let long : length v.name ≡ length w.name =
     begins_one bytes (length v.name) (length w.name)
-    (split_begins bytes v.name h.after (record { name_ = h.name_; whole = h.whole }))
-    (split_begins bytes w.name k.after (record { name_ = k.name_; whole = k.whole })) in
+    (split_begins bytes v.name h.after (question_split bytes v rest h))
+    (split_begins bytes w.name k.after (question_split bytes w other k)) in
     let names : v.name ≡ w.name =
     sym (take_at v.name h.after (length v.name) refl)
     ∙ (ap (λ t. take (length v.name) t) (sym h.whole ∙ k.whole) ∙ take_at w.name k.after (length v.name) (sym long))

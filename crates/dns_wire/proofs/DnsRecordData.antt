@@ -1,10 +1,12 @@
--- Bytes are data of a type in one way.
+-- Bytes are data of a type in one way, and a record is a name and what stands behind it.
 use Rattle.std.proofs.Common.{◌≡◌, ◌↔◌, ℕ, List, sym, ap, ◌∙◌}
 use Rattle.wirebase.specs.declared.ipv6.address.Ipv6Address.{Ipv6Address}
 use Rattle.wirebase.specs.Ipv6Address.{octets_of}
 use Rattle.dns_wire.specs.declared.dns.tables.Type.{«Type» as RecordType}
 use Rattle.dns_wire.specs.declared.dns.tables.Type.TheVariants as kind
-use Rattle.dns_wire.specs.DnsRecord.{DataValue, address4, address6, canonical_name, other, IsData}
+use Rattle.dns_wire.specs.DnsPart.{IsSplit}
+use Rattle.dns_wire.specs.DnsRecord.{DataValue, address4, address6, canonical_name, other, IsData, RecordValue}
+use Rattle.dns_wire.specs.DnsRecord.{IsRecord, IsBehindName}
 
 pub address6-one : (t : RecordType) (bytes : List ℕ) (a : Ipv6Address) → t ≡ kind.Aaaa → octets_of a ≡ bytes
     → ((x y : Ipv6Address) → (x ≡ y) ↔ (octets_of x ≡ octets_of y)) → (value : DataValue) → IsData t bytes value
@@ -13,3 +15,27 @@ address6-one t bytes a e is same (address4 b) h = let never : kind.A ≡ kind.Aa
 address6-one t bytes a e is same (address6 b) h = ap address6 ((same a b).1 (is ∙ sym h.2))
 address6-one t bytes a e is same (canonical_name name) h = let never : kind.Cname ≡ kind.Aaaa = sym h.0 ∙ e in cc
 address6-one t bytes a e is same (other u rest) h = absurd (h.1 e)
+
+pub record_split : (bytes : List ℕ) (r : RecordValue) (rest : List ℕ) (h : IsRecord bytes r rest)
+    → IsSplit bytes r.name h.after
+record_split bytes r rest h = record { name_ = h.name_; whole = h.whole }
+
+pub record_behind : (bytes : List ℕ) (r : RecordValue) (rest : List ℕ) (h : IsRecord bytes r rest)
+    → IsBehindName h.after r.ttl r.holds rest
+record_behind bytes r rest h = record {
+  reaches = h.reaches;
+  class = h.class;
+  ttl_ = h.ttl_;
+  fits = h.fits;
+  data_ = h.data_;
+  rest_ = h.rest_;
+}
+
+abbrev record_of : List ℕ → ℕ → DataValue → RecordValue
+record_of name ttl holds = record { name = name; ttl = ttl; holds = holds }
+
+pub same_record : (r : RecordValue) (name : List ℕ) (ttl : ℕ) (holds : DataValue) → name ≡ r.name → ttl ≡ r.ttl
+    → holds ≡ r.holds → record_of name ttl holds ≡ r
+same_record r name ttl holds e f g =
+    ap (λ (n : List ℕ). record_of n ttl holds) e
+    ∙ (ap (λ (t : ℕ). record_of r.name t holds) f ∙ ap (λ (d : DataValue). record_of r.name r.ttl d) g)

@@ -74,3 +74,13 @@ pub record IsRecord (bytes : List ℕ) (r : RecordValue) (rest : List ℕ) : Typ
   pub data_ : IsData (type_of (number_of type_field after))
       (take (number_of length_field after) (drop 10 after)) r.holds
   pub rest_ : rest ≡ drop (number_of length_field after) (drop 10 after)
+
+-- what stands behind the name of a record, and then a rest
+pub record IsBehindName (after : List ℕ) (ttl : ℕ) (holds : DataValue) (rest : List ℕ) : Type 0 where
+  pub reaches : Reaches length_field after
+  pub class : number_of class_field after ≡ internet
+  pub ttl_ : ttl ≡ number_of ttl_field after
+  pub fits : number_of length_field after ≤ length (drop 10 after)
+  pub data_ : IsData (type_of (number_of type_field after))
+      (take (number_of length_field after) (drop 10 after)) holds
+  pub rest_ : rest ≡ drop (number_of length_field after) (drop 10 after)

@@ -2,6 +2,7 @@
 
 ghost use Rattle.std.specs.Prelude.{◌≡◌, List, ℕ, IfOk, IsOkAnd};
 ghost use Rattle.dns_wire.specs.DnsRecord.{DataValue, data_value, IsData, RecordValue, value_of, IsRecord};
+ghost use Rattle.dns_wire.specs.DnsRecord.{IsBehindName};
 
 use crate::dns::part::split_name;
 use crate::dns::question::CLASS_IN;
@@ -44,22 +45,35 @@ impl<'a> Record<'a> {
             → IsOkAnd result (λ read. (value_of read.1 ≡ value) × (read.0.now ≡ rest)) }
     {
         let (name, after) = split_name(buffer)?;
-        if after.len() < field::END {
-            return Err(Error);
-        }
-        if after.u16_at(field::CLASS) != CLASS_IN {
-            return Err(Error);
-        }
-        let len = after.u16_at(field::LENGTH) as usize;
-        let behind = &after[field::END..];
-        if behind.len() < len {
-            return Err(Error);
-        }
-        let type_ = Type::from(after.u16_at(field::TYPE));
-        let data = RecordData::parse(type_, &behind[..len])?;
-        let ttl = after.u32_at(field::TTL);
-        Ok((&behind[len..], Record { name, ttl, data }))
+        let (rest, ttl, data) = read_behind_name(after)?;
+        Ok((rest, Record { name, ttl, data }))
     }
+}
+
+// What stands behind the record, its time to live and its data; the octets begin behind its name.
+fn read_behind_name(octets: &[u8]) -> Result<(&[u8], u32, RecordData<'_>)>
+    ensures sound { IfOk result
+        (λ read. IsBehindName octets.now read.1 (data_value read.2) read.0.now) }
+    ensures complete { (ttl : ℕ) (holds : DataValue) (rest : List ℕ) → IsBehindName octets.now ttl
+        holds
+        rest
+        → IsOkAnd result
+        (λ read. (read.1 ≡ ttl) × (data_value read.2 ≡ holds) × (read.0.now ≡ rest)) }
+{
+    if octets.len() < field::END {
+        return Err(Error);
+    }
+    if octets.u16_at(field::CLASS) != CLASS_IN {
+        return Err(Error);
+    }
+    let len = octets.u16_at(field::LENGTH) as usize;
+    let behind = &octets[field::END..];
+    if behind.len() < len {
+        return Err(Error);
+    }
+    let type_ = Type::from(octets.u16_at(field::TYPE));
+    let data = RecordData::parse(type_, &behind[..len])?;
+    Ok((&behind[len..], octets.u32_at(field::TTL), data))
 }
 
 /// What a record holds.
