@@ -1,5 +1,4 @@
 //! Values as they are written.
-#![tactic(auto, using(crate::proofs::Dhcpv4Emission::emission))]
 
 ghost use Rattle.std.specs.Prelude.{◌≡◌, ◌≤◌, ◌<◌, ◌+◌, ◌^◌, ◌∷◌, Ok, Some, length, map, flat_map};
 ghost use Rattle.std.specs.Prelude.{take, drop};
@@ -108,7 +107,6 @@ impl Repr<'_> {
     }
 
     // Writes the fixed part of the packet over the front of the octets.
-    #[tactic(auto, using(wirebase::proofs::Chains::chain), unfolding(crate::specs::Dhcpv4::header_text))]
     fn write_header(&self, octets: &mut [u8])
         requires { 240 ≤ length octets.old }
         ensures { octets.new ≡ over octets.old (header_text (value_of self.now)) }
@@ -118,7 +116,6 @@ impl Repr<'_> {
     }
 
     // Writes each field of the fixed part.
-    #[tactic(auto)]
     fn put_header(&self, w: &mut ByteWriter<'_>)
         requires { 240 ≤ length (free_bytes w.old) }
         ensures puts { Puts w.old w.new (header_fields (value_of self.now)) }
@@ -129,7 +126,6 @@ impl Repr<'_> {
     }
 
     // Writes the numbers in front of the addresses of the fixed part.
-    #[tactic(auto)]
     fn put_numbers(&self, w: &mut ByteWriter<'_>)
         requires { 240 ≤ length (free_bytes w.old) }
         ensures puts { Puts w.old w.new (take 7 (header_fields (value_of self.now))) }
@@ -147,7 +143,6 @@ impl Repr<'_> {
     }
 
     // Writes the addresses of the fixed part, and what stands behind them.
-    #[tactic(auto)]
     fn put_header_addresses(&self, w: &mut ByteWriter<'_>)
         requires { 228 ≤ length (free_bytes w.old) }
         ensures puts { Puts w.old w.new (drop 7 (header_fields (value_of self.now))) }
@@ -265,6 +260,7 @@ fn put_message_type(w: &mut DhcpOptionWriter<'_>, kind: u8, message_type: Messag
 
 // Each of these writes an option, or options, unless one before was refused.
 
+#[tactic(auto, using(crate::proofs::Dhcpv4Emission::emission))]
 fn put_all(
     w: &mut DhcpOptionWriter<'_>,
     so_far: Result<()>,
@@ -281,6 +277,7 @@ fn put_all(
     so_far
 }
 
+#[tactic(auto, using(crate::proofs::Dhcpv4Emission::emission))]
 fn put_option(
     w: &mut DhcpOptionWriter<'_>,
     so_far: Result<()>,

@@ -1,5 +1,4 @@
 //! The names of a server and of a file to start from: texts in fields of fixed size.
-#![tactic(auto, using(wirebase::proofs::Pieces::pieces))]
 
 ghost use Rattle.std.specs.Prelude.{◌≡◌, ◌<◌, List, ℕ, length, take, slice_index, IfOk, OnErr, IsOkAnd};
 ghost use Rattle.wirebase.specs.Bytes.{Reaches, bytes_of};

@@ -109,7 +109,6 @@ impl<'a> DhcpOptionWriter<'a> {
 
     /// Writes an option: its kind, the number of bytes of its data, and the data. Refused where the data has more than
     /// 255 bytes, and where fewer bytes are free than that takes; then nothing changes.
-    #[tactic(auto, using(crate::proofs::Dhcpv4Writes::writes))]
     pub fn emit(&mut self, option: DhcpOption<'_>) -> Result<()>
         ensures accepts { IsOk result
             ↔ Fits (length (free self.old)) (value_of_option option.entry) }
@@ -137,7 +136,6 @@ impl<'a> DhcpOptionWriter<'a> {
     }
 
     /// Writes the end mark. After that no byte is free. Refused where none is; then nothing changes.
-    #[tactic(auto, using(crate::proofs::Dhcpv4Writes::writes))]
     pub fn end(&mut self) -> Result<()>
         ensures accepts { IsOk result ↔ (0 < length (free self.old)) }
         ensures settled { OnOk result

@@ -1,5 +1,4 @@
 //! A view of the octets of a packet.
-#![tactic(auto, using(wirebase::proofs::Pieces::pieces))]
 
 ghost use Rattle.std.specs.Prelude.{◌≡◌, ◌≤◌, ◌↔◌, [], ◌∷◌, List, length, IsTrue, IsOk, IfOk, replicate};
 ghost use Rattle.std.specs.Borrow.{sem, follows, Array, u8 as byte};

@@ -1,5 +1,4 @@
 //! What a packet says.
-#![tactic(auto, using(wirebase::proofs::Pieces::pieces))]
 
 ghost use Rattle.std.specs.Prelude.{◌≡◌, ◌≤◌, ◌↔◌, ⊤, length, IsOk, IfOk, IsOkAnd};
 ghost use Rattle.std.specs.Option.{option_map};

@@ -1,5 +1,4 @@
 //! The view of a DNS message.
-#![tactic(auto, using(wirebase::proofs::Pieces::pieces))]
 
 ghost use Rattle.std.specs.Prelude.{◌≡◌, ◌≤◌, ◌<◌, ◌-◌, ℕ, List, ◌↔◌, [], ◌∷◌, length, IsTrue, IsOk, IfOk};
 ghost use Rattle.std.specs.Borrow.{sem, Lends, Array, u8 as byte};
@@ -257,6 +256,7 @@ impl<T: OctetsMut> Packet<T> {
     }
 
     /// Lends the questions and records for writing; the header stays. Asks 12 bytes.
+    #[tactic(auto, using(wirebase::proofs::Pieces::pieces))]
     pub fn payload_mut(&mut self) -> &mut [u8]
         requires { Reaches header (T.bytes (inner self.old)) }
         ensures* lends { sem 𝓛 (Lends (the_row T.row) (Array byte 0) self.entry result

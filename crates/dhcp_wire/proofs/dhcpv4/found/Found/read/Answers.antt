@@ -1,4 +1,4 @@
-use Rattle.std.proofs.Common.{◌≡◌, ℕ, List, sym, ap, subst, ◌∙◌}
+use Rattle.std.proofs.Common.{◌≡◌, ℕ, Bool, true, false, List, sym, ap, subst, ◌∙◌}
 use Rattle.wirebase.specs.Bytes.{byte_of}
 use Rattle.wirebase.specs.LastOf.{keep_all}
 use Rattle.wirebase.proofs.LastOf.{keep_all-none, keep_all-more}
@@ -27,6 +27,13 @@ loop-option-init c =
       all_good = λ h. subst (λ (os : List OptionValue). AreOfEthernet os) same h;
     }
 
+pub returns-then-not-is_of_ethernet-clause-refused : goal.returns-then-not-is_of_ethernet-clause-refused
+returns-then-not-is_of_ethernet-clause-refused c = λ all.
+    let left = subst (λ (os : List OptionValue). AreOfEthernet os) c.in-Some.ensures.steps
+    (c.loop-option.invariant.all_good all) in
+    let is = c.is_of_ethernet.ensures.1 left.0 in
+    let never : true ≡ false = sym is ∙ c.if-not-is_of_ethernet.true in cc
+
 pub loop-option-preserved : goal.loop-option-preserved
 loop-option-preserved c =
     let op = byte_of op_field (inner c.args.packet.now).now in
@@ -53,3 +60,8 @@ returns-clause-found c =
     sym (keep_all-none (keep op) k)
     ∙ ap (λ (os : List OptionValue). keep_all (keep op) k os) (sym c.in-None.ensures.steps.0)
     ∙ c.loop-option.invariant.kept
+
+pub returns-clause-accepted : goal.returns-clause-accepted
+returns-clause-accepted c =
+    c.loop-option.invariant.good
+    (subst (λ (os : List OptionValue). AreOfEthernet os) (sym c.in-None.ensures.steps.0) tt)

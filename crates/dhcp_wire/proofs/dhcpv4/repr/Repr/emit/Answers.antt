@@ -1,8 +1,13 @@
-use Rattle.std.proofs.Common.{ℕ, List, sym}
+use Rattle.std.proofs.Common.{ℕ, List, sym, ap}
 use Rattle.wirebase.proofs.Chains.{lent}
 use Rattle.dhcp_wire.specs.Dhcpv4.{value_of}
 use Rattle.dhcp_wire.specs.Dhcpv4Format.{Emits}
 use Rattle.dhcp_wire.proofs.dhcpv4.repr.Repr.emit.Goals as goal
+
+pub returns-clause-place : goal.returns-clause-place
+returns-clause-place g c =
+    ap (λ (bytes : List ℕ). g.T.OctetsMut.put c.args.packet.now.buffer bytes)
+    (sym (g.met.T.OctetsMut.bytes_put c.args.packet.now.buffer _))
 
 pub returns-clause-emits : goal.returns-clause-emits
 returns-clause-emits g c =
