@@ -47,23 +47,14 @@ fn check(
 ) {
     let mut walk: NameIter<'_> = Packet::new_unchecked(message).parse_name(slice);
     same(rt, walk.steps(), 0);
-    for label in labels {
-        match walk.next() {
-            Some(Ok(found)) => same(rt, found, *label),
-            _ => panic!(rt; "no label"),
-        }
+    for &label in labels {
+        same(rt, walk.next(), Some(Ok(label)));
     }
     if broken {
-        match walk.next() {
-            Some(Err(error)) => same(rt, error, Error),
-            _ => panic!(rt; "no error"),
-        }
+        same(rt, walk.next(), Some(Err(Error)));
     }
     for _ in 0..2 {
-        match walk.next() {
-            None => {}
-            Some(_) => panic!(rt; "no end"),
-        }
+        same(rt, walk.next(), None);
     }
     same(rt, walk.steps(), steps);
 }
@@ -127,13 +118,12 @@ fn a_label_cut_by_its_window(rt: HostRuntime) {
 
 #[test]
 fn slices_outside_the_message(rt: HostRuntime) {
+    const BROKEN: &[&[u8]] = &[&[], &[0x40], &[0x80, 0x00], &[0xc0, 0x0c], &[0xc0]];
     let zeros = [0; 12];
     check(&rt, &zeros, &[1, 0x78, 0xc0, 0x0b], &[b"x"], false, 2);
-    check(&rt, &zeros, &[], &[], true, 0);
-    check(&rt, &zeros, &[0x40], &[], true, 0);
-    check(&rt, &zeros, &[0x80, 0x00], &[], true, 0);
-    check(&rt, &zeros, &[0xc0, 0x0c], &[], true, 0);
-    check(&rt, &zeros, &[0xc0], &[], true, 0);
+    for &slice in BROKEN {
+        check(&rt, &zeros, slice, &[], true, 0);
+    }
     check(&rt, &[], &[0], &[], false, 0);
 }
 
@@ -145,14 +135,19 @@ fn the_greatest_target(rt: HostRuntime) -> Result<(), Fail> {
     Ok(())
 }
 
+// Appends a pointer to this place.
+fn put_pointer(message: &mut Vec<u8>, target: u16) -> Result<(), Fail> {
+    message.push(0xc0 | (target >> 8) as u8)?;
+    message.push((target & 0xff) as u8)?;
+    Ok(())
+}
+
 // A zero byte, then pointers, each to the one before it and the first to the zero byte.
 #[test]
 fn five_thousand_pointers(rt: HostRuntime) -> Result<(), Fail> {
     let mut message = vec![in rt.alloc(); 0]?;
     for k in 0..5000u16 {
-        let target = if k == 0 { 0 } else { 2 * k - 1 };
-        message.push(0xc0 | (target >> 8) as u8)?;
-        message.push((target & 0xff) as u8)?;
+        put_pointer(&mut message, if k == 0 { 0 } else { 2 * k - 1 })?;
     }
     same(&rt, message.len(), 10_001);
     check(&rt, &message, &message[9999..], &[], false, 5000);
@@ -162,28 +157,57 @@ fn five_thousand_pointers(rt: HostRuntime) -> Result<(), Fail> {
 // What a walk gives: each label after its length, whether the name ends, and the steps.
 type Found = (Vec<u8>, bool, usize);
 
+fn put_label(labels: &mut Vec<u8>, label: &[u8]) -> Result<(), Fail> {
+    labels.push(label.len().min(255) as u8)?;
+    labels.extend_from_slice(label)?;
+    Ok(())
+}
+
+// What a walk meets at the front of a window.
+enum Step<'a> {
+    // A label, and the window behind it.
+    Label(&'a [u8], &'a [u8]),
+    // The place that a pointer leads to, and the window from there on.
+    Pointer(usize, &'a [u8]),
+    End,
+    Broken,
+}
+
+// One step over a window; a pointer leads to below `above`.
+fn plain_step<'a>(message: &'a [u8], window: &'a [u8], above: usize) -> Step<'a> {
+    match window {
+        [0, ..] => Step::End,
+        [len, rest @ ..] if *len < 64 && *len as usize <= rest.len() => {
+            Step::Label(&rest[..*len as usize], &rest[*len as usize..])
+        }
+        [high, low, ..] if *high >= 0xc0 => {
+            let target = (*high as usize - 0xc0) * 256 + *low as usize;
+            if target >= above || above > message.len() {
+                return Step::Broken;
+            }
+            Step::Pointer(target, &message[target..above])
+        }
+        _ => Step::Broken,
+    }
+}
+
 // The labels along the falling path, a window after another. Each turn is one step.
 fn plain_walk(alloc: Global, message: &[u8], slice: &[u8]) -> Result<Found, Fail> {
     let mut labels = Vec::new(alloc);
     let mut window = slice;
     let mut above = message.len();
     for turn in 0..16usize {
-        match window {
-            [0, ..] => return Ok((labels, true, turn)),
-            [len, rest @ ..] if *len < 64 && *len as usize <= rest.len() => {
-                labels.push(*len)?;
-                labels.extend_from_slice(&rest[..*len as usize])?;
-                window = &rest[*len as usize..];
+        match plain_step(message, window, above) {
+            Step::Label(label, behind) => {
+                put_label(&mut labels, label)?;
+                window = behind;
             }
-            [high, low, ..] if *high >= 0xc0 => {
-                let target = (*high as usize - 0xc0) * 256 + *low as usize;
-                if target >= above || above > message.len() {
-                    return Ok((labels, false, turn));
-                }
-                window = &message[target..above];
+            Step::Pointer(target, below) => {
+                window = below;
                 above = target;
             }
-            _ => return Ok((labels, false, turn)),
+            Step::End => return Ok((labels, true, turn)),
+            Step::Broken => return Ok((labels, false, turn)),
         }
     }
     Err(Fail::from("too many steps"))
@@ -194,30 +218,27 @@ fn iterated_walk(alloc: Global, message: &[u8], slice: &[u8]) -> Result<Found, F
     let mut walk = Packet::new_unchecked(message).parse_name(slice);
     while let Some(item) = walk.next() {
         match item {
-            Ok(label) => {
-                labels.push(label.len().min(255) as u8)?;
-                labels.extend_from_slice(label)?;
-            }
+            Ok(label) => put_label(&mut labels, label)?,
             Err(_) => return Ok((labels, false, walk.steps())),
         }
     }
     Ok((labels, true, walk.steps()))
 }
 
+// Compares the walks over the name that begins in a slice.
+fn compare_walk(rt: &impl Abort, alloc: Global, message: &[u8], slice: &[u8]) -> Result<(), Fail> {
+    let plain = plain_walk(alloc, message, slice)?;
+    let found = iterated_walk(alloc, message, slice)?;
+    same_of(rt, (slice, message), found.0.as_slice(), plain.0.as_slice());
+    same_of(rt, (slice, message), found.1, plain.1);
+    same_of(rt, (slice, message), found.2, plain.2);
+    Ok(())
+}
+
 // Compares the walks from each place of a message.
 fn compare_walks(rt: &impl Abort, alloc: Global, message: &[u8]) -> Result<(), Fail> {
     for offset in 0..=message.len() {
-        let slice = &message[offset..];
-        let plain = plain_walk(alloc, message, slice)?;
-        let found = iterated_walk(alloc, message, slice)?;
-        same_of(
-            rt,
-            (offset, message),
-            found.0.as_slice(),
-            plain.0.as_slice(),
-        );
-        same_of(rt, (offset, message), found.1, plain.1);
-        same_of(rt, (offset, message), found.2, plain.2);
+        compare_walk(rt, alloc, message, &message[offset..])?;
     }
     Ok(())
 }
@@ -247,7 +268,7 @@ fn all_short_messages_and_offsets(rt: HostRuntime) -> Result<(), Fail> {
 }
 
 // What a byte of a message is set to, one byte at a time.
-const DAMAGE: [u8; 6] = [0x00, 0x40, 0x7f, 0x80, 0xc0, 0xff];
+const DAMAGE: &[u8] = &[0x00, 0x40, 0x7f, 0x80, 0xc0, 0xff];
 
 // Compares the walks over each shorter part of a message, and over each copy of it in which one byte is damaged.
 fn compare_damaged(rt: &impl Abort, alloc: Global, message: &[u8]) -> Result<(), Fail> {
@@ -255,7 +276,7 @@ fn compare_damaged(rt: &impl Abort, alloc: Global, message: &[u8]) -> Result<(),
         compare_walks(rt, alloc, &message[..len])?;
     }
     for at in 0..message.len() {
-        for value in DAMAGE {
+        for &value in DAMAGE {
             let octets = damaged(alloc, message, at, value)?;
             compare_walks(rt, alloc, octets.as_slice())?;
         }

@@ -68,15 +68,22 @@ fn read_data(kind: u16, data: &[u8]) -> Option<RecordData<'_>> {
     }
 }
 
+// The numbers behind the name of a record, which are its type, its time to live and its length, and what stands behind
+// them.
+fn read_numbers(octets: &[u8]) -> Option<(u16, u32, usize, &[u8])> {
+    let [k0, k1, 0, 1, t0, t1, t2, t3, n0, n1, behind @ ..] = octets else {
+        return None;
+    };
+    let kind = u16::from_be_bytes([*k0, *k1]);
+    let ttl = u32::from_be_bytes([*t0, *t1, *t2, *t3]);
+    Some((kind, ttl, u16::from_be_bytes([*n0, *n1]) as usize, behind))
+}
+
 // What stands behind the record at the front of the octets, and the record.
 fn read_record(octets: &[u8]) -> Option<(&[u8], Record<'_>)> {
     let (name, behind) = read_name(octets)?;
-    let [k0, k1, 0, 1, t0, t1, t2, t3, n0, n1, behind @ ..] = behind else {
-        return None;
-    };
-    let len = u16::from_be_bytes([*n0, *n1]) as usize;
-    let data = read_data(u16::from_be_bytes([*k0, *k1]), behind.get(..len)?)?;
-    let ttl = u32::from_be_bytes([*t0, *t1, *t2, *t3]);
+    let (kind, ttl, len, behind) = read_numbers(behind)?;
+    let data = read_data(kind, behind.get(..len)?)?;
     Some((behind.get(len..)?, Record { name, ttl, data }))
 }
 

@@ -1,8 +1,6 @@
-use Rattle.std.proofs.Common.{length, sym, ap, ◌∙◌, arith}
+use Rattle.std.proofs.Common.{length, ap, ◌∙◌, arith}
 use Rattle.std.proofs.lemmas.List.{take_rest}
-use Rattle.wirebase.specs.Bytes.{number_of}
 use Rattle.dns_wire.specs.DnsTables.{type_of}
-use Rattle.dns_wire.specs.DnsQuestion.{class_field}
 use Rattle.dns_wire.proofs.DnsQuestionFormat.{question_one, question_split}
 use Rattle.dns_wire.proofs.dns.question.Question.read.Goals as goal
 
@@ -15,11 +13,6 @@ returns-then-after-lt-END-clause-complete c value rest is =
     let split = c.in_ok-name.ensures.complete value.name is.after (question_split c.args.buffer.now value rest is) in
     absurd (omega (arith, ap length split.1, is.reaches))
 
-pub returns-then-u16_at-ne-CLASS_IN-clause-complete : goal.returns-then-u16_at-ne-CLASS_IN-clause-complete
-returns-then-u16_at-ne-CLASS_IN-clause-complete c value rest is =
-    let split = c.in_ok-name.ensures.complete value.name is.after (question_split c.args.buffer.now value rest is) in
-    absurd (c.if-u16_at-ne-CLASS_IN.true (c.u16_at-2.ensures ∙ (ap (number_of class_field) split.1 ∙ is.class)))
-
 pub returns-clause-sound : goal.returns-clause-sound
 returns-clause-sound c =
     let after = c.in_ok-name.after.now in
@@ -29,7 +22,7 @@ returns-clause-sound c =
       whole = c.in_ok-name.ensures.sound.whole;
       reaches = omega arith;
       kind_ = c.from-type_.ensures.value ∙ ap type_of c.u16_at.ensures;
-      class = sym c.u16_at-2.ensures ∙ c.if-u16_at-ne-CLASS_IN.false;
+      class = cc;
       rest_ = take_rest after 4;
     }
 
