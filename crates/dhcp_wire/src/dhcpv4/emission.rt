@@ -1,6 +1,6 @@
 //! Values as they are written.
 
-ghost use Rattle.std.specs.Prelude.{◌≡◌, ◌≤◌, ◌<◌, ◌+◌, ◌^◌, ◌∷◌, Ok, Some, length, map, flat_map};
+ghost use Rattle.std.specs.Prelude.{◌≡◌, ◌≤◌, ◌<◌, ◌+◌, ◌^◌, ◌∷◌, [], Ok, Some, length, map, flat_map};
 ghost use Rattle.std.specs.Prelude.{take, drop};
 ghost use Rattle.std.specs.Option.{option_map};
 ghost use Rattle.wirebase.specs.Bytes.{Reaches, over};
@@ -148,10 +148,10 @@ impl Repr<'_> {
         ensures puts { Puts w.old w.new (drop 7 (header_fields (value_of self.now))) }
         ensures same_slice { the_bytes w.new ≡ the_bytes w.old }
     {
-        w.put_bytes(&self.client_ip.octets());
-        w.put_bytes(&self.your_ip.octets());
-        w.put_bytes(&self.server_ip.octets());
-        w.put_bytes(&self.relay_agent_ip.octets());
+        put_octets(w, self.client_ip);
+        put_octets(w, self.your_ip);
+        put_octets(w, self.server_ip);
+        put_octets(w, self.relay_agent_ip);
         w.put_bytes(self.client_hardware_address.as_bytes());
         w.put_zeros(202);
         w.put_u32(MAGIC_NUMBER);
@@ -217,6 +217,16 @@ impl Repr<'_> {
         let so_far = put(w, so_far, OPT_PARAMETER_REQUEST_LIST, list);
         put_addresses(w, so_far, OPT_DOMAIN_NAME_SERVER, &self.dns_servers)
     }
+}
+
+// Writes the octets of an address of the fixed part.
+fn put_octets(w: &mut ByteWriter<'_>, address: Ipv4Address)
+    requires { 4 ≤ length (free_bytes w.old) }
+    ensures puts { Puts w.old w.new (octets_of address ∷ []) }
+    ensures room { length (free_bytes w.old) ≡ 4 + length (free_bytes w.new) }
+    ensures same_slice { the_bytes w.new ≡ the_bytes w.old }
+{
+    w.put_bytes(&address.octets());
 }
 
 // So many bytes, where what takes them is present.
@@ -428,11 +438,7 @@ fn joined(addresses: &[Ipv4Address]) -> ArrayVec<u8, ADDRESSES_LEN>
 {
     let mut data = ArrayVec::new();
     for address in addresses {
-        let [a, b, c, d] = address.octets();
-        data.push(a);
-        data.push(b);
-        data.push(c);
-        data.push(d);
+        data.try_extend_from_slice(&address.octets()).unwrap();
     }
     data
 }
