@@ -23,6 +23,22 @@ pub(super) fn packet(alloc: Global, op: u8, options: &[u8]) -> Result<Vec<u8>, F
     Ok(octets)
 }
 
+// A Discover, and behind a thousand bytes of padding a mask.
+pub(super) fn padded_discover(alloc: Global) -> Result<Vec<u8>, Fail> {
+    let mut octets = packet(alloc, 1, &[0x35, 1, 1])?;
+    octets.extend_from_slice(&[0; 1000])?;
+    octets.extend_from_slice(&[0x01, 4, 0xff, 0xff, 0xff, 0x00])?;
+    Ok(octets)
+}
+
+// Appends an option: its kind, its data and ee.
+fn put_option(listed: &mut Vec<u8>, option: DhcpOption<'_>) -> Result<(), Fail> {
+    listed.push(option.kind)?;
+    listed.extend_from_slice(option.data)?;
+    listed.push(0xee)?;
+    Ok(())
+}
+
 // The options of a packet: the kind, the data and ee of each.
 fn listed(alloc: Global, packet: &[u8]) -> Result<Vec<u8>, Fail> {
     let mut listed = Vec::new(alloc);
@@ -30,9 +46,7 @@ fn listed(alloc: Global, packet: &[u8]) -> Result<Vec<u8>, Fail> {
         return Ok(listed);
     };
     for option in view.options() {
-        listed.push(option.kind)?;
-        listed.extend_from_slice(option.data)?;
-        listed.push(0xee)?;
+        put_option(&mut listed, option)?;
     }
     Ok(listed)
 }
@@ -75,9 +89,7 @@ fn after_the_last_option_comes_the_end_for_good(rt: HostRuntime) -> Result<(), F
 
 #[test]
 fn a_thousand_bytes_of_padding_before_an_option(rt: HostRuntime) -> Result<(), Fail> {
-    let mut octets = packet(rt.alloc(), 1, &[0x35, 1, 1])?;
-    octets.extend_from_slice(&[0; 1000])?;
-    octets.extend_from_slice(&[0x01, 4, 0xff, 0xff, 0xff, 0x00])?;
+    let octets = padded_discover(rt.alloc())?;
     let options = listed(rt.alloc(), octets.as_slice())?;
     same(
         &rt,

@@ -1,9 +1,11 @@
 ghost use Rattle.std.specs.Prelude.{◌≡◌, [], None, length};
 
 use super::Repr;
+use crate::dhcpv4::tests::packet;
 use crate::dhcpv4::{DhcpOption, MAX_DNS_SERVER_COUNT, MessageType};
 use crate::testing::same;
 use arrayvec::ArrayVec;
+use std::alloc::Global;
 use std::test::Fail;
 use wirebase::{EthernetAddress, Ipv4Address};
 
@@ -62,6 +64,14 @@ fn with_options(
     }
 }
 
+// A Discover that has these options too.
+fn discover_with(alloc: Global, options: &[u8]) -> Result<Vec<u8>, Fail> {
+    let mut octets = packet(alloc, 1, &[0x35, 1, 1])?;
+    octets.extend_from_slice(options)?;
+    octets.push(0xff)?;
+    Ok(octets)
+}
+
 // The servers 10.0.0.1 to 10.0.0.5.
 fn five_servers() -> ArrayVec<Ipv4Address, MAX_DNS_SERVER_COUNT>
     ensures { length result.items ≡ 5 }
@@ -84,6 +94,11 @@ fn bytes_that_a_value_takes(rt: HostRuntime) -> Result<(), Fail> {
     repr.max_size = Some(1500);
     repr.parameter_request_list = Some(&[1, 3, 6, 42]);
     same(&rt, repr.buffer_len(), 269);
+    Ok(())
+}
+
+#[test]
+fn bytes_that_three_times_take(rt: HostRuntime) -> Result<(), Fail> {
     let mut repr = bare(MessageType::Ack);
     repr.lease_duration = Some(3600);
     repr.renew_duration = Some(1800);

@@ -1,7 +1,7 @@
-use crate::dhcpv4::tests::packet;
+use super::discover_with;
 use crate::dhcpv4::{Packet, Repr};
 use crate::plain_reader::compare_damaged;
-use crate::testing::{fail, same_of};
+use crate::testing::same_of;
 use std::alloc::Global;
 use std::process::Abort;
 use std::test::Fail;
@@ -39,6 +39,14 @@ fn held(read: &Repr<'_>, kind: u8) -> Option<u64> {
     }
 }
 
+// What a packet that is read holds of them.
+fn held_in(packet: &[u8], kind: u8) -> Option<Option<u64>> {
+    match Repr::parse(&Packet::new_unchecked(packet)) {
+        Ok(read) => Some(held(&read, kind)),
+        Err(_) => None,
+    }
+}
+
 // Compares what a Discover that has this option too holds of its kind.
 fn compare_held(
     rt: &impl Abort,
@@ -46,16 +54,10 @@ fn compare_held(
     option: &[u8],
     wanted: Option<u64>,
 ) -> Result<(), Fail> {
-    let mut octets = packet(alloc, 1, &[53, 1, 1])?;
-    octets.extend_from_slice(option)?;
-    octets.push(0xff)?;
-    let read = Repr::parse(&Packet::new_unchecked(octets.as_slice()));
-    let Ok(read) = read else {
-        fail(rt, "the packet is read");
-        return Ok(());
-    };
+    let octets = discover_with(alloc, option)?;
     let kind = *option.first().unwrap_or(&0);
-    same_of(rt, option, held(&read, kind), wanted);
+    let held = held_in(octets.as_slice(), kind);
+    same_of(rt, option, held, Some(wanted));
     compare_damaged(rt, alloc, octets.as_slice())
 }
 

@@ -1,7 +1,8 @@
-use crate::dhcpv4::tests::packet;
+use super::discover_with;
+use crate::dhcpv4::tests::{packet, padded_discover};
 use crate::dhcpv4::{MessageType, Packet, Repr};
 use crate::plain_reader::compare_damaged;
-use crate::testing::{fail, holds_of, same, same_of};
+use crate::testing::{fail, same, same_of};
 use std::process::Abort;
 use std::test::Fail;
 use wirebase::{EthernetAddress, Ipv4Address};
@@ -17,6 +18,14 @@ fn set(octets: &mut Vec<u8>, place: usize, byte: u8) {
 fn type_in(packet: &[u8]) -> Option<MessageType> {
     match Repr::parse(&Packet::new_unchecked(packet)) {
         Ok(read) => Some(read.message_type),
+        Err(_) => None,
+    }
+}
+
+// The mask of a packet, where it is read and has one.
+fn mask_in(packet: &[u8]) -> Option<Ipv4Address> {
+    match Repr::parse(&Packet::new_unchecked(packet)) {
+        Ok(read) => read.subnet_mask,
         Err(_) => None,
     }
 }
@@ -70,15 +79,12 @@ fn packets_that_are_not_of_ethernet_or_of_dhcp(rt: HostRuntime) -> Result<(), Fa
     ];
     for &(place, byte) in ROWS {
         let mut octets = packet(rt.alloc(), 1, &[0x35, 1, 1, 0xff])?;
-        assert!(rt; Repr::parse(&Packet::new_unchecked(octets.as_slice())).is_ok());
+        let whole = type_in(octets.as_slice());
+        same_of(&rt, place, whole, Some(MessageType::Discover));
         set(&mut octets, place, byte);
-        holds_of(
-            &rt,
-            place,
-            Repr::parse(&Packet::new_unchecked(octets.as_slice())).is_err(),
-        );
+        same_of(&rt, place, type_in(octets.as_slice()), None);
     }
-    assert!(rt; Repr::parse(&Packet::new_unchecked(&[1; 239][..])).is_err());
+    same(&rt, type_in(&[1; 239]), None);
     Ok(())
 }
 
@@ -91,18 +97,13 @@ fn the_last_option_of_a_kind_and_of_its_length(rt: HostRuntime) -> Result<(), Fa
             0x35, 1, 1, 1, 4, 255, 255, 255, 0, 1, 4, 255, 255, 0, 0, 0xff,
         ],
     )?;
-    let read = Repr::parse(&Packet::new_unchecked(octets.as_slice()));
-    let Ok(read) = read else {
-        fail(&rt, "the packet is read");
-        return Ok(());
-    };
-    same(
-        &rt,
-        read.subnet_mask,
-        Some(Ipv4Address::new(255, 255, 0, 0)),
-    );
-    compare_damaged(&rt, rt.alloc(), octets.as_slice())?;
+    let mask = Ipv4Address::new(255, 255, 0, 0);
+    same(&rt, mask_in(octets.as_slice()), Some(mask));
+    compare_damaged(&rt, rt.alloc(), octets.as_slice())
+}
 
+#[test]
+fn the_last_option_of_a_kind_is_of_another_length_or_cut_off(rt: HostRuntime) -> Result<(), Fail> {
     let octets = packet(
         rt.alloc(),
         1,
@@ -122,6 +123,23 @@ fn the_last_option_of_a_kind_and_of_its_length(rt: HostRuntime) -> Result<(), Fa
     );
     same(&rt, read.server_identifier, None);
     compare_damaged(&rt, rt.alloc(), octets.as_slice())
+}
+
+// Compares the list of servers of a packet.
+fn check_servers(rt: &impl Abort, packet: &[u8], wanted: &[[u8; 4]]) {
+    let read = Repr::parse(&Packet::new_unchecked(packet));
+    let Ok(read) = read else {
+        fail(rt, "the packet is read");
+        return;
+    };
+    let Some(servers) = read.dns_servers else {
+        fail(rt, "the list is present");
+        return;
+    };
+    same_of(rt, packet, servers.len(), wanted.len());
+    for (server, octets) in servers.iter().zip(wanted) {
+        same_of(rt, packet, server.octets(), *octets);
+    }
 }
 
 #[test]
@@ -145,22 +163,8 @@ fn lists_of_servers(rt: HostRuntime) -> Result<(), Fail> {
         ),
     ];
     for &(options, wanted) in ROWS {
-        let mut octets = packet(rt.alloc(), 1, &[0x35, 1, 1])?;
-        octets.extend_from_slice(options)?;
-        octets.push(0xff)?;
-        let read = Repr::parse(&Packet::new_unchecked(octets.as_slice()));
-        let Ok(read) = read else {
-            fail(&rt, "the packet is read");
-            return Ok(());
-        };
-        let Some(servers) = read.dns_servers else {
-            fail(&rt, "the list is present");
-            return Ok(());
-        };
-        same_of(&rt, options, servers.len(), wanted.len());
-        for (server, octets) in servers.iter().zip(wanted) {
-            same_of(&rt, options, server.octets(), *octets);
-        }
+        let octets = discover_with(rt.alloc(), options)?;
+        check_servers(&rt, octets.as_slice(), wanted);
         compare_damaged(&rt, rt.alloc(), octets.as_slice())?;
     }
     Ok(())
@@ -252,19 +256,9 @@ fn an_offer_with_all_that_a_client_takes(rt: HostRuntime) -> Result<(), Fail> {
 
 #[test]
 fn a_mask_behind_a_thousand_bytes_of_padding(rt: HostRuntime) -> Result<(), Fail> {
-    let mut octets = packet(rt.alloc(), 1, &[0x35, 1, 1])?;
-    octets.extend_from_slice(&[0; 1000])?;
-    octets.extend_from_slice(&[1, 4, 255, 255, 255, 0])?;
-    let read = Repr::parse(&Packet::new_unchecked(octets.as_slice()));
-    let Ok(read) = read else {
-        fail(&rt, "the packet is read");
-        return Ok(());
-    };
-    same(
-        &rt,
-        read.subnet_mask,
-        Some(Ipv4Address::new(255, 255, 255, 0)),
-    );
+    let octets = padded_discover(rt.alloc())?;
+    let mask = Ipv4Address::new(255, 255, 255, 0);
+    same(&rt, mask_in(octets.as_slice()), Some(mask));
     Ok(())
 }
 

@@ -1,3 +1,5 @@
+ghost use Rattle.std.specs.Prelude.{◌≤◌, length};
+
 use super::{bare, five_servers, with_options};
 use crate::dhcpv4::tests::packet;
 use crate::dhcpv4::{DhcpOption, MessageType, Packet, Repr};
@@ -59,6 +61,23 @@ fn written(
     Ok(octets)
 }
 
+// Writes a value over so many of 340 bytes of this content, where it fits or is refused; then this stands in them.
+fn compare_emitted(
+    rt: &impl Abort,
+    repr: &Repr<'_>,
+    fill: u8,
+    len: usize,
+    fits: bool,
+    wanted: &[u8],
+)
+    requires { (240 ≤ len) × (len ≤ 340) }
+{
+    let mut octets = [fill; 340];
+    let answer = repr.emit_into(&mut octets[..len]);
+    same_of(rt, len, answer.is_ok(), fits);
+    same_of(rt, (len, fill), &octets[..], wanted);
+}
+
 // Writes a value over buffers of every length and of three contents, and compares them with what is to stand there.
 fn compare_written(
     rt: &impl Abort,
@@ -70,10 +89,8 @@ fn compare_written(
     for fill in [0x00, 0xff, 0x2a] {
         for len in 240..=340 {
             let wanted = written(alloc, fill, first_fields, options, len)?;
-            let mut octets = [fill; 340];
-            let answer = repr.emit_into(&mut octets[..len]);
-            same_of(rt, len, answer.is_ok(), options.len() <= len - 240);
-            same_of(rt, (len, fill), &octets[..], wanted.as_slice());
+            let fits = options.len() <= len - 240;
+            compare_emitted(rt, repr, fill, len, fits, wanted.as_slice());
         }
     }
     Ok(())
@@ -173,22 +190,41 @@ const REQUEST_OPTIONS: [u8; 35] = [
 ];
 
 #[test]
-fn values_over_buffers_of_every_length_and_of_three_contents(rt: HostRuntime) -> Result<(), Fail> {
+fn discovers_over_buffers_of_every_length_and_of_three_contents(
+    rt: HostRuntime,
+) -> Result<(), Fail> {
     let alloc = rt.alloc();
     let discover = bare(MessageType::Discover);
     compare_written(&rt, alloc, &discover, &first_fields(1), &[0x35, 1, 1, 0xff])?;
     let named = with_options(MessageType::Discover, HOST_NAME);
     let named_options = [0x35, 1, 1, 12, 2, 0x61, 0x62, 0xff];
-    compare_written(&rt, alloc, &named, &first_fields(1), &named_options)?;
+    compare_written(&rt, alloc, &named, &first_fields(1), &named_options)
+}
+
+#[test]
+fn answers_over_buffers_of_every_length_and_of_three_contents(rt: HostRuntime) -> Result<(), Fail> {
+    let alloc = rt.alloc();
     compare_written(&rt, alloc, &ack(), &first_fields(2), &ACK_OPTIONS)?;
-    compare_written(&rt, alloc, &offer(), &OFFER_FIRST_FIELDS, &OFFER_OPTIONS)?;
+    compare_written(&rt, alloc, &offer(), &OFFER_FIRST_FIELDS, &OFFER_OPTIONS)
+}
+
+#[test]
+fn a_request_over_buffers_of_every_length_and_of_three_contents(
+    rt: HostRuntime,
+) -> Result<(), Fail> {
     compare_written(
         &rt,
-        alloc,
+        rt.alloc(),
         &request(),
         &REQUEST_FIRST_FIELDS,
         &REQUEST_OPTIONS,
     )
+}
+
+// Reads a packet, which is to say this.
+fn compare_read(rt: &impl Abort, packet: &[u8], repr: &Repr<'_>) {
+    let read = Repr::parse(&Packet::new_unchecked(packet));
+    assert!(rt; read.is_ok_and(|read| read == *repr));
 }
 
 #[test]
@@ -197,11 +233,14 @@ fn an_ack_with_its_three_times(rt: HostRuntime) -> Result<(), Fail> {
     let mut octets = [0x2a; 262];
     same(&rt, repr.emit_into(&mut octets), Ok(()));
     same(&rt, &octets[240..], &ACK_OPTIONS[..]);
-    let read = Repr::parse(&Packet::new_unchecked(&octets[..]));
-    assert!(rt; read.is_ok_and(|read| read == repr));
+    compare_read(&rt, &octets, &repr);
+    Ok(())
+}
 
+#[test]
+fn an_ack_without_room_for_its_last_time(rt: HostRuntime) -> Result<(), Fail> {
     let mut octets = [0x2a; 255];
-    same(&rt, repr.emit_into(&mut octets), Err(Error));
+    same(&rt, ack().emit_into(&mut octets), Err(Error));
     same(&rt, &octets[240..], &ACK_OPTIONS[..15]);
     Ok(())
 }
@@ -210,8 +249,7 @@ fn an_ack_with_its_three_times(rt: HostRuntime) -> Result<(), Fail> {
 fn compare_read_back(rt: &impl Abort, repr: &Repr<'_>) {
     let mut octets = [0x2a; 600];
     same(rt, repr.emit_into(&mut octets), Ok(()));
-    let read = Repr::parse(&Packet::new_unchecked(&octets[..]));
-    assert!(rt; read.is_ok_and(|read| read == *repr));
+    compare_read(rt, &octets, repr);
 }
 
 #[test]
@@ -223,13 +261,19 @@ fn values_written_are_read_back(rt: HostRuntime) -> Result<(), Fail> {
 }
 
 #[test]
-fn request_lists_of_255_and_of_256_bytes(rt: HostRuntime) -> Result<(), Fail> {
+fn a_request_list_of_255_bytes(rt: HostRuntime) -> Result<(), Fail> {
     let mut repr = bare(MessageType::Discover);
     repr.parameter_request_list = Some(&[42; 255]);
     let mut octets = [0x2a; 501];
     same(&rt, repr.emit_into(&mut octets), Ok(()));
     same(&rt, &octets[243..246], &[0x37, 255, 42][..]);
     same(&rt, octets[500], 0xff);
+    Ok(())
+}
+
+#[test]
+fn a_request_list_of_256_bytes(rt: HostRuntime) -> Result<(), Fail> {
+    let mut repr = bare(MessageType::Discover);
     repr.parameter_request_list = Some(&[42; 256]);
     let mut octets = [0x2a; 600];
     same(&rt, repr.emit_into(&mut octets), Err(Error));
@@ -253,12 +297,18 @@ fn a_value_written_into_a_view(rt: HostRuntime) -> Result<(), Fail> {
     let mut octets = [0xff; 244];
     let mut view = Packet::new_unchecked(&mut octets[..]);
     same(&rt, repr.emit(&mut view), Ok(()));
-    let mut wanted = [0; 244];
-    wanted[0..3].copy_from_slice(&[1, 1, 6]);
-    wanted[236..244].copy_from_slice(&[0x63, 0x82, 0x53, 0x63, 0x35, 1, 8, 0xff]);
-    same(&rt, octets, wanted);
+    let wanted = packet(rt.alloc(), 1, &[0x35, 1, 8, 0xff])?;
+    same(&rt, &octets[..], wanted.as_slice());
     Repr::same_text(&repr, &bare(MessageType::Inform));
     Ok(())
+}
+
+// Writes a value over octets, which are then this packet.
+fn compare_packet(rt: &impl Abort, repr: &Repr<'_>, octets: &mut [u8], packet: &[u8])
+    requires { 240 ≤ length octets.old }
+{
+    same(rt, repr.emit_into(octets), Ok(()));
+    same(rt, &octets[..], packet);
 }
 
 #[test]
@@ -266,13 +316,11 @@ fn values_of_two_renewal_times_have_two_texts(rt: HostRuntime) -> Result<(), Fai
     let mut later = ack();
     later.renew_duration = Some(1801);
     let mut octets = [0x2a; 262];
-    same(&rt, ack().emit_into(&mut octets), Ok(()));
     let wanted = packet(rt.alloc(), 2, &ACK_OPTIONS)?;
-    same(&rt, &octets[..], wanted.as_slice());
+    compare_packet(&rt, &ack(), &mut octets, wanted.as_slice());
     let mut other_octets = [0x2a; 262];
-    same(&rt, later.emit_into(&mut other_octets), Ok(()));
     let wanted = packet(rt.alloc(), 2, &LATER_ACK_OPTIONS)?;
-    same(&rt, &other_octets[..], wanted.as_slice());
+    compare_packet(&rt, &later, &mut other_octets, wanted.as_slice());
     assert!(rt; octets != other_octets);
     compare_read_back(&rt, &later);
     Ok(())
@@ -300,26 +348,18 @@ fn a_list_with_half_an_address_is_rewritten_without_it(rt: HostRuntime) -> Resul
     Ok(())
 }
 
-// Reads a packet, which is to say this.
-fn compare_read(rt: &impl Abort, packet: &[u8], repr: &Repr<'_>) {
-    let read = Repr::parse(&Packet::new_unchecked(packet));
-    assert!(rt; read.is_ok_and(|read| read == *repr));
-}
-
 #[test]
 fn an_additional_option_is_all_that_two_texts_differ_by(rt: HostRuntime) -> Result<(), Fail> {
     let alloc = rt.alloc();
     let discover = bare(MessageType::Discover);
     let mut octets = [0x2a; 244];
-    same(&rt, discover.emit_into(&mut octets), Ok(()));
     let wanted = packet(alloc, 1, &[0x35, 1, 1, 0xff])?;
-    same(&rt, &octets[..], wanted.as_slice());
+    compare_packet(&rt, &discover, &mut octets, wanted.as_slice());
     compare_read(&rt, &octets, &discover);
     let named = with_options(MessageType::Discover, SHORT_NAME);
     let mut octets = [0x2a; 247];
-    same(&rt, named.emit_into(&mut octets), Ok(()));
     let wanted = packet(alloc, 1, &[0x35, 1, 1, 12, 1, 0x61, 0xff])?;
-    same(&rt, &octets[..], wanted.as_slice());
+    compare_packet(&rt, &named, &mut octets, wanted.as_slice());
     compare_read(&rt, &octets, &discover);
     Ok(())
 }
