@@ -2,7 +2,7 @@
 use Rattle.std.proofs.Common.{◌≡◌, ℕ, ◌+◌, ◌-◌, ◌≤◌, List, [], ◌∷◌, ◌++◌, length, take, drop, refl, sym, ap, ◌∙◌, subst}
 use Rattle.std.proofs.Common.{arith, append_assoc}
 use Rattle.std.specs.List.{flat_map}
-use Rattle.std.proofs.lemmas.List.{length-append, take_at, drop_at, take_rest, drop-drop, length-drop}
+use Rattle.std.proofs.lemmas.List.{length-append, take_at, drop_at, take_rest, drop-drop, length-drop, take-append-drop}
 use Rattle.dns_wire.specs.DnsName.{written, Stop, ends, goes_on, IsMark, IsPart}
 use Rattle.dns_wire.specs.DnsNameAhead.{whole, pointer, stop, torn, front_of}
 use Rattle.dns_wire.specs.DnsPart.{IsSplit, BeginsWithPart}
@@ -152,6 +152,25 @@ split_begins text name rest h =
     }
 
 -- the two parts of a text, where the first is known to be so long
+pub begins_split : (text : List ℕ) (len : ℕ) → BeginsWithPart text len
+    → IsSplit text (take len text) (take (length text - len) (drop len text))
+begins_split text len h =
+    let p = h.part in
+    let name = flat_map written h.labels ++ p.mark in
+    let is : text ≡ name ++ p.rest = p.whole ∙ sym (append_assoc (flat_map written h.labels) p.mark p.rest) in
+    let long : length name ≡ len = omega (arith, h.count, ap length is, length-append name p.rest) in
+    record {
+      name_ = record {
+        labels = h.labels;
+        stop = h.stop;
+        mark = p.mark;
+        each = p.each;
+        stops = p.stops;
+        whole = ap (λ t. take len t) is ∙ take_at name p.rest len long;
+      };
+      whole = sym (take-append-drop len text) ∙ ap (λ t. take len text ++ t) (sym (take_rest text len));
+    }
+
 pub split_at : (text name rest : List ℕ) (len : ℕ) → IsSplit text name rest → len ≡ length name
     → (take len text ≡ name) × (take (length text - len) (drop len text) ≡ rest)
 split_at text name rest len h e = (
