@@ -174,7 +174,7 @@ fn check_offered_fields(rt: &impl Abort, read: &Repr<'_>) {
     same(rt, read.message_type, MessageType::Offer);
     same(rt, read.transaction_id, 0x1200_0000);
     same(rt, read.secs, 5);
-    assert!(rt; read.broadcast);
+    same(rt, read.broadcast, true);
     same(rt, read.client_ip, Ipv4Address::UNSPECIFIED);
     same(rt, read.your_ip, Ipv4Address::new(0, 0, 0, 7));
     same(rt, read.server_ip, Ipv4Address::UNSPECIFIED);
@@ -224,8 +224,8 @@ fn check_offered_options(rt: &impl Abort, read: &Repr<'_>) {
     check_addresses(rt, read, addresses, EthernetAddress([2, 3, 4, 5, 6, 7]));
     check_times(rt, read, 1500, [Some(3600), Some(1800), Some(3150)]);
     same(rt, read.parameter_request_list, Some(&[1, 3][..]));
-    assert!(rt; read.dns_servers.is_none());
-    assert!(rt; read.additional_options.is_empty());
+    same(rt, read.dns_servers.is_none(), true);
+    same(rt, read.additional_options.is_empty(), true);
 }
 
 #[test]

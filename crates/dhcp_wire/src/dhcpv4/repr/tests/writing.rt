@@ -224,7 +224,7 @@ fn a_request_over_buffers_of_every_length_and_of_three_contents(
 // Reads a packet, which is to say this.
 fn compare_read(rt: &impl Abort, packet: &[u8], repr: &Repr<'_>) {
     let read = Repr::parse(&Packet::new_unchecked(packet));
-    assert!(rt; read.is_ok_and(|read| read == *repr));
+    same(rt, read.is_ok_and(|read| read == *repr), true);
 }
 
 #[test]
@@ -321,7 +321,7 @@ fn values_of_two_renewal_times_have_two_texts(rt: HostRuntime) -> Result<(), Fai
     let mut other_octets = [0x2a; 262];
     let wanted = packet(rt.alloc(), 2, &LATER_ACK_OPTIONS)?;
     compare_packet(&rt, &later, &mut other_octets, wanted.as_slice());
-    assert!(rt; octets != other_octets);
+    same(&rt, octets != other_octets, true);
     compare_read_back(&rt, &later);
     Ok(())
 }
