@@ -1,4 +1,4 @@
-use Rattle.std.proofs.Common.{◌≡◌, ℕ, Bool, true, false, List, sym, ap, subst, ◌∙◌}
+use Rattle.std.proofs.Common.{◌≡◌, ℕ, true, false, List, sym, ap, subst, ◌∙◌}
 use Rattle.wirebase.specs.Bytes.{byte_of}
 use Rattle.wirebase.specs.LastOf.{keep_all}
 use Rattle.wirebase.proofs.LastOf.{keep_all-none, keep_all-more}
