@@ -7,7 +7,8 @@ ghost use Rattle.wirebase.specs.ByteWriter.{free, Puts, the_slice};
 ghost use Rattle.wirebase.specs.Format.{Rewrites, SameText};
 ghost use Rattle.wirebase.specs.Ipv6Address.{IsMulticast};
 ghost use Rattle.icmp6_wire.specs.Icmpv6Packet.{inner, view_octets};
-ghost use Rattle.icmp6_wire.specs.Mld.{MldValue, values_of, value_of, query_fields, report_fields, record_texts, text};
+ghost use Rattle.icmp6_wire.specs.Mld.{MldValue, values_of, value_of, query_fields, report_fields, record_texts};
+ghost use Rattle.icmp6_wire.specs.Mld.{message_fields, text};
 ghost use Rattle.icmp6_wire.specs.Mld.{text_len, told_len, AreGroups, CanEmit, IsMessage, format, Emits};
 ghost use Rattle.icmp6_wire.specs.MldRecord.{value_of as record_value, text as record_text};
 
@@ -139,12 +140,21 @@ impl<'a> Repr<'a> {
     {}
 
     // Writes the message into octets of just its length.
-    #[tactic(auto, using(wirebase::proofs::Chains::chain, crate::proofs::MldTexts::counts))]
+    #[tactic(auto, using(wirebase::proofs::Chains::chain))]
     fn write(&self, octets: &mut [u8])
         requires { CanEmit (value_of self.now) octets.old }
         ensures { octets.new ≡ over octets.old (text (value_of self.now)) }
     {
         let mut w = ByteWriter::new(octets);
+        self.put(&mut w);
+    }
+
+    // The same with this writer.
+    fn put(&self, w: &mut ByteWriter<'_>)
+        requires { CanEmit (value_of self.now) (free w.old) }
+        ensures puts { Puts w.old w.new (message_fields (value_of self.now)) }
+        ensures same_slice { the_slice w.new ≡ the_slice w.old }
+    {
         match *self {
             Repr::Query {
                 max_resp_code,
@@ -155,7 +165,7 @@ impl<'a> Repr<'a> {
                 num_srcs,
                 data,
             } => put_query(
-                &mut w,
+                w,
                 max_resp_code,
                 mcast_addr,
                 s_flag,
@@ -167,11 +177,8 @@ impl<'a> Repr<'a> {
             Repr::Report {
                 nr_mcast_addr_rcrds,
                 data,
-            } => put_report(&mut w, nr_mcast_addr_rcrds, data),
-            Repr::ReportRecordReprs(records) => {
-                put_report_header(&mut w, records.len() as u16);
-                put_records(&mut w, records);
-            }
+            } => put_report(w, nr_mcast_addr_rcrds, data),
+            Repr::ReportRecordReprs(records) => put_list(w, records),
         }
     }
 }
@@ -214,6 +221,20 @@ fn put_report(w: &mut ByteWriter<'_>, count: u16, data: &[u8])
 {
     put_report_header(w, count);
     w.put_bytes(data);
+}
+
+// Writes a report of these records.
+#[tactic(auto, using(crate::proofs::MldTexts::counts))]
+fn put_list(w: &mut ByteWriter<'_>, records: &[AddressRecordRepr<'_>])
+    requires room { 8 + 20 * length records.now ≤ length (free w.old) }
+    requires few { length records.now ≤ 65535 }
+    requires groups { AreGroups (values_of records.now) }
+    ensures puts { Puts w.old w.new
+        (report_fields (length records.now) (record_texts (values_of records.now))) }
+    ensures same_slice { the_slice w.new ≡ the_slice w.old }
+{
+    put_report_header(w, records.len() as u16);
+    put_records(w, records);
 }
 
 // Writes the header of a report of so many records.

@@ -6,12 +6,14 @@ ghost use Rattle.std.specs.Option.{option_map};
 ghost use Rattle.wirebase.specs.ByteWriter.{free, Puts, the_slice, be8, be16, be32};
 ghost use Rattle.wirebase.specs.Format.{Rewrites, SameText};
 ghost use Rattle.opt_wire.specs.NdiscOptionRepr.{CanEmit as CanEmitOption};
-ghost use Rattle.icmp6_wire.specs.Icmpv6Packet.{inner, view_octets};
-ghost use Rattle.icmp6_wire.specs.Ndisc.{NdiscValue, value_of, sources, mtus, prefixes, option_lens, option_texts};
-ghost use Rattle.icmp6_wire.specs.Ndisc.{Each, message_fields, text};
-ghost use Rattle.icmp6_wire.specs.Ndisc.{router_solicit, neighbor_solicit, neighbor_advert, redirect};
+ghost use Rattle.wirebase.specs.Bytes.{byte_of};
+ghost use Rattle.wirebase.specs.Icmp.{type_field};
+ghost use Rattle.icmp6_wire.specs.Icmpv6Packet.{inner, view_octets, payload_in, BeginsWhole};
+ghost use Rattle.icmp6_wire.specs.Ndisc.{NdiscValue, value_of, sources, targets, mtus, prefixes, packets};
+ghost use Rattle.icmp6_wire.specs.Ndisc.{options_of, option_lens, option_texts, header_len, Each, message_fields, text};
+ghost use Rattle.icmp6_wire.specs.Ndisc.{router_solicit, router_advert, neighbor_solicit, neighbor_advert, redirect};
 ghost use Rattle.icmp6_wire.specs.Ndisc.{text_len, CanEmit, IsMessage, format, Emits};
-ghost use Rattle.icmp6_wire.specs.NdiscFound.{packet_of};
+ghost use Rattle.icmp6_wire.specs.NdiscFound.{packet_of, kept_of, Says};
 ghost use Rattle.icmp6_wire.specs.Icmpv6Tables.{message_number};
 ghost use Rattle.icmp6_wire.specs.NdiscPacket.{seconds, millis};
 ghost use Rattle.icmp6_wire.specs.NdiscTables.{router_bits};
@@ -115,16 +117,7 @@ impl<'a> Repr<'a> {
             Message::RouterSolicit => Ok(Repr::RouterSolicit {
                 lladdr: found.source,
             }),
-            Message::RouterAdvert => Ok(Repr::RouterAdvert {
-                hop_limit: packet.current_hop_limit(),
-                flags: packet.router_flags(),
-                router_lifetime: packet.router_lifetime(),
-                reachable_time: packet.reachable_time(),
-                retrans_time: packet.retrans_time(),
-                lladdr: found.source,
-                mtu: found.mtu,
-                prefix_info: found.prefix_info,
-            }),
+            Message::RouterAdvert => Ok(read_router_advert(packet, &found)),
             Message::NeighborSolicit => Ok(Repr::NeighborSolicit {
                 target_addr: packet.target_addr(),
                 lladdr: found.source,
@@ -151,36 +144,42 @@ impl<'a> Repr<'a> {
         ensures value { result ≡ text_len (value_of self.now) }
         ensures exact { result ≡ length (text (value_of self.now)) }
     {
+        self.header_len() + self.options_len()
+    }
+
+    // The bytes of the header.
+    fn header_len(&self) -> usize
+        ensures { result ≡ header_len (value_of self.now) }
+    {
+        match self {
+            Repr::RouterSolicit { .. } => field::RESERVED_END,
+            Repr::RouterAdvert { .. } => field::RETRANS_TIME.end,
+            Repr::NeighborSolicit { .. } => field::TARGET_ADDR.end,
+            Repr::NeighborAdvert { .. } => field::TARGET_ADDR.end,
+            Repr::Redirect { .. } => field::DEST_ADDR.end,
+        }
+    }
+
+    // The bytes of the options.
+    fn options_len(&self) -> usize
+        requires { option_lens (options_of (value_of self.now)) < 2 ^ 64 }
+        ensures { result ≡ option_lens (options_of (value_of self.now)) }
+    {
         match *self {
-            Repr::RouterSolicit { lladdr } => {
-                field::RESERVED_END + option_len(&source_option(lladdr))
-            }
+            Repr::RouterSolicit { lladdr } => option_len(&source_option(lladdr)),
             Repr::RouterAdvert {
                 lladdr,
                 mtu,
                 prefix_info,
                 ..
-            } => {
-                field::RETRANS_TIME.end
-                    + option_len(&source_option(lladdr))
-                    + option_len(&mtu_option(mtu))
-                    + option_len(&prefix_option(prefix_info))
-            }
-            Repr::NeighborSolicit { lladdr, .. } => {
-                field::TARGET_ADDR.end + option_len(&source_option(lladdr))
-            }
-            Repr::NeighborAdvert { lladdr, .. } => {
-                field::TARGET_ADDR.end + option_len(&target_option(lladdr))
-            }
+            } => router_options_len(lladdr, mtu, prefix_info),
+            Repr::NeighborSolicit { lladdr, .. } => option_len(&source_option(lladdr)),
+            Repr::NeighborAdvert { lladdr, .. } => option_len(&target_option(lladdr)),
             Repr::Redirect {
                 lladdr,
                 redirected_hdr,
                 ..
-            } => {
-                field::DEST_ADDR.end
-                    + option_len(&target_option(lladdr))
-                    + option_len(&redirected_option(redirected_hdr))
-            }
+            } => redirect_options_len(lladdr, redirected_hdr),
         }
     }
 
@@ -232,11 +231,17 @@ impl<'a> Repr<'a> {
                 lladdr,
                 mtu,
                 prefix_info,
-            } => {
-                put_router(w, hop_limit, flags);
-                put_times(w, router_lifetime, reachable_time, retrans_time);
-                put_router_options(w, lladdr, mtu, prefix_info);
-            }
+            } => put_router_advert(
+                w,
+                hop_limit,
+                flags,
+                router_lifetime,
+                reachable_time,
+                retrans_time,
+                lladdr,
+                mtu,
+                prefix_info,
+            ),
             Repr::NeighborSolicit {
                 target_addr,
                 lladdr,
@@ -256,6 +261,51 @@ impl<'a> Repr<'a> {
     }
 }
 
+// The router advertisement in octets of that type, whose options say this.
+fn read_router_advert<'a>(packet: &Packet<&'a [u8]>, found: &Found<'a>) -> Repr<'a>
+    requires whole { BeginsWhole (view_octets packet.now) }
+    requires kind { byte_of type_field (view_octets packet.now) ≡ 0x86 }
+    requires says { Says (payload_in (view_octets packet.now)) (kept_of found.now) }
+    ensures { IsMessage (view_octets packet.now) (value_of result) }
+{
+    Repr::RouterAdvert {
+        hop_limit: packet.current_hop_limit(),
+        flags: packet.router_flags(),
+        router_lifetime: packet.router_lifetime(),
+        reachable_time: packet.reachable_time(),
+        retrans_time: packet.retrans_time(),
+        lladdr: found.source,
+        mtu: found.mtu,
+        prefix_info: found.prefix_info,
+    }
+}
+
+// The bytes of the options of a router advertisement.
+fn router_options_len(
+    lladdr: Option<RawHardwareAddress>,
+    mtu: Option<u32>,
+    prefix_info: Option<PrefixInformation>,
+) -> usize
+    requires { option_lens (sources lladdr ∷ mtus mtu ∷ prefixes prefix_info ∷ []) < 2 ^ 64 }
+    ensures { result ≡ option_lens (sources lladdr ∷ mtus mtu ∷ prefixes prefix_info ∷ []) }
+{
+    option_len(&source_option(lladdr))
+        + option_len(&mtu_option(mtu))
+        + option_len(&prefix_option(prefix_info))
+}
+
+// The bytes of the options of a redirect.
+fn redirect_options_len(
+    lladdr: Option<RawHardwareAddress>,
+    header: Option<RedirectedHeader<'_>>,
+) -> usize
+    requires { option_lens (targets lladdr ∷ packets (option_map packet_of header) ∷ []) < 2 ^ 64 }
+    ensures { result
+        ≡ option_lens (targets lladdr ∷ packets (option_map packet_of header.entry) ∷ []) }
+{
+    option_len(&target_option(lladdr)) + option_len(&redirected_option(header))
+}
+
 // Writes a router solicitation.
 fn put_router_solicit(w: &mut ByteWriter<'_>, lladdr: Option<RawHardwareAddress>)
     requires sound { CanEmit (router_solicit lladdr) }
@@ -265,6 +315,31 @@ fn put_router_solicit(w: &mut ByteWriter<'_>, lladdr: Option<RawHardwareAddress>
 {
     put_reserved(w, Message::RouterSolicit);
     put_option(w, &source_option(lladdr));
+}
+
+// Writes a router advertisement.
+fn put_router_advert(
+    w: &mut ByteWriter<'_>,
+    hop_limit: u8,
+    flags: RouterFlags,
+    router_lifetime: Duration,
+    reachable_time: Duration,
+    retrans_time: Duration,
+    lladdr: Option<RawHardwareAddress>,
+    mtu: Option<u32>,
+    prefix_info: Option<PrefixInformation>,
+)
+    requires sound { CanEmit (router_advert hop_limit flags router_lifetime reachable_time
+        retrans_time lladdr mtu prefix_info) }
+    requires room { text_len (router_advert hop_limit flags router_lifetime reachable_time
+        retrans_time lladdr mtu prefix_info) ≤ length (free w.old) }
+    ensures puts { Puts w.old w.new (message_fields (router_advert hop_limit flags router_lifetime
+        reachable_time retrans_time lladdr mtu prefix_info)) }
+    ensures same_slice { the_slice w.new ≡ the_slice w.old }
+{
+    put_router(w, hop_limit, flags);
+    put_times(w, router_lifetime, reachable_time, retrans_time);
+    put_router_options(w, lladdr, mtu, prefix_info);
 }
 
 // Writes a router advertisement up to its times.

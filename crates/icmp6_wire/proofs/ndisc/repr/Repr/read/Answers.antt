@@ -1,8 +1,7 @@
 use Rattle.std.proofs.Common.{refl, sym, ◌∙◌}
 use Rattle.icmp6_wire.specs.Icmpv6Packet.{view_octets}
 use Rattle.icmp6_wire.specs.declared.icmpv6.tables.Message.TheVariants as message
-use Rattle.icmp6_wire.proofs.NdiscTiling.{said_source, said_target, said_mtu, said_prefix, said_packet, kind_read}
-use Rattle.icmp6_wire.proofs.NdiscTiling.{message_said}
+use Rattle.icmp6_wire.proofs.NdiscTiling.{said_source, said_target, said_packet, kind_read, message_said}
 use Rattle.icmp6_wire.proofs.ndisc.repr.Repr.read.Goals as goal
 
 pub returns-in-RouterSolicit-clause-sound : goal.returns-in-RouterSolicit-clause-sound
@@ -14,23 +13,9 @@ returns-in-RouterSolicit-clause-sound c =
       said_source s,
     )
 
-pub returns-in-RouterAdvert-clause-sound : goal.returns-in-RouterAdvert-clause-sound
-returns-in-RouterAdvert-clause-sound c =
-    let octets = view_octets c.args.packet.now in
-    let s = c.in-Ok.ensures.sound in
-    message_said (c.in_ok-check_len.ensures.accepts.0 refl) c.payload.ensures s (
-      record {
-        kind = kind_read octets message.RouterAdvert (sym c.msg_type.ensures ∙ c.in-RouterAdvert.is);
-        hops_ = c.current_hop_limit.ensures;
-        flags_ = c.router_flags.ensures;
-        lifetime_ = c.router_lifetime.ensures;
-        reachable_ = c.reachable_time.ensures;
-        retrans_ = c.retrans_time.ensures;
-      },
-      said_source s,
-      said_mtu s,
-      said_prefix s,
-    )
+pub read_router_advert-requires-clause-kind : goal.read_router_advert-requires-clause-kind
+read_router_advert-requires-clause-kind c =
+    kind_read (view_octets c.args.packet.now) message.RouterAdvert (sym c.msg_type.ensures ∙ c.in-RouterAdvert.is)
 
 pub returns-in-NeighborSolicit-clause-sound : goal.returns-in-NeighborSolicit-clause-sound
 returns-in-NeighborSolicit-clause-sound c =

@@ -1,0 +1,20 @@
+use Rattle.std.proofs.Common.{refl}
+use Rattle.icmp6_wire.proofs.NdiscTiling.{said_source, said_mtu, said_prefix, message_said}
+use Rattle.icmp6_wire.proofs.ndisc.repr.read_router_advert.Goals as goal
+
+pub returns : goal.returns
+returns c =
+    let s = c.requires.says in
+    message_said c.requires.whole refl s (
+      record {
+        kind = c.requires.kind;
+        hops_ = c.current_hop_limit.ensures;
+        flags_ = c.router_flags.ensures;
+        lifetime_ = c.router_lifetime.ensures;
+        reachable_ = c.reachable_time.ensures;
+        retrans_ = c.retrans_time.ensures;
+      },
+      said_source s,
+      said_mtu s,
+      said_prefix s,
+    )
