@@ -1,5 +1,4 @@
 //! Neighbor discovery (RFC 4861): what its messages have behind the checksum.
-#![tactic(auto, using(wirebase::proofs::Pieces::pieces))]
 
 ghost use Rattle.std.specs.Prelude.{◌≡◌, ◌*◌, ◌≤◌, [], ◌∷◌};
 ghost use Rattle.byteorder.specs.Endian.{big_bytes};

@@ -1,5 +1,4 @@
 //! The view of a message (RFC 4443 section 2.1).
-#![tactic(auto, using(wirebase::proofs::Pieces::pieces))]
 
 ghost use Rattle.std.specs.Prelude.{◌≡◌, ◌↔◌, ◌≤◌, ◌-◌, [], ◌∷◌, length, IsTrue, IsOk, IfOk};
 ghost use Rattle.std.specs.Borrow.{sem, Lends, Array, u8 as byte};
@@ -275,6 +274,7 @@ impl<T: OctetsMut> Packet<T> {
     }
 
     /// Lends what stands after the header for writing; the header stays. Asks the header of the type.
+    #[tactic(auto, using(wirebase::proofs::Pieces::pieces))]
     pub fn payload_mut(&mut self) -> &mut [u8]
         requires kind { Reaches type_field (T.bytes (inner self.old)) }
         requires whole { header_len_in (T.bytes (inner self.old)) ≤ length

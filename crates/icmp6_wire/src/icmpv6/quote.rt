@@ -1,6 +1,5 @@
 //! What an error quotes: a packet that was sent, from its header on, as much of it as the error may carry (RFC 4443
 //! section 2.4).
-#![tactic(auto, using(wirebase::proofs::Pieces::pieces))]
 
 ghost use Rattle.std.specs.Prelude.{◌≡◌, ◌≤◌, min, length, drop};
 ghost use Rattle.wirebase.specs.Bytes.{over};

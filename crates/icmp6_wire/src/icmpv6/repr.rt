@@ -1,5 +1,4 @@
 //! Messages as values (RFC 4443).
-#![tactic(auto, using(wirebase::proofs::Pieces::pieces))]
 
 ghost use Rattle.std.specs.Prelude.{true, ◌≡◌, ◌≤◌, ◌<◌, ◌+◌, ◌^◌, length, IsOk, IfOk, IsOkAnd};
 ghost use Rattle.wirebase.specs.Bytes.{Reaches, byte_of, over};

@@ -1,5 +1,4 @@
 //! The fields of queries and reports (RFC 3810 sections 5.1 and 5.2).
-#![tactic(auto, using(wirebase::proofs::Pieces::pieces))]
 
 ghost use Rattle.std.specs.Prelude.{◌≡◌, ◌↔◌, ◌<◌, ◌+◌, ◌*◌, [], ◌∷◌, IsTrue};
 ghost use Rattle.byteorder.specs.Endian.{big_bytes};

@@ -1,5 +1,4 @@
 //! Records of reports (RFC 3810 section 5.2).
-#![tactic(auto, using(wirebase::proofs::Pieces::pieces))]
 
 ghost use Rattle.std.specs.Prelude.{◌≡◌, ◌↔◌, ◌-◌, [], ◌∷◌, ◌≤◌, length, IsTrue, IsOk, IfOk, IsOkAnd};
 ghost use Rattle.std.specs.Borrow.{sem, Lends, Array, u8 as byte};
@@ -150,6 +149,7 @@ impl<T: OctetsMut> AddressRecord<T> {
     }
 
     /// Lends what stands after the fields for writing; the fields stay. Asks 20 bytes.
+    #[tactic(auto, using(wirebase::proofs::Pieces::pieces))]
     pub fn payload_mut(&mut self) -> &mut [u8]
         requires { Reaches mcast_addr_field (T.bytes (inner self.old)) }
         ensures* lends { sem 𝓛 (Lends (the_row T.row) (Array byte 0) self.entry result

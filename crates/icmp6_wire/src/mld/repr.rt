@@ -1,5 +1,4 @@
 //! Messages as values (RFC 3810 section 5).
-#![tactic(auto, using(wirebase::proofs::Pieces::pieces))]
 
 ghost use Rattle.std.specs.Prelude.{◌≡◌, ◌≤◌, ◌<◌, ◌+◌, ◌*◌, ◌^◌, length, [], ◌∷◌, IsOk, IfOk, IsOkAnd};
 ghost use Rattle.wirebase.specs.Bytes.{over};

@@ -1,5 +1,4 @@
 //! Messages as values (RFC 4861 sections 4.1 to 4.5).
-#![tactic(auto, using(wirebase::proofs::Pieces::pieces))]
 
 ghost use Rattle.std.specs.Prelude.{◌≡◌, ◌+◌, ◌<◌, ◌≤◌, ◌^◌, [], ◌∷◌, length, IfOk, IsOk, IsOkAnd};
 ghost use Rattle.std.specs.Option.{option_map};
