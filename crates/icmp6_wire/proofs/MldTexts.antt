@@ -8,11 +8,9 @@ use Rattle.wirebase.specs.Ipv6Address.{octets_of}
 use Rattle.wirebase.specs.declared.ipv6.address.Ipv6Address.{Ipv6Address}
 use Rattle.wirebase.proofs.Ipv6Header.{same_address}
 use Rattle.icmp6_wire.specs.Mld.{MldValue, query, report, records, sqrv, query_fields, report_fields}
-use Rattle.icmp6_wire.specs.Mld.{record_texts as texts_of, text, text_len, IsMessage}
+use Rattle.icmp6_wire.specs.Mld.{record_texts, text, text_len, IsMessage}
 use Rattle.icmp6_wire.specs.MldRecord.{RecordValue, text as record_text}
 use Rattle.icmp6_wire.proofs.MldRecords.{length-text as length-record}
-
-pub ruleset record_texts = (length-record)
 
 pub query_text : (code : ℕ) (group : Ipv6Address) (flag : Bool) (qrv qqic sources : ℕ) (d : List ℕ)
     → fields (query_fields code group flag qrv qqic sources d)
@@ -30,11 +28,11 @@ length-data : (d : List ℕ) → length (fields (d ∷ [])) ≡ length d
 unfolding fields
 length-data d = ap length (append-nil d)
 
-pub length-records : (rs : List RecordValue) → length (fields (texts_of rs)) ≡ 20 * length rs
+pub length-records : (rs : List RecordValue) → length (fields (record_texts rs)) ≡ 20 * length rs
 unfolding fields
 length-records [] = refl
 length-records (r ∷ rs) =
-    omega (arith, length-append (record_text r) (fields (texts_of rs)), length-record r, length-records rs)
+    omega (arith, length-append (record_text r) (fields (record_texts rs)), length-record r, length-records rs)
 
 pub length-text : (v : MldValue) → length (text v) ≡ text_len v
 length-text (query code group flag qrv qqic sources d) =
@@ -46,7 +44,7 @@ length-text (query code group flag qrv qqic sources d) =
       group.whole,
     )
 length-text (report count d) = omega (arith, ap length (report_text count (d ∷ [])), length-data d)
-length-text (records rs) = omega (arith, ap length (report_text (length rs) (texts_of rs)), length-records rs)
+length-text (records rs) = omega (arith, ap length (report_text (length rs) (record_texts rs)), length-records rs)
 
 pub text_some : (v : MldValue) → 8 ≤ text_len v
 text_some (query code group flag qrv qqic sources d) = omega arith

@@ -2,7 +2,7 @@
 use Rattle.std.proofs.Common.{◌≡◌, ℕ, ◌+◌, ◌-◌, ◌*◌, ◌≤◌, List, [], ◌∷◌, ◌++◌, length, refl, ap, arith, length-append}
 use Rattle.std.specs.Prelude.{Option, None, Some}
 use Rattle.std.proofs.lemmas.List.{length-replicate}
-use Rattle.wirebase.specs.ByteWriter.{be8, be16, be32, fields}
+use Rattle.wirebase.specs.ByteWriter.{Sheet, put_all, be8, be16, be32, fields}
 use Rattle.wirebase.specs.Ipv6.{header_text}
 use Rattle.wirebase.specs.Ipv6Address.{octets_of}
 use Rattle.wirebase.specs.declared.ipv6.Ipv6Repr.{Ipv6Repr}
@@ -114,6 +114,15 @@ length-text (redirect t d l r) =
       length-target l,
       length-packet r,
     )
+
+-- what is written behind a header
+pub put_all-header : (v : NdiscValue) (behind : List (List ℕ)) (s : Sheet)
+    → put_all s (header_fields v behind) ≡ put_all (put_all s (header_fields v [])) behind
+put_all-header (router_solicit l) behind s = refl
+put_all-header (router_advert hops flags lifetime reachable retrans l m p) behind s = refl
+put_all-header (neighbor_solicit t l) behind s = refl
+put_all-header (neighbor_advert flags t l) behind s = refl
+put_all-header (redirect t d l r) behind s = refl
 
 pub text_some : (v : NdiscValue) → 8 ≤ text_len v
 text_some (router_solicit l) = omega arith

@@ -8,3 +8,4 @@ pub mod ndisc;
 mod plain_reader;
 #[cfg(test)]
 mod testing;
+mod writing;

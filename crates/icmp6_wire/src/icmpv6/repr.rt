@@ -19,6 +19,7 @@ use super::field;
 use super::packet::{Packet, fill};
 use super::quote::{error_len, read_quote, write_error};
 use super::tables::{DstUnreachable, Message, ParamProblem, TimeExceeded};
+use crate::writing::put_type;
 use crate::{mld, ndisc};
 use wirebase::{
     ByteWriter, ChecksumCapabilities, Error, IPV6_HEADER_LEN, Ipv6Address, Ipv6Repr, Octets,
@@ -434,9 +435,7 @@ fn put_echo(w: &mut ByteWriter<'_>, kind: Message, ident: u16, seq_no: u16, data
     ensures puts { Puts w.old w.new (echo_fields (message_number kind) ident seq_no «data».now) }
     ensures same_slice { the_slice w.new ≡ the_slice w.old }
 {
-    w.put_u8(kind.into());
-    w.put_u8(0);
-    w.put_u16(0);
+    put_type(w, kind);
     w.put_u16(ident);
     w.put_u16(seq_no);
     w.put_front(data);

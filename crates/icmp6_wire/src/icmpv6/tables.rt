@@ -1,6 +1,7 @@
 //! The numbers of messages and of their codes (RFC 4443 section 2.1).
 
-ghost use Rattle.std.specs.Prelude.{◌≡◌, ◌<◌, ◌↔◌, IsTrue, Some};
+ghost use Rattle.std.specs.Prelude.{◌≡◌, ◌<◌, ◌↔◌, IsTrue, Some, decimal};
+ghost use Rattle.std.specs.Fmt.{WritesOnOk};
 ghost use Rattle.wirebase.specs.Numbered.{IsProper, IsTable};
 ghost use Rattle.icmp6_wire.specs.Icmpv6Tables.{message_number, message_rows, message_of, message_text};
 ghost use Rattle.icmp6_wire.specs.Icmpv6Tables.{unreachable_number, unreachable_rows, unreachable_of, unreachable_text};
@@ -156,7 +157,7 @@ impl fmt::Display for Message {
             Message::Redirect => "redirect",
             Message::MldReport => "multicast listener report",
             Message::RplControl => "RPL control message",
-            Message::Unknown(number) => return write!(f, "{number}"),
+            Message::Unknown(number) => return fmt_number(f, *number),
         };
         f.write_str(words)
     }
@@ -246,7 +247,7 @@ impl fmt::Display for DstUnreachable {
             DstUnreachable::PortUnreachable => "port unreachable",
             DstUnreachable::FailedPolicy => "source address failed ingress/egress policy",
             DstUnreachable::RejectRoute => "reject route to destination",
-            DstUnreachable::Unknown(number) => return write!(f, "{number}"),
+            DstUnreachable::Unknown(number) => return fmt_number(f, *number),
         };
         f.write_str(words)
     }
@@ -315,7 +316,7 @@ impl fmt::Display for ParamProblem {
             ParamProblem::ErroneousHdrField => "erroneous header field.",
             ParamProblem::UnrecognizedNxtHdr => "unrecognized next header type.",
             ParamProblem::UnrecognizedOption => "unrecognized IPv6 option.",
-            ParamProblem::Unknown(number) => return write!(f, "{number}"),
+            ParamProblem::Unknown(number) => return fmt_number(f, *number),
         };
         f.write_str(words)
     }
@@ -379,8 +380,15 @@ impl fmt::Display for TimeExceeded {
         let words = match self {
             TimeExceeded::HopLimitExceeded => "hop limit exceeded in transit",
             TimeExceeded::FragReassemExceeded => "fragment reassembly time exceeded",
-            TimeExceeded::Unknown(number) => return write!(f, "{number}"),
+            TimeExceeded::Unknown(number) => return fmt_number(f, *number),
         };
         f.write_str(words)
     }
+}
+
+// Prints a number that has no words.
+fn fmt_number<W: fmt::Write>(f: &mut fmt::Formatter<W>, number: u8) -> fmt::Result
+    ensures { WritesOnOk W.write_str_gives f.old result (decimal number) f.new }
+{
+    write!(f, "{number}")
 }

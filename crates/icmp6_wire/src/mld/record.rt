@@ -15,6 +15,7 @@ ghost use Rattle.icmp6_wire.specs.contracts.mld.record.AddressRecord.{the_row};
 
 use super::field;
 use super::tables::RecordType;
+use crate::writing::put_address;
 use wirebase::{ByteWriter, Error, Ipv6Address, Octets, OctetsMut, Result, are_bytes};
 
 /// A view of the octets of a record in a report (RFC 3810 section 5.2).
@@ -293,6 +294,6 @@ impl<'a> AddressRecordRepr<'a> {
         w.put_u8(self.record_type.into());
         w.put_u8(self.aux_data_len);
         w.put_u16(self.num_srcs);
-        w.put_bytes(&self.mcast_addr.octets());
+        put_address(&mut w, self.mcast_addr);
     }
 }

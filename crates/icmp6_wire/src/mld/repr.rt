@@ -1,11 +1,12 @@
 //! Messages as values (RFC 3810 section 5).
 
 ghost use Rattle.std.specs.Prelude.{◌≡◌, ◌≤◌, ◌<◌, ◌+◌, ◌*◌, ◌^◌, length, [], ◌∷◌, IsOk, IfOk, IsOkAnd};
-ghost use Rattle.wirebase.specs.Bytes.{over};
+ghost use Rattle.wirebase.specs.Bytes.{byte_of, over};
 ghost use Rattle.wirebase.specs.ByteWriter.{free, Puts, the_slice};
 ghost use Rattle.wirebase.specs.Format.{Rewrites, SameText};
+ghost use Rattle.wirebase.specs.Icmp.{type_field};
 ghost use Rattle.wirebase.specs.Ipv6Address.{IsMulticast};
-ghost use Rattle.icmp6_wire.specs.Icmpv6Packet.{inner, view_octets};
+ghost use Rattle.icmp6_wire.specs.Icmpv6Packet.{inner, view_octets, BeginsWhole};
 ghost use Rattle.icmp6_wire.specs.Mld.{MldValue, values_of, value_of, query_fields, report_fields, record_texts};
 ghost use Rattle.icmp6_wire.specs.Mld.{message_fields, text};
 ghost use Rattle.icmp6_wire.specs.Mld.{text_len, told_len, AreGroups, CanEmit, IsMessage, format, Emits};
@@ -14,6 +15,7 @@ ghost use Rattle.icmp6_wire.specs.MldRecord.{value_of as record_value, text as r
 use super::field;
 use super::record::AddressRecordRepr;
 use crate::icmpv6::{Message, Packet};
+use crate::writing::{put_address, put_type};
 use wirebase::{ByteWriter, Error, Ipv6Address, OctetsMut, Result, are_bytes};
 
 /// A message (RFC 3810 section 5).
@@ -69,15 +71,7 @@ impl<'a> Repr<'a> {
     {
         packet.check_len()?;
         match packet.msg_type() {
-            Message::MldQuery => Ok(Repr::Query {
-                max_resp_code: packet.max_resp_code(),
-                mcast_addr: packet.mcast_addr(),
-                s_flag: packet.s_flag(),
-                qrv: packet.qrv(),
-                qqic: packet.qqic(),
-                num_srcs: packet.num_srcs(),
-                data: packet.payload(),
-            }),
+            Message::MldQuery => Ok(read_query(packet)),
             Message::MldReport => Ok(Repr::Report {
                 nr_mcast_addr_rcrds: packet.nr_mcast_addr_rcrds(),
                 data: packet.payload(),
@@ -182,6 +176,23 @@ impl<'a> Repr<'a> {
     }
 }
 
+// The query in octets of that type.
+fn read_query<'a>(packet: &Packet<&'a [u8]>) -> Repr<'a>
+    requires whole { BeginsWhole (view_octets packet.now) }
+    requires kind { byte_of type_field (view_octets packet.now) ≡ 0x82 }
+    ensures { IsMessage (view_octets packet.now) (value_of result) }
+{
+    Repr::Query {
+        max_resp_code: packet.max_resp_code(),
+        mcast_addr: packet.mcast_addr(),
+        s_flag: packet.s_flag(),
+        qrv: packet.qrv(),
+        qqic: packet.qqic(),
+        num_srcs: packet.num_srcs(),
+        data: packet.payload(),
+    }
+}
+
 // Writes a query.
 fn put_query(
     w: &mut ByteWriter<'_>,
@@ -199,12 +210,10 @@ fn put_query(
         (query_fields max_resp_code mcast_addr s_flag qrv qqic num_srcs «data».now) }
     ensures same_slice { the_slice w.new ≡ the_slice w.old }
 {
-    w.put_u8(Message::MldQuery.into());
-    w.put_u8(0);
-    w.put_u16(0);
+    put_type(w, Message::MldQuery);
     w.put_u16(max_resp_code);
     w.put_u16(0);
-    w.put_bytes(&mcast_addr.octets());
+    put_address(w, mcast_addr);
     let flag = if s_flag { 8 } else { 0 };
     w.put_u8(flag + qrv);
     w.put_u8(qqic);
@@ -243,9 +252,7 @@ fn put_report_header(w: &mut ByteWriter<'_>, count: u16)
     ensures room { length (free w.old) ≡ 8 + length (free w.new) }
     ensures same_slice { the_slice w.new ≡ the_slice w.old }
 {
-    w.put_u8(Message::MldReport.into());
-    w.put_u8(0);
-    w.put_u16(0);
+    put_type(w, Message::MldReport);
     w.put_u16(0);
     w.put_u16(count);
 }
@@ -263,7 +270,7 @@ fn put_records(w: &mut ByteWriter<'_>, records: &[AddressRecordRepr<'_>])
 }
 
 // Writes a record.
-#[tactic(auto, using(wirebase::proofs::Chains::parts, crate::proofs::MldTexts::record_texts))]
+#[tactic(auto, using(wirebase::proofs::Chains::parts))]
 fn put_record(w: &mut ByteWriter<'_>, repr: &AddressRecordRepr<'_>)
     requires room { 20 ≤ length (free w.old) }
     requires group { IsMulticast repr.now.mcast_addr }
@@ -271,14 +278,5 @@ fn put_record(w: &mut ByteWriter<'_>, repr: &AddressRecordRepr<'_>)
     ensures room { length (free w.old) ≡ 20 + length (free w.new) }
     ensures same_slice { the_slice w.new ≡ the_slice w.old }
 {
-    write_record(repr, w.part(repr.buffer_len()));
-}
-
-// Writes a record into octets of just its length.
-fn write_record(repr: &AddressRecordRepr<'_>, octets: &mut [u8])
-    requires room { length octets.old ≡ 20 }
-    requires group { IsMulticast repr.now.mcast_addr }
-    ensures { octets.new ≡ record_text (record_value repr.now) }
-{
-    repr.emit_into(octets);
+    repr.emit_into(w.part(repr.buffer_len()));
 }

@@ -7,7 +7,7 @@ ghost use Rattle.icmp6_wire.specs.NdiscFound.{kept_of, nothing, keep, Says, Note
 
 use opt_wire::ndiscoption;
 use opt_wire::ndiscoption::{NdiscOption, PrefixInformation, RedirectedHeader};
-use wirebase::{RawHardwareAddress, Result};
+use wirebase::{Error, RawHardwareAddress, Result};
 
 // The bytes of a unit.
 const UNIT: usize = 8;
@@ -84,6 +84,8 @@ fn split_block(octets: &[u8]) -> Result<(&[u8], &[u8])>
     ensures refuses { IsErr result → (block rest : List ℕ) → IsBlock block
         → octets.now ≡ block ++ rest → ⊥ }
 {
-    let option = NdiscOption::new_checked(octets)?;
+    let Ok(option) = NdiscOption::new_checked(octets) else {
+        return Err(Error);
+    };
     Ok(octets.split_at(UNIT * option.data_len() as usize))
 }

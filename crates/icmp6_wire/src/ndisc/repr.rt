@@ -9,13 +9,13 @@ ghost use Rattle.wirebase.specs.Bytes.{byte_of};
 ghost use Rattle.wirebase.specs.Icmp.{type_field};
 ghost use Rattle.icmp6_wire.specs.Icmpv6Packet.{inner, view_octets, payload_in, BeginsWhole};
 ghost use Rattle.icmp6_wire.specs.Ndisc.{NdiscValue, value_of, sources, targets, mtus, prefixes, packets};
-ghost use Rattle.icmp6_wire.specs.Ndisc.{options_of, option_lens, option_texts, header_len, Each, message_fields, text};
-ghost use Rattle.icmp6_wire.specs.Ndisc.{router_solicit, router_advert, neighbor_solicit, neighbor_advert, redirect};
+ghost use Rattle.icmp6_wire.specs.Ndisc.{options_of, option_lens, option_texts, header_len, header_fields, Each};
+ghost use Rattle.icmp6_wire.specs.Ndisc.{HaveTimes, message_fields, text};
 ghost use Rattle.icmp6_wire.specs.Ndisc.{text_len, CanEmit, IsMessage, format, Emits};
 ghost use Rattle.icmp6_wire.specs.NdiscFound.{packet_of, kept_of, Says};
 ghost use Rattle.icmp6_wire.specs.Icmpv6Tables.{message_number};
 ghost use Rattle.icmp6_wire.specs.NdiscPacket.{seconds, millis};
-ghost use Rattle.icmp6_wire.specs.NdiscTables.{router_bits};
+ghost use Rattle.icmp6_wire.specs.NdiscTables.{router_bits, neighbor_bits};
 
 use super::field;
 use super::flags::{NeighborFlags, RouterFlags};
@@ -25,6 +25,7 @@ use super::options::{
     target_option,
 };
 use crate::icmpv6::{Message, Packet};
+use crate::writing::{put_address, put_type};
 use bitflags::Flags as _;
 use opt_wire::ndiscoption::{PrefixInformation, RedirectedHeader};
 use wirebase::{
@@ -112,11 +113,22 @@ impl<'a> Repr<'a> {
         let Ok(found) = Found::read(packet.payload()) else {
             return Err(Error);
         };
+        Repr::read_content(packet, &found)
+    }
+
+    // The message in octets that begin with a whole header, whose options say this.
+    fn read_content(packet: &Packet<&'a [u8]>, found: &Found<'a>) -> Result<Repr<'a>>
+        requires whole { BeginsWhole (view_octets packet.now) }
+        requires says { Says (payload_in (view_octets packet.now)) (kept_of found.now) }
+        ensures sound { IfOk result (λ repr. IsMessage (view_octets packet.now) (value_of repr)) }
+        ensures reads { (value : NdiscValue) → IsMessage (view_octets packet.now) value
+            → IsOk result }
+    {
         match packet.msg_type() {
             Message::RouterSolicit => Ok(Repr::RouterSolicit {
                 lladdr: found.source,
             }),
-            Message::RouterAdvert => Ok(read_router_advert(packet, &found)),
+            Message::RouterAdvert => Ok(read_router_advert(packet, found)),
             Message::NeighborSolicit => Ok(Repr::NeighborSolicit {
                 target_addr: packet.target_addr(),
                 lladdr: found.source,
@@ -219,43 +231,78 @@ impl<'a> Repr<'a> {
         ensures puts { Puts w.old w.new (message_fields (value_of self.now)) }
         ensures same_slice { the_slice w.new ≡ the_slice w.old }
     {
+        self.put_header(w);
+        self.put_options(w);
+    }
+
+    // Writes the header.
+    fn put_header(&self, w: &mut ByteWriter<'_>)
+        requires times { HaveTimes (value_of self.now) }
+        requires room { header_len (value_of self.now) ≤ length (free w.old) }
+        ensures puts { Puts w.old w.new (header_fields (value_of self.now) []) }
+        ensures room { length (free w.old)
+            ≡ header_len (value_of self.now) + length (free w.new) }
+        ensures same_slice { the_slice w.new ≡ the_slice w.old }
+    {
         match *self {
-            Repr::RouterSolicit { lladdr } => put_router_solicit(w, lladdr),
+            Repr::RouterSolicit { .. } => put_reserved(w, Message::RouterSolicit),
             Repr::RouterAdvert {
                 hop_limit,
                 flags,
                 router_lifetime,
                 reachable_time,
                 retrans_time,
-                lladdr,
-                mtu,
-                prefix_info,
-            } => put_router_advert(
-                w,
-                hop_limit,
-                flags,
-                router_lifetime,
-                reachable_time,
-                retrans_time,
-                lladdr,
-                mtu,
-                prefix_info,
-            ),
-            Repr::NeighborSolicit {
-                target_addr,
-                lladdr,
-            } => put_neighbor_solicit(w, target_addr, lladdr),
+                ..
+            } => {
+                put_router(w, hop_limit, flags);
+                put_times(w, router_lifetime, reachable_time, retrans_time);
+            }
+            Repr::NeighborSolicit { target_addr, .. } => {
+                put_reserved(w, Message::NeighborSolicit);
+                put_address(w, target_addr);
+            }
             Repr::NeighborAdvert {
                 flags,
                 target_addr,
-                lladdr,
-            } => put_neighbor_advert(w, flags, target_addr, lladdr),
+                ..
+            } => {
+                put_neighbor(w, flags);
+                put_address(w, target_addr);
+            }
             Repr::Redirect {
                 target_addr,
                 dest_addr,
+                ..
+            } => {
+                put_reserved(w, Message::Redirect);
+                put_address(w, target_addr);
+                put_address(w, dest_addr);
+            }
+        }
+    }
+
+    // Writes the options.
+    fn put_options(&self, w: &mut ByteWriter<'_>)
+        requires sound { Each CanEmitOption (options_of (value_of self.now)) }
+        requires room { option_lens (options_of (value_of self.now)) ≤ length (free w.old) }
+        ensures puts { Puts w.old w.new (option_texts (options_of (value_of self.now))) }
+        ensures same_slice { the_slice w.new ≡ the_slice w.old }
+    {
+        match *self {
+            Repr::RouterSolicit { lladdr } => put_option(w, &source_option(lladdr)),
+            Repr::RouterAdvert {
+                lladdr,
+                mtu,
+                prefix_info,
+                ..
+            } => put_router_options(w, lladdr, mtu, prefix_info),
+            Repr::NeighborSolicit { lladdr, .. } => put_option(w, &source_option(lladdr)),
+            Repr::NeighborAdvert { lladdr, .. } => put_option(w, &target_option(lladdr)),
+            Repr::Redirect {
                 lladdr,
                 redirected_hdr,
-            } => put_redirect(w, target_addr, dest_addr, lladdr, redirected_hdr),
+                ..
+            } => put_redirect_options(w, lladdr, redirected_hdr),
         }
     }
 }
@@ -305,42 +352,6 @@ fn redirect_options_len(
     option_len(&target_option(lladdr)) + option_len(&redirected_option(header))
 }
 
-// Writes a router solicitation.
-fn put_router_solicit(w: &mut ByteWriter<'_>, lladdr: Option<RawHardwareAddress>)
-    requires sound { CanEmit (router_solicit lladdr) }
-    requires room { text_len (router_solicit lladdr) ≤ length (free w.old) }
-    ensures puts { Puts w.old w.new (message_fields (router_solicit lladdr)) }
-    ensures same_slice { the_slice w.new ≡ the_slice w.old }
-{
-    put_reserved(w, Message::RouterSolicit);
-    put_option(w, &source_option(lladdr));
-}
-
-// Writes a router advertisement.
-fn put_router_advert(
-    w: &mut ByteWriter<'_>,
-    hop_limit: u8,
-    flags: RouterFlags,
-    router_lifetime: Duration,
-    reachable_time: Duration,
-    retrans_time: Duration,
-    lladdr: Option<RawHardwareAddress>,
-    mtu: Option<u32>,
-    prefix_info: Option<PrefixInformation>,
-)
-    requires sound { CanEmit (router_advert hop_limit flags router_lifetime reachable_time
-        retrans_time lladdr mtu prefix_info) }
-    requires room { text_len (router_advert hop_limit flags router_lifetime reachable_time
-        retrans_time lladdr mtu prefix_info) ≤ length (free w.old) }
-    ensures puts { Puts w.old w.new (message_fields (router_advert hop_limit flags router_lifetime
-        reachable_time retrans_time lladdr mtu prefix_info)) }
-    ensures same_slice { the_slice w.new ≡ the_slice w.old }
-{
-    put_router(w, hop_limit, flags);
-    put_times(w, router_lifetime, reachable_time, retrans_time);
-    put_router_options(w, lladdr, mtu, prefix_info);
-}
-
 // Writes a router advertisement up to its times.
 fn put_router(w: &mut ByteWriter<'_>, hop_limit: u8, flags: RouterFlags)
     requires room { 6 ≤ length (free w.old) }
@@ -373,78 +384,39 @@ fn put_router_options(
     put_option(w, &prefix_option(prefix_info));
 }
 
-// Writes a neighbor solicitation.
-fn put_neighbor_solicit(
+// Writes the options of a redirect.
+fn put_redirect_options(
     w: &mut ByteWriter<'_>,
-    target_addr: Ipv6Address,
     lladdr: Option<RawHardwareAddress>,
+    header: Option<RedirectedHeader<'_>>,
 )
-    requires sound { CanEmit (neighbor_solicit target_addr lladdr) }
-    requires room { text_len (neighbor_solicit target_addr lladdr) ≤ length (free w.old) }
-    ensures puts { Puts w.old w.new (message_fields (neighbor_solicit target_addr lladdr)) }
+    requires sound { Each CanEmitOption
+        (targets lladdr ∷ packets (option_map packet_of header) ∷ []) }
+    requires room { option_lens (targets lladdr ∷ packets (option_map packet_of header) ∷ [])
+        ≤ length (free w.old) }
+    ensures puts { Puts w.old w.new
+        (option_texts (targets lladdr ∷ packets (option_map packet_of header.entry) ∷ [])) }
     ensures same_slice { the_slice w.new ≡ the_slice w.old }
 {
-    put_reserved(w, Message::NeighborSolicit);
-    w.put_bytes(&target_addr.octets());
-    put_option(w, &source_option(lladdr));
+    put_option(w, &target_option(lladdr));
+    put_option(w, &redirected_option(header));
 }
 
-// Writes a neighbor advertisement.
-fn put_neighbor_advert(
-    w: &mut ByteWriter<'_>,
-    flags: NeighborFlags,
-    target_addr: Ipv6Address,
-    lladdr: Option<RawHardwareAddress>,
-)
-    requires sound { CanEmit (neighbor_advert flags target_addr lladdr) }
-    requires room { text_len (neighbor_advert flags target_addr lladdr) ≤ length (free w.old) }
-    ensures puts { Puts w.old w.new (message_fields (neighbor_advert flags target_addr lladdr)) }
+// Writes a neighbor advertisement up to its address.
+fn put_neighbor(w: &mut ByteWriter<'_>, flags: NeighborFlags)
+    requires room { 8 ≤ length (free w.old) }
+    ensures puts { Puts w.old w.new
+        (be8 0x88 ∷ be8 0 ∷ be16 0 ∷ be8 (neighbor_bits flags) ∷ be8 0 ∷ be16 0 ∷ []) }
+    ensures room { length (free w.old) ≡ 8 + length (free w.new) }
     ensures same_slice { the_slice w.new ≡ the_slice w.old }
 {
     put_type(w, Message::NeighborAdvert);
     w.put_u8(flags.bits());
     w.put_u8(0);
     w.put_u16(0);
-    w.put_bytes(&target_addr.octets());
-    put_option(w, &target_option(lladdr));
 }
 
-// Writes a redirect.
-fn put_redirect(
-    w: &mut ByteWriter<'_>,
-    target_addr: Ipv6Address,
-    dest_addr: Ipv6Address,
-    lladdr: Option<RawHardwareAddress>,
-    header: Option<RedirectedHeader<'_>>,
-)
-    requires sound { CanEmit
-        (redirect target_addr dest_addr lladdr (option_map packet_of header)) }
-    requires room { text_len (redirect target_addr dest_addr lladdr (option_map packet_of header))
-        ≤ length (free w.old) }
-    ensures puts { Puts w.old w.new (message_fields
-        (redirect target_addr dest_addr lladdr (option_map packet_of header.entry))) }
-    ensures same_slice { the_slice w.new ≡ the_slice w.old }
-{
-    put_reserved(w, Message::Redirect);
-    w.put_bytes(&target_addr.octets());
-    w.put_bytes(&dest_addr.octets());
-    put_option(w, &target_option(lladdr));
-    put_option(w, &redirected_option(header));
-}
-
-// Writes the type, the code 0 and no checksum.
-fn put_type(w: &mut ByteWriter<'_>, kind: Message)
-    requires room { 4 ≤ length (free w.old) }
-    ensures puts { Puts w.old w.new (be8 (message_number kind) ∷ be8 0 ∷ be16 0 ∷ []) }
-    ensures room { length (free w.old) ≡ 4 + length (free w.new) }
-    ensures same_slice { the_slice w.new ≡ the_slice w.old }
-{
-    w.put_u8(kind.into());
-    w.put_u8(0);
-    w.put_u16(0);
-}
-
-// The same, and a word that is reserved.
+// Writes the type, the code 0, no checksum and a word that is reserved.
 fn put_reserved(w: &mut ByteWriter<'_>, kind: Message)
     requires room { 8 ≤ length (free w.old) }
     ensures puts { Puts w.old w.new (be8 (message_number kind) ∷ be8 0 ∷ be16 0 ∷ be32 0 ∷ []) }

@@ -2,13 +2,13 @@ use Rattle.std.proofs.Common.{refl, sym, ◌∙◌}
 use Rattle.icmp6_wire.specs.Icmpv6Packet.{view_octets}
 use Rattle.icmp6_wire.specs.declared.icmpv6.tables.Message.TheVariants as message
 use Rattle.icmp6_wire.proofs.NdiscTiling.{said_source, said_target, said_packet, kind_read, message_said}
-use Rattle.icmp6_wire.proofs.ndisc.repr.Repr.read.Goals as goal
+use Rattle.icmp6_wire.proofs.ndisc.repr.Repr.read_content.Goals as goal
 
 pub returns-in-RouterSolicit-clause-sound : goal.returns-in-RouterSolicit-clause-sound
 returns-in-RouterSolicit-clause-sound c =
     let octets = view_octets c.args.packet.now in
-    let s = c.in-Ok.ensures.sound in
-    message_said (c.in_ok-check_len.ensures.accepts.0 refl) c.payload.ensures s (
+    let s = c.requires.says in
+    message_said c.requires.whole refl s (
       kind_read octets message.RouterSolicit (sym c.msg_type.ensures ∙ c.in-RouterSolicit.is),
       said_source s,
     )
@@ -20,8 +20,8 @@ read_router_advert-requires-clause-kind c =
 pub returns-in-NeighborSolicit-clause-sound : goal.returns-in-NeighborSolicit-clause-sound
 returns-in-NeighborSolicit-clause-sound c =
     let octets = view_octets c.args.packet.now in
-    let s = c.in-Ok.ensures.sound in
-    message_said (c.in_ok-check_len.ensures.accepts.0 refl) c.payload.ensures s (
+    let s = c.requires.says in
+    message_said c.requires.whole refl s (
       kind_read octets message.NeighborSolicit (sym c.msg_type.ensures ∙ c.in-NeighborSolicit.is),
       c.target_addr.ensures,
       said_source s,
@@ -30,8 +30,8 @@ returns-in-NeighborSolicit-clause-sound c =
 pub returns-in-NeighborAdvert-clause-sound : goal.returns-in-NeighborAdvert-clause-sound
 returns-in-NeighborAdvert-clause-sound c =
     let octets = view_octets c.args.packet.now in
-    let s = c.in-Ok.ensures.sound in
-    message_said (c.in_ok-check_len.ensures.accepts.0 refl) c.payload.ensures s (
+    let s = c.requires.says in
+    message_said c.requires.whole refl s (
       kind_read octets message.NeighborAdvert (sym c.msg_type.ensures ∙ c.in-NeighborAdvert.is),
       c.neighbor_flags.ensures,
       c.target_addr-in-NeighborAdvert.ensures,
@@ -41,8 +41,8 @@ returns-in-NeighborAdvert-clause-sound c =
 pub returns-in-Redirect-clause-sound : goal.returns-in-Redirect-clause-sound
 returns-in-Redirect-clause-sound c =
     let octets = view_octets c.args.packet.now in
-    let s = c.in-Ok.ensures.sound in
-    message_said (c.in_ok-check_len.ensures.accepts.0 refl) c.payload.ensures s (
+    let s = c.requires.says in
+    message_said c.requires.whole refl s (
       kind_read octets message.Redirect (sym c.msg_type.ensures ∙ c.in-Redirect.is),
       c.target_addr-in-Redirect.ensures,
       c.dest_addr.ensures,
