@@ -7,7 +7,7 @@ use crate::{icmpv6, mld, ndisc};
 use std::alloc::Global;
 use std::process::Abort;
 use std::test::Fail;
-use wirebase::{ChecksumCapabilities, Ipv6Address};
+use wirebase::{ChecksumCapabilities, IpProtocol, Ipv6Address, Ipv6Repr};
 
 mod control;
 mod listener;
@@ -34,8 +34,25 @@ fn split_header(octets: &[u8]) -> Option<(&[u8], &[u8])> {
     Some(octets.split_at(len))
 }
 
+// A header of any version (RFC 8200 section 3), and all that stands behind it.
+fn split_ip_header(octets: &[u8]) -> Option<(Ipv6Repr, &[u8])> {
+    let [_, _, _, _, high, low, next_header, hop_limit, rest @ ..] = octets else {
+        return None;
+    };
+    let (src_addr, rest) = rest.split_first_chunk::<16>()?;
+    let (dst_addr, data) = rest.split_first_chunk::<16>()?;
+    let header = Ipv6Repr {
+        src_addr: Ipv6Address::from_octets(*src_addr),
+        dst_addr: Ipv6Address::from_octets(*dst_addr),
+        next_header: IpProtocol::from(*next_header),
+        payload_len: u16::from_be_bytes([*high, *low]) as usize,
+        hop_limit: *hop_limit,
+    };
+    Some((header, data))
+}
+
 // What a byte of a message is set to, one byte at a time.
-const DAMAGE: [u8; 6] = [0x00, 0x40, 0x7f, 0x80, 0xc0, 0xff];
+const DAMAGE: &[u8] = &[0x00, 0x40, 0x7f, 0x80, 0xc0, 0xff];
 
 // Compares the crate with the plain reader over these octets, over each shorter part of them from their start on, and
 // over each copy of them in which one byte is damaged.
@@ -44,15 +61,27 @@ pub(crate) fn compare_damaged(rt: &impl Abort, alloc: Global, message: &[u8]) ->
         compare(rt, &message[..len]);
     }
     for at in 0..message.len() {
-        for value in DAMAGE {
-            let mut damaged = Vec::new(alloc);
-            damaged.extend_from_slice(message)?;
-            if let Some(octet) = damaged.as_mut_slice().get_mut(at) {
-                *octet = value;
-            }
-            compare(rt, damaged.as_slice());
+        for &value in DAMAGE {
+            compare_changed(rt, alloc, message, at, value)?;
         }
     }
+    Ok(())
+}
+
+// The same over a copy in which the byte at this place is another one.
+fn compare_changed(
+    rt: &impl Abort,
+    alloc: Global,
+    message: &[u8],
+    at: usize,
+    value: u8,
+) -> Result<(), Fail> {
+    let mut damaged = Vec::new(alloc);
+    damaged.extend_from_slice(message)?;
+    if let Some(octet) = damaged.as_mut_slice().get_mut(at) {
+        *octet = value;
+    }
+    compare(rt, damaged.as_slice());
     Ok(())
 }
 

@@ -14,7 +14,7 @@ mod fields;
 mod types;
 
 // The octets that stand in a buffer before it is written into.
-const FILLS: [u8; 4] = [0x00, 0xff, 0x2a, 0xa5];
+const FILLS: &[u8] = &[0x00, 0xff, 0x2a, 0xa5];
 
 // The same for every protocol.
 const fn all(checksum: Checksum) -> ChecksumCapabilities {
@@ -84,7 +84,7 @@ fn echo_requests_are_written_and_read(rt: HostRuntime) {
         seq_no: 0xabcd,
         data: &[0xaa, 0x00, 0x00, 0xff],
     };
-    for fill in FILLS {
+    for &fill in FILLS {
         check_written(&rt, &request, &mut [fill; 12], &ECHO);
     }
     check_found(&rt, &read(&ECHO, Checksum::Both), &request);
@@ -93,7 +93,8 @@ fn echo_requests_are_written_and_read(rt: HostRuntime) {
 #[test]
 fn the_checksum_of_an_echo_is_of_its_addresses(rt: HostRuntime) {
     let packet = Packet::new_unchecked(ECHO.as_slice());
-    assert!(rt; packet.verify_checksum(&source(), &destination()));
+    let is_good = packet.verify_checksum(&source(), &destination());
+    holds_of(&rt, "to its address", is_good);
     let caps = all(Checksum::Both);
     holds_of(
         &rt,
@@ -112,50 +113,41 @@ fn echo_replies_are_written_and_read(rt: HostRuntime) {
         seq_no: 0xabcd,
         data: &[0xaa, 0x00, 0x00, 0xff],
     };
-    for fill in FILLS {
+    for &fill in FILLS {
         check_written(&rt, &reply, &mut [fill; 12], &wanted);
     }
     check_found(&rt, &read(&wanted, Checksum::Both), &reply);
 }
 
-#[test]
-fn three_errors_have_any_code_and_the_others_code_0(rt: HostRuntime) -> Result<(), Fail> {
-    let caps = all(Checksum::None);
-    for code in 0..=255 {
-        const ROWS: &[(u8, bool)] = &[
-            (1u8, true),
-            (2, false),
-            (3, true),
-            (4, true),
-            (0x80, false),
-            (0x81, false),
-            (0x82, false),
-            (0x8f, false),
-        ];
-        for &(kind, any) in ROWS {
-            let mut octets = TOO_BIG;
-            octets[0] = kind;
-            octets[1] = code;
-            let packet = Packet::new_unchecked(octets.as_slice());
-            let read = Repr::parse(&source(), &destination(), &packet, &caps).is_ok();
-            same_of(&rt, (kind, code), read, any || code == 0);
-        }
-    }
-    Ok(())
+// Checks whether a message of this type and this code, which has so many octets, is read.
+fn check_code(rt: &impl Abort, kind: u8, code: u8, len: usize, wanted: bool) {
+    let mut octets = TOO_BIG;
+    octets[0] = kind;
+    octets[1] = code;
+    let Some(message) = octets.get(..len) else {
+        fail(rt, "60 octets are enough");
+        return;
+    };
+    let is_read = read(message, Checksum::None).is_ok();
+    same_of(rt, (kind, code), is_read, wanted);
 }
 
-// Checks that a message of neighbor discovery of this type, which has so many octets, is read with code 0 alone.
-fn check_codes(rt: &impl Abort, kind: u8, len: usize) {
+#[test]
+fn three_errors_have_any_code_and_the_others_code_0(rt: HostRuntime) {
+    const ROWS: &[(u8, bool)] = &[
+        (1u8, true),
+        (2, false),
+        (3, true),
+        (4, true),
+        (0x80, false),
+        (0x81, false),
+        (0x82, false),
+        (0x8f, false),
+    ];
     for code in 0..=255 {
-        let mut octets = TOO_BIG;
-        octets[0] = kind;
-        octets[1] = code;
-        let Some(message) = octets.get(..len) else {
-            fail(rt, "60 octets are enough");
-            return;
-        };
-        let is_read = read(message, Checksum::None).is_ok();
-        same_of(rt, (kind, code), is_read, code == 0);
+        for &(kind, any) in ROWS {
+            check_code(&rt, kind, code, 60, any || code == 0);
+        }
     }
 }
 
@@ -169,8 +161,10 @@ fn messages_of_neighbor_discovery_have_code_0(rt: HostRuntime) {
         (0x88, 24),
         (0x89, 40),
     ];
-    for &(kind, len) in ROWS {
-        check_codes(&rt, kind, len);
+    for code in 0..=255 {
+        for &(kind, len) in ROWS {
+            check_code(&rt, kind, code, len, code == 0);
+        }
     }
 }
 

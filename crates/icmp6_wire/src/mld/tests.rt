@@ -1,17 +1,19 @@
-ghost use Rattle.std.specs.Prelude.{◌≡◌};
+ghost use Rattle.std.specs.Prelude.{◌≡◌, ℕ, List, length};
 ghost use Rattle.wirebase.specs.Ipv6Address.{IsMulticast};
+ghost use Rattle.icmp6_wire.specs.Mld.{CanEmit, value_of, text_len, told_len};
 
 use super::{AddressRecord, AddressRecordRepr, RecordType, Repr};
 use crate::icmpv6::Packet;
 use crate::plain_reader::compare_damaged;
 use crate::testing::{fail, holds_of, same, same_of};
+use std::process::Abort;
 use std::test::Fail;
 use wirebase::{IPV6_LINK_LOCAL_ALL_NODES, IPV6_LINK_LOCAL_ALL_ROUTERS, Ipv6Address};
 
 mod inside_icmpv6;
 
 // The octets that stand in a buffer before it is written into.
-const FILLS: [u8; 4] = [0x00, 0xff, 0x2a, 0xa5];
+const FILLS: &[u8] = &[0x00, 0xff, 0x2a, 0xa5];
 
 // A query for ff02::1 with one source, ff02::2.
 const QUERY: [u8; 44] = [
@@ -33,50 +35,79 @@ const SOURCE_REPORT: [u8; 44] = [
     0x00, 0x00, 0x00, 0x00, 0x00, 0x00, 0x00, 0x00, 0x00, 0x00, 0x00, 0x02,
 ];
 
-#[test]
-fn queries_are_written_and_read(rt: HostRuntime) -> Result<(), Fail> {
-    let octets = QUERY;
-    let query = Repr::Query {
+// Writes a message over these octets, and checks that it is those which are wanted.
+fn check_written(rt: &impl Abort, message: &Repr<'_>, octets: &mut [u8], wanted: &[u8])
+    requires { CanEmit (value_of message.now) octets.old }
+{
+    message.emit(&mut Packet::new_unchecked(&mut *octets));
+    same(rt, &*octets, wanted);
+}
+
+// Checks that these octets are read as this message.
+fn check_read(rt: &impl Abort, octets: &[u8], message: &Repr<'_>) {
+    let read = Repr::parse(&Packet::new_unchecked(octets));
+    same(rt, &read, &Ok(*message));
+}
+
+// Checks that these octets are refused.
+fn check_refused(rt: &impl Abort, octets: &[u8]) {
+    let read = Repr::parse(&Packet::new_unchecked(octets));
+    holds_of(rt, octets, read.is_err());
+}
+
+// What the query says.
+fn query() -> Repr<'static>
+    ensures can { (bytes : List ℕ) → length bytes ≡ 44 → CanEmit (value_of result) bytes }
+    ensures len { text_len (value_of result) ≡ 44 }
+    ensures told { told_len (value_of result) ≡ 44 }
+{
+    Repr::Query {
         max_resp_code: 0x400,
         mcast_addr: IPV6_LINK_LOCAL_ALL_NODES,
         s_flag: true,
         qrv: 2,
         qqic: 0x12,
         num_srcs: 1,
-        data: &octets[28..],
-    };
-    for fill in FILLS {
-        let mut written = [fill; 44];
-        let mut packet = Packet::new_unchecked(written.as_mut_slice());
-        query.emit(&mut packet);
-        same_of(&rt, fill, written.as_slice(), QUERY.as_slice());
+        data: &QUERY[28..],
     }
-    let packet = Packet::new_unchecked(octets.as_slice());
-    assert!(rt; Repr::parse(&packet) == Ok(query));
-    same(&rt, query.buffer_len(), 44);
-    same(&rt, query.packet_len(), 44);
+}
+
+#[test]
+fn queries_are_written_and_read(rt: HostRuntime) {
+    let query = query();
+    for &fill in FILLS {
+        check_written(&rt, &query, &mut [fill; 44], &QUERY);
+    }
+    check_read(&rt, &QUERY, &query);
+    same(&rt, [query.buffer_len(), query.packet_len()], [44, 44]);
+}
+
+#[test]
+fn queries_have_28_bytes_or_more(rt: HostRuntime) {
     for len in 0..28 {
-        let packet = Packet::new_unchecked(&octets[..len]);
-        holds_of(&rt, len, Repr::parse(&packet).is_err());
+        check_refused(&rt, &QUERY[..len]);
     }
-    Ok(())
+}
+
+// The report of the record, which counts so many.
+fn report_of(count: u16) -> Repr<'static>
+    ensures can { (bytes : List ℕ) → length bytes ≡ 28 → CanEmit (value_of result) bytes }
+    ensures len { text_len (value_of result) ≡ 28 }
+    ensures told { told_len (value_of result) ≡ 28 }
+{
+    Repr::Report {
+        nr_mcast_addr_rcrds: count,
+        data: &REPORT[8..],
+    }
 }
 
 #[test]
 fn reports_are_written_and_read(rt: HostRuntime) {
-    let octets = REPORT;
-    let report = Repr::Report {
-        nr_mcast_addr_rcrds: 1,
-        data: &octets[8..],
-    };
-    for fill in FILLS {
-        let mut written = [fill; 28];
-        let mut packet = Packet::new_unchecked(written.as_mut_slice());
-        report.emit(&mut packet);
-        same_of(&rt, fill, written.as_slice(), REPORT.as_slice());
+    let report = report_of(1);
+    for &fill in FILLS {
+        check_written(&rt, &report, &mut [fill; 28], &REPORT);
     }
-    let packet = Packet::new_unchecked(octets.as_slice());
-    assert!(rt; Repr::parse(&packet) == Ok(report));
+    check_read(&rt, &REPORT, &report);
     same(&rt, [report.buffer_len(), report.packet_len()], [28, 28]);
 }
 
@@ -87,11 +118,8 @@ fn a_list_of_records_is_written_as_a_report(rt: HostRuntime) {
         IPV6_LINK_LOCAL_ALL_ROUTERS,
     )];
     let by_records = Repr::ReportRecordReprs(&records);
-    for fill in FILLS {
-        let mut written = [fill; 28];
-        let mut packet = Packet::new_unchecked(written.as_mut_slice());
-        by_records.emit(&mut packet);
-        same_of(&rt, fill, written.as_slice(), REPORT.as_slice());
+    for &fill in FILLS {
+        check_written(&rt, &by_records, &mut [fill; 28], &REPORT);
     }
     same(
         &rt,
@@ -102,17 +130,15 @@ fn a_list_of_records_is_written_as_a_report(rt: HostRuntime) {
 
 #[test]
 fn reports_are_read_by_their_first_8_bytes(rt: HostRuntime) {
-    let octets = REPORT;
     for len in 0..8 {
-        let packet = Packet::new_unchecked(&octets[..len]);
-        holds_of(&rt, len, Repr::parse(&packet).is_err());
+        check_refused(&rt, &REPORT[..len]);
     }
-    let packet = Packet::new_unchecked(&octets[..8]);
-    assert!(rt; Repr::parse(&packet).is_ok());
+    let packet = Packet::new_unchecked(&REPORT[..8]);
+    holds_of(&rt, 8, Repr::parse(&packet).is_ok());
 }
 
 #[test]
-fn the_flag_and_the_robustness_variable(rt: HostRuntime) -> Result<(), Fail> {
+fn the_flag_and_the_robustness_variable(rt: HostRuntime) {
     for byte in 0..=255 {
         let mut octets = [0; 25];
         octets[24] = byte;
@@ -130,7 +156,6 @@ fn the_flag_and_the_robustness_variable(rt: HostRuntime) -> Result<(), Fail> {
         packet.clear_s_flag();
         same_of(&rt, byte, octets[24], byte & 7);
     }
-    Ok(())
 }
 
 // A record of the group ff02::2 that names a data word and two sources, with two octets behind it.
@@ -166,7 +191,7 @@ fn records_are_read_by_their_first_20_bytes(rt: HostRuntime) {
 fn records_are_written_in_20_bytes(rt: HostRuntime) {
     let repr = short_record();
     same(&rt, repr.buffer_len(), 20);
-    for fill in FILLS {
+    for &fill in FILLS {
         let mut written = [fill; 21];
         let mut record = AddressRecord::new_unchecked(written.as_mut_slice());
         repr.emit(&mut record);
@@ -196,10 +221,8 @@ fn records_are_written_in_their_order(rt: HostRuntime) {
     ];
     let report = Repr::ReportRecordReprs(&records);
     same(&rt, report.packet_len(), 48);
-    for fill in FILLS {
-        let mut written = [fill; 48];
-        report.emit(&mut Packet::new_unchecked(written.as_mut_slice()));
-        same_of(&rt, fill, written.as_slice(), TWO_RECORDS.as_slice());
+    for &fill in FILLS {
+        check_written(&rt, &report, &mut [fill; 48], &TWO_RECORDS);
     }
 }
 
@@ -207,10 +230,8 @@ fn records_are_written_in_their_order(rt: HostRuntime) {
 fn an_empty_list_of_records_is_written(rt: HostRuntime) {
     let report = Repr::ReportRecordReprs(&[]);
     same(&rt, report.packet_len(), 8);
-    for fill in FILLS {
-        let mut written = [fill; 8];
-        report.emit(&mut Packet::new_unchecked(written.as_mut_slice()));
-        same_of(&rt, fill, written, [0x8f, 0, 0, 0, 0, 0, 0, 0]);
+    for &fill in FILLS {
+        check_written(&rt, &report, &mut [fill; 8], &[0x8f, 0, 0, 0, 0, 0, 0, 0]);
     }
 }
 
@@ -305,11 +326,7 @@ fn a_list_of_records_and_a_report_have_the_same_text(rt: HostRuntime) {
         IPV6_LINK_LOCAL_ALL_ROUTERS,
     )];
     let by_records = Repr::ReportRecordReprs(&records);
-    let octets = REPORT;
-    let report = Repr::Report {
-        nr_mcast_addr_rcrds: 1,
-        data: &octets[8..],
-    };
+    let report = report_of(1);
     let mut one = [0; 28];
     by_records.emit_into(&mut one);
     let mut two = [0; 28];
@@ -321,20 +338,13 @@ fn a_list_of_records_and_a_report_have_the_same_text(rt: HostRuntime) {
 
 #[test]
 fn reports_of_other_counts_have_other_texts(rt: HostRuntime) {
-    let octets = REPORT;
-    let report = Repr::Report {
-        nr_mcast_addr_rcrds: 1,
-        data: &octets[8..],
-    };
-    let other = Repr::Report {
-        nr_mcast_addr_rcrds: 2,
-        data: &octets[8..],
-    };
+    let report = report_of(1);
+    let other = report_of(2);
     let mut two = [0; 28];
     report.emit_into(&mut two);
     let mut three = [0; 28];
     other.emit_into(&mut three);
-    assert!(rt; two != three);
+    same(&rt, two == three, false);
     Repr::same_text(&report, &other);
 }
 

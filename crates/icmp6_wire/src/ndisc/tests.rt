@@ -1,4 +1,4 @@
-ghost use Rattle.std.specs.Prelude.{◌≡◌, ◌≤◌};
+ghost use Rattle.std.specs.Prelude.{◌≡◌, ◌<◌, ◌≤◌, length};
 ghost use Rattle.icmp6_wire.specs.Ndisc.{value_of, text_len, CanEmit};
 ghost use Rattle.icmp6_wire.specs.NdiscPacket.{seconds};
 
@@ -27,7 +27,7 @@ fn there() -> Ipv6Address {
 }
 
 // The octets that stand in a buffer before it is written into.
-const FILLS: [u8; 3] = [0x00, 0xff, 0x2a];
+const FILLS: &[u8] = &[0x00, 0xff, 0x2a];
 
 fn ethernet() -> RawHardwareAddress {
     RawHardwareAddress::from_bytes(&[0x52, 0x54, 0x00, 0x12, 0x34, 0x56])
@@ -44,6 +44,20 @@ fn reads(bytes: &[u8], repr: &Repr<'_>) -> bool {
         return false;
     };
     found == *repr
+}
+
+// Checks that these bytes are read as this message.
+fn check_read(rt: &impl Abort, bytes: &[u8], repr: &Repr<'_>) {
+    holds_of(rt, bytes, reads(bytes, repr));
+}
+
+// Writes a message over these octets, and checks that it is those which are wanted.
+fn check_written(rt: &impl Abort, repr: &Repr<'_>, octets: &mut [u8], wanted: &[u8])
+    requires can { CanEmit (value_of repr.now) }
+    requires room { text_len (value_of repr.now) ≤ length octets.old }
+{
+    repr.emit_into(octets);
+    same(rt, &*octets, wanted);
 }
 
 // Hop limit 64, flag M, a lifetime of 900 s, times of 900 ms, and a link-layer address.
@@ -81,40 +95,28 @@ fn router_advert_of(router_lifetime: Duration) -> Repr<'static>
 fn router_advertisements_are_written_and_read(rt: HostRuntime) {
     let repr = router_advert();
     same(&rt, repr.buffer_len(), 24);
-    for fill in FILLS {
-        let mut octets = [fill; 24];
-        repr.emit_into(&mut octets);
-        same_of(&rt, fill, octets.as_slice(), ROUTER_ADVERT.as_slice());
+    for &fill in FILLS {
+        check_written(&rt, &repr, &mut [fill; 24], &ROUTER_ADVERT);
     }
-    assert!(rt; reads(&ROUTER_ADVERT, &repr));
+    check_read(&rt, &ROUTER_ADVERT, &repr);
     for len in 0..16 {
         holds_of(&rt, len, read(&ROUTER_ADVERT[..len]).is_err());
     }
     // All flag bits are set; those without a name are not read.
     let mut octets = ROUTER_ADVERT;
     octets[5] = 0xbf;
-    assert!(rt; reads(&octets, &repr));
-}
-
-// Checks that this router advertisement is written as these octets, whatever stood there.
-fn check_advert(rt: &impl Abort, repr: &Repr<'_>, text: &[u8])
-    requires can { CanEmit (value_of repr.now) }
-    requires len { text_len (value_of repr.now) ≡ 24 }
-{
-    for fill in FILLS {
-        let mut octets = [fill; 24];
-        repr.emit_into(&mut octets);
-        same_of(rt, fill, octets.as_slice(), text);
-    }
+    check_read(&rt, &octets, &repr);
 }
 
 #[test]
 fn router_lifetimes_are_cut_to_whole_seconds(rt: HostRuntime) {
     let repr = router_advert_of(Duration::from_micros(900_000_001));
-    check_advert(&rt, &repr, &ROUTER_ADVERT);
+    for &fill in FILLS {
+        check_written(&rt, &repr, &mut [fill; 24], &ROUTER_ADVERT);
+    }
     // What is read is another message.
-    assert!(rt; read(&ROUTER_ADVERT).is_ok());
-    assert!(rt; !reads(&ROUTER_ADVERT, &repr));
+    holds_of(&rt, "a message", read(&ROUTER_ADVERT).is_ok());
+    holds_of(&rt, "another message", !reads(&ROUTER_ADVERT, &repr));
     Repr::same_text(&repr, &router_advert());
 }
 
@@ -123,10 +125,13 @@ fn router_lifetimes_that_differ_by_a_second_have_other_texts(rt: HostRuntime) {
     let mut text = ROUTER_ADVERT;
     text[7] = 0x85;
     let repr = router_advert_of(Duration::from_secs(901));
-    check_advert(&rt, &repr, &text);
-    assert!(rt; reads(&text, &repr));
-    assert!(rt; read(&ROUTER_ADVERT).is_ok());
-    assert!(rt; !reads(&ROUTER_ADVERT, &repr));
+    for &fill in FILLS {
+        check_written(&rt, &repr, &mut [fill; 24], &text);
+    }
+    check_read(&rt, &text, &repr);
+    // What is read is another message.
+    holds_of(&rt, "a message", read(&ROUTER_ADVERT).is_ok());
+    holds_of(&rt, "another message", !reads(&ROUTER_ADVERT, &repr));
 }
 
 // What a host asks of the routers on its link, with its own address there.
@@ -142,13 +147,15 @@ fn router_solicit() -> Repr<'static>
 #[test]
 fn a_router_solicitation_is_written_and_read(rt: HostRuntime) {
     let repr = router_solicit();
-    for fill in FILLS {
-        let mut octets = [fill; 16];
-        repr.emit_into(&mut octets);
-        same_of(&rt, fill, octets.as_slice(), ROUTER_SOLICIT.as_slice());
+    for &fill in FILLS {
+        check_written(&rt, &repr, &mut [fill; 16], &ROUTER_SOLICIT);
     }
-    assert!(rt; read(&ROUTER_SOLICIT).is_ok());
-    assert!(rt; reads(&ROUTER_SOLICIT, &repr));
+    holds_of(&rt, "a message", read(&ROUTER_SOLICIT).is_ok());
+    check_read(&rt, &ROUTER_SOLICIT, &repr);
+    let same_repr = Repr::RouterSolicit {
+        lladdr: Some(ethernet()),
+    };
+    check_read(&rt, &ROUTER_SOLICIT, &same_repr);
 }
 
 // Whether these bytes are read as this message from fe80::1 to fe80::2.
@@ -160,30 +167,42 @@ fn reads_icmpv6(bytes: &[u8], repr: &icmpv6::Repr<'_>, caps: &ChecksumCapabiliti
     found == *repr
 }
 
+// The same with the checksum that it has from fe80::1 to fe80::2.
+const SEALED_ADVERT: [u8; 24] = [
+    0x86, 0x00, 0xa9, 0xde, 0x40, 0x80, 0x03, 0x84, 0x00, 0x00, 0x03, 0x84, 0x00, 0x00, 0x03, 0x84,
+    0x01, 0x01, 0x52, 0x54, 0x00, 0x12, 0x34, 0x56,
+];
+
 #[test]
 fn router_advertisements_of_icmpv6_carry_a_checksum(rt: HostRuntime) {
     let caps = ChecksumCapabilities::default();
-    let ignored = ChecksumCapabilities::ignored();
-    let mut text = ROUTER_ADVERT;
-    assert!(rt; read(&text).is_ok());
-    assert!(rt; mld::Repr::parse(&Packet::new_unchecked(text.as_slice())).is_err());
-    text[2] = 0xa9;
-    text[3] = 0xde;
+    let packet = Packet::new_unchecked(ROUTER_ADVERT.as_slice());
+    holds_of(&rt, "of neighbors", Repr::parse(&packet).is_ok());
+    holds_of(&rt, "of listeners", mld::Repr::parse(&packet).is_err());
     let repr = icmpv6::Repr::Ndisc(router_advert());
-    same(&rt, repr.buffer_len(), 24);
-    same(&rt, repr.packet_len(), 24);
-    for fill in FILLS {
+    same(&rt, [repr.buffer_len(), repr.packet_len()], [24, 24]);
+    for &fill in FILLS {
         let mut octets = [fill; 24];
         repr.emit_into(&here(), &there(), &mut octets, &caps);
-        same_of(&rt, fill, octets.as_slice(), text.as_slice());
+        same_of(&rt, fill, octets, SEALED_ADVERT);
     }
-    assert!(rt; reads_icmpv6(&text, &repr, &caps));
-    // A turned bit, and another code.
-    text[4] = 0x41;
-    assert!(rt; !reads_icmpv6(&text, &repr, &caps));
-    text[4] = 0x40;
-    text[1] = 1;
-    assert!(rt; !reads_icmpv6(&text, &repr, &ignored));
+    holds_of(&rt, "read", reads_icmpv6(&SEALED_ADVERT, &repr, &caps));
+}
+
+// Checks that the advertisement of icmpv6 in which this byte is another one is not read as it was.
+fn check_changed(rt: &impl Abort, at: usize, byte: u8, caps: &ChecksumCapabilities)
+    requires { at < 24 }
+{
+    let mut text = SEALED_ADVERT;
+    text[at] = byte;
+    let repr = icmpv6::Repr::Ndisc(router_advert());
+    holds_of(rt, at, !reads_icmpv6(&text, &repr, caps));
+}
+
+#[test]
+fn a_turned_bit_and_another_code_of_an_advertisement_are_refused(rt: HostRuntime) {
+    check_changed(&rt, 4, 0x41, &ChecksumCapabilities::default());
+    check_changed(&rt, 1, 1, &ChecksumCapabilities::ignored());
 }
 
 // The same with an MTU of 1,500 and the prefix fe80::1/64, valid for 900 seconds and preferred for 1,000.
@@ -220,12 +239,10 @@ fn full_router_advert() -> Repr<'static>
 fn router_advertisements_with_all_options(rt: HostRuntime) {
     let repr = full_router_advert();
     same(&rt, repr.buffer_len(), 64);
-    for fill in FILLS {
-        let mut octets = [fill; 64];
-        repr.emit_into(&mut octets);
-        same_of(&rt, fill, octets.as_slice(), FULL_ROUTER_ADVERT.as_slice());
+    for &fill in FILLS {
+        check_written(&rt, &repr, &mut [fill; 64], &FULL_ROUTER_ADVERT);
     }
-    assert!(rt; reads(&FULL_ROUTER_ADVERT, &repr));
+    check_read(&rt, &FULL_ROUTER_ADVERT, &repr);
     Repr::same_text(&repr, &router_advert());
     for len in 0..16 {
         holds_of(&rt, len, read(&FULL_ROUTER_ADVERT[..len]).is_err());
@@ -235,29 +252,22 @@ fn router_advertisements_with_all_options(rt: HostRuntime) {
     }
 }
 
+// A host asks for fe80::1, and tells no address.
+const BARE_SOLICIT: [u8; 24] = [
+    0x87, 0x00, 0x00, 0x00, 0, 0, 0, 0, 0xfe, 0x80, 0, 0, 0, 0, 0, 0, 0, 0, 0, 0, 0, 0, 0, 0x01,
+];
+
 #[test]
 fn solicitations_are_written_and_read(rt: HostRuntime) {
-    let router = Repr::RouterSolicit {
-        lladdr: Some(ethernet()),
-    };
-    let text = [
-        0x85, 0x00, 0x00, 0x00, 0, 0, 0, 0, 0x01, 0x01, 0x52, 0x54, 0x00, 0x12, 0x34, 0x56,
-    ];
-    assert!(rt; reads(&text, &router));
     let neighbor = Repr::NeighborSolicit {
         target_addr: here(),
         lladdr: None,
     };
-    let other = [
-        0x87, 0x00, 0x00, 0x00, 0, 0, 0, 0, 0xfe, 0x80, 0, 0, 0, 0, 0, 0, 0, 0, 0, 0, 0, 0, 0, 0x01,
-    ];
-    assert!(rt; reads(&other, &neighbor));
-    assert!(rt; read(&other[..23]).is_err());
+    check_read(&rt, &BARE_SOLICIT, &neighbor);
+    holds_of(&rt, 23, read(&BARE_SOLICIT[..23]).is_err());
     same(&rt, neighbor.buffer_len(), 24);
-    for fill in FILLS {
-        let mut octets = [fill; 24];
-        neighbor.emit_into(&mut octets);
-        same_of(&rt, fill, octets.as_slice(), other.as_slice());
+    for &fill in FILLS {
+        check_written(&rt, &neighbor, &mut [fill; 24], &BARE_SOLICIT);
     }
 }
 
@@ -272,39 +282,40 @@ fn a_solicitation_in_a_longer_buffer_leaves_the_rest(rt: HostRuntime) {
         octets,
         [0x85, 0x00, 0x00, 0x00, 0x00, 0x00, 0x00, 0x00, 0xa5, 0xa5],
     );
-    assert!(rt; read(&octets).is_err());
+    holds_of(&rt, 10, read(&octets).is_err());
 }
+
+// What fe80::1 answers where it tells no address.
+const BARE_ADVERT: [u8; 24] = [
+    0x88, 0x00, 0x00, 0x00, 0x60, 0x00, 0x00, 0x00, 0xfe, 0x80, 0, 0, 0, 0, 0, 0, 0, 0, 0, 0, 0, 0,
+    0, 0x01,
+];
+
+// The same with the link-layer addresses of a target and of a source.
+const ADVERT_OF_BOTH: [u8; 40] = [
+    0x88, 0x00, 0x00, 0x00, 0x60, 0x00, 0x00, 0x00, 0xfe, 0x80, 0, 0, 0, 0, 0, 0, 0, 0, 0, 0, 0, 0,
+    0, 0x01, 0x02, 0x01, 0x52, 0x54, 0x00, 0x12, 0x34, 0x56, 0x01, 0x01, 1, 2, 3, 4, 5, 6,
+];
 
 #[test]
 fn advertisements_of_neighbors_are_written_and_read(rt: HostRuntime) {
-    let text = [
-        0x88, 0x00, 0x00, 0x00, 0x60, 0x00, 0x00, 0x00, 0xfe, 0x80, 0, 0, 0, 0, 0, 0, 0, 0, 0, 0,
-        0, 0, 0, 0x01,
-    ];
     let repr = Repr::NeighborAdvert {
         flags: NeighborFlags::SOLICITED | NeighborFlags::OVERRIDE,
         target_addr: here(),
         lladdr: None,
     };
-    assert!(rt; reads(&text, &repr));
-    for fill in FILLS {
-        let mut octets = [fill; 24];
-        repr.emit_into(&mut octets);
-        same_of(&rt, fill, octets.as_slice(), text.as_slice());
+    check_read(&rt, &BARE_ADVERT, &repr);
+    for &fill in FILLS {
+        check_written(&rt, &repr, &mut [fill; 24], &BARE_ADVERT);
     }
-    assert!(rt; read(&text[..23]).is_err());
+    holds_of(&rt, 23, read(&BARE_ADVERT[..23]).is_err());
     // The link-layer address is that of the target, not that of a source.
-    let mut both = [0; 40];
-    both[..24].copy_from_slice(&text);
-    both[24..].copy_from_slice(&[
-        0x02, 0x01, 0x52, 0x54, 0x00, 0x12, 0x34, 0x56, 0x01, 0x01, 1, 2, 3, 4, 5, 6,
-    ]);
     let told = Repr::NeighborAdvert {
         flags: NeighborFlags::SOLICITED | NeighborFlags::OVERRIDE,
         target_addr: here(),
         lladdr: Some(ethernet()),
     };
-    assert!(rt; reads(&both, &told));
+    check_read(&rt, &ADVERT_OF_BOTH, &told);
 }
 
 // To fe80::1 for fe80::2, with a link-layer address and 4 bytes of UDP from fe80::1 to fe80::2.
@@ -342,13 +353,11 @@ fn redirect() -> Repr<'static>
 fn redirects_are_written_and_read(rt: HostRuntime) {
     let repr = redirect();
     same(&rt, repr.buffer_len(), 104);
-    for fill in FILLS {
-        let mut octets = [fill; 104];
-        repr.emit_into(&mut octets);
-        same_of(&rt, fill, octets.as_slice(), REDIRECT.as_slice());
+    for &fill in FILLS {
+        check_written(&rt, &repr, &mut [fill; 104], &REDIRECT);
     }
-    assert!(rt; reads(&REDIRECT, &repr));
-    assert!(rt; read(&REDIRECT[..39]).is_err());
+    check_read(&rt, &REDIRECT, &repr);
+    holds_of(&rt, 39, read(&REDIRECT[..39]).is_err());
 }
 
 // A host asks the routers, and tells its link-layer address.

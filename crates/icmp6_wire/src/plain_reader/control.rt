@@ -1,8 +1,7 @@
 // Messages of ICMPv6 (RFC 4443), and what they carry.
 
-use super::{listener, neighbor, split_header};
+use super::{listener, neighbor, split_header, split_ip_header};
 use crate::icmpv6::Repr;
-use wirebase::{IpProtocol, Ipv6Address, Ipv6Repr};
 
 // Three errors have any code, and the other messages the code 0.
 pub(super) fn message(octets: &[u8]) -> Option<Repr<'_>> {
@@ -49,7 +48,7 @@ fn echo<'a>(kind: u8, word: &[u8], data: &'a [u8]) -> Option<Repr<'a>> {
 fn error<'a>(kind: u8, code: u8, word: &[u8], quote: &'a [u8]) -> Option<Repr<'a>> {
     let (word, _) = word.split_first_chunk::<4>()?;
     let word = u32::from_be_bytes(*word);
-    let (header, data) = quoted(quote)?;
+    let (header, data) = split_ip_header(quote)?;
     match (kind, code) {
         (1, _) => Some(Repr::DstUnreachable {
             reason: code.into(),
@@ -74,21 +73,4 @@ fn error<'a>(kind: u8, code: u8, word: &[u8], quote: &'a [u8]) -> Option<Repr<'a
         }),
         _ => None,
     }
-}
-
-// A header of any version (RFC 8200 section 3), and all that stands behind it.
-fn quoted(quote: &[u8]) -> Option<(Ipv6Repr, &[u8])> {
-    let [_, _, _, _, high, low, next_header, hop_limit, rest @ ..] = quote else {
-        return None;
-    };
-    let (src_addr, rest) = rest.split_first_chunk::<16>()?;
-    let (dst_addr, data) = rest.split_first_chunk::<16>()?;
-    let header = Ipv6Repr {
-        src_addr: Ipv6Address::from_octets(*src_addr),
-        dst_addr: Ipv6Address::from_octets(*dst_addr),
-        next_header: IpProtocol::from(*next_header),
-        payload_len: u16::from_be_bytes([*high, *low]) as usize,
-        hop_limit: *hop_limit,
-    };
-    Some((header, data))
 }

@@ -1,11 +1,11 @@
 // Messages of neighbor discovery (RFC 4861 section 4): a header, and options one after another. Of each type the last
 // option that can be read counts.
 
-use super::split_header;
+use super::{split_header, split_ip_header};
 use crate::ndisc::{NeighborFlags, Repr, RouterFlags};
 use bitflags::Flags as _;
 use opt_wire::ndiscoption::{PrefixInfoFlags, PrefixInformation, RedirectedHeader};
-use wirebase::{Duration, IpProtocol, Ipv6Address, Ipv6Repr, RawHardwareAddress};
+use wirebase::{Duration, Ipv6Address, RawHardwareAddress};
 
 // A message of any code.
 pub(super) fn message(octets: &[u8]) -> Option<Repr<'_>> {
@@ -30,32 +30,41 @@ pub(super) fn message(octets: &[u8]) -> Option<Repr<'_>> {
             target_addr: address(rest)?,
             lladdr: link_address(options, 2),
         }),
-        137 => Some(Repr::Redirect {
-            target_addr: address(rest)?,
-            dest_addr: address(rest.get(16..)?)?,
-            lladdr: link_address(options, 2),
-            redirected_hdr: redirected_header(options),
-        }),
+        137 => redirect(rest, options),
         _ => None,
     }
 }
 
+fn redirect<'a>(addresses: &[u8], options: &'a [u8]) -> Option<Repr<'a>> {
+    let (target_addr, addresses) = addresses.split_first_chunk::<16>()?;
+    Some(Repr::Redirect {
+        target_addr: Ipv6Address::from_octets(*target_addr),
+        dest_addr: address(addresses)?,
+        lladdr: link_address(options, 2),
+        redirected_hdr: redirected_header(options),
+    })
+}
+
 fn router_advert<'a>(header: &[u8], options: &[u8]) -> Option<Repr<'a>> {
-    let [_, _, _, _, hop_limit, flags, high, low, times @ ..] = header else {
+    let [_, _, _, _, hop_limit, flags, high, low, ..] = header else {
         return None;
     };
-    let (reachable, rest) = times.split_first_chunk::<4>()?;
-    let (retrans, _) = rest.split_first_chunk::<4>()?;
     Some(Repr::RouterAdvert {
         hop_limit: *hop_limit,
         flags: RouterFlags::from_bits_retain(*flags & 0xc0),
         router_lifetime: Duration::from_secs(u16::from_be_bytes([*high, *low]) as u64),
-        reachable_time: Duration::from_millis(u32::from_be_bytes(*reachable) as u64),
-        retrans_time: Duration::from_millis(u32::from_be_bytes(*retrans) as u64),
+        reachable_time: Duration::from_millis(number_at(header, 8)? as u64),
+        retrans_time: Duration::from_millis(number_at(header, 12)? as u64),
         lladdr: link_address(options, 1),
         mtu: mtu(options),
         prefix_info: prefix_information(options),
     })
+}
+
+// The number in the four bytes at this place.
+fn number_at(octets: &[u8], at: usize) -> Option<u32> {
+    let (bytes, _) = octets.get(at..)?.split_first_chunk::<4>()?;
+    Some(u32::from_be_bytes(*bytes))
 }
 
 // The address at the front.
@@ -133,25 +142,20 @@ fn link_address(options: &[u8], kind: u8) -> Option<RawHardwareAddress> {
 }
 
 fn mtu(options: &[u8]) -> Option<u32> {
-    let data = last_option(options, 5)?;
-    let (_, rest) = data.split_first_chunk::<2>()?;
-    let (mtu, _) = rest.split_first_chunk::<4>()?;
-    Some(u32::from_be_bytes(*mtu))
+    number_at(last_option(options, 5)?, 2)
 }
 
 fn prefix_information(options: &[u8]) -> Option<PrefixInformation> {
-    let [prefix_len, flags, times @ ..] = last_option(options, 3)? else {
+    let data = last_option(options, 3)?;
+    let [prefix_len, flags, ..] = data else {
         return None;
     };
-    let (valid, rest) = times.split_first_chunk::<4>()?;
-    let (preferred, rest) = rest.split_first_chunk::<4>()?;
-    let (_, prefix) = rest.split_first_chunk::<4>()?;
     Some(PrefixInformation {
         prefix_len: *prefix_len,
         flags: PrefixInfoFlags::from_bits_retain(*flags & 0xc0),
-        valid_lifetime: Duration::from_secs(u32::from_be_bytes(*valid) as u64),
-        preferred_lifetime: Duration::from_secs(u32::from_be_bytes(*preferred) as u64),
-        prefix: address(prefix)?,
+        valid_lifetime: Duration::from_secs(number_at(data, 2)? as u64),
+        preferred_lifetime: Duration::from_secs(number_at(data, 6)? as u64),
+        prefix: address(data.get(14..)?)?,
     })
 }
 
@@ -162,28 +166,10 @@ fn redirected_header(options: &[u8]) -> Option<RedirectedHeader<'_>> {
 // A packet of version 6 behind 6 reserved bytes, with all its payload (RFC 8200 section 3).
 fn redirected_packet(data: &[u8]) -> Option<RedirectedHeader<'_>> {
     let (_, packet) = data.split_first_chunk::<6>()?;
-    let [
-        0x60..=0x6f,
-        _,
-        _,
-        _,
-        high,
-        low,
-        next_header,
-        hop_limit,
-        rest @ ..,
-    ] = packet
-    else {
-        return None;
-    };
-    let payload_len = u16::from_be_bytes([*high, *low]) as usize;
-    let header = Ipv6Repr {
-        src_addr: address(rest)?,
-        dst_addr: address(rest.get(16..)?)?,
-        next_header: IpProtocol::from(*next_header),
-        payload_len,
-        hop_limit: *hop_limit,
-    };
-    let data = rest.get(32..)?.get(..payload_len)?;
-    Some(RedirectedHeader { header, data })
+    let (header, behind) = split_ip_header(packet)?;
+    let data = behind.get(..header.payload_len)?;
+    match packet {
+        [0x60..=0x6f, ..] => Some(RedirectedHeader { header, data }),
+        _ => None,
+    }
 }

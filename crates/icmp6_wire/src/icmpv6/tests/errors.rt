@@ -32,7 +32,7 @@ fn errors_are_written_and_read(rt: HostRuntime) {
         header: quoted(),
         data: &QUOTED_DATA,
     };
-    for fill in FILLS {
+    for &fill in FILLS {
         check_written(&rt, &error, &mut [fill; 60], &TOO_BIG);
     }
     check_found(&rt, &read(&TOO_BIG, Checksum::Both), &error);
@@ -46,7 +46,7 @@ fn unreachable_destinations_are_written_and_read(rt: HostRuntime) {
         header: quoted(),
         data: &QUOTED_DATA,
     };
-    for fill in FILLS {
+    for &fill in FILLS {
         check_written(&rt, &error, &mut [fill; 60], &wanted);
     }
     check_found(&rt, &read(&wanted, Checksum::Both), &error);
@@ -66,7 +66,7 @@ fn times_exceeded_are_written_and_read(rt: HostRuntime) {
         header: quoted(),
         data: &QUOTED_DATA,
     };
-    for fill in FILLS {
+    for &fill in FILLS {
         check_written(&rt, &error, &mut [fill; 60], &wanted);
     }
     check_found(&rt, &read(&wanted, Checksum::Both), &error);
@@ -81,7 +81,7 @@ fn parameter_problems_are_written_and_read(rt: HostRuntime) {
         header: quoted(),
         data: &QUOTED_DATA,
     };
-    for fill in FILLS {
+    for &fill in FILLS {
         check_written(&rt, &error, &mut [fill; 60], &wanted);
     }
     check_found(&rt, &read(&wanted, Checksum::Both), &error);
@@ -108,14 +108,13 @@ fn check_quoted(rt: &impl Abort, data: &[u8], cut: &[u8], fill: u8) -> [u8; 1240
     octets
 }
 
-// Checks that errors with these data differ, of which the first is read from the text of both.
-fn check_same_text(rt: &impl Abort, text: &[u8], cut: &[u8], whole: &[u8]) {
+// Checks that errors with these data differ, and tells that they have the same text.
+fn check_same_text(rt: &impl Abort, cut: &[u8], whole: &[u8]) {
     let one = port_unreachable(cut);
     let other = port_unreachable(whole);
     same(rt, one == other, false);
     let caps = all(Checksum::Both);
     Repr::same_text(&one, &other, &source(), &destination(), &caps);
-    check_found(rt, &read(text, Checksum::Both), &one);
 }
 
 #[test]
@@ -127,7 +126,9 @@ fn errors_that_differ_past_what_they_quote_have_the_same_text(rt: HostRuntime) {
     let written = check_quoted(&rt, cut, cut, 0);
     let over = check_quoted(&rt, &data, cut, 0xff);
     same(&rt, written.as_slice(), over.as_slice());
-    check_same_text(&rt, &written, cut, &data);
+    check_same_text(&rt, cut, &data);
+    let found = read(&written, Checksum::Both);
+    check_found(&rt, &found, &port_unreachable(cut));
 }
 
 // A packet that is too big, of which these data are quoted.

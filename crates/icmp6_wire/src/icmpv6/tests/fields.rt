@@ -1,7 +1,6 @@
 use super::{ECHO, destination, source};
 use crate::icmpv6::{Message, Packet};
-use crate::testing::{same, same_of};
-use std::test::Fail;
+use crate::testing::{holds_of, same, same_of};
 
 #[test]
 fn what_solicitations_have_reserved_is_cleared(rt: HostRuntime) {
@@ -126,9 +125,13 @@ fn a_checksum_is_filled(rt: HostRuntime) {
 }
 
 #[test]
-fn packets_are_compared_with_what_stands_behind_their_header(rt: HostRuntime) -> Result<(), Fail> {
-    let packet = Packet::new_checked(ECHO.as_slice())?;
-    assert!(rt; packet == Packet::new_unchecked(ECHO.as_slice()));
-    assert!(rt; packet != Packet::new_unchecked(&ECHO[..11]));
-    Ok(())
+fn packets_are_compared_with_what_stands_behind_their_header(rt: HostRuntime) {
+    let packet = Packet::new_unchecked(ECHO.as_slice());
+    let checked = Packet::new_checked(ECHO.as_slice());
+    holds_of(
+        &rt,
+        12,
+        checked == Ok(Packet::new_unchecked(ECHO.as_slice())),
+    );
+    holds_of(&rt, 11, packet != Packet::new_unchecked(&ECHO[..11]));
 }

@@ -1,6 +1,6 @@
 ghost use Rattle.icmp6_wire.specs.Icmpv6.{CanEmit, value_of};
 
-use super::{FILLS, QUERY, REPORT, SOURCE_REPORT};
+use super::{FILLS, QUERY, REPORT, SOURCE_REPORT, query};
 use crate::icmpv6::{Packet, Repr};
 use crate::mld;
 use crate::mld::{AddressRecordRepr, RecordType};
@@ -39,26 +39,22 @@ fn check_written(
     same(rt, &*octets, wanted);
 }
 
+// The query with the checksum that it has from ff02::1 to ff02::2.
+const SEALED_QUERY: [u8; 44] = [
+    0x82, 0x00, 0x73, 0x74, 0x04, 0x00, 0x00, 0x00, 0xff, 0x02, 0x00, 0x00, 0x00, 0x00, 0x00, 0x00,
+    0x00, 0x00, 0x00, 0x00, 0x00, 0x00, 0x00, 0x01, 0x0a, 0x12, 0x00, 0x01, 0xff, 0x02, 0x00, 0x00,
+    0x00, 0x00, 0x00, 0x00, 0x00, 0x00, 0x00, 0x00, 0x00, 0x00, 0x00, 0x02,
+];
+
 #[test]
 fn queries_inside_icmpv6_have_a_checksum(rt: HostRuntime) {
     let caps = ChecksumCapabilities::default();
-    let mut sealed = QUERY;
-    sealed[2] = 0x73;
-    sealed[3] = 0x74;
-    let query = Repr::Mld(mld::Repr::Query {
-        max_resp_code: 0x400,
-        mcast_addr: IPV6_LINK_LOCAL_ALL_NODES,
-        s_flag: true,
-        qrv: 2,
-        qqic: 0x12,
-        num_srcs: 1,
-        data: &QUERY[28..],
-    });
+    let query = Repr::Mld(query());
     same(&rt, [query.buffer_len(), query.packet_len()], [44, 44]);
-    for fill in FILLS {
-        check_written(&rt, &query, &caps, &mut [fill; 44], &sealed);
+    for &fill in FILLS {
+        check_written(&rt, &query, &caps, &mut [fill; 44], &SEALED_QUERY);
     }
-    same(&rt, &read(&sealed, &caps), &Ok(query));
+    same(&rt, &read(&SEALED_QUERY, &caps), &Ok(query));
 }
 
 #[test]
@@ -75,7 +71,7 @@ fn reports_inside_icmpv6_have_a_checksum(rt: HostRuntime) {
         data: &SOURCE_REPORT[8..],
     });
     same(&rt, [report.buffer_len(), report.packet_len()], [44, 44]);
-    for fill in FILLS {
+    for &fill in FILLS {
         check_written(&rt, &report, &caps, &mut [fill; 44], &SOURCE_REPORT);
     }
     same(&rt, &read(&SOURCE_REPORT, &caps), &Ok(report));
@@ -94,7 +90,7 @@ fn a_list_of_records_is_read_back_as_a_report(rt: HostRuntime) {
         [by_records.buffer_len(), by_records.packet_len()],
         [8, 28],
     );
-    for fill in FILLS {
+    for &fill in FILLS {
         check_written(&rt, &by_records, &caps, &mut [fill; 28], &REPORT);
     }
     let report = Repr::Mld(mld::Repr::Report {

@@ -1,6 +1,6 @@
-use super::{REDIRECT, THREE_MTUS, here, read, reads, there};
+use super::{REDIRECT, THREE_MTUS, check_read, here, read, there};
 use crate::ndisc::Repr;
-use crate::testing::{fail, same_of};
+use crate::testing::{fail, holds_of, same_of};
 use std::process::Abort;
 
 // The MTU that a router advertisement with these options tells; nothing where it is refused.
@@ -76,12 +76,12 @@ fn options_that_refuse_a_message(rt: HostRuntime) {
 fn solicitations_with_odd_payloads(rt: HostRuntime) {
     let mut octets = [0; 16];
     octets[0] = 0x85;
-    assert!(rt; read(&octets[..15]).is_err());
+    holds_of(&rt, 15, read(&octets[..15]).is_err());
     octets[8..10].copy_from_slice(&[0x0e, 0x01]);
-    assert!(rt; reads(&octets, &Repr::RouterSolicit { lladdr: None }));
+    check_read(&rt, &octets, &Repr::RouterSolicit { lladdr: None });
     // No message of neighbor discovery.
     octets[0] = 0x80;
-    assert!(rt; read(&octets).is_err());
+    holds_of(&rt, 0x80, read(&octets).is_err());
 }
 
 #[test]
@@ -96,6 +96,6 @@ fn a_redirected_packet_that_is_not_whole_is_left_out(rt: HostRuntime) {
         lladdr: None,
         redirected_hdr: None,
     };
-    assert!(rt; reads(&octets, &repr));
-    assert!(rt; read(&octets[..39]).is_err());
+    check_read(&rt, &octets, &repr);
+    holds_of(&rt, 39, read(&octets[..39]).is_err());
 }
