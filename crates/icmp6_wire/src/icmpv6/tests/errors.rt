@@ -108,7 +108,7 @@ fn check_quoted(rt: &impl Abort, data: &[u8], cut: &[u8], fill: u8) -> [u8; 1240
     octets
 }
 
-// Checks that errors with these data differ, and tells that they have the same text.
+// Checks that errors with these data differ, and asks `same_text` about both.
 fn check_same_text(rt: &impl Abort, cut: &[u8], whole: &[u8]) {
     let one = port_unreachable(cut);
     let other = port_unreachable(whole);
