@@ -30,7 +30,7 @@ fn questions(rt: HostRuntime) -> Result<(), Fail> {
 }
 
 #[test]
-fn names(rt: HostRuntime) -> Result<(), Fail> {
+fn names(rt: HostRuntime) {
     const ROWS: &[(&str, &str)] = &[
         (
             "name 12 0000000000000000000000000161c0100162c00c",
@@ -58,9 +58,8 @@ fn names(rt: HostRuntime) -> Result<(), Fail> {
         ("name 5 00c000c001c003", "end steps=3\n"),
     ];
     for (line, want) in ROWS {
-        check_line(&rt, rt.alloc(), line, want)?;
+        check_line(&rt, rt.alloc(), line, want);
     }
-    Ok(())
 }
 
 #[test]
@@ -108,5 +107,6 @@ fn a_name_of_5000_pointers(rt: HostRuntime) -> Result<(), Fail> {
         let pointer = 0xc000 | at;
         write!(line, "{pointer:04x}")?;
     }
-    check_line(&rt, rt.alloc(), line.as_str(), "end steps=5000\n")
+    check_line(&rt, rt.alloc(), line.as_str(), "end steps=5000\n");
+    Ok(())
 }

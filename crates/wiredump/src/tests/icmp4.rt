@@ -44,12 +44,14 @@ const QUOTED: &str = "header.src_addr=10.0.0.1\nheader.dst_addr=10.0.0.2\nheader
 fn check_error(rt: &impl Abort, alloc: Global, header: &str, want: &str) -> Result<(), Fail> {
     let line = format!(in alloc; "icmp4 {header}{QUOTE}")?;
     let want = format!(in alloc; "{want}{QUOTED}")?;
-    check_line(rt, alloc, line.as_str(), want.as_str())
+    check_line(rt, alloc, line.as_str(), want.as_str());
+    Ok(())
 }
 
 fn check_refused(rt: &impl Abort, alloc: Global, header: &str) -> Result<(), Fail> {
     let line = format!(in alloc; "icmp4 {header}{QUOTE}")?;
-    check_line(rt, alloc, line.as_str(), "refused\n")
+    check_line(rt, alloc, line.as_str(), "refused\n");
+    Ok(())
 }
 
 #[test]

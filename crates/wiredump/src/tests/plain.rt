@@ -10,25 +10,27 @@ mod options;
 mod text;
 
 use std::alloc::Global;
-use std::test::Fail;
-
-// What stands in the place of a packet that is refused, and of a line that is bad.
-const REFUSED: &[u8] = b"refused\n";
-
-const BAD: &[u8] = b"bad line\n";
 
 /// What a line without its end prints, and whether its shape is known.
-pub fn printed(alloc: Global, line: &[u8]) -> Result<(Vec<u8>, bool), Fail> {
-    let mut text = Vec::new(alloc);
-    match show_line(alloc, &mut text, line)? {
-        Some(true) => Ok((text, true)),
-        Some(false) => Ok((Vec::from_slice(alloc, REFUSED)?, true)),
-        None => Ok((Vec::from_slice(alloc, BAD)?, false)),
+pub fn printed(alloc: Global, line: &[u8]) -> (Vec<u8>, bool) {
+    let mut listing = Vec::new(alloc);
+    let read = show_line(alloc, &mut listing, line);
+    if read != Some(true) {
+        listing.clear();
+        text::line(
+            &mut listing,
+            if read.is_some() {
+                "refused"
+            } else {
+                "bad line"
+            },
+        );
     }
+    (listing, read.is_some())
 }
 
 // What the words of a line print: whether the packet is read, or None where the line is bad.
-fn show_line(alloc: Global, text: &mut Vec<u8>, line: &[u8]) -> Result<Option<bool>, Fail> {
+fn show_line(alloc: Global, text: &mut Vec<u8>, line: &[u8]) -> Option<bool> {
     let mut words: [&[u8]; 4] = [b""; 4];
     let mut count = 0;
     for word in line.split(|octet| *octet == b' ') {
@@ -36,49 +38,45 @@ fn show_line(alloc: Global, text: &mut Vec<u8>, line: &[u8]) -> Result<Option<bo
             continue;
         }
         if count >= 4 {
-            return Ok(None);
+            return None;
         }
         words[count] = word;
         count += 1;
     }
     match count {
-        0 => Ok(Some(true)),
+        0 => Some(true),
         2 => show_alone(alloc, text, words[0], words[1]),
         3 => show_name(alloc, text, words[0], words[1], words[2]),
         4 => show_icmp6(alloc, text, &words),
-        _ => Ok(None),
+        _ => None,
     }
 }
 
 // What a word and digits print: whether the packet is read, or None where they are no command and packet.
-fn show_alone(
-    alloc: Global,
-    text: &mut Vec<u8>,
-    word: &[u8],
-    digits: &[u8],
-) -> Result<Option<bool>, Fail> {
-    let Some(packet) = spelled(alloc, digits)? else {
-        return Ok(None);
-    };
-    let packet = packet.as_slice();
-    let read = if word == b"hbh".as_slice() {
+fn show_alone(alloc: Global, text: &mut Vec<u8>, word: &[u8], digits: &[u8]) -> Option<bool> {
+    let packet = spelled(alloc, digits)?;
+    show_packet(text, word, packet.as_slice())
+}
+
+fn show_packet(text: &mut Vec<u8>, word: &[u8], packet: &[u8]) -> Option<bool> {
+    let read = if is(word, "hbh") {
         options::show_header(text, packet)
-    } else if word == b"icmp4".as_slice() {
+    } else if is(word, "icmp4") {
         icmp4::show_icmp4(text, packet)
-    } else if word == b"igmp".as_slice() {
+    } else if is(word, "igmp") {
         icmp4::show_igmp(text, packet)
-    } else if word == b"mld".as_slice() {
+    } else if is(word, "mld") {
         icmp6::show_mld(text, packet)
-    } else if word == b"ndopt".as_slice() {
+    } else if is(word, "ndopt") {
         options::show_neighbor_option(text, packet)
-    } else if word == b"dhcp".as_slice() {
+    } else if is(word, "dhcp") {
         dhcp::show(text, packet)
-    } else if word == b"question".as_slice() {
+    } else if is(word, "question") {
         dns::show_question(text, packet)
     } else {
-        return Ok(None);
+        return None;
     };
-    Ok(Some(read?))
+    Some(read)
 }
 
 // The same of a word, an offset and digits.
@@ -88,68 +86,50 @@ fn show_name(
     word: &[u8],
     offset: &[u8],
     digits: &[u8],
-) -> Result<Option<bool>, Fail> {
-    let Some(message) = spelled(alloc, digits)? else {
-        return Ok(None);
-    };
-    let Some(offset) = number(offset) else {
-        return Ok(None);
-    };
-    if word != b"name".as_slice() || offset > message.len() {
-        return Ok(None);
+) -> Option<bool> {
+    let message = spelled(alloc, digits)?;
+    let offset = number(offset)?;
+    if !is(word, "name") || offset > message.len() {
+        return None;
     }
-    dns::show_name(text, offset, message.as_slice())?;
-    Ok(Some(true))
+    dns::show_name(text, offset, message.as_slice());
+    Some(true)
 }
 
 // The same of a word, two addresses and digits.
-fn show_icmp6(alloc: Global, text: &mut Vec<u8>, words: &[&[u8]; 4]) -> Result<Option<bool>, Fail> {
-    let (Some(source), Some(destination)) = (spelled(alloc, words[1])?, spelled(alloc, words[2])?)
-    else {
-        return Ok(None);
-    };
-    if words[0] != b"icmp6".as_slice() || source.len() != 16 || destination.len() != 16 {
-        return Ok(None);
+fn show_icmp6(alloc: Global, text: &mut Vec<u8>, words: &[&[u8]; 4]) -> Option<bool> {
+    let source = spelled(alloc, words[1])?;
+    let destination = spelled(alloc, words[2])?;
+    let packet = spelled(alloc, words[3])?;
+    if !is(words[0], "icmp6") || source.len() != 16 || destination.len() != 16 {
+        return None;
     }
-    show_between(
-        alloc,
-        text,
-        source.as_slice(),
-        destination.as_slice(),
-        words[3],
-    )
+    let (source, destination) = (source.as_slice(), destination.as_slice());
+    Some(icmp6::show_icmp6(text, source, destination, packet.as_slice()))
 }
 
-fn show_between(
-    alloc: Global,
-    text: &mut Vec<u8>,
-    source: &[u8],
-    destination: &[u8],
-    digits: &[u8],
-) -> Result<Option<bool>, Fail> {
-    let Some(packet) = spelled(alloc, digits)? else {
-        return Ok(None);
-    };
-    let read = icmp6::show_icmp6(text, source, destination, packet.as_slice())?;
-    Ok(Some(read))
+fn is(word: &[u8], name: &str) -> bool {
+    word == name.as_bytes()
 }
 
 // The octets of hexadecimal digits.
-fn spelled(alloc: Global, digits: &[u8]) -> Result<Option<Vec<u8>>, Fail> {
+fn spelled(alloc: Global, digits: &[u8]) -> Option<Vec<u8>> {
     let mut octets = Vec::new(alloc);
-    if digits == b"-".as_slice() {
-        return Ok(Some(octets));
+    if is(digits, "-") {
+        return Some(octets);
     }
     for pair in digits.chunks(2) {
-        let [high, low] = pair else {
-            return Ok(None);
-        };
-        let (Some(high), Some(low)) = (digit(*high), digit(*low)) else {
-            return Ok(None);
-        };
-        octets.push(high << 4 | low)?;
+        let octet = octet_of(pair)?;
+        octets.push(octet).ok()?;
     }
-    Ok(Some(octets))
+    Some(octets)
+}
+
+fn octet_of(pair: &[u8]) -> Option<u8> {
+    match pair {
+        [high, low] => Some(digit(*high)? << 4 | digit(*low)?),
+        _ => None,
+    }
 }
 
 fn digit(octet: u8) -> Option<u8> {

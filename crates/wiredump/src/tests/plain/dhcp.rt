@@ -1,92 +1,107 @@
 //! Packets of DHCP (RFC 2131, RFC 2132).
 
-use super::text::{be16, be32, behind, dotted, none, number, octet, octets, part, truth};
-use std::test::Fail;
+use super::text::{
+    be32, behind, dotted, none, number, number16, number32, octet, octets, part, truth,
+};
 
 /// Writes a packet; false where it is none.
-pub fn show(text: &mut Vec<u8>, packet: &[u8]) -> Result<bool, Fail> {
-    let is_whole = packet.len() >= 240;
-    let hardware = [octet(packet, 1), octet(packet, 2)];
-    if !is_whole || hardware != [1, 6] || be32(packet, 236) != 0x6382_5363 {
-        return Ok(false);
-    }
+pub fn show(text: &mut Vec<u8>, packet: &[u8]) -> bool {
     let options = behind(packet, 240);
+    if !is_of_ethernet(packet) || !are_of_ethernet(options) {
+        return false;
+    }
     let Some(message) = message_type(octet(packet, 0), options) else {
-        return Ok(false);
+        return false;
     };
-    if !are_of_ethernet(options) {
-        return Ok(false);
-    }
-    number(text, "message_type", u64::from(message))?;
-    show_sender(text, packet)?;
-    show_addresses(text, packet, options)?;
-    truth(text, "broadcast", octet(packet, 10) >= 0x80)?;
-    show_request(text, options)?;
-    show_limits(text, options)?;
-    Ok(true)
+    number(text, "message_type", u64::from(message));
+    show_sender(text, packet);
+    show_addresses(text, packet, options);
+    truth(text, "broadcast", octet(packet, 10) >= 0x80);
+    show_request(text, options);
+    show_limits(text, options);
+    true
 }
 
-fn show_sender(text: &mut Vec<u8>, packet: &[u8]) -> Result<(), Fail> {
-    number(text, "transaction_id", u64::from(be32(packet, 4)))?;
-    number(text, "secs", u64::from(be16(packet, 8)))?;
-    octets(text, "client_hardware_address", part(packet, 28, 6))
+// Whether the header is whole, of addresses of Ethernet, and has the cookie behind it.
+fn is_of_ethernet(packet: &[u8]) -> bool {
+    packet.len() >= 240
+        && octet(packet, 1) == 1
+        && octet(packet, 2) == 6
+        && be32(packet, 236) == 0x6382_5363
 }
 
-fn show_addresses(text: &mut Vec<u8>, packet: &[u8], options: &[u8]) -> Result<(), Fail> {
-    dotted(text, "client_ip", part(packet, 12, 4))?;
-    dotted(text, "your_ip", part(packet, 16, 4))?;
-    dotted(text, "server_ip", part(packet, 20, 4))?;
-    show_address(text, "router", last(options, 3, Some(4)))?;
-    show_address(text, "subnet_mask", last(options, 1, Some(4)))?;
-    dotted(text, "relay_agent_ip", part(packet, 24, 4))
+fn show_sender(text: &mut Vec<u8>, packet: &[u8]) {
+    number32(text, "transaction_id", packet, 4);
+    number16(text, "secs", packet, 8);
+    octets(text, "client_hardware_address", part(packet, 28, 6));
 }
 
-fn show_request(text: &mut Vec<u8>, options: &[u8]) -> Result<(), Fail> {
-    show_address(text, "requested_ip", last(options, 50, Some(4)))?;
-    match last(options, 61, Some(7)) {
-        Some(data) => octets(text, "client_identifier", behind(data, 1))?,
-        None => none(text, "client_identifier")?,
-    }
-    show_address(text, "server_identifier", last(options, 54, Some(4)))?;
-    show_lists(text, options)
+fn show_addresses(text: &mut Vec<u8>, packet: &[u8], options: &[u8]) {
+    dotted(text, "client_ip", part(packet, 12, 4));
+    dotted(text, "your_ip", part(packet, 16, 4));
+    dotted(text, "server_ip", part(packet, 20, 4));
+    show_address(text, "router", options, 3);
+    show_address(text, "subnet_mask", options, 1);
+    dotted(text, "relay_agent_ip", part(packet, 24, 4));
 }
 
-fn show_lists(text: &mut Vec<u8>, options: &[u8]) -> Result<(), Fail> {
-    match last(options, 55, None) {
-        Some(data) => octets(text, "parameter_request_list", data)?,
-        None => none(text, "parameter_request_list")?,
-    }
-    // The whole addresses among the first five.
-    match last(options, 6, None) {
-        Some(data) => dotted(
-            text,
-            "dns_servers",
-            part(data, 0, data.len().min(20) / 4 * 4),
-        ),
-        None => none(text, "dns_servers"),
-    }
+fn show_request(text: &mut Vec<u8>, options: &[u8]) {
+    show_address(text, "requested_ip", options, 50);
+    show_identifier(text, options);
+    show_address(text, "server_identifier", options, 54);
+    show_asked(text, options);
+    show_servers(text, options);
 }
 
-fn show_limits(text: &mut Vec<u8>, options: &[u8]) -> Result<(), Fail> {
-    match last(options, 57, Some(2)) {
-        Some(data) => number(text, "max_size", u64::from(be16(data, 0)))?,
-        None => none(text, "max_size")?,
-    }
-    show_seconds(text, "lease_duration", last(options, 51, Some(4)))?;
-    show_seconds(text, "renew_duration", last(options, 58, Some(4)))?;
-    show_seconds(text, "rebind_duration", last(options, 59, Some(4)))
+fn show_limits(text: &mut Vec<u8>, options: &[u8]) {
+    show_size(text, options);
+    show_seconds(text, "lease_duration", options, 51);
+    show_seconds(text, "renew_duration", options, 58);
+    show_seconds(text, "rebind_duration", options, 59);
 }
 
-fn show_address(text: &mut Vec<u8>, name: &str, data: Option<&[u8]>) -> Result<(), Fail> {
-    match data {
+fn show_address(text: &mut Vec<u8>, name: &str, options: &[u8], kind: u8) {
+    match last(options, kind, Some(4)) {
         Some(data) => dotted(text, name, data),
         None => none(text, name),
     }
 }
 
-fn show_seconds(text: &mut Vec<u8>, name: &str, data: Option<&[u8]>) -> Result<(), Fail> {
-    match data {
-        Some(data) => number(text, name, u64::from(be32(data, 0))),
+fn show_identifier(text: &mut Vec<u8>, options: &[u8]) {
+    match last(options, 61, Some(7)) {
+        Some(data) => octets(text, "client_identifier", behind(data, 1)),
+        None => none(text, "client_identifier"),
+    }
+}
+
+fn show_asked(text: &mut Vec<u8>, options: &[u8]) {
+    match last(options, 55, None) {
+        Some(data) => octets(text, "parameter_request_list", data),
+        None => none(text, "parameter_request_list"),
+    }
+}
+
+// The whole addresses among the first five.
+fn show_servers(text: &mut Vec<u8>, options: &[u8]) {
+    match last(options, 6, None) {
+        Some(data) => {
+            let len = data.len().min(20) / 4 * 4;
+            dotted(text, "dns_servers", part(data, 0, len));
+        }
+        None => none(text, "dns_servers"),
+    }
+}
+
+fn show_size(text: &mut Vec<u8>, options: &[u8]) {
+    match last(options, 57, Some(2)) {
+        Some(data) => number16(text, "max_size", data, 0),
+        None => none(text, "max_size"),
+    }
+}
+
+fn show_seconds(text: &mut Vec<u8>, name: &str, options: &[u8], kind: u8) {
+    match last(options, kind, Some(4)) {
+        Some(data) => number32(text, name, data, 0),
         None => none(text, name),
     }
 }

@@ -1,67 +1,85 @@
 //! Questions and names of DNS (RFC 1035 section 4.1).
 
-use super::text::{be16, behind, digits, number, octets, part};
-use std::test::Fail;
+use super::text::{be16, behind, digits, number, number16, octets, part};
 
 // More labels and pointers than a packet has.
 const MOST_STEPS: usize = 65_536;
 
 /// Writes the question at the front of a packet; false where there is none.
-pub fn show_question(text: &mut Vec<u8>, packet: &[u8]) -> Result<bool, Fail> {
+pub fn show_question(text: &mut Vec<u8>, packet: &[u8]) -> bool {
     let Some(len) = name_len(packet) else {
-        return Ok(false);
+        return false;
     };
     let fields = behind(packet, len);
     if fields.len() < 4 || be16(fields, 2) != 1 {
-        return Ok(false);
+        return false;
     }
-    octets(text, "name", part(packet, 0, len))?;
-    number(text, "type_", u64::from(be16(fields, 0)))?;
-    number(text, "rest", behind(fields, 4).len() as u64)?;
-    Ok(true)
+    octets(text, "name", part(packet, 0, len));
+    number16(text, "type_", fields, 0);
+    number(text, "rest", behind(fields, 4).len() as u64);
+    true
 }
 
 // How many octets the name at the front takes: labels, and then a zero octet or a pointer.
 fn name_len(packet: &[u8]) -> Option<usize> {
     let mut rest = packet;
-    let mut taken = 0usize;
     for _ in 0..packet.len() {
-        let len = match rest {
-            [0, ..] => return Some(taken.wrapping_add(1)),
-            [0xc0..=0xff, _, ..] => return Some(taken.wrapping_add(2)),
-            [len @ 1..=63, after @ ..] if after.len() >= usize::from(*len) => usize::from(*len) + 1,
-            _ => return None,
+        let Some((_, after)) = label(rest) else {
+            break;
         };
-        rest = behind(rest, len);
-        taken = taken.wrapping_add(len);
+        rest = after;
     }
-    None
+    let labels = packet.len().wrapping_sub(rest.len());
+    match rest {
+        [0, ..] => Some(labels.wrapping_add(1)),
+        [0xc0..=0xff, _, ..] => Some(labels.wrapping_add(2)),
+        _ => None,
+    }
+}
+
+// The label at the front, and what is behind it.
+fn label(rest: &[u8]) -> Option<(&[u8], &[u8])> {
+    match rest {
+        [len @ 1..=63, after @ ..] if after.len() >= usize::from(*len) => {
+            Some(after.split_at(usize::from(*len)))
+        }
+        _ => None,
+    }
+}
+
+// Where the pointer at the front leads to.
+fn pointer(rest: &[u8]) -> Option<usize> {
+    match rest {
+        [0xc0..=0xff, _, ..] => Some(usize::from(be16(rest, 0) & 0x3fff)),
+        _ => None,
+    }
 }
 
 /// Writes the walk over the name that begins at an offset of a message. A pointer leads to what stands before the
 /// place that the last one led to, and the first one anywhere.
-pub fn show_name(text: &mut Vec<u8>, offset: usize, message: &[u8]) -> Result<(), Fail> {
+pub fn show_name(text: &mut Vec<u8>, offset: usize, message: &[u8]) {
     let mut rest = behind(message, offset);
     let mut open = message.len();
     let mut steps = 0u64;
     for _ in 0..MOST_STEPS {
-        match rest {
-            [0, ..] => return number(text, "end steps", steps),
-            [len @ 1..=63, after @ ..] if after.len() >= usize::from(*len) => {
-                digits(text, part(after, 0, usize::from(*len)))?;
-                rest = behind(after, usize::from(*len));
-            }
-            [0xc0..=0xff, _, ..] => {
-                let target = usize::from(be16(rest, 0) & 0x3fff);
-                if target >= open {
-                    break;
+        if let Some((label, after)) = label(rest) {
+            digits(text, label);
+            rest = after;
+        } else {
+            match pointer(rest) {
+                Some(target) if target < open => {
+                    rest = part(message, target, open - target);
+                    open = target;
                 }
-                rest = part(message, target, open - target);
-                open = target;
+                _ => break,
             }
-            _ => break,
         }
         steps = steps.wrapping_add(1);
     }
-    number(text, "error steps", steps)
+    let is_whole = rest.first() == Some(&0);
+    number(
+        text,
+        if is_whole { "end steps" } else { "error steps" },
+        steps,
+    );
 }

@@ -1,87 +1,90 @@
 //! Messages of ICMPv4 (RFC 792) and of IGMP (RFC 2236, RFC 3376).
 
-use super::text::{be16, behind, dotted, is_good, line, number, octet, octets, part, sum};
-use std::test::Fail;
+use super::text::{
+    be16, behind, dotted, is_good, line, number, number8, number16, octet, octets, part, sum,
+};
 
 /// Writes a message with a good checksum; false where it is none.
-pub fn show_icmp4(text: &mut Vec<u8>, packet: &[u8]) -> Result<bool, Fail> {
+pub fn show_icmp4(text: &mut Vec<u8>, packet: &[u8]) -> bool {
     if packet.len() < 8 || !is_good(sum(packet)) {
-        return Ok(false);
+        return false;
     }
     let code = octet(packet, 1);
     match octet(packet, 0) {
         8 if code == 0 => show_echo(text, "EchoRequest", packet),
         0 if code == 0 => show_echo(text, "EchoReply", packet),
-        3 => show_error(text, "DstUnreachable", code, behind(packet, 8)),
-        11 => show_error(text, "TimeExceeded", code, behind(packet, 8)),
-        _ => Ok(false),
+        3 => show_error(text, "DstUnreachable", packet),
+        11 => show_error(text, "TimeExceeded", packet),
+        _ => false,
     }
 }
 
 /// Writes an echo of either ICMP.
-pub fn show_echo(text: &mut Vec<u8>, name: &str, packet: &[u8]) -> Result<bool, Fail> {
-    line(text, name)?;
-    number(text, "ident", u64::from(be16(packet, 4)))?;
-    number(text, "seq_no", u64::from(be16(packet, 6)))?;
-    octets(text, "data", behind(packet, 8))?;
-    Ok(true)
+pub fn show_echo(text: &mut Vec<u8>, name: &str, packet: &[u8]) -> bool {
+    line(text, name);
+    number16(text, "ident", packet, 4);
+    number16(text, "seq_no", packet, 6);
+    octets(text, "data", behind(packet, 8));
+    true
 }
 
 // A quote holds its own total length, and eight octets behind its header.
-fn show_error(text: &mut Vec<u8>, name: &str, code: u8, quote: &[u8]) -> Result<bool, Fail> {
+fn show_error(text: &mut Vec<u8>, name: &str, packet: &[u8]) -> bool {
+    let quote = behind(packet, 8);
     let total = usize::from(be16(quote, 2));
     let header = usize::from(octet(quote, 0) & 15) * 4;
     let data = behind(quote, header);
     if quote.len() < 20 || quote.len() < total || total < header || data.len() < 8 {
-        return Ok(false);
+        return false;
     }
-    line(text, name)?;
-    number(text, "reason", u64::from(code))?;
-    show_quote(text, quote, data)?;
-    Ok(true)
+    line(text, name);
+    number8(text, "reason", packet, 1);
+    show_quote(text, quote, data);
+    true
 }
 
-fn show_quote(text: &mut Vec<u8>, quote: &[u8], data: &[u8]) -> Result<(), Fail> {
-    dotted(text, "header.src_addr", part(quote, 12, 4))?;
-    dotted(text, "header.dst_addr", part(quote, 16, 4))?;
-    number(text, "header.next_header", u64::from(octet(quote, 9)))?;
-    number(text, "header.payload_len", data.len() as u64)?;
-    number(text, "header.hop_limit", u64::from(octet(quote, 8)))?;
-    octets(text, "data", data)
+fn show_quote(text: &mut Vec<u8>, quote: &[u8], data: &[u8]) {
+    dotted(text, "header.src_addr", part(quote, 12, 4));
+    dotted(text, "header.dst_addr", part(quote, 16, 4));
+    number8(text, "header.next_header", quote, 9);
+    number(text, "header.payload_len", data.len() as u64);
+    number8(text, "header.hop_limit", quote, 8);
+    octets(text, "data", data);
 }
 
 /// Writes a message of IGMP; false where it is none.
-pub fn show_igmp(text: &mut Vec<u8>, packet: &[u8]) -> Result<bool, Fail> {
+pub fn show_igmp(text: &mut Vec<u8>, packet: &[u8]) -> bool {
     let group = part(packet, 4, 4);
     let first = octet(group, 0);
     if packet.len() < 8 || group != [0; 4].as_slice() && (first < 224 || first > 239) {
-        return Ok(false);
+        return false;
     }
-    let code = octet(packet, 1);
     match octet(packet, 0) {
-        0x11 => show_query(text, code, group)?,
-        0x12 => show_report(text, group, 1)?,
-        0x16 => show_report(text, group, 2)?,
-        0x17 => {
-            line(text, "LeaveGroup")?;
-            dotted(text, "group_addr", group)?;
-        }
-        _ => return Ok(false),
+        0x11 => show_query(text, octet(packet, 1), group),
+        0x12 => show_report(text, group, 1),
+        0x16 => show_report(text, group, 2),
+        0x17 => show_leave(text, group),
+        _ => return false,
     }
-    Ok(true)
+    true
 }
 
-fn show_query(text: &mut Vec<u8>, code: u8, group: &[u8]) -> Result<(), Fail> {
-    line(text, "MembershipQuery")?;
-    number(text, "max_resp_time", millis(code))?;
-    dotted(text, "group_addr", group)?;
-    number(text, "version", if code == 0 { 1 } else { 2 })
+fn show_query(text: &mut Vec<u8>, code: u8, group: &[u8]) {
+    line(text, "MembershipQuery");
+    number(text, "max_resp_time", millis(code));
+    dotted(text, "group_addr", group);
+    number(text, "version", if code == 0 { 1 } else { 2 });
 }
 
-fn show_report(text: &mut Vec<u8>, group: &[u8], version: u64) -> Result<(), Fail> {
-    line(text, "MembershipReport")?;
-    dotted(text, "group_addr", group)?;
-    number(text, "version", version)
+fn show_report(text: &mut Vec<u8>, group: &[u8], version: u64) {
+    line(text, "MembershipReport");
+    dotted(text, "group_addr", group);
+    number(text, "version", version);
+}
+
+fn show_leave(text: &mut Vec<u8>, group: &[u8]) {
+    line(text, "LeaveGroup");
+    dotted(text, "group_addr", group);
 }
 
 // Tenths of a second; from 128 on four bits of a number behind a one, and three for its places (RFC 3376 section

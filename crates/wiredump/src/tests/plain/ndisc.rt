@@ -1,13 +1,13 @@
 //! Messages of neighbour discovery (RFC 4861 sections 4.1 to 4.5).
 
 use super::options::{block, is_option, show_prefix, show_redirected};
-use super::text::{be16, be32, behind, line, none, number, octet, octets, part};
-use std::test::Fail;
+use super::text::{
+    be16, behind, line, none, number, number8, number32, octet, octets, part, seconds,
+};
 
 /// Writes a message; false where it is none.
-pub fn show_neighbor_message(text: &mut Vec<u8>, packet: &[u8]) -> Result<bool, Fail> {
-    let kind = octet(packet, 0);
-    let header = match kind {
+pub fn show_neighbor_message(text: &mut Vec<u8>, packet: &[u8]) -> bool {
+    let header = match octet(packet, 0) {
         0x85 => 8,
         0x86 => 16,
         0x89 => 40,
@@ -15,69 +15,77 @@ pub fn show_neighbor_message(text: &mut Vec<u8>, packet: &[u8]) -> Result<bool, 
     };
     let options = behind(packet, header);
     if packet.len() < header || !are_blocks(options) {
-        return Ok(false);
+        return false;
     }
-    match kind {
-        0x85 => line(text, "RouterSolicit")?,
-        0x86 => show_router(text, packet)?,
-        _ => show_addresses(text, packet)?,
+    show_fields(text, packet);
+    show_options(text, octet(packet, 0), options);
+    true
+}
+
+// What a message has before its options.
+fn show_fields(text: &mut Vec<u8>, packet: &[u8]) {
+    match octet(packet, 0) {
+        0x85 => line(text, "RouterSolicit"),
+        0x86 => show_router(text, packet),
+        _ => show_addresses(text, packet),
     }
-    // A router and one who asks tell their own address, and the others that of whom they speak of.
-    show_lladdr(text, last(options, if kind >= 0x88 { 2 } else { 1 }))?;
-    match kind {
-        0x86 => show_router_options(text, options)?,
-        0x89 => show_redirected_option(text, options)?,
-        _ => {}
-    }
-    Ok(true)
 }
 
 // What a message that names its target has before its options.
-fn show_addresses(text: &mut Vec<u8>, packet: &[u8]) -> Result<(), Fail> {
+fn show_addresses(text: &mut Vec<u8>, packet: &[u8]) {
     let kind = octet(packet, 0);
     let name = match kind {
         0x87 => "NeighborSolicit",
         0x88 => "NeighborAdvert",
         _ => "Redirect",
     };
-    line(text, name)?;
+    line(text, name);
     if kind == 0x88 {
-        number(text, "flags", u64::from(octet(packet, 4) & 0xe0))?;
+        number(text, "flags", u64::from(octet(packet, 4) & 0xe0));
     }
-    octets(text, "target_addr", part(packet, 8, 16))?;
+    octets(text, "target_addr", part(packet, 8, 16));
     if kind == 0x89 {
-        octets(text, "dest_addr", part(packet, 24, 16))?;
+        octets(text, "dest_addr", part(packet, 24, 16));
     }
-    Ok(())
 }
 
-fn show_lladdr(text: &mut Vec<u8>, block: Option<&[u8]>) -> Result<(), Fail> {
+fn show_router(text: &mut Vec<u8>, packet: &[u8]) {
+    line(text, "RouterAdvert");
+    number8(text, "hop_limit", packet, 4);
+    number(text, "flags", u64::from(octet(packet, 5) & 0xc0));
+    seconds(text, "router_lifetime", be16(packet, 6).into());
+    number32(text, "reachable_time", packet, 8);
+    number32(text, "retrans_time", packet, 12);
+}
+
+fn show_options(text: &mut Vec<u8>, kind: u8, options: &[u8]) {
+    // A router and one who asks tell their own address, and the others that of whom they speak of.
+    show_lladdr(text, last(options, if kind >= 0x88 { 2 } else { 1 }));
+    match kind {
+        0x86 => show_router_options(text, options),
+        0x89 => show_redirected_option(text, options),
+        _ => {}
+    }
+}
+
+fn show_lladdr(text: &mut Vec<u8>, block: Option<&[u8]>) {
     match block {
         Some(block) => octets(text, "lladdr", part(block, 2, 8)),
         None => none(text, "lladdr"),
     }
 }
 
-fn show_redirected_option(text: &mut Vec<u8>, options: &[u8]) -> Result<(), Fail> {
+fn show_redirected_option(text: &mut Vec<u8>, options: &[u8]) {
     match last(options, 4) {
         Some(block) => show_redirected(text, "redirected_hdr.", block),
         None => none(text, "redirected_hdr"),
     }
 }
 
-fn show_router(text: &mut Vec<u8>, packet: &[u8]) -> Result<(), Fail> {
-    line(text, "RouterAdvert")?;
-    number(text, "hop_limit", u64::from(octet(packet, 4)))?;
-    number(text, "flags", u64::from(octet(packet, 5) & 0xc0))?;
-    number(text, "router_lifetime", u64::from(be16(packet, 6)) * 1_000)?;
-    number(text, "reachable_time", u64::from(be32(packet, 8)))?;
-    number(text, "retrans_time", u64::from(be32(packet, 12)))
-}
-
-fn show_router_options(text: &mut Vec<u8>, options: &[u8]) -> Result<(), Fail> {
+fn show_router_options(text: &mut Vec<u8>, options: &[u8]) {
     match last(options, 5) {
-        Some(block) => number(text, "mtu", u64::from(be32(block, 4)))?,
-        None => none(text, "mtu")?,
+        Some(block) => number32(text, "mtu", block, 4),
+        None => none(text, "mtu"),
     }
     match last(options, 3) {
         Some(block) => show_prefix(text, "prefix_info.", block),

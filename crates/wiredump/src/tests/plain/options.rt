@@ -2,51 +2,57 @@
 
 use super::icmp6::show_quoted_header;
 use super::text::{
-    be16, be32, behind, line, number, octet, octets, part, part_number, part_octets,
+    be16, be32, behind, line, number, number8, number16, number32, octet, octets, part, seconds,
+    word,
 };
-use std::test::Fail;
 
 // The most options that are kept; the next one is looked at.
 const KEPT: usize = 8;
 
 /// Writes the options of a hop-by-hop header; false where it is none.
-pub fn show_header(text: &mut Vec<u8>, packet: &[u8]) -> Result<bool, Fail> {
+pub fn show_header(text: &mut Vec<u8>, packet: &[u8]) -> bool {
     let mut rest = packet;
-    for i in 0..KEPT + 1 {
-        let len = match rest {
-            [] => return Ok(i > 0),
-            [0, ..] => 1,
-            [kind, length, ..] => {
-                let len = usize::from(*length) + 2;
-                if rest.len() < len || *kind == 5 && *length != 2 {
-                    return Ok(false);
-                }
-                len
-            }
-            _ => return Ok(false),
+    for _ in 0..KEPT {
+        let Some(option) = first(rest) else {
+            return false;
         };
-        if i < KEPT {
-            show_option(text, part(rest, 0, len))?;
+        show_option(text, option);
+        rest = behind(rest, option.len());
+        if rest.is_empty() {
+            return true;
         }
-        rest = behind(rest, len);
     }
-    Ok(true)
+    first(rest).is_some()
 }
 
-fn show_option(text: &mut Vec<u8>, option: &[u8]) -> Result<(), Fail> {
+// The option at the front of the octets; None where there is none.
+fn first(rest: &[u8]) -> Option<&[u8]> {
+    let len = match rest {
+        [0, ..] => 1,
+        [5, length, ..] if *length != 2 => return None,
+        [_, length, ..] => usize::from(*length) + 2,
+        _ => return None,
+    };
+    if rest.len() < len {
+        return None;
+    }
+    Some(part(rest, 0, len))
+}
+
+fn show_option(text: &mut Vec<u8>, option: &[u8]) {
     match octet(option, 0) {
         0 => line(text, "Pad1"),
-        1 => number(text, "PadN", u64::from(octet(option, 1))),
-        5 => number(text, "RouterAlert", u64::from(be16(option, 2))),
+        1 => number8(text, "PadN", option, 1),
+        5 => number16(text, "RouterAlert", option, 2),
         _ => show_unknown(text, option),
     }
 }
 
-fn show_unknown(text: &mut Vec<u8>, option: &[u8]) -> Result<(), Fail> {
-    line(text, "Unknown")?;
-    number(text, "type_", u64::from(octet(option, 0)))?;
-    number(text, "length", u64::from(octet(option, 1)))?;
-    octets(text, "data", behind(option, 2))
+fn show_unknown(text: &mut Vec<u8>, option: &[u8]) {
+    line(text, "Unknown");
+    number8(text, "type_", option, 0);
+    number8(text, "length", option, 1);
+    octets(text, "data", behind(option, 2));
 }
 
 /// The block at the front of the octets, by its length in units of eight; None where there is none.
@@ -75,49 +81,51 @@ pub fn is_option(block: &[u8]) -> bool {
 }
 
 /// Writes the option at the front of a packet; false where there is none.
-pub fn show_neighbor_option(text: &mut Vec<u8>, packet: &[u8]) -> Result<bool, Fail> {
-    let Some(block) = block(packet) else {
-        return Ok(false);
-    };
-    if !is_option(block) {
-        return Ok(false);
+pub fn show_neighbor_option(text: &mut Vec<u8>, packet: &[u8]) -> bool {
+    match block(packet) {
+        Some(block) if is_option(block) => {
+            show_block(text, block);
+            true
+        }
+        _ => false,
     }
+}
+
+fn show_block(text: &mut Vec<u8>, block: &[u8]) {
     match octet(block, 0) {
-        1 => octets(text, "SourceLinkLayerAddr", part(block, 2, 8))?,
-        2 => octets(text, "TargetLinkLayerAddr", part(block, 2, 8))?,
+        1 => octets(text, "SourceLinkLayerAddr", part(block, 2, 8)),
+        2 => octets(text, "TargetLinkLayerAddr", part(block, 2, 8)),
         3 => {
-            line(text, "PrefixInformation")?;
-            show_prefix(text, "", block)?;
+            line(text, "PrefixInformation");
+            show_prefix(text, "", block);
         }
         4 => {
-            line(text, "RedirectedHeader")?;
-            show_redirected(text, "", block)?;
+            line(text, "RedirectedHeader");
+            show_redirected(text, "", block);
         }
-        5 => number(text, "Mtu", u64::from(be32(block, 4)))?,
-        _ => show_unknown(text, block)?,
+        5 => number32(text, "Mtu", block, 4),
+        _ => show_unknown(text, block),
     }
-    Ok(true)
 }
 
 /// Writes a prefix, behind the name of its part.
-pub fn show_prefix(text: &mut Vec<u8>, name: &str, block: &[u8]) -> Result<(), Fail> {
-    let valid = u64::from(be32(block, 4)) * 1_000;
-    let preferred = u64::from(be32(block, 8)) * 1_000;
-    part_number(text, name, "prefix_len", u64::from(octet(block, 2)))?;
-    part_number(text, name, "flags", u64::from(octet(block, 3) & 0xc0))?;
-    part_number(text, name, "valid_lifetime", valid)?;
-    part_number(text, name, "preferred_lifetime", preferred)?;
-    part_octets(text, name, "prefix", part(block, 16, 16))
+pub fn show_prefix(text: &mut Vec<u8>, name: &str, block: &[u8]) {
+    word(text, name);
+    number8(text, "prefix_len", block, 2);
+    word(text, name);
+    number(text, "flags", u64::from(octet(block, 3) & 0xc0));
+    word(text, name);
+    seconds(text, "valid_lifetime", be32(block, 4));
+    word(text, name);
+    seconds(text, "preferred_lifetime", be32(block, 8));
+    word(text, name);
+    octets(text, "prefix", part(block, 16, 16));
 }
 
 /// Writes a redirected packet, behind the name of its part.
-pub fn show_redirected(text: &mut Vec<u8>, name: &str, block: &[u8]) -> Result<(), Fail> {
+pub fn show_redirected(text: &mut Vec<u8>, name: &str, block: &[u8]) {
     let quote = behind(block, 8);
-    show_quoted_header(text, name, quote)?;
-    part_octets(
-        text,
-        name,
-        "data",
-        part(quote, 40, usize::from(be16(quote, 4))),
-    )
+    show_quoted_header(text, name, quote);
+    word(text, name);
+    octets(text, "data", part(quote, 40, usize::from(be16(quote, 4))));
 }

@@ -1,7 +1,7 @@
-//! The parts of a packet, and the lines of a listing.
+//! The parts of a packet, and the lines of a listing. A line that there is no memory for is left out, so that the text
+//! is not what the program prints.
 
 use std::io::Write;
-use std::test::Fail;
 
 /// The octet there, or 0 past the end.
 pub fn octet(octets: &[u8], at: usize) -> u8 {
@@ -28,19 +28,13 @@ pub fn part(octets: &[u8], at: usize, len: usize) -> &[u8] {
 
 /// The number of two octets.
 pub fn be16(octets: &[u8], at: usize) -> u16 {
-    let rest = behind(octets, at);
-    u16::from_be_bytes([octet(rest, 0), octet(rest, 1)])
+    u16::from_be_bytes([octet(octets, at), octet(octets, at.wrapping_add(1))])
 }
 
 /// The number of four octets.
 pub fn be32(octets: &[u8], at: usize) -> u32 {
-    let rest = behind(octets, at);
-    u32::from_be_bytes([
-        octet(rest, 0),
-        octet(rest, 1),
-        octet(rest, 2),
-        octet(rest, 3),
-    ])
+    let high = u32::from(be16(octets, at));
+    high << 16 | u32::from(be16(octets, at.wrapping_add(2)))
 }
 
 /// The sum of the words of two octets, the last of them filled up.
@@ -57,74 +51,79 @@ pub fn is_good(sum: u64) -> bool {
     sum != 0 && sum % 65_535 == 0
 }
 
-/// Writes a line of its own.
-pub fn line(text: &mut Vec<u8>, name: &str) -> Result<(), Fail> {
-    word(text, name)?;
-    word(text, "\n")
+/// Writes a name, or that of a part in front of a field's.
+pub fn word(text: &mut Vec<u8>, name: &str) {
+    let _ = text.extend_from_slice(name.as_bytes());
 }
 
-/// Writes a name, or that of a part in front of a field's.
-pub fn word(text: &mut Vec<u8>, name: &str) -> Result<(), Fail> {
-    text.extend_from_slice(name.as_bytes())?;
-    Ok(())
+/// Writes a line of its own.
+pub fn line(text: &mut Vec<u8>, name: &str) {
+    word(text, name);
+    word(text, "\n");
 }
 
 /// Writes a field that is a number.
-pub fn number(text: &mut Vec<u8>, name: &str, value: u64) -> Result<(), Fail> {
-    writeln!(text, "{name}={value}")?;
-    Ok(())
+pub fn number(text: &mut Vec<u8>, name: &str, value: u64) {
+    let _ = writeln!(text, "{name}={value}");
 }
 
-/// Writes a field of a part, behind the part's name.
-pub fn part_number(text: &mut Vec<u8>, of: &str, name: &str, value: u64) -> Result<(), Fail> {
-    word(text, of)?;
-    number(text, name, value)
+/// Writes a field that is the number of an octet, or of two or four, that stand there in a packet.
+pub fn number8(text: &mut Vec<u8>, name: &str, packet: &[u8], at: usize) {
+    number(text, name, u64::from(octet(packet, at)));
 }
 
-pub fn part_octets(text: &mut Vec<u8>, of: &str, name: &str, value: &[u8]) -> Result<(), Fail> {
-    word(text, of)?;
-    octets(text, name, value)
+pub fn number16(text: &mut Vec<u8>, name: &str, packet: &[u8], at: usize) {
+    number(text, name, u64::from(be16(packet, at)));
+}
+
+pub fn number32(text: &mut Vec<u8>, name: &str, packet: &[u8], at: usize) {
+    number(text, name, u64::from(be32(packet, at)));
+}
+
+/// Writes a field that is seconds, in thousandths.
+pub fn seconds(text: &mut Vec<u8>, name: &str, value: u32) {
+    number(text, name, u64::from(value) * 1_000);
 }
 
 /// Writes a field that is true or false.
-pub fn truth(text: &mut Vec<u8>, name: &str, value: bool) -> Result<(), Fail> {
-    word(text, name)?;
-    line(text, if value { "=true" } else { "=false" })
+pub fn truth(text: &mut Vec<u8>, name: &str, value: bool) {
+    word(text, name);
+    line(text, if value { "=true" } else { "=false" });
 }
 
 /// Writes a field that there is none of.
-pub fn none(text: &mut Vec<u8>, name: &str) -> Result<(), Fail> {
-    word(text, name)?;
-    line(text, "=none")
+pub fn none(text: &mut Vec<u8>, name: &str) {
+    word(text, name);
+    line(text, "=none");
 }
 
 /// Writes a field that is octets.
-pub fn octets(text: &mut Vec<u8>, name: &str, octets: &[u8]) -> Result<(), Fail> {
-    word(text, name)?;
-    word(text, "=")?;
-    digits(text, octets)
+pub fn octets(text: &mut Vec<u8>, name: &str, octets: &[u8]) {
+    word(text, name);
+    word(text, "=");
+    digits(text, octets);
 }
 
 /// Writes the digits of octets, and the end of the line.
-pub fn digits(text: &mut Vec<u8>, octets: &[u8]) -> Result<(), Fail> {
+pub fn digits(text: &mut Vec<u8>, octets: &[u8]) {
     if octets.is_empty() {
-        word(text, "-")?;
+        word(text, "-");
     }
     for octet in octets {
-        write!(text, "{octet:02x}")?;
+        let _ = write!(text, "{octet:02x}");
     }
-    word(text, "\n")
+    word(text, "\n");
 }
 
 /// Writes a field that is addresses of IPv4.
-pub fn dotted(text: &mut Vec<u8>, name: &str, octets: &[u8]) -> Result<(), Fail> {
-    word(text, name)?;
-    word(text, if octets.is_empty() { "=-" } else { "=" })?;
+pub fn dotted(text: &mut Vec<u8>, name: &str, octets: &[u8]) {
+    word(text, name);
+    word(text, if octets.is_empty() { "=-" } else { "=" });
     for (i, octet) in octets.iter().enumerate() {
         if i > 0 {
-            word(text, if i % 4 == 0 { "," } else { "." })?;
+            word(text, if i % 4 == 0 { "," } else { "." });
         }
-        write!(text, "{octet}")?;
+        let _ = write!(text, "{octet}");
     }
-    word(text, "\n")
+    word(text, "\n");
 }
