@@ -1,12 +1,15 @@
 -- The shape of a line, of which the first five words are known.
 use Rattle.std.proofs.Common.{◌≡◌, ◌≢◌, ℕ, ◌+◌, ◌-◌, ◌<◌, ◌≤◌, true, false, List, [], ◌∷◌, length, get_or, take}
-use Rattle.std.proofs.Common.{drop, None, refl, ap, sym, ◌∙◌, arith, drop-cons, add-one}
+use Rattle.std.proofs.Common.{drop, None, Result, Ok, Err, IfOk, refl, ap, sym, ◌∙◌, arith, drop-cons, add-one}
 use Rattle.std.proofs.lemmas.Bool.{le-leb}
 use Rattle.std.specs.Prelude.{map}
 use Rattle.wiredump.specs.Lines.{are_short}
 use Rattle.wiredump.specs.Words.{word_of, offset_of, address_of}
 use Rattle.wiredump.specs.Listing.{bad, command_of, command_alone, command_at, command_between, shape_with}
 use Rattle.wiredump.specs.Listing.{shape_of}
+use Rattle.wiredump.specs.Shapes.{seen}
+use Rattle.wiredump.specs.declared.fault.Fault.{Fault}
+use Rattle.wiredump.specs.declared.shape.Shape.{Shape}
 use Rattle.wiredump.proofs.Keeping.{both_bad, le-leb-false}
 
 few : (words : List (List ℕ)) → shape_of (take 5 words) ≡ shape_of words
@@ -18,48 +21,40 @@ few (a ∷ b ∷ c ∷ d ∷ []) = refl
 few (a ∷ b ∷ c ∷ d ∷ e ∷ words) =
     both_bad (are_short (a ∷ b ∷ c ∷ d ∷ e ∷ [])) ∙ sym (both_bad (are_short (a ∷ b ∷ c ∷ d ∷ e ∷ words)))
 
-module _ {X : Type 0} (now : X → List ℕ) (xs : List X) (words : List (List ℕ)) (are : map now xs ≡ take 5 words) where
-  same : shape_of words ≡ shape_of (map now xs)
-  same = sym (few words) ∙ ap shape_of (sym are)
+-- a shape of the first five words is that of all
+pub shape_of-few : (shape : Result Shape Fault) (first words : List (List ℕ)) → first ≡ take 5 words
+    → IfOk shape (λ shape. seen shape ≡ shape_of first) → IfOk shape (λ shape. seen shape ≡ shape_of words)
+shape_of-few (Ok shape) first words are is = is ∙ ap shape_of are ∙ few words
+shape_of-few (Err fault) first words are is = tt
 
-  pub shape_of-long_words : are_short (map now xs) ≡ false → shape_of words ≡ bad
-  shape_of-long_words long = same ∙ rw long refl
+module _ {X : Type 0} (now : X → List ℕ) where
+  pub shape_of-long_words : (xs : List X) → are_short (map now xs) ≡ false → shape_of (map now xs) ≡ bad
+  shape_of-long_words xs long = rw long refl
 
-  pub shape_of-one : length xs ≢ 0 → length xs < 2 → shape_of words ≡ bad
-  shape_of-one some one = same ∙ at xs some one
-    where
-      at : (xs : List X) → length xs ≢ 0 → length xs < 2 → shape_of (map now xs) ≡ bad
-      at [] some one = absurd (some refl)
-      at (a ∷ []) some one = both_bad (are_short (now a ∷ []))
-      at (a ∷ b ∷ xs) some one = absurd (omega (arith, one))
+  pub shape_of-one : (xs : List X) → length xs ≢ 0 → length xs < 2 → shape_of (map now xs) ≡ bad
+  shape_of-one [] some one = absurd (some refl)
+  shape_of-one (a ∷ []) some one = both_bad (are_short (now a ∷ []))
+  shape_of-one (a ∷ b ∷ xs) some one = absurd (omega (arith, one))
 
-  pub shape_of-many : 4 < length xs → shape_of words ≡ bad
-  shape_of-many many = same ∙ at xs many
-    where
-      at : (xs : List X) → 4 < length xs → shape_of (map now xs) ≡ bad
-      at [] many = absurd (omega (arith, many))
-      at (a ∷ []) many = absurd (omega (arith, many))
-      at (a ∷ b ∷ []) many = absurd (omega (arith, many))
-      at (a ∷ b ∷ c ∷ []) many = absurd (omega (arith, many))
-      at (a ∷ b ∷ c ∷ d ∷ []) many = absurd (omega (arith, many))
-      at (a ∷ b ∷ c ∷ d ∷ e ∷ xs) many = both_bad (are_short (map now (a ∷ b ∷ c ∷ d ∷ e ∷ xs)))
+  pub shape_of-many : (xs : List X) → 4 < length xs → shape_of (map now xs) ≡ bad
+  shape_of-many [] many = absurd (omega (arith, many))
+  shape_of-many (a ∷ []) many = absurd (omega (arith, many))
+  shape_of-many (a ∷ b ∷ []) many = absurd (omega (arith, many))
+  shape_of-many (a ∷ b ∷ c ∷ []) many = absurd (omega (arith, many))
+  shape_of-many (a ∷ b ∷ c ∷ d ∷ []) many = absurd (omega (arith, many))
+  shape_of-many (a ∷ b ∷ c ∷ d ∷ e ∷ xs) many = both_bad (are_short (map now (a ∷ b ∷ c ∷ d ∷ e ∷ xs)))
 
   -- a command, the words for it and a packet
-  pub shape_of-command : (x : X) → are_short (map now xs) ≡ true → 2 ≤ length xs → length xs ≤ 4
-      → shape_of words ≡ shape_with (command_of (now (get_or xs 0 x)) (map now (take (length xs - 1 - 1) (drop 1 xs))))
+  pub shape_of-command : (xs : List X) (x : X) → are_short (map now xs) ≡ true → 2 ≤ length xs → length xs ≤ 4
+      → shape_of (map now xs)
+      ≡ shape_with (command_of (now (get_or xs 0 x)) (map now (take (length xs - 1 - 1) (drop 1 xs))))
       (word_of (now (get_or xs (length xs - 1) x)))
-  shape_of-command x short two four = same ∙ at xs short two four
-    where
-      at : (xs : List X) → are_short (map now xs) ≡ true → 2 ≤ length xs → length xs ≤ 4
-          → shape_of (map now xs)
-          ≡ shape_with (command_of (now (get_or xs 0 x)) (map now (take (length xs - 1 - 1) (drop 1 xs))))
-          (word_of (now (get_or xs (length xs - 1) x)))
-      at [] short two four = absurd (omega (arith, two))
-      at (a ∷ []) short two four = absurd (omega (arith, two))
-      at (a ∷ b ∷ []) short two four = rw short refl
-      at (a ∷ b ∷ c ∷ []) short two four = rw short refl
-      at (a ∷ b ∷ c ∷ d ∷ []) short two four = rw short refl
-      at (a ∷ b ∷ c ∷ d ∷ e ∷ xs) short two four = absurd (omega (arith, four))
+  shape_of-command [] x short two four = absurd (omega (arith, two))
+  shape_of-command (a ∷ []) x short two four = absurd (omega (arith, two))
+  shape_of-command (a ∷ b ∷ []) x short two four = rw short refl
+  shape_of-command (a ∷ b ∷ c ∷ []) x short two four = rw short refl
+  shape_of-command (a ∷ b ∷ c ∷ d ∷ []) x short two four = rw short refl
+  shape_of-command (a ∷ b ∷ c ∷ d ∷ e ∷ xs) x short two four = absurd (omega (arith, four))
 
 -- one word more is short, or is not
 module _ {X : Type 0} (now : X → List ℕ) (xs : List X) (i : ℕ) (d : X) (within : i < length xs) where

@@ -3,7 +3,7 @@
 #![tactic(auto, using(crate::proofs::Printing::gains_both))]
 
 ghost use Rattle.std.specs.Prelude.{OnOk};
-ghost use Rattle.icmp6_wire.specs.Mld.{query, value_of};
+ghost use Rattle.icmp6_wire.specs.Mld.{query, report, value_of};
 ghost use Rattle.wiredump.specs.ListingMld.{MldPrints, mld_listing};
 ghost use Rattle.wiredump.specs.Output.{Gains, GainsSome};
 
@@ -52,11 +52,7 @@ pub fn show_message<W: Write>(output: &mut W, message: &Repr<'_>) -> io::Result<
         Repr::Report {
             nr_mcast_addr_rcrds,
             data,
-        } => {
-            line(output, "Report")?;
-            field(output, "nr_mcast_addr_rcrds", nr_mcast_addr_rcrds)?;
-            field(output, "data", data)
-        }
+        } => show_report(output, nr_mcast_addr_rcrds, data),
         Repr::ReportRecordReprs(_) => line(output, "ReportRecordReprs"),
     }
 }
@@ -81,5 +77,14 @@ fn show_query<W: Write>(
     field(output, "qrv", qrv)?;
     field(output, "qqic", qqic)?;
     field(output, "num_srcs", num_srcs)?;
+    field(output, "data", data)
+}
+
+fn show_report<W: Write>(output: &mut W, nr_mcast_addr_rcrds: u16, data: &[u8]) -> io::Result<()>
+    ensures { OnOk result (Gains (W.contents output.old) (W.contents output.new)
+        (mld_listing (report nr_mcast_addr_rcrds «data».now))) }
+{
+    line(output, "Report")?;
+    field(output, "nr_mcast_addr_rcrds", nr_mcast_addr_rcrds)?;
     field(output, "data", data)
 }

@@ -4,7 +4,8 @@
 
 ghost use Rattle.std.specs.Prelude.{OnOk};
 ghost use Rattle.std.specs.Option.{option_map};
-ghost use Rattle.icmp6_wire.specs.Ndisc.{neighbor_advert, redirect, value_of};
+ghost use Rattle.icmp6_wire.specs.Ndisc.{neighbor_advert, neighbor_solicit, redirect, router_advert};
+ghost use Rattle.icmp6_wire.specs.Ndisc.{router_solicit, value_of};
 ghost use Rattle.icmp6_wire.specs.NdiscFound.{packet_of};
 ghost use Rattle.wiredump.specs.ListingNdisc.{ndisc_listing, router_listing, lladdr_listing};
 ghost use Rattle.wiredump.specs.ListingNdisc.{prefix_info_listing, redirected_hdr_listing};
@@ -24,11 +25,8 @@ pub fn show_message<W: Write>(output: &mut W, message: &Repr<'_>) -> io::Result<
     ensures { OnOk result (Gains (W.contents output.old) (W.contents output.new)
         (ndisc_listing (value_of message.now))) }
 {
-    match *message {
-        Repr::RouterSolicit { lladdr } => {
-            line(output, "RouterSolicit")?;
-            show_lladdr(output, lladdr)
-        }
+    match message {
+        Repr::RouterSolicit { lladdr } => show_router_solicit(output, *lladdr),
         Repr::RouterAdvert {
             hop_limit,
             flags,
@@ -38,39 +36,72 @@ pub fn show_message<W: Write>(output: &mut W, message: &Repr<'_>) -> io::Result<
             lladdr,
             mtu,
             prefix_info,
-        } => {
-            show_router(
-                output,
-                hop_limit,
-                flags,
-                router_lifetime,
-                reachable_time,
-                retrans_time,
-            )?;
-            show_lladdr(output, lladdr)?;
-            field(output, "mtu", mtu)?;
-            show_prefix_info(output, &prefix_info)
-        }
+        } => show_router_advert(
+            output,
+            *hop_limit,
+            *flags,
+            *router_lifetime,
+            *reachable_time,
+            *retrans_time,
+            *lladdr,
+            *mtu,
+            prefix_info,
+        ),
         Repr::NeighborSolicit {
             target_addr,
             lladdr,
-        } => {
-            line(output, "NeighborSolicit")?;
-            field(output, "target_addr", target_addr)?;
-            show_lladdr(output, lladdr)
-        }
+        } => show_neighbor_solicit(output, *target_addr, *lladdr),
         Repr::NeighborAdvert {
             flags,
             target_addr,
             lladdr,
-        } => show_neighbor_advert(output, flags, target_addr, lladdr),
+        } => show_neighbor_advert(output, *flags, *target_addr, *lladdr),
         Repr::Redirect {
             target_addr,
             dest_addr,
             lladdr,
             redirected_hdr,
-        } => show_redirect(output, target_addr, dest_addr, lladdr, &redirected_hdr),
+        } => show_redirect(output, *target_addr, *dest_addr, *lladdr, redirected_hdr),
     }
+}
+
+fn show_router_solicit<W: Write>(
+    output: &mut W,
+    lladdr: Option<RawHardwareAddress>,
+) -> io::Result<()>
+    ensures { OnOk result (Gains (W.contents output.old) (W.contents output.new)
+        (ndisc_listing (router_solicit lladdr))) }
+{
+    line(output, "RouterSolicit")?;
+    show_lladdr(output, lladdr)
+}
+
+fn show_router_advert<W: Write>(
+    output: &mut W,
+    hop_limit: u8,
+    flags: RouterFlags,
+    router_lifetime: Duration,
+    reachable_time: Duration,
+    retrans_time: Duration,
+    lladdr: Option<RawHardwareAddress>,
+    mtu: Option<u32>,
+    prefix_info: &Option<PrefixInformation>,
+) -> io::Result<()>
+    ensures { OnOk result (Gains (W.contents output.old) (W.contents output.new)
+        (ndisc_listing (router_advert hop_limit flags router_lifetime reachable_time retrans_time
+        lladdr mtu prefix_info.now))) }
+{
+    show_router(
+        output,
+        hop_limit,
+        flags,
+        router_lifetime,
+        reachable_time,
+        retrans_time,
+    )?;
+    show_lladdr(output, lladdr)?;
+    field(output, "mtu", mtu)?;
+    show_prefix_info(output, prefix_info)
 }
 
 fn show_router<W: Write>(
@@ -90,6 +121,19 @@ fn show_router<W: Write>(
     field(output, "router_lifetime", router_lifetime)?;
     field(output, "reachable_time", reachable_time)?;
     field(output, "retrans_time", retrans_time)
+}
+
+fn show_neighbor_solicit<W: Write>(
+    output: &mut W,
+    target_addr: Ipv6Address,
+    lladdr: Option<RawHardwareAddress>,
+) -> io::Result<()>
+    ensures { OnOk result (Gains (W.contents output.old) (W.contents output.new)
+        (ndisc_listing (neighbor_solicit target_addr lladdr))) }
+{
+    line(output, "NeighborSolicit")?;
+    field(output, "target_addr", target_addr)?;
+    show_lladdr(output, lladdr)
 }
 
 fn show_neighbor_advert<W: Write>(

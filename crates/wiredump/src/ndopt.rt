@@ -38,21 +38,21 @@ fn show_option<W: Write>(output: &mut W, option: &Repr<'_>) -> io::Result<()>
     ensures { OnOk result (Gains (W.contents output.old) (W.contents output.new)
         (ndopt_listing (value_of option.now))) }
 {
-    match *option {
+    match option {
         Repr::SourceLinkLayerAddr(address) => {
             field(output, "SourceLinkLayerAddr", address.as_bytes())
         }
         Repr::TargetLinkLayerAddr(address) => {
             field(output, "TargetLinkLayerAddr", address.as_bytes())
         }
-        Repr::PrefixInformation(prefix) => show_prefix_information(output, &prefix),
-        Repr::RedirectedHeader(redirected) => show_redirected_header(output, &redirected),
-        Repr::Mtu(mtu) => field(output, "Mtu", mtu),
+        Repr::PrefixInformation(prefix) => show_prefix_information(output, prefix),
+        Repr::RedirectedHeader(redirected) => show_redirected_header(output, redirected),
+        Repr::Mtu(mtu) => field(output, "Mtu", *mtu),
         Repr::Unknown {
             type_,
             length,
             data,
-        } => show_unknown(output, type_, length, data),
+        } => show_unknown(output, *type_, *length, data),
     }
 }
 

@@ -38,7 +38,15 @@ impl Shape {
         ensures fault { IfErr result (λ fault. fault ≡ Fault.Memory) }
     {
         let words = words_of(text);
-        let words = words.as_slice();
+        Shape::of_words(alloc, words.as_slice())
+    }
+
+    // The shape of a line of these words.
+    fn of_words(alloc: Global, words: &[&[u8]]) -> Result<Shape, Fault>
+        ensures shape { IfOk result (λ shape.
+            seen shape ≡ shape_of (map (λ word. word.now) words.now)) }
+        ensures fault { IfErr result (λ fault. fault ≡ Fault.Memory) }
+    {
         let count = words.len();
         if count == 0 {
             return Ok(Shape::Blank);

@@ -1,9 +1,8 @@
--- The lines, one after another.
-use Rattle.wiredump.proofs.Printing.{◌then◌, gains_last}
+-- What each message prints.
 use Rattle.wiredump.proofs.mld.show_message.Goals as goal
 
-pub returns-in_ok-field-in-Report : goal.returns-in_ok-field-in-Report
-returns-in_ok-field-in-Report g c =
-    rw c.in-Report.is
-    (gains_last _ _ _ (c.in_ok-line-in-Report.ensures then c.in_ok-field-in-Report.ensures)
-    c.field-in-Report.ensures)
+pub returns-in-Query : goal.returns-in-Query
+returns-in-Query g c = rw c.in-Query.is c.show_query.ensures
+
+pub returns-in-Report : goal.returns-in-Report
+returns-in-Report g c = rw c.in-Report.is c.show_report.ensures

@@ -1,0 +1,8 @@
+-- What is written is what was turned into digits.
+use Rattle.wiredump.proofs.Printing.{gained_on_ok}
+use Rattle.wiredump.proofs.printer.write_digits.Goals as goal
+
+pub returns : goal.returns
+returns g c =
+    let digits = rw c.unwrap.ensures at c.encode_to_slice.ensures.written in
+    gained_on_ok _ _ _ _ (rw digits at c.write_all.ensures.bytes)
