@@ -79,11 +79,16 @@ fn check_fields(
     rows: &[(&str, &str)],
 ) -> Result<(), Fail> {
     for (options, said) in rows {
-        let line = format!(in alloc; "dhcp {header}{ZEROS}63825363{options}")?;
+        let line = line_with(alloc, header, options)?;
         let want = listing(alloc, said)?;
         check_line(rt, alloc, line.as_str(), want.as_str());
     }
     Ok(())
+}
+
+// A line of a packet with this header and these options.
+fn line_with(alloc: Global, header: &str, options: &str) -> Result<String, Fail> {
+    Ok(format!(in alloc; "dhcp {header}{ZEROS}63825363{options}")?)
 }
 
 #[test]
@@ -151,8 +156,9 @@ fn dhcp_options(rt: HostRuntime) -> Result<(), Fail> {
 
 #[test]
 fn dhcp_packets_refused(rt: HostRuntime) -> Result<(), Fail> {
-    for options in ["350102ff", "ff", "3501013d0702000000000000ff"] {
-        let line = format!(in rt.alloc(); "dhcp {REQUEST}{ZEROS}63825363{options}")?;
+    const OPTIONS: &[&str] = &["350102ff", "ff", "3501013d0702000000000000ff"];
+    for options in OPTIONS {
+        let line = line_with(rt.alloc(), REQUEST, options)?;
         check_line(&rt, rt.alloc(), line.as_str(), "refused\n");
     }
     check_line(&rt, rt.alloc(), "dhcp -", "refused\n");
@@ -163,7 +169,7 @@ fn dhcp_packets_refused(rt: HostRuntime) -> Result<(), Fail> {
 fn dhcp_packet_with_every_field(rt: HostRuntime) -> Result<(), Fail> {
     let options = "35010203040a0000010104ffffff0032040a0000033d070152540012345736040a0000023703010\
         30606080a0000050a000006390205dc330400000e103a04000007083b0400000c4eff";
-    let line = format!(in rt.alloc(); "dhcp {WHOLE}{ZEROS}63825363{options}")?;
+    let line = line_with(rt.alloc(), WHOLE, options)?;
     let want = "message_type=2\ntransaction_id=305419896\nsecs=258\n\
         client_hardware_address=525400123456\nclient_ip=10.0.0.10\nyour_ip=10.0.0.11\n\
         server_ip=10.0.0.12\nrouter=10.0.0.1\nsubnet_mask=255.255.255.0\n\

@@ -1,6 +1,6 @@
 //! Questions and names of DNS.
 
-use super::{check, check_changed, check_line, compare_changed};
+use super::{check, check_changed, check_line, compare_changed, line_of};
 use std::fmt::Write;
 use std::test::Fail;
 
@@ -64,10 +64,10 @@ fn names(rt: HostRuntime) {
 
 #[test]
 fn names_of_changed_messages(rt: HostRuntime) -> Result<(), Fail> {
-    for words in ["name 5", "name 12", "name 16"] {
-        let line = format!(in rt.alloc();
-            "{words} 000000000000000000000000026100c011c00e0161c00c"
-        )?;
+    const MESSAGE: &str = "000000000000000000000000026100c011c00e0161c00c";
+    const WORDS: &[&str] = &["name 5", "name 12", "name 16"];
+    for words in WORDS {
+        let line = line_of(rt.alloc(), words, MESSAGE)?;
         compare_changed(&rt, rt.alloc(), line.as_bytes(), words.len())?;
     }
     Ok(())

@@ -80,15 +80,18 @@ impl Read for Source<'_> {
     }
 }
 
-// Compares what was printed of a source that fails, or does not, with what is printed of one that never does.
-fn check_read(
+// Compares what is printed of a source that fails, or does not, with what is printed of one that never does.
+fn check_source(
     rt: &impl Abort,
-    fails_at: usize,
-    answer: Result<bool, Fault>,
+    alloc: Global,
+    source: Source<'_>,
     fails: bool,
-    output: &[u8],
     undisturbed: &[u8],
 ) {
+    let fails_at = source.fails_at;
+    let mut output = Vec::new(alloc);
+    let answer = run(alloc, source, &mut output);
+    let output = output.as_slice();
     if fails {
         same_of(rt, fails_at, answer, Err(Fault::Read));
         holds_of(rt, fails_at, undisturbed.starts_with(output));
@@ -120,11 +123,8 @@ fn reads_that_fail(rt: HostRuntime) -> Result<(), Fail> {
                 fails_at,
                 kind,
             };
-            let mut output = Vec::new(rt.alloc());
-            let answer = run(rt.alloc(), source, &mut output);
             let fails = fails && fails_at < calls;
-            let (output, undisturbed) = (output.as_slice(), undisturbed.as_slice());
-            check_read(&rt, fails_at, answer, fails, output, undisturbed);
+            check_source(&rt, rt.alloc(), source, fails, undisturbed.as_slice());
         }
     }
     Ok(())
@@ -238,6 +238,28 @@ fn only_line(rt: &impl Abort, alloc: Global, octets: &[u8]) -> Result<Line, Fail
     Ok(line)
 }
 
+// Compares what a line prints to a sink that fails at one call; true where no write failed.
+fn check_line(
+    rt: &impl Abort,
+    alloc: Global,
+    line: &Line,
+    fails_at: usize,
+    known: Result<bool, Fault>,
+    undisturbed: &[u8],
+) -> bool {
+    let mut output = Vec::new(alloc);
+    let mut sink = Sink {
+        output: &mut output,
+        calls: 0,
+        fails_at,
+        for_good: false,
+        kind: ErrorKind::BrokenPipe,
+    };
+    let answer = show_line(alloc, &mut sink, line);
+    let (fault, output) = (Fault::Write, output.as_slice());
+    check_written(rt, fails_at, answer, known, fault, output, undisturbed)
+}
+
 // Each write of what a line prints fails in turn, with no buffer between.
 #[test]
 fn writes_of_each_word_that_fail(rt: HostRuntime) -> Result<(), Fail> {
@@ -246,20 +268,10 @@ fn writes_of_each_word_that_fail(rt: HostRuntime) -> Result<(), Fail> {
         let mut undisturbed = Vec::new(rt.alloc());
         let known = show_line(rt.alloc(), &mut undisturbed, &line);
         holds_of(&rt, octets, known.is_ok());
+        let undisturbed = undisturbed.as_slice();
         let mut faults = 0;
         for fails_at in 0..500 {
-            let mut output = Vec::new(rt.alloc());
-            let mut sink = Sink {
-                output: &mut output,
-                calls: 0,
-                fails_at,
-                for_good: false,
-                kind: ErrorKind::BrokenPipe,
-            };
-            let answer = show_line(rt.alloc(), &mut sink, &line);
-            let fault = Fault::Write;
-            let (output, undisturbed) = (output.as_slice(), undisturbed.as_slice());
-            if check_written(&rt, fails_at, answer, known, fault, output, undisturbed) {
+            if check_line(&rt, rt.alloc(), &line, fails_at, known, undisturbed) {
                 break;
             }
             faults = fails_at;

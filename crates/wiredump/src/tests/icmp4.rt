@@ -1,8 +1,6 @@
 //! Messages of ICMPv4 and of IGMP.
 
-use super::{check, check_changed, check_line};
-use std::alloc::Global;
-use std::process::Abort;
+use super::{check, check_changed, check_with_data};
 use std::test::Fail;
 
 #[test]
@@ -41,31 +39,22 @@ const QUOTE: &str = "4500001c00004000401126cf0a0000010a0000020035003500080000";
 const QUOTED: &str = "header.src_addr=10.0.0.1\nheader.dst_addr=10.0.0.2\nheader.next_header=17\n\
     header.payload_len=8\nheader.hop_limit=64\ndata=0035003500080000\n";
 
-fn check_error(rt: &impl Abort, alloc: Global, header: &str, want: &str) -> Result<(), Fail> {
-    let line = format!(in alloc; "icmp4 {header}{QUOTE}")?;
-    let want = format!(in alloc; "{want}{QUOTED}")?;
-    check_line(rt, alloc, line.as_str(), want.as_str());
-    Ok(())
-}
-
-fn check_refused(rt: &impl Abort, alloc: Global, header: &str) -> Result<(), Fail> {
-    let line = format!(in alloc; "icmp4 {header}{QUOTE}")?;
-    check_line(rt, alloc, line.as_str(), "refused\n");
-    Ok(())
-}
-
 #[test]
 fn errors_of_icmpv4(rt: HostRuntime) -> Result<(), Fail> {
-    const ERRORS: &[(&str, &str)] = &[
+    const ROWS: &[(&str, &str)] = &[
         ("0303fc8a00000000", "DstUnreachable\nreason=3\n"),
         ("0b00f48d00000000", "TimeExceeded\nreason=0\n"),
         ("0b01f48c00000000", "TimeExceeded\nreason=1\n"),
     ];
-    for (header, want) in ERRORS {
-        check_error(&rt, rt.alloc(), header, want)?;
+    for (header, want) in ROWS {
+        check_with_data(&rt, rt.alloc(), "icmp4", header, QUOTE, want, QUOTED)?;
     }
-    // Types that are not read.
-    const REFUSED: &[&str] = &[
+    Ok(())
+}
+
+#[test]
+fn types_of_icmpv4_that_are_not_read(rt: HostRuntime) -> Result<(), Fail> {
+    const HEADERS: &[&str] = &[
         "0500fa8d00000000",
         "0900f68d00000000",
         "0a00f58d00000000",
@@ -73,8 +62,8 @@ fn errors_of_icmpv4(rt: HostRuntime) -> Result<(), Fail> {
         "0d00f28d00000000",
         "0e00f18d00000000",
     ];
-    for header in REFUSED {
-        check_refused(&rt, rt.alloc(), header)?;
+    for header in HEADERS {
+        check_with_data(&rt, rt.alloc(), "icmp4", header, QUOTE, "refused\n", "")?;
     }
     Ok(())
 }

@@ -1,8 +1,6 @@
 //! Messages of ICMPv6 and of multicast listener discovery.
 
-use super::{check, check_changed, check_line};
-use std::alloc::Global;
-use std::process::Abort;
+use super::{both, check, check_changed, check_line, check_with_data};
 use std::test::Fail;
 
 /// A message from one address of the link to another.
@@ -63,13 +61,6 @@ const QUOTED: &str = "header.src_addr=fe800000000000000000000000000001\n\
     header.dst_addr=fe800000000000000000000000000002\nheader.next_header=17\n\
     header.payload_len=12\nheader.hop_limit=64\ndata=bf000035000c124daa0000ff\n";
 
-fn check_error(rt: &impl Abort, alloc: Global, header: &str, want: &str) -> Result<(), Fail> {
-    let line = format!(in alloc; "{BETWEEN} {header}{QUOTE}")?;
-    let want = format!(in alloc; "{want}{QUOTED}")?;
-    check_line(rt, alloc, line.as_str(), want.as_str());
-    Ok(())
-}
-
 #[test]
 fn errors_of_icmpv6(rt: HostRuntime) -> Result<(), Fail> {
     const ROWS: &[(&str, &str)] = &[
@@ -86,12 +77,15 @@ fn errors_of_icmpv6(rt: HostRuntime) -> Result<(), Fail> {
         ("0403137a00000028", "ParamProblem\nreason=3\npointer=40\n"),
     ];
     for (header, want) in ROWS {
-        check_error(&rt, rt.alloc(), header, want)?;
+        check_with_data(&rt, rt.alloc(), BETWEEN, header, QUOTE, want, QUOTED)?;
     }
-    // A packet too big with a code.
-    let line = format!(in rt.alloc(); "{BETWEEN} 02010fc8000005dc{QUOTE}")?;
-    check_line(&rt, rt.alloc(), line.as_str(), "refused\n");
     Ok(())
+}
+
+#[test]
+fn a_packet_too_big_with_a_code(rt: HostRuntime) -> Result<(), Fail> {
+    let header = "02010fc8000005dc";
+    check_with_data(&rt, rt.alloc(), BETWEEN, header, QUOTE, "refused\n", "")
 }
 
 #[test]
@@ -121,18 +115,22 @@ fn a_packet_too_big_of_1240_bytes(rt: HostRuntime) -> Result<(), Fail> {
     for _ in 0..1_192 {
         data.push_str("aa")?;
     }
+    let header = "02000c3f00000500\
+        60000000270f1140fe800000000000000000000000000001fe800000000000000000000000000002";
+    let want = "PktTooBig\nmtu=1280\nheader.src_addr=fe800000000000000000000000000001\n\
+        header.dst_addr=fe800000000000000000000000000002\nheader.next_header=17\n\
+        header.payload_len=9999\nheader.hop_limit=64\ndata=";
     let data = data.as_str();
-    let line = format!(in rt.alloc();
-        "{BETWEEN} 02000c3f00000500\
-         60000000270f1140fe800000000000000000000000000001fe800000000000000000000000000002{data}"
-    )?;
-    let want = format!(in rt.alloc();
-        "PktTooBig\nmtu=1280\nheader.src_addr=fe800000000000000000000000000001\n\
-         header.dst_addr=fe800000000000000000000000000002\nheader.next_header=17\n\
-         header.payload_len=9999\nheader.hop_limit=64\ndata={data}\n"
-    )?;
-    check_line(&rt, rt.alloc(), line.as_str(), want.as_str());
-    Ok(())
+    let printed = both(rt.alloc(), data, "\n")?;
+    check_with_data(
+        &rt,
+        rt.alloc(),
+        BETWEEN,
+        header,
+        data,
+        want,
+        printed.as_str(),
+    )
 }
 
 #[test]

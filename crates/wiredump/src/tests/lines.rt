@@ -1,24 +1,29 @@
 //! Lines of every shape, and at the limits of what a line may have.
 
-use crate::testing::{same, same_of};
+use super::{both, check_run, check_with_data};
+use crate::testing::same_of;
 use crate::{read_word, run, status};
 use std::alloc::Global;
+use std::fmt::Write;
 use std::process::Abort;
 use std::test::Fail;
 
 // Each input prints this and ends with this status.
-fn check_lines(rt: &impl Abort, alloc: Global, rows: &[(&str, &str, u8)]) -> Result<(), Fail> {
+fn check_lines(rt: &impl Abort, alloc: Global, rows: &[(&str, &str, u8)]) {
     for (input, want, code) in rows {
-        let mut output = Vec::new(alloc);
-        let answer = run(alloc, input.as_bytes(), &mut output);
-        same_of(rt, input, status(&answer), *code);
-        same_of(rt, input, output.as_slice(), want.as_bytes());
+        check_status(rt, alloc, input, want, *code);
     }
-    Ok(())
+}
+
+fn check_status(rt: &impl Abort, alloc: Global, input: &str, want: &str, code: u8) {
+    let mut output = Vec::new(alloc);
+    let answer = run(alloc, input.as_bytes(), &mut output);
+    same_of(rt, input, status(&answer), code);
+    same_of(rt, input, output.as_slice(), want.as_bytes());
 }
 
 #[test]
-fn lines_of_every_shape(rt: HostRuntime) -> Result<(), Fail> {
+fn lines_of_every_shape(rt: HostRuntime) {
     const ROWS: &[(&str, &str, u8)] = &[
         // Without a word.
         ("", "", 0),
@@ -38,11 +43,11 @@ fn lines_of_every_shape(rt: HostRuntime) -> Result<(), Fail> {
         ("hbh 00\nhbh\nhbh 00\n", "Pad1\nbad line\nPad1\n", 2),
         ("hbh 00\nhbh -\nhbh 00\n", "Pad1\nrefused\nPad1\n", 0),
     ];
-    check_lines(&rt, rt.alloc(), ROWS)
+    check_lines(&rt, rt.alloc(), ROWS);
 }
 
 #[test]
-fn lines_with_a_wrong_word(rt: HostRuntime) -> Result<(), Fail> {
+fn lines_with_a_wrong_word(rt: HostRuntime) {
     const ROWS: &[(&str, &str, u8)] = &[
         // Words that are no packet.
         ("hbh 5\nhbh 010\n", "bad line\nbad line\n", 2),
@@ -54,11 +59,11 @@ fn lines_with_a_wrong_word(rt: HostRuntime) -> Result<(), Fail> {
         ("hbh - -\nhbh 00 00\n", "bad line\nbad line\n", 2),
         ("hbh 0 0 0 00\n1 2 3 4 5 6\n", "bad line\nbad line\n", 2),
     ];
-    check_lines(&rt, rt.alloc(), ROWS)
+    check_lines(&rt, rt.alloc(), ROWS);
 }
 
 #[test]
-fn lines_with_a_wrong_offset_or_address(rt: HostRuntime) -> Result<(), Fail> {
+fn lines_with_a_wrong_offset_or_address(rt: HostRuntime) {
     const ROWS: &[(&str, &str, u8)] = &[
         // Offsets and addresses that are none, and an offset past its message.
         ("name 00\nname 0 0 00\n", "bad line\nbad line\n", 2),
@@ -98,11 +103,11 @@ fn lines_with_a_wrong_offset_or_address(rt: HostRuntime) -> Result<(), Fail> {
             2,
         ),
     ];
-    check_lines(&rt, rt.alloc(), ROWS)
+    check_lines(&rt, rt.alloc(), ROWS);
 }
 
 #[test]
-fn lines_that_are_no_text(rt: HostRuntime) -> Result<(), Fail> {
+fn lines_that_are_no_text(rt: HostRuntime) {
     const INPUTS: &[&[u8]] = &[
         b"hbh \xff\n",
         b"\xc3\x28 00\n",
@@ -110,11 +115,8 @@ fn lines_that_are_no_text(rt: HostRuntime) -> Result<(), Fail> {
         b"\xef\xbb\xbfhbh 00\n",
     ];
     for &input in INPUTS {
-        let mut output = Vec::new(rt.alloc());
-        same_of(&rt, input, run(rt.alloc(), input, &mut output), Ok(false));
-        same_of(&rt, input, output.as_slice(), b"bad line\n".as_slice());
+        check_run(&rt, rt.alloc(), &input, input, false, b"bad line\n");
     }
-    Ok(())
 }
 
 // A word of so many digits is so many octets, or none, and a line of it prints this.
@@ -125,16 +127,26 @@ fn check_digits(
     length: Option<usize>,
     want: &str,
 ) -> Result<(), Fail> {
-    let mut line = Vec::from_slice(alloc, b"hbh ")?;
     let text = vec![in alloc; b'0'; digits]?;
-    line.extend_from_slice(text.as_slice())?;
     let word = read_word(alloc, text.as_slice())?;
     same_of(rt, digits, word.as_ref().map(|word| word.len()), length);
-    let mut output = Vec::new(alloc);
-    let answer = run(alloc, line.as_slice(), &mut output);
-    same_of(rt, digits, answer, Ok(length.is_some()));
-    same_of(rt, digits, output.as_slice(), want.as_bytes());
+    let line = line_of_word(alloc, text.as_slice())?;
+    let is_known = length.is_some();
+    check_run(
+        rt,
+        alloc,
+        &digits,
+        line.as_slice(),
+        is_known,
+        want.as_bytes(),
+    );
     Ok(())
+}
+
+fn line_of_word(alloc: Global, word: &[u8]) -> Result<Vec<u8>, Fail> {
+    let mut line = Vec::from_slice(alloc, b"hbh ")?;
+    line.extend_from_slice(word)?;
+    Ok(line)
 }
 
 #[test]
@@ -174,11 +186,8 @@ fn check_repeated(
     want: &str,
 ) -> Result<(), Fail> {
     let input = repeated(alloc, texts)?;
-    let mut output = Vec::new(alloc);
-    let answer = run(alloc, input.as_slice(), &mut output);
-    let want = format!(in alloc; "{want}Pad1\n")?;
-    same_of(rt, texts, answer, Ok(known));
-    same_of(rt, texts, output.as_slice(), want.as_bytes());
+    let want = both(alloc, want, "Pad1\n")?;
+    check_run(rt, alloc, &texts, input.as_slice(), known, want.as_bytes());
     Ok(())
 }
 
@@ -239,7 +248,7 @@ fn lines_at_their_limits(rt: HostRuntime) -> Result<(), Fail> {
 fn digits_of_octets(alloc: Global) -> Result<String, Fail> {
     let mut digits = String::new(alloc);
     for octet in 0..255u8 {
-        digits.push_str(format!(in alloc; "{octet:02x}")?.as_str())?;
+        write!(digits, "{octet:02x}")?;
     }
     Ok(digits)
 }
@@ -247,10 +256,16 @@ fn digits_of_octets(alloc: Global) -> Result<String, Fail> {
 #[test]
 fn octets_of_every_value(rt: HostRuntime) -> Result<(), Fail> {
     let digits = digits_of_octets(rt.alloc())?;
-    let line = format!(in rt.alloc(); "hbh 11ff{digits}")?;
-    let want = format!(in rt.alloc(); "Unknown\ntype_=17\nlength=255\ndata={digits}\n")?;
-    let mut output = Vec::new(rt.alloc());
-    same(&rt, run(rt.alloc(), line.as_bytes(), &mut output), Ok(true));
-    same(&rt, output.as_slice(), want.as_bytes());
-    Ok(())
+    let digits = digits.as_str();
+    let want = "Unknown\ntype_=17\nlength=255\ndata=";
+    let printed = both(rt.alloc(), digits, "\n")?;
+    check_with_data(
+        &rt,
+        rt.alloc(),
+        "hbh",
+        "11ff",
+        digits,
+        want,
+        printed.as_str(),
+    )
 }
