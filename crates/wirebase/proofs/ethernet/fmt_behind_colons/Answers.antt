@@ -7,7 +7,8 @@ abbrev behind_colon : ℕ → List ℕ
 behind_colon byte = codes ":" ++ hex_byte byte
 
 one_more : (bytes : List ℕ) (i : ℕ) → i < length bytes
-    → flat_map behind_colon (take i bytes) ++ behind_colon (get_or bytes i 0) ≡ flat_map behind_colon (take (i + 1) bytes)
+    → flat_map behind_colon (take i bytes) ++ behind_colon (get_or bytes i 0)
+    ≡ flat_map behind_colon (take (i + 1) bytes)
 one_more bytes i inside = grind (arith, common_steps)
 
 pub loop-byte-preserved : goal.loop-byte-preserved
