@@ -1,5 +1,4 @@
 //! The view of a message (RFC 792).
-#![tactic(auto, using(wirebase::proofs::Pieces::pieces))]
 
 ghost use Rattle.std.specs.Prelude.{◌≡◌, ◌-◌, ◌↔◌, [], ◌∷◌, length, IsTrue, IsOk, IfOk};
 ghost use Rattle.std.specs.Borrow.{sem, Lends, Array, u8 as byte};
@@ -198,6 +197,7 @@ impl<T: OctetsMut> Packet<T> {
     }
 
     /// Lends what stands after the header for writing; the header stays. Asks 8 bytes.
+    #[tactic(auto, using(wirebase::proofs::Pieces::pieces))]
     pub fn data_mut(&mut self) -> &mut [u8]
         requires { Reaches header (T.bytes (inner self.old)) }
         ensures* lends { sem 𝓛 (Lends (the_row T.row) (Array byte 0) self.entry result

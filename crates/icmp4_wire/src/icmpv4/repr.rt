@@ -1,5 +1,4 @@
 //! Messages as values (RFC 792).
-#![tactic(auto, using(wirebase::proofs::Pieces::pieces))]
 
 ghost use Rattle.std.specs.Prelude.{◌≡◌, ◌≤◌, ◌<◌, ◌+◌, ◌^◌, ℕ, List, length, IfOk, IsOkAnd, Some};
 ghost use Rattle.wirebase.specs.Bytes.{byte_of, over, Reaches};

@@ -1,5 +1,4 @@
 //! The view of a message (RFC 2236 section 2).
-#![tactic(auto, using(wirebase::proofs::Pieces::pieces))]
 
 ghost use Rattle.std.specs.Prelude.{◌≡◌, ◌↔◌, [], ◌∷◌, IsTrue, IsOk, IfOk};
 ghost use Rattle.std.specs.Fmt.{WritesOnOk};

@@ -1,5 +1,4 @@
 //! Messages as values (RFC 1112 appendix I, RFC 2236 section 2).
-#![tactic(auto, using(wirebase::proofs::Pieces::pieces))]
 
 ghost use Rattle.std.specs.Prelude.{◌≡◌, ◌≤◌, ◌↔◌, length, IsTrue, IfOk, Some};
 ghost use Rattle.wirebase.specs.Bytes.{Reaches, over};
