@@ -14,19 +14,18 @@ use std::alloc::Global;
 /// What a line without its end prints, and whether its shape is known.
 pub fn printed(alloc: Global, line: &[u8]) -> (Vec<u8>, bool) {
     let mut listing = Vec::new(alloc);
-    let read = show_line(alloc, &mut listing, line);
-    if read != Some(true) {
-        listing.clear();
-        text::line(
-            &mut listing,
-            if read.is_some() {
-                "refused"
-            } else {
-                "bad line"
-            },
-        );
+    match show_line(alloc, &mut listing, line) {
+        Some(true) => (listing, true),
+        Some(false) => (only(listing, "refused"), true),
+        None => (only(listing, "bad line"), false),
     }
-    (listing, read.is_some())
+}
+
+// A listing of one line, in the place of another.
+fn only(mut listing: Vec<u8>, line: &str) -> Vec<u8> {
+    listing.clear();
+    text::line(&mut listing, line);
+    listing
 }
 
 // What the words of a line print: whether the packet is read, or None where the line is bad.
