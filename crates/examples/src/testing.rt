@@ -11,5 +11,5 @@ use std::process::Abort;
 pub(crate) fn same<T: PartialEq + Debug + Drop>(rt: &impl Abort, left: T, right: T)
     ensures { T.eq left right ≡ true }
 {
-    assert_eq!(rt; left, right);
+    assert!(rt; left == right, "{left:?} is not {right:?}");
 }

@@ -11,7 +11,7 @@ use std::process::Abort;
 pub(crate) fn same<T: PartialEq + Debug + Drop>(rt: &impl Abort, left: T, right: T)
     ensures { T.eq left right ≡ true }
 {
-    assert_eq!(rt; left, right);
+    assert!(rt; left == right, "{left:?} is not {right:?}");
 }
 
 // Ends the test where the two differ, and says what they are of.
@@ -23,7 +23,7 @@ pub(crate) fn same_of<T: PartialEq + Debug + Drop>(
 )
     ensures { T.eq left right ≡ true }
 {
-    assert_eq!(rt; left, right, "of {of:?}");
+    assert!(rt; left == right, "{left:?} is not {right:?} of {of:?}");
 }
 
 // Ends the test where this does not hold, and says what it was to hold of.
