@@ -6,7 +6,7 @@ use Rattle.dns_wire.specs.declared.dns.tables.Type.{«Type» as RecordType}
 use Rattle.dns_wire.specs.declared.dns.tables.Type.TheVariants as kind
 use Rattle.dns_wire.specs.DnsPart.{IsSplit}
 use Rattle.dns_wire.specs.DnsRecord.{DataValue, address4, address6, canonical_name, other, IsData, RecordValue}
-use Rattle.dns_wire.specs.DnsRecord.{IsRecord, IsBehindName}
+use Rattle.dns_wire.specs.DnsRecord.{IsRecord}
 
 pub address6-one : (t : RecordType) (bytes : List ℕ) (a : Ipv6Address) → t ≡ kind.Aaaa → octets_of a ≡ bytes
     → ((x y : Ipv6Address) → (x ≡ y) ↔ (octets_of x ≡ octets_of y)) → (value : DataValue) → IsData t bytes value
@@ -19,17 +19,6 @@ address6-one t bytes a e is same (other u rest) h = absurd (h.1 e)
 pub record_split : (bytes : List ℕ) (r : RecordValue) (rest : List ℕ) (h : IsRecord bytes r rest)
     → IsSplit bytes r.name h.after
 record_split bytes r rest h = record { name_ = h.name_; whole = h.whole }
-
-pub record_behind : (bytes : List ℕ) (r : RecordValue) (rest : List ℕ) (h : IsRecord bytes r rest)
-    → IsBehindName h.after r.ttl r.holds rest
-record_behind bytes r rest h = record {
-  reaches = h.reaches;
-  class = h.class;
-  ttl_ = h.ttl_;
-  fits = h.fits;
-  data_ = h.data_;
-  rest_ = h.rest_;
-}
 
 abbrev record_of : List ℕ → ℕ → DataValue → RecordValue
 record_of name ttl holds = record { name = name; ttl = ttl; holds = holds }

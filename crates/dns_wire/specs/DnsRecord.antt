@@ -61,21 +61,8 @@ pub record RecordValue : Type 0 where
 abbrev pub value_of : Record → RecordValue
 value_of r = record { name = r.name.now; ttl = r.ttl; holds = data_value r.«data» }
 
--- The grammar: these bytes are a name of one part, then a type, the class of the internet, a time to live, the length
--- of the data and as many bytes of data of the type, and then a rest.
-pub record IsRecord (bytes : List ℕ) (r : RecordValue) (rest : List ℕ) : Type 0 where
-  pub after : List ℕ
-  pub name_ : IsOnePart r.name
-  pub whole : bytes ≡ r.name ++ after
-  pub reaches : Reaches length_field after
-  pub class : number_of class_field after ≡ internet
-  pub ttl_ : r.ttl ≡ number_of ttl_field after
-  pub fits : number_of length_field after ≤ length (drop 10 after)
-  pub data_ : IsData (type_of (number_of type_field after))
-      (take (number_of length_field after) (drop 10 after)) r.holds
-  pub rest_ : rest ≡ drop (number_of length_field after) (drop 10 after)
-
--- what stands behind the name of a record, and then a rest
+-- What stands behind the name of a record: a type, the class of the internet, a time to live, the length of the data
+-- and as many bytes of data of the type, and then a rest.
 pub record IsBehindName (after : List ℕ) (ttl : ℕ) (holds : DataValue) (rest : List ℕ) : Type 0 where
   pub reaches : Reaches length_field after
   pub class : number_of class_field after ≡ internet
@@ -84,3 +71,10 @@ pub record IsBehindName (after : List ℕ) (ttl : ℕ) (holds : DataValue) (rest
   pub data_ : IsData (type_of (number_of type_field after))
       (take (number_of length_field after) (drop 10 after)) holds
   pub rest_ : rest ≡ drop (number_of length_field after) (drop 10 after)
+
+-- The grammar: these bytes are a name of one part, and what stands behind the name of this record.
+pub record IsRecord (bytes : List ℕ) (r : RecordValue) (rest : List ℕ) : Type 0 where
+  pub after : List ℕ
+  pub name_ : IsOnePart r.name
+  pub whole : bytes ≡ r.name ++ after
+  pub behind : IsBehindName after r.ttl r.holds rest
