@@ -2,6 +2,7 @@
 
 mod packet;
 mod quote;
+mod reading;
 mod repr;
 mod tables;
 

@@ -103,10 +103,13 @@ packet-reading bytes four none (unknown t n d) b = b.unnamed.3 (sym b.kind ∙ f
 -- a prefix counts 4 units, and an MTU 1
 units-reading : (bytes : List ℕ) (v : OptionValue) → IsReading bytes v
     → (byte_of type_field bytes ≡ 3 → units_in bytes ≡ 4) × (byte_of type_field bytes ≡ 5 → units_in bytes ≡ 1)
-units-reading bytes (source address) b = (λ e. absurd (omega (arith, e, b.kind)), λ e. absurd (omega (arith, e, b.kind)))
-units-reading bytes (target address) b = (λ e. absurd (omega (arith, e, b.kind)), λ e. absurd (omega (arith, e, b.kind)))
+units-reading bytes (source address) b =
+    (λ e. absurd (omega (arith, e, b.kind)), λ e. absurd (omega (arith, e, b.kind)))
+units-reading bytes (target address) b =
+    (λ e. absurd (omega (arith, e, b.kind)), λ e. absurd (omega (arith, e, b.kind)))
 units-reading bytes (prefix_ p) b = (λ e. b.count, λ e. absurd (omega (arith, e, b.kind)))
-units-reading bytes (redirected h d) b = (λ e. absurd (omega (arith, e, b.kind)), λ e. absurd (omega (arith, e, b.kind)))
+units-reading bytes (redirected h d) b =
+    (λ e. absurd (omega (arith, e, b.kind)), λ e. absurd (omega (arith, e, b.kind)))
 units-reading bytes (mtu n) b = (λ e. absurd (omega (arith, e, b.kind)), λ e. b.count)
 units-reading bytes (unknown t n d) b =
     (λ e. absurd (b.unnamed.2 (sym b.kind ∙ e)), λ e. absurd (b.unnamed.4 (sym b.kind ∙ e)))

@@ -17,11 +17,12 @@ ghost use Rattle.opt_wire.specs.Ipv6OptionTables.{type_number, type_of};
 
 use byteorder::{BigEndian, ByteOrder};
 use std::fmt;
-use std::marker::Model;
 use wirebase::{ByteWriter, Error, Octets, OctetsMut, Result, are_bytes};
 
+mod options;
 mod tables;
 
+pub use options::Ipv6OptionsIterator;
 use tables::AlertName;
 pub use tables::{FailureType, RouterAlert, Type};
 
@@ -400,72 +401,6 @@ fn fmt_unknown<W: fmt::Write>(f: &mut fmt::Formatter<W>, type_: Type, length: u8
     ensures { WritesOnOk W.write_str_gives f.old result (option_display (unknown type_ length [])) f.new }
 {
     write!(f, "IPv6 Option {type_} length={length} ")
-}
-
-/// The options of a header in turn (RFC 8200 section 4.2): each one while they read, one refusal where no option
-/// stands, and then the end for good.
-#[derive(Debug, Drop)]
-pub struct Ipv6OptionsIterator<'a> {
-    // The octets after the options that were given.
-    data: &'a [u8],
-    hit_error: bool,
-}
-
-impl<'a> Model for Ipv6OptionsIterator<'a> {
-    ghost use Rattle.std.specs.Prelude.{List};
-    ghost use Rattle.opt_wire.specs.Ipv6OptionAnswers.{Answer};
-    ghost use Rattle.opt_wire.specs.Ipv6OptionModel.{answers_to_come};
-
-    ghost Value = { List Answer };
-
-    ghost view = { λ it. answers_to_come it.hit_error it.data.now };
-}
-
-impl<'a> Ipv6OptionsIterator<'a> {
-    ghost use Rattle.std.specs.Prelude.{List, Ok, map, sum_by};
-    ghost use Rattle.opt_wire.specs.Ipv6OptionAnswers.{Answer, Tile};
-
-    /// The options in these octets. The answers to come are those of the one tiling of the octets; where there is
-    /// no refusal among them, the options take up all the octets.
-    pub fn new(octets: &'a [u8]) -> Ipv6OptionsIterator<'a>
-        ensures tile { Tile octets.entry.now result }
-        ensures unique { (answers : List Answer)
-            → Tile octets.entry.now answers → answers ≡ result }
-        ensures lengths { (options : List OptionValue) → result ≡ map Ok options
-            → sum_by text_len options ≡ length octets.entry.now }
-    {
-        Ipv6OptionsIterator {
-            data: octets,
-            hit_error: false,
-        }
-    }
-}
-
-impl<'a> Iterator for Ipv6OptionsIterator<'a> {
-    ghost use Rattle.std.specs.Iterator.{at_most};
-    ghost use Rattle.wirebase.specs.Answers.{GivesFirst};
-
-    type Item = Result<Repr<'a>>;
-
-    ghost next_gives = { GivesFirst value_of };
-
-    ghost remaining = { λ answers. at_most (length answers) };
-
-    fn next(&mut self) -> Option<Result<Repr<'a>>> {
-        if self.hit_error || self.data.is_empty() {
-            return None;
-        }
-        match Repr::parse(&Ipv6Option::new_unchecked(self.data)) {
-            Ok(repr) => {
-                self.data = &self.data[repr.buffer_len()..];
-                Some(Ok(repr))
-            }
-            Err(error) => {
-                self.hit_error = true;
-                Some(Err(error))
-            }
-        }
-    }
 }
 
 #[cfg(test)]

@@ -1,15 +1,15 @@
 //! Messages as values (RFC 4443).
 
-ghost use Rattle.std.specs.Prelude.{true, ◌≡◌, ◌≤◌, ◌<◌, ◌+◌, ◌^◌, length, IsOk, IfOk, IsOkAnd};
-ghost use Rattle.wirebase.specs.Bytes.{Reaches, byte_of, over};
+ghost use Rattle.std.specs.Prelude.{◌≡◌, ◌≤◌, ◌<◌, ◌+◌, ◌^◌, length, IsOk, IfOk, IsOkAnd};
+ghost use Rattle.wirebase.specs.Bytes.{Reaches, over};
 ghost use Rattle.wirebase.specs.ByteWriter.{free, Puts, the_slice, fields};
 ghost use Rattle.wirebase.specs.Format.{Rewrites, SameText};
-ghost use Rattle.wirebase.specs.Icmp.{header, type_field, code_field, checksum_field, echo_fields};
+ghost use Rattle.wirebase.specs.Icmp.{header, checksum_field, echo_fields};
 ghost use Rattle.wirebase.specs.declared.capabilities.ChecksumCapabilities.{ChecksumCapabilities};
 ghost use Rattle.wirebase.specs.declared.ipv6.address.Ipv6Address.{Ipv6Address};
 ghost use Rattle.wirebase.specs.declared.ipv6.Ipv6Repr.{Ipv6Repr};
-ghost use Rattle.icmp6_wire.specs.Icmpv6Tables.{message_number, is_ndisc, is_mld};
-ghost use Rattle.icmp6_wire.specs.Icmpv6Packet.{inner, view_octets, message_in, BeginsWhole};
+ghost use Rattle.icmp6_wire.specs.Icmpv6Tables.{message_number};
+ghost use Rattle.icmp6_wire.specs.Icmpv6Packet.{inner, view_octets, BeginsWhole};
 ghost use Rattle.icmp6_wire.specs.Icmpv6.{MessageValue, value_of, text};
 ghost use Rattle.icmp6_wire.specs.Icmpv6.{text_len, told_len};
 ghost use Rattle.icmp6_wire.specs.Icmpv6.{IsErrorValue, seal, packet_text, CanEmit, IsContent, IsMessage, format};
@@ -17,13 +17,16 @@ ghost use Rattle.icmp6_wire.specs.Icmpv6.{Emits};
 
 use super::field;
 use super::packet::{Packet, fill};
-use super::quote::{error_len, read_quote, write_error};
+use super::quote::{error_len, write_error};
+use super::reading::{
+    read_echo_reply, read_echo_request, read_error, read_listener, read_neighbor,
+};
 use super::tables::{DstUnreachable, Message, ParamProblem, TimeExceeded};
 use crate::writing::put_type;
 use crate::{mld, ndisc};
 use wirebase::{
-    ByteWriter, ChecksumCapabilities, Error, IPV6_HEADER_LEN, Ipv6Address, Ipv6Repr, Octets,
-    OctetsMut, Result, are_bytes,
+    ByteWriter, ChecksumCapabilities, Error, Ipv6Address, Ipv6Repr, Octets, OctetsMut, Result,
+    are_bytes,
 };
 
 /// A message (RFC 4443).
@@ -281,141 +284,6 @@ impl<'a> Repr<'a> {
             Repr::Mld(message) => message.emit_into(octets),
             Repr::Ndisc(message) => message.emit_into(octets),
         }
-    }
-}
-
-// The error in octets of such a type.
-fn read_error<'a>(packet: &Packet<&'a [u8]>) -> Result<Repr<'a>>
-    requires whole { BeginsWhole (view_octets packet.now) }
-    requires kind { message_number (message_in (view_octets packet.now)) < 128 }
-    ensures sound { IfOk result (λ repr. IsContent (view_octets packet.now) (value_of repr)) }
-    ensures reads { (value : MessageValue) → IsContent (view_octets packet.now) value
-        → IsOk result }
-{
-    let payload = packet.payload();
-    if payload.len() < IPV6_HEADER_LEN {
-        return Err(Error);
-    }
-    match (packet.msg_type(), packet.msg_code()) {
-        (Message::DstUnreachable, _) => Ok(read_unreachable(packet)),
-        (Message::PktTooBig, 0) => Ok(read_too_big(packet)),
-        (Message::TimeExceeded, _) => Ok(read_time_exceeded(packet)),
-        (Message::ParamProblem, _) => Ok(read_param_problem(packet)),
-        _ => Err(Error),
-    }
-}
-
-// The error of an unreachable destination in octets of that type that hold a quoted header.
-fn read_unreachable<'a>(packet: &Packet<&'a [u8]>) -> Repr<'a>
-    requires kind { byte_of type_field (view_octets packet.now) ≡ 1 }
-    requires quote_ { 48 ≤ length (view_octets packet.now) }
-    ensures { IsContent (view_octets packet.now) (value_of result) }
-{
-    let (header, data) = read_quote(packet.payload());
-    Repr::DstUnreachable {
-        reason: packet.msg_code().into(),
-        header,
-        data,
-    }
-}
-
-// The same of a packet that is too big, whose code is 0.
-fn read_too_big<'a>(packet: &Packet<&'a [u8]>) -> Repr<'a>
-    requires kind { byte_of type_field (view_octets packet.now) ≡ 2 }
-    requires code { byte_of code_field (view_octets packet.now) ≡ 0 }
-    requires quote_ { 48 ≤ length (view_octets packet.now) }
-    ensures { IsContent (view_octets packet.now) (value_of result) }
-{
-    let (header, data) = read_quote(packet.payload());
-    Repr::PktTooBig {
-        mtu: packet.pkt_too_big_mtu(),
-        header,
-        data,
-    }
-}
-
-// The same of a time that was exceeded.
-fn read_time_exceeded<'a>(packet: &Packet<&'a [u8]>) -> Repr<'a>
-    requires kind { byte_of type_field (view_octets packet.now) ≡ 3 }
-    requires quote_ { 48 ≤ length (view_octets packet.now) }
-    ensures { IsContent (view_octets packet.now) (value_of result) }
-{
-    let (header, data) = read_quote(packet.payload());
-    Repr::TimeExceeded {
-        reason: packet.msg_code().into(),
-        header,
-        data,
-    }
-}
-
-// The same of a parameter problem.
-fn read_param_problem<'a>(packet: &Packet<&'a [u8]>) -> Repr<'a>
-    requires kind { byte_of type_field (view_octets packet.now) ≡ 4 }
-    requires quote_ { 48 ≤ length (view_octets packet.now) }
-    ensures { IsContent (view_octets packet.now) (value_of result) }
-{
-    let (header, data) = read_quote(packet.payload());
-    Repr::ParamProblem {
-        reason: packet.msg_code().into(),
-        pointer: packet.param_problem_ptr(),
-        header,
-        data,
-    }
-}
-
-// The echo request in octets of that type and of code 0.
-fn read_echo_request<'a>(packet: &Packet<&'a [u8]>) -> Repr<'a>
-    requires whole { BeginsWhole (view_octets packet.now) }
-    requires kind { byte_of type_field (view_octets packet.now) ≡ 0x80 }
-    requires code { byte_of code_field (view_octets packet.now) ≡ 0 }
-    ensures { IsContent (view_octets packet.now) (value_of result) }
-{
-    Repr::EchoRequest {
-        ident: packet.echo_ident(),
-        seq_no: packet.echo_seq_no(),
-        data: packet.payload(),
-    }
-}
-
-// The same of an echo reply.
-fn read_echo_reply<'a>(packet: &Packet<&'a [u8]>) -> Repr<'a>
-    requires whole { BeginsWhole (view_octets packet.now) }
-    requires kind { byte_of type_field (view_octets packet.now) ≡ 0x81 }
-    requires code { byte_of code_field (view_octets packet.now) ≡ 0 }
-    ensures { IsContent (view_octets packet.now) (value_of result) }
-{
-    Repr::EchoReply {
-        ident: packet.echo_ident(),
-        seq_no: packet.echo_seq_no(),
-        data: packet.payload(),
-    }
-}
-
-// The message of multicast listener discovery in octets of code 0.
-fn read_listener<'a>(packet: &Packet<&'a [u8]>) -> Result<Repr<'a>>
-    requires kind { is_mld (message_in (view_octets packet.now)) ≡ true }
-    requires code { byte_of code_field (view_octets packet.now) ≡ 0 }
-    ensures sound { IfOk result (λ repr. IsContent (view_octets packet.now) (value_of repr)) }
-    ensures reads { (value : MessageValue) → IsContent (view_octets packet.now) value
-        → IsOk result }
-{
-    match mld::Repr::parse(packet) {
-        Ok(message) => Ok(Repr::Mld(message)),
-        Err(_) => Err(Error),
-    }
-}
-
-// The message of neighbor discovery in octets of such a type and of code 0.
-fn read_neighbor<'a>(packet: &Packet<&'a [u8]>) -> Result<Repr<'a>>
-    requires kind { is_ndisc (message_in (view_octets packet.now)) ≡ true }
-    requires code { byte_of code_field (view_octets packet.now) ≡ 0 }
-    ensures sound { IfOk result (λ repr. IsContent (view_octets packet.now) (value_of repr)) }
-    ensures reads { (value : MessageValue) → IsContent (view_octets packet.now) value
-        → IsOk result }
-{
-    match ndisc::Repr::parse(packet) {
-        Ok(message) => Ok(Repr::Ndisc(message)),
-        Err(_) => Err(Error),
     }
 }
 

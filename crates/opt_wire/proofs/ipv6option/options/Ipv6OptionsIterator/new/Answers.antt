@@ -1,5 +1,5 @@
 use Rattle.opt_wire.proofs.Ipv6OptionTiles.{tile_of, tile-unique, sum-tile}
-use Rattle.opt_wire.proofs.ipv6option.Ipv6OptionsIterator.new.Goals as goal
+use Rattle.opt_wire.proofs.ipv6option.options.Ipv6OptionsIterator.new.Goals as goal
 
 pub returns-clause-tile : goal.returns-clause-tile
 returns-clause-tile c = tile_of c.args.octets.now

@@ -1,6 +1,6 @@
 use Rattle.icmp6_wire.specs.Icmpv6Packet.{view_octets}
 use Rattle.icmp6_wire.proofs.Icmpv6Grammar.{no_neighbor}
-use Rattle.icmp6_wire.proofs.icmpv6.repr.read_neighbor.Goals as goal
+use Rattle.icmp6_wire.proofs.icmpv6.reading.read_neighbor.Goals as goal
 
 pub returns-in-Err-clause-reads : goal.returns-in-Err-clause-reads
 returns-in-Err-clause-reads c = λ value content.

@@ -4,9 +4,9 @@ use Rattle.std.proofs.lemmas.List.{take_rest}
 use Rattle.wirebase.proofs.Answers.{answer-progress}
 use Rattle.opt_wire.specs.Ipv6Option.{inner, value_of, BeginsWith}
 use Rattle.opt_wire.proofs.Ipv6OptionTiles.{next-option, next-refusal, next-end}
-use Rattle.opt_wire.proofs.ipv6option.Ipv6OptionsIteratorIterator.next.Goals.{then-self-via-then-self}
-use Rattle.opt_wire.proofs.ipv6option.Ipv6OptionsIteratorIterator.next.Goals.{then-self-via-else-self+then-is_empty}
-use Rattle.opt_wire.proofs.ipv6option.Ipv6OptionsIteratorIterator.next.Goals as goal
+use Rattle.opt_wire.proofs.ipv6option.options.Ipv6OptionsIteratorIterator.next.Goals.{then-self-via-then-self}
+use Rattle.opt_wire.proofs.ipv6option.options.Ipv6OptionsIteratorIterator.next.Goals.{then-self-via-else-self+then-is_empty}
+use Rattle.opt_wire.proofs.ipv6option.options.Ipv6OptionsIteratorIterator.next.Goals as goal
 
 pub returns-then-self-clause-steps : goal.returns-then-self-clause-steps
 returns-then-self-clause-steps c =
