@@ -1,9 +1,8 @@
 use super::{Header, Repr};
 use crate::ipv6option::RouterAlert;
-use crate::plain_reader::{DAMAGE, damaged};
+use crate::plain_reader::{DAMAGE, LONGEST, damaged};
 use crate::testing::{FILLERS, holds_of, same, same_of};
 use crate::{ipv6hbh, ipv6option};
-use std::alloc::Global;
 use std::process::Abort;
 use std::test::Fail;
 use wirebase::IpProtocol;
@@ -12,12 +11,14 @@ use wirebase::IpProtocol;
 const REPORT: &[u8] = &[0x3a, 0x00, 0x05, 0x02, 0x00, 0x00, 0x01, 0x00];
 
 #[test]
-fn a_header_in_front_of_a_router_alert(rt: HostRuntime) -> Result<(), Fail> {
-    let repr = Repr::parse(&Header::new_checked(REPORT)?)?;
-    same(&rt, repr.next_header, IpProtocol::Icmpv6);
-    same(&rt, repr.length, 0);
-    same(&rt, repr.data, &REPORT[2..]);
-    Ok(())
+fn a_header_in_front_of_a_router_alert(rt: HostRuntime) {
+    const HEADER: Repr<'static> = Repr {
+        next_header: IpProtocol::Icmpv6,
+        length: 0,
+        data: &[0x05, 0x02, 0x00, 0x00, 0x01, 0x00],
+    };
+    let read = Repr::parse(&Header::new_unchecked(REPORT));
+    same(&rt, read.ok(), Some(HEADER));
 }
 
 #[test]
@@ -70,20 +71,20 @@ fn compare(rt: &impl Abort, octets: &[u8]) {
 
 // Compares the crate with the plain reader over these octets, over each shorter part of them from their start on, and
 // over each copy of them in which one byte is damaged.
-fn compare_damaged(rt: &impl Abort, alloc: Global, packet: &[u8]) -> Result<(), Fail> {
+fn compare_damaged(rt: &impl Abort, packet: &[u8]) {
+    holds_of(rt, packet, packet.len() <= LONGEST);
     for len in 0..=packet.len() {
         compare(rt, &packet[..len]);
     }
     for at in 0..packet.len() {
         for &value in DAMAGE {
-            compare(rt, damaged(alloc, packet, at, value)?.as_slice());
+            compare(rt, &damaged(packet, at, value)[..packet.len()]);
         }
     }
-    Ok(())
 }
 
 #[test]
-fn damaged_headers(rt: HostRuntime) -> Result<(), Fail> {
+fn damaged_headers(rt: HostRuntime) {
     // A header of one unit, one of two, one of one unit with bytes behind it, and one that lacks two of its units.
     const ROWS: &[&[u8]] = &[
         &[0x3a, 0x00, 0x05, 0x02, 0x00, 0x00, 0x01, 0x00],
@@ -92,41 +93,34 @@ fn damaged_headers(rt: HostRuntime) -> Result<(), Fail> {
         &[0x06, 0x02, 0, 0, 0, 0, 0, 0],
     ];
     for &octets in ROWS {
-        compare_damaged(&rt, rt.alloc(), octets)?;
+        compare_damaged(&rt, octets);
     }
-    Ok(())
+}
+
+// Writes a header of TCP and length 1 over octets of any kind: over just two, and over three more, which stay.
+fn check_written(rt: &impl Abort, header: &Repr<'_>) {
+    for &fill in FILLERS {
+        let mut octets = [fill; 2];
+        header.emit(&mut Header::new_unchecked(octets.as_mut_slice()));
+        same_of(rt, fill, octets, [0x06, 0x01]);
+        let mut more = [fill; 5];
+        header.emit(&mut Header::new_unchecked(more.as_mut_slice()));
+        same_of(rt, fill, more, [0x06, 0x01, fill, fill, fill]);
+        let mut plain = [fill; 5];
+        header.emit_into(&mut plain);
+        same_of(rt, fill, plain, more);
+    }
 }
 
 #[test]
 fn a_header_is_written_by_its_first_two_bytes(rt: HostRuntime) {
-    let repr = Repr {
+    let header = Repr {
         next_header: IpProtocol::Tcp,
         length: 1,
         data: &[],
     };
-    same(&rt, repr.header_len(), 2);
-    for &fill in FILLERS {
-        let mut octets = [fill; 2];
-        repr.emit(&mut Header::new_unchecked(octets.as_mut_slice()));
-        same_of(&rt, fill, octets, [0x06, 0x01]);
-    }
-}
-
-#[test]
-fn octets_behind_a_header_stay(rt: HostRuntime) {
-    let repr = Repr {
-        next_header: IpProtocol::Tcp,
-        length: 1,
-        data: &[],
-    };
-    for &fill in FILLERS {
-        let mut octets = [fill; 5];
-        repr.emit(&mut Header::new_unchecked(octets.as_mut_slice()));
-        same_of(&rt, fill, octets, [0x06, 0x01, fill, fill, fill]);
-        let mut plain = [fill; 5];
-        repr.emit_into(&mut plain);
-        same_of(&rt, fill, plain, octets);
-    }
+    same(&rt, header.header_len(), 2);
+    check_written(&rt, &header);
 }
 
 #[test]

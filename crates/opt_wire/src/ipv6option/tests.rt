@@ -1,13 +1,11 @@
-ghost use Rattle.std.specs.Prelude.{◌≡◌, ◌<◌, ◌+◌, ◌^◌, length, true};
+ghost use Rattle.std.specs.Prelude.{◌≡◌, ◌≤◌, true};
 ghost use Rattle.opt_wire.specs.Ipv6Option.{value_of, HasData};
 
 use super::{FailureType, Ipv6Option, Ipv6OptionsIterator, Repr, RouterAlert, Type};
 use crate::plain_reader::compare_damaged;
 use crate::testing::{FILLERS, ascend, holds_of, same, same_of};
-use std::alloc::Global;
 use std::hash::{DefaultHasher, Hash, Hasher};
 use std::process::Abort;
-use std::test::Fail;
 use wirebase::Error;
 
 mod printing;
@@ -88,7 +86,7 @@ fn failure_types_of_options(rt: HostRuntime) {
 }
 
 #[test]
-fn order_of_types(rt: HostRuntime) {
+fn order_of_types_of_alerts_and_of_failures(rt: HostRuntime) {
     const TYPES: &[Type] = &[
         Type::Pad1,
         Type::PadN,
@@ -97,11 +95,6 @@ fn order_of_types(rt: HostRuntime) {
         Type::Unknown(0),
         Type::Unknown(7),
     ];
-    ascend(&rt, TYPES);
-}
-
-#[test]
-fn order_of_router_alerts(rt: HostRuntime) {
     const ALERTS: &[RouterAlert] = &[
         RouterAlert::MulticastListenerDiscovery,
         RouterAlert::Rsvp,
@@ -109,17 +102,14 @@ fn order_of_router_alerts(rt: HostRuntime) {
         RouterAlert::Unknown(0),
         RouterAlert::Unknown(7),
     ];
-    ascend(&rt, ALERTS);
-}
-
-#[test]
-fn order_of_failure_types(rt: HostRuntime) {
     const FAILURES: &[FailureType] = &[
         FailureType::Skip,
         FailureType::Discard,
         FailureType::DiscardSendAll,
         FailureType::DiscardSendUnicast,
     ];
+    ascend(&rt, TYPES);
+    ascend(&rt, ALERTS);
     ascend(&rt, FAILURES);
 }
 
@@ -179,13 +169,18 @@ fn data_stand_behind_their_length(rt: HostRuntime) {
 
 #[test]
 fn views_are_equal_as_their_octets(rt: HostRuntime) {
-    let here = [0x11, 0x01, 0xa1];
-    let there = [0x11, 0x01, 0xa1];
-    let other = [0x11, 0x01, 0xa2];
-    let view = Ipv6Option::new_unchecked(here.as_slice());
-    assert!(rt; view == Ipv6Option::new_unchecked(there.as_slice()));
-    assert!(rt; view != Ipv6Option::new_unchecked(other.as_slice()));
-    assert!(rt; view != Ipv6Option::new_unchecked(&here[..2]));
+    const HERE: &[u8] = &[0x11, 0x01, 0xa1];
+    const ROWS: &[(&[u8], bool)] = &[
+        (&[0x11, 0x01, 0xa1], true),
+        (&[0x11, 0x01, 0xa2], false),
+        (&[0x11, 0x01], false),
+    ];
+    let view = Ipv6Option::new_unchecked(HERE);
+    for &(octets, is_equal) in ROWS {
+        let other = Ipv6Option::new_unchecked(octets);
+        same_of(&rt, octets, view == other, is_equal);
+        same_of(&rt, octets, view != other, !is_equal);
+    }
 }
 
 #[test]
@@ -194,8 +189,9 @@ fn views_for_writing_are_equal_as_their_octets(rt: HostRuntime) {
     let mut there = [0x11, 0x01, 0xa1];
     let mut other = [0x11, 0x01, 0xa2];
     let view = Ipv6Option::new_unchecked(here.as_mut_slice());
-    assert!(rt; view == Ipv6Option::new_unchecked(there.as_mut_slice()));
-    assert!(rt; view != Ipv6Option::new_unchecked(other.as_mut_slice()));
+    let there = Ipv6Option::new_unchecked(there.as_mut_slice());
+    let other = Ipv6Option::new_unchecked(other.as_mut_slice());
+    same(&rt, [view == there, view != other], [true, true]);
 }
 
 // tests/refused has each of these with its one line in the wrong place: the data used after its buffer is gone, and the
@@ -220,50 +216,52 @@ fn buffer_is_read_after_its_view(rt: HostRuntime) {
 }
 
 #[test]
-fn options_in_turn(rt: HostRuntime) -> Result<(), Fail> {
+fn options_in_turn(rt: HostRuntime) {
     // The last counts 8 bytes of data where none stand.
-    let octets = [
+    const OCTETS: &[u8] = &[
         0x00, 0x01, 0x01, 0x00, 0x01, 0x02, 0x00, 0x00, 0x01, 0x00, 0x00, 0x11, 0x00, 0x05, 0x02,
         0x00, 0x01, 0x01, 0x08, 0x00,
     ];
-    const OPTIONS: &[Repr<'static>] = &[
-        Repr::Pad1,
-        Repr::PadN(1),
-        Repr::PadN(2),
-        Repr::PadN(0),
-        Repr::Pad1,
-        Repr::Unknown {
+    const ANSWERS: &[Option<wirebase::Result<Repr<'static>>>] = &[
+        Some(Ok(Repr::Pad1)),
+        Some(Ok(Repr::PadN(1))),
+        Some(Ok(Repr::PadN(2))),
+        Some(Ok(Repr::PadN(0))),
+        Some(Ok(Repr::Pad1)),
+        Some(Ok(Repr::Unknown {
             type_: Type::Unknown(0x11),
             length: 0,
             data: &[],
-        },
-        Repr::RouterAlert(RouterAlert::Rsvp),
+        })),
+        Some(Ok(Repr::RouterAlert(RouterAlert::Rsvp))),
+        Some(Err(Error)),
+        None,
+        None,
     ];
-    let mut options = Ipv6OptionsIterator::new(&octets);
-    for &option in OPTIONS {
-        same(&rt, options.next(), Some(Ok(option)));
+    let mut options = Ipv6OptionsIterator::new(OCTETS);
+    for answer in ANSWERS {
+        same(&rt, &options.next(), answer);
     }
-    same(&rt, options.next(), Some(Err(Error)));
-    same(&rt, options.next(), None);
-    same(&rt, options.next(), None);
-    compare_damaged(&rt, rt.alloc(), &octets)
+    compare_damaged(&rt, OCTETS);
+}
+
+// Compares what reading these octets gives.
+fn check_read(rt: &impl Abort, octets: &[u8], answer: wirebase::Result<Repr<'_>>) {
+    let read = Repr::parse(&Ipv6Option::new_unchecked(octets));
+    same_of(rt, octets, read, answer);
 }
 
 #[test]
-fn longest_padding(rt: HostRuntime) -> Result<(), Fail> {
+fn longest_padding(rt: HostRuntime) {
     let mut octets = [0x00; 257];
-    octets[0] = 0x01;
-    octets[1] = 0xff;
-    let whole = octets.as_slice();
-    for (octets, answer) in [(whole, Ok(Repr::PadN(255))), (&whole[..256], Err(Error))] {
-        let view = Ipv6Option::new_unchecked(octets);
-        same_of(&rt, octets.len(), Repr::parse(&view), answer);
-    }
-    compare_damaged(&rt, rt.alloc(), whole)
+    octets[..2].copy_from_slice(&[0x01, 0xff]);
+    check_read(&rt, &octets, Ok(Repr::PadN(255)));
+    check_read(&rt, &octets[..256], Err(Error));
+    compare_damaged(&rt, &octets);
 }
 
 #[test]
-fn options_refused(rt: HostRuntime) -> Result<(), Fail> {
+fn options_refused(rt: HostRuntime) {
     const ROWS: &[&[u8]] = &[
         &[],
         &[0x01],
@@ -275,11 +273,9 @@ fn options_refused(rt: HostRuntime) -> Result<(), Fail> {
         &[0x11, 0x01],
     ];
     for &octets in ROWS {
-        let view = Ipv6Option::new_unchecked(octets);
-        same_of(&rt, octets, Repr::parse(&view), Err(Error));
-        compare_damaged(&rt, rt.alloc(), octets)?;
+        check_read(&rt, octets, Err(Error));
+        compare_damaged(&rt, octets);
     }
-    Ok(())
 }
 
 // Whether the option holds as much data as it counts.
@@ -292,49 +288,44 @@ fn holds_its_data(option: &Repr<'_>) -> bool
     }
 }
 
-// What writing an option over so many octets of this kind leaves.
-fn written(
-    rt: &impl Abort,
-    alloc: Global,
-    option: Repr<'_>,
-    fill: u8,
-    len: usize,
-) -> Result<Vec<u8>, Fail> {
-    let mut octets = vec![in alloc; fill; len]?;
-    let mut plain = vec![in alloc; fill; len]?;
-    assert!(rt; holds_its_data(&option) && option.buffer_len() <= len);
-    option.emit(&mut Ipv6Option::new_unchecked(octets.as_mut_slice()));
-    option.emit_into(plain.as_mut_slice());
-    same_of(rt, option, octets.as_slice(), plain.as_slice());
-    Ok(octets)
+// What writing an option over so many of eight octets of this kind leaves.
+fn written(rt: &impl Abort, option: &Repr<'_>, fill: u8, len: usize) -> [u8; 8]
+    requires { len ≤ 8 }
+{
+    holds_of(
+        rt,
+        option,
+        holds_its_data(option) && option.buffer_len() <= len,
+    );
+    let mut octets = [fill; 8];
+    option.emit(&mut Ipv6Option::new_unchecked(&mut octets[..len]));
+    let mut plain = [fill; 8];
+    option.emit_into(&mut plain[..len]);
+    same_of(rt, option, plain, octets);
+    octets
 }
 
-// Writes an option over so many octets of this kind as its text has, and some more, and reads it again.
+// Writes an option over so many octets of this kind, and reads it again.
 fn check_written(
     rt: &impl Abort,
-    alloc: Global,
-    option: Repr<'_>,
+    option: &Repr<'_>,
     text: &[u8],
-    read: Repr<'_>,
+    again: &Repr<'_>,
     fill: u8,
-    more: usize,
-) -> Result<(), Fail>
-    requires { length text.now + more < 2 ^ 64 }
-{
+    len: usize,
+) {
+    holds_of(rt, option, text.len() <= len && len <= 8);
     same_of(rt, option, option.buffer_len(), text.len());
-    let octets = written(rt, alloc, option, fill, text.len() + more)?;
-    let view = Ipv6Option::new_unchecked(octets.as_slice());
-    same_of(rt, fill, Repr::parse(&view), Ok(read));
-    holds_of(rt, option, octets.as_slice().starts_with(text));
-    let mut left = octets.as_slice().iter().skip(text.len());
-    holds_of(rt, option, left.all(|octet| *octet == fill));
-    Ok(())
+    let octets = written(rt, option, fill, len);
+    same_of(rt, fill, &octets[..text.len()], text);
+    same_of(rt, option, &octets[text.len()..], &[fill; 8][text.len()..]);
+    check_read(rt, &octets[..len], Ok(*again));
 }
 
 #[test]
-fn options_written_over_octets_of_any_kind(rt: HostRuntime) -> Result<(), Fail> {
+fn options_written_over_octets_of_any_kind(rt: HostRuntime) {
     const ALERT: Repr<'static> = Repr::RouterAlert(RouterAlert::Unknown(0xbeef));
-    // An option, its text, and what is read back: data past the length is not written.
+    // An option, its text, and what is read again: data past the length is not written.
     const ROWS: &[(Repr<'static>, &[u8], Repr<'static>)] = &[
         (Repr::Pad1, &[0x00], Repr::Pad1),
         (
@@ -357,14 +348,13 @@ fn options_written_over_octets_of_any_kind(rt: HostRuntime) -> Result<(), Fail> 
             },
         ),
     ];
-    for &(option, text, read) in ROWS {
+    for (option, text, again) in ROWS {
         for &fill in FILLERS {
-            check_written(&rt, rt.alloc(), option, text, read, fill, 0)?;
-            check_written(&rt, rt.alloc(), option, text, read, fill, 3)?;
+            check_written(&rt, option, text, again, fill, text.len());
+            check_written(&rt, option, text, again, fill, text.len() + 3);
         }
-        compare_damaged(&rt, rt.alloc(), text)?;
+        compare_damaged(&rt, text);
     }
-    Ok(())
 }
 
 #[test]
@@ -375,20 +365,22 @@ fn the_default_option_is_a_pad1(rt: HostRuntime) {
 // The text of an option of four bytes.
 fn text_of(rt: &impl Abort, option: &Repr<'_>) -> [u8; 4] {
     let mut text = [0xff; 4];
-    assert!(rt; holds_its_data(option) && option.buffer_len() == 4);
+    holds_of(
+        rt,
+        option,
+        holds_its_data(option) && option.buffer_len() == 4,
+    );
     option.emit_into(text.as_mut_slice());
     text
 }
 
 #[test]
-fn padding_loses_what_it_is_filled_with_when_it_is_rewritten(rt: HostRuntime) -> Result<(), Fail> {
+fn padding_loses_what_it_is_filled_with_when_it_is_rewritten(rt: HostRuntime) {
     const ROWS: &[&[u8]] = &[&[0x01, 0x02, 0xaa, 0xbb], &[0x01, 0x02, 0x00, 0x00]];
     for &octets in ROWS {
-        let option = Repr::parse(&Ipv6Option::new_checked(octets)?)?;
-        same(&rt, option, Repr::PadN(2));
-        same(&rt, text_of(&rt, &option), [0x01, 0x02, 0x00, 0x00]);
+        check_read(&rt, octets, Ok(Repr::PadN(2)));
     }
-    Ok(())
+    same(&rt, text_of(&rt, &Repr::PadN(2)), [0x01, 0x02, 0x00, 0x00]);
 }
 
 #[test]

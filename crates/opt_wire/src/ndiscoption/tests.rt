@@ -1,12 +1,12 @@
-ghost use Rattle.std.specs.Prelude.{◌≤◌, ◌<◌, ◌^◌};
+ghost use Rattle.std.specs.Prelude.{◌≤◌, ◌<◌, ◌^◌, length};
 ghost use Rattle.opt_wire.specs.NdiscOptionRepr.{HasSeconds, CanEmit, value_of, text_len};
 ghost use Rattle.opt_wire.specs.declared.ndiscoption.repr.Repr.TheVariants as repr;
 
 use super::{NdiscOption, PrefixInfoFlags, PrefixInformation, RedirectedHeader, Repr};
 use crate::testing::{FILLERS, holds_of, prints, same, same_of};
 use bitflags::Flags as _;
+use std::alloc::Global;
 use std::process::Abort;
-use std::test::Fail;
 use wirebase::{Duration, Error, IpProtocol, Ipv6Address, Ipv6Repr, RawHardwareAddress};
 
 mod plain_reader;
@@ -78,6 +78,10 @@ fn read(bytes: &[u8]) -> Result<Repr<'_>, Error> {
     Repr::parse(&NdiscOption::new_unchecked(bytes))
 }
 
+fn is_read(bytes: &[u8]) -> bool {
+    read(bytes).is_ok()
+}
+
 fn ethernet() -> RawHardwareAddress {
     RawHardwareAddress::from_bytes(&[0x52, 0x54, 0x00, 0x12, 0x34, 0x56])
 }
@@ -104,7 +108,7 @@ fn unknown() -> Repr<'static>
 const LONG_SOURCE: [u8; 16] = [0x01, 0x02, 1, 2, 3, 4, 5, 6, 7, 0, 0, 0, 0, 0, 0, 0];
 
 #[test]
-fn damaged_options(rt: HostRuntime) -> Result<(), Fail> {
+fn damaged_options(rt: HostRuntime) {
     const ROWS: &[&[u8]] = &[
         SOURCE,
         TARGET,
@@ -115,9 +119,8 @@ fn damaged_options(rt: HostRuntime) -> Result<(), Fail> {
         &UNKNOWN,
     ];
     for &octets in ROWS {
-        compare_damaged(&rt, rt.alloc(), octets)?;
+        compare_damaged(&rt, octets);
     }
-    Ok(())
 }
 
 // Compares what is read in these bytes.
@@ -169,6 +172,7 @@ fn options_are_written_over_octets_of_any_kind(rt: HostRuntime) {
     check_written(&rt, &unknown(), &UNKNOWN);
 }
 
+// Writes a source's address over more octets than it takes, of any kind, of which the others stay.
 fn check_address_is_written(rt: &impl Abort, address: &[u8], bytes: &[u8]) {
     assert!(rt; address.len() <= 8);
     let repr = Repr::SourceLinkLayerAddr(RawHardwareAddress::from_bytes(address));
@@ -179,6 +183,14 @@ fn check_address_is_written(rt: &impl Abort, address: &[u8], bytes: &[u8]) {
         same_of(rt, filler, &buffer[..len], bytes);
         same_of(rt, filler, &buffer[len..], &[filler; 20][len..]);
     }
+}
+
+// Compares the source's address that is read in these bytes.
+fn check_address_is_read(rt: &impl Abort, bytes: &[u8], address: &[u8])
+    requires { length address.now ≤ 8 }
+{
+    let value = Repr::SourceLinkLayerAddr(RawHardwareAddress::from_bytes(address));
+    same(rt, &read(bytes), &Ok(value));
 }
 
 #[test]
@@ -204,55 +216,22 @@ fn addresses_of_other_lengths(rt: HostRuntime) {
     ];
     for &(address, bytes, again) in ROWS {
         check_address_is_written(&rt, address, bytes);
-        let value = Repr::SourceLinkLayerAddr(RawHardwareAddress::from_bytes(again));
-        same(&rt, &read(bytes), &Ok(value));
+        check_address_is_read(&rt, bytes, again);
     }
 }
 
 #[test]
-fn long_address_options_are_written_shorter(rt: HostRuntime) {
-    let mut bytes = [0xaa; 24];
-    bytes[0] = 0x01;
-    bytes[1] = 0x03;
-    let address = RawHardwareAddress::from_bytes(&[0xaa; 8]);
-    same(&rt, &read(&bytes), &Ok(Repr::SourceLinkLayerAddr(address)));
-    let text = [
+fn long_address_options_are_written_shorter_and_then_the_same(rt: HostRuntime) {
+    const LONG: &[u8] = &[
+        0x01, 0x03, 0xaa, 0xaa, 0xaa, 0xaa, 0xaa, 0xaa, 0xaa, 0xaa, 0xaa, 0xaa, 0xaa, 0xaa, 0xaa,
+        0xaa, 0xaa, 0xaa, 0xaa, 0xaa, 0xaa, 0xaa, 0xaa, 0xaa,
+    ];
+    const SHORTER: &[u8] = &[
         0x01, 0x02, 0xaa, 0xaa, 0xaa, 0xaa, 0xaa, 0xaa, 0xaa, 0xaa, 0, 0, 0, 0, 0, 0,
     ];
-    let mut octets = [0x2a; 16];
-    let repr = Repr::SourceLinkLayerAddr(address);
-    repr.emit_into(&mut octets);
-    same(&rt, octets.as_slice(), text.as_slice());
-}
-
-// The option that a source's address is written as when it was read in these bytes.
-fn rewritten(rt: &impl Abort, bytes: &[u8]) -> [u8; 16] {
-    let mut octets = [0x2a; 16];
-    let Ok(repr) = read(bytes) else {
-        holds_of(rt, bytes, false);
-        return octets;
-    };
-    let Repr::SourceLinkLayerAddr(address) = &repr else {
-        holds_of(rt, bytes, false);
-        return octets;
-    };
-    holds_of(rt, bytes, address.len() <= 8);
-    same_of(rt, bytes, repr.buffer_len(), 16);
-    repr.emit_into(&mut octets);
-    octets
-}
-
-#[test]
-fn long_address_options_are_written_the_same_again(rt: HostRuntime) {
-    let mut bytes = [0xaa; 24];
-    bytes[0] = 0x01;
-    bytes[1] = 0x03;
-    let text = [
-        0x01, 0x02, 0xaa, 0xaa, 0xaa, 0xaa, 0xaa, 0xaa, 0xaa, 0xaa, 0, 0, 0, 0, 0, 0,
-    ];
-    let once = rewritten(&rt, &bytes);
-    same(&rt, once, text);
-    same(&rt, rewritten(&rt, &once), text);
+    check_address_is_read(&rt, LONG, &[0xaa; 8]);
+    check_address_is_written(&rt, &[0xaa; 8], SHORTER);
+    check_address_is_read(&rt, SHORTER, &[0xaa; 8]);
 }
 
 // Compares whether an option of so many units is whole, and whether it is read.
@@ -266,10 +245,10 @@ fn check_units(rt: &impl Abort, kind: u8, units: usize, whole: bool, reads: bool
     same_of(rt, (kind, units), view.check_len().is_ok(), whole);
     let checked = NdiscOption::new_checked(&bytes[..]);
     same_of(rt, (kind, units), checked.is_ok(), whole && units > 0);
-    same_of(rt, (kind, units), read(&bytes).is_ok(), reads);
+    same_of(rt, (kind, units), is_read(&bytes), reads);
     // All units but for a byte.
     if units > 1 {
-        holds_of(rt, (kind, units), read(&bytes[..8 * units - 1]).is_err());
+        holds_of(rt, (kind, units), !is_read(&bytes[..8 * units - 1]));
     }
 }
 
@@ -302,7 +281,7 @@ fn options_of_each_type_and_number_of_units(rt: HostRuntime) {
         for units in 0..7 {
             check_units(&rt, kind, units, whole[units], reads[units]);
         }
-        holds_of(&rt, kind, read(&[kind, 1, 0, 0, 0, 0, 0]).is_err());
+        holds_of(&rt, kind, !is_read(&[kind, 1, 0, 0, 0, 0, 0]));
     }
 }
 
@@ -331,7 +310,7 @@ fn redirected_packets_that_are_not_whole(rt: HostRuntime) {
     for &(at, value, reads) in ROWS {
         let mut bytes = REDIRECTED;
         bytes[at] = value;
-        same_of(&rt, (at, value), read(&bytes).is_ok(), reads);
+        same_of(&rt, (at, value), is_read(&bytes), reads);
     }
 }
 
@@ -346,80 +325,69 @@ fn flags_without_a_name_are_not_read(rt: HostRuntime) {
     );
 }
 
-#[test]
-fn prefixes_that_addresses_are_made_of(rt: HostRuntime) {
-    let global = Ipv6Address::new(0x2001, 0x0db8, 0, 0, 0, 0, 0, 0);
-    // The flags, the prefix, the seconds that it is valid and preferred, and whether addresses are made of it.
-    let rows = [
-        (PrefixInfoFlags::ADDRCONF, global, 900, 900, true),
-        (
-            PrefixInfoFlags::ON_LINK | PrefixInfoFlags::ADDRCONF,
-            global,
-            900,
-            0,
-            true,
-        ),
-        (PrefixInfoFlags::ON_LINK, global, 900, 900, false),
-        (PrefixInfoFlags::ADDRCONF, here(), 900, 900, false),
-        (PrefixInfoFlags::ADDRCONF, global, 900, 901, false),
-    ];
-    for (flags, prefix, valid, preferred, is_valid) in rows {
-        let info = PrefixInformation {
-            prefix_len: 64,
-            flags,
-            valid_lifetime: Duration::from_secs(valid),
-            preferred_lifetime: Duration::from_secs(preferred),
-            prefix,
-        };
-        same_of(
-            &rt,
-            (valid, preferred),
-            info.is_valid_prefix_info(),
-            is_valid,
-        );
-    }
-    assert!(rt; !prefix_information().is_valid_prefix_info());
+// Whether addresses are made of a prefix of these flags and octets, valid and preferred for so many seconds.
+fn makes_addresses(flags: u8, prefix: [u8; 16], valid: u32, preferred: u32) -> bool {
+    let info = PrefixInformation {
+        prefix_len: 64,
+        flags: PrefixInfoFlags::from_bits_retain(flags),
+        valid_lifetime: Duration::from_secs(valid as u64),
+        preferred_lifetime: Duration::from_secs(preferred as u64),
+        prefix: Ipv6Address::from_octets(prefix),
+    };
+    info.is_valid_prefix_info()
 }
 
 #[test]
-fn options_in_words(rt: HostRuntime) -> Result<(), Fail> {
-    prints(
-        &rt,
-        rt.alloc(),
-        Repr::SourceLinkLayerAddr(ethernet()),
-        "NDISC Option: SourceLinkLayer addr=52:54:00:12:34:56",
-    )?;
-    prints(
-        &rt,
-        rt.alloc(),
-        Repr::TargetLinkLayerAddr(ethernet()),
-        "NDISC Option: TargetLinkLayer addr=52:54:00:12:34:56",
-    )?;
-    prints(
-        &rt,
-        rt.alloc(),
-        Repr::PrefixInformation(prefix_information()),
-        "NDISC Option: PrefixInformation prefix=fe80::1/64",
-    )?;
-    prints(
-        &rt,
-        rt.alloc(),
-        Repr::RedirectedHeader(redirected_header()),
-        "NDISC Option: RedirectedHeader header=IPv6 src=fe80::1 dst=fe80::2 nxt_hdr=17 hop_limit=64",
-    )?;
-    prints(
-        &rt,
-        rt.alloc(),
-        Repr::Mtu(1_500),
-        "NDISC Option: MTU mtu=1500",
-    )?;
-    prints(
-        &rt,
-        rt.alloc(),
-        unknown(),
-        "NDISC Option: Unknown(14) length=1",
-    )?;
-    Ok(())
+fn prefixes_that_addresses_are_made_of(rt: HostRuntime) {
+    const GLOBAL: [u8; 16] = [0x20, 0x01, 0x0d, 0xb8, 0, 0, 0, 0, 0, 0, 0, 0, 0, 0, 0, 0];
+    const HERE: [u8; 16] = [0xfe, 0x80, 0, 0, 0, 0, 0, 0, 0, 0, 0, 0, 0, 0, 0, 1];
+    // The flags, of which 0x40 is asked, the prefix, the seconds that it is valid and preferred, and whether addresses
+    // are made of it.
+    const ROWS: &[(u8, [u8; 16], u32, u32, bool)] = &[
+        (0x40, GLOBAL, 900, 900, true),
+        (0xc0, GLOBAL, 900, 0, true),
+        (0x80, GLOBAL, 900, 900, false),
+        (0x40, HERE, 900, 900, false),
+        (0x40, GLOBAL, 900, 901, false),
+        (0xc0, HERE, 900, 1_000, false),
+    ];
+    for &(flags, prefix, valid, preferred, is_valid) in ROWS {
+        let made = makes_addresses(flags, prefix, valid, preferred);
+        same_of(&rt, (flags, preferred), made, is_valid);
+    }
+}
+
+// Compares what the option that is read in these bytes prints.
+fn check_printed(rt: &impl Abort, alloc: Global, bytes: &[u8], text: &str) {
+    let Ok(option) = read(bytes) else {
+        holds_of(rt, bytes, false);
+        return;
+    };
+    prints(rt, alloc, &option, text);
+}
+
+#[test]
+fn options_in_words(rt: HostRuntime) {
+    const ROWS: &[(&[u8], &str)] = &[
+        (
+            SOURCE,
+            "NDISC Option: SourceLinkLayer addr=52:54:00:12:34:56",
+        ),
+        (
+            TARGET,
+            "NDISC Option: TargetLinkLayer addr=52:54:00:12:34:56",
+        ),
+        (&PREFIX, "NDISC Option: PrefixInformation prefix=fe80::1/64"),
+        (
+            &REDIRECTED,
+            "NDISC Option: RedirectedHeader header=IPv6 src=fe80::1 dst=fe80::2 nxt_hdr=17 hop_limit=64",
+        ),
+        (&MTU, "NDISC Option: MTU mtu=1500"),
+        (&UNKNOWN, "NDISC Option: Unknown(14) length=1"),
+    ];
+    for &(bytes, text) in ROWS {
+        check_printed(&rt, rt.alloc(), bytes, text);
+    }
 }
 
 #[test]

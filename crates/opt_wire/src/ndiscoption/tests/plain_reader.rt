@@ -3,12 +3,10 @@
 // more is its first 8 bytes, and a redirected packet is whole. The tests compare the crate with it.
 
 use crate::ndiscoption::{NdiscOption, PrefixInfoFlags, PrefixInformation, RedirectedHeader, Repr};
-use crate::plain_reader::{DAMAGE, damaged};
+use crate::plain_reader::{DAMAGE, LONGEST, damaged};
 use crate::testing::{holds_of, same_of};
 use bitflags::Flags as _;
-use std::alloc::Global;
 use std::process::Abort;
-use std::test::Fail;
 use wirebase::{Duration, IpProtocol, Ipv6Address, Ipv6Repr, RawHardwareAddress};
 
 // The octets of the option at the front, where they are all there. A prefix has 4 units or more, a redirected header 6.
@@ -29,11 +27,15 @@ fn front(octets: &[u8]) -> Option<&[u8]> {
 
 // The option at the front, where it can be read.
 fn option(octets: &[u8]) -> Option<Repr<'_>> {
-    let whole = front(octets)?;
-    let [kind, units, data @ ..] = whole else {
+    let [kind, units, data @ ..] = front(octets)? else {
         return None;
     };
-    match (*kind, *units) {
+    option_of(*kind, *units, data)
+}
+
+// The option of this type, of its units and its data.
+fn option_of(kind: u8, units: u8, data: &[u8]) -> Option<Repr<'_>> {
+    match (kind, units) {
         (1, _) => Some(Repr::SourceLinkLayerAddr(link_address(data)?)),
         (2, _) => Some(Repr::TargetLinkLayerAddr(link_address(data)?)),
         (3, 4) => prefix(data),
@@ -110,16 +112,16 @@ fn address_at(octets: &[u8], at: usize) -> Option<Ipv6Address> {
 
 // Compares the crate with the plain reader over these octets, over each shorter part of them from their start on, and
 // over each copy of them in which one byte is damaged.
-pub(super) fn compare_damaged(rt: &impl Abort, alloc: Global, packet: &[u8]) -> Result<(), Fail> {
+pub(super) fn compare_damaged(rt: &impl Abort, packet: &[u8]) {
+    holds_of(rt, packet, packet.len() <= LONGEST);
     for len in 0..=packet.len() {
         compare(rt, &packet[..len]);
     }
     for at in 0..packet.len() {
         for &value in DAMAGE {
-            compare(rt, damaged(alloc, packet, at, value)?.as_slice());
+            compare(rt, &damaged(packet, at, value)[..packet.len()]);
         }
     }
-    Ok(())
 }
 
 // Compares what is taken for an option, and what is read in it.

@@ -2,7 +2,6 @@ use super::{MTU, PREFIX, here};
 use crate::ndiscoption::{NdiscOption, PrefixInfoFlags, Type};
 use crate::testing::{prints, same, takes_writes};
 use bitflags::Flags as _;
-use std::test::Fail;
 use wirebase::{Duration, RawHardwareAddress};
 
 #[test]
@@ -24,11 +23,14 @@ fn fields_of_a_prefix_are_written(rt: HostRuntime) {
 fn fields_of_a_prefix_are_read(rt: HostRuntime) {
     let view = NdiscOption::new_unchecked(PREFIX.as_slice());
     same(&rt, view.option_type(), Type::PrefixInformation);
-    same(&rt, view.data_len(), 4);
-    same(&rt, view.prefix_len(), 64);
+    same(&rt, [view.data_len(), view.prefix_len()], [4, 64]);
     same(&rt, view.prefix_flags(), PrefixInfoFlags::all());
-    same(&rt, view.valid_lifetime(), Duration::from_secs(900));
-    same(&rt, view.preferred_lifetime(), Duration::from_secs(1_000));
+    let times = [view.valid_lifetime(), view.preferred_lifetime()];
+    same(
+        &rt,
+        times,
+        [Duration::from_secs(900), Duration::from_secs(1_000)],
+    );
     same(&rt, view.prefix(), here());
 }
 
@@ -75,7 +77,7 @@ fn data_is_lent_for_writing(rt: HostRuntime) {
 }
 
 #[test]
-fn views_in_words(rt: HostRuntime) -> Result<(), Fail> {
+fn views_in_words(rt: HostRuntime) {
     const ROWS: &[(&[u8], &str)] = &[
         (
             &[0x05, 0x01, 0, 0, 0, 0, 0x05, 0xdc],
@@ -89,10 +91,8 @@ fn views_in_words(rt: HostRuntime) -> Result<(), Fail> {
         (&[], "NDISC Option (wire::Error)"),
     ];
     for &(bytes, text) in ROWS {
-        let view = NdiscOption::new_unchecked(bytes);
-        prints(&rt, rt.alloc(), view, text)?;
+        prints(&rt, rt.alloc(), &NdiscOption::new_unchecked(bytes), text);
     }
-    Ok(())
 }
 
 #[test]
