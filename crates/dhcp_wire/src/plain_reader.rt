@@ -8,6 +8,7 @@ use crate::testing::{holds_of, same, same_of};
 use std::alloc::Global;
 use std::process::Abort;
 use std::test::Fail;
+use wirebase::Ipv4Address;
 
 // The bytes before the options.
 const HEADER_LEN: usize = 240;
@@ -33,7 +34,7 @@ fn option_of(kind: u8, octets: &[u8]) -> Option<(Option<DhcpOption<'_>>, &[u8])>
 }
 
 // The options up to the end.
-pub(crate) fn options_in(alloc: Global, octets: &[u8]) -> Result<Vec<DhcpOption<'_>>, Fail> {
+fn options_in(alloc: Global, octets: &[u8]) -> Result<Vec<DhcpOption<'_>>, Fail> {
     let mut options = Vec::new(alloc);
     let mut rest = octets;
     for _ in 0..octets.len() {
@@ -100,9 +101,12 @@ fn message_type_in(options: &[DhcpOption<'_>], operation: u8) -> Option<u8> {
 
 // Whether a client identifier of 7 bytes is of another hardware than Ethernet.
 fn has_other_hardware(options: &[DhcpOption<'_>]) -> bool {
-    options.iter().any(|option| {
-        option.kind == 61 && option.data.len() == 7 && option.data.first() != Some(&1)
-    })
+    for option in options {
+        if is_of_len(option, 61, 7) && !option.data.starts_with(&[1]) {
+            return true;
+        }
+    }
+    false
 }
 
 // Whether the octets begin with the header of a packet of DHCP over Ethernet.
@@ -119,12 +123,52 @@ fn type_of_packet(octets: &[u8], options: &[DhcpOption<'_>]) -> Option<u8> {
     message_type_in(options, *octets.first()?)
 }
 
-// Whether what the value holds is this data.
-fn is_data<const N: usize>(held: Option<[u8; N]>, data: Option<&[u8]>) -> bool {
-    match (held, data) {
-        (Some(held), Some(data)) => &held[..] == data,
-        (None, None) => true,
-        _ => false,
+// The address in the last client identifier of 7 bytes.
+fn client_address_in<'a>(options: &[DhcpOption<'a>]) -> Option<&'a [u8]> {
+    last_of_len(options, 61, 7)?.get(1..)
+}
+
+// How many whole addresses the last list of servers has, of which a value keeps the first.
+fn server_count_in(options: &[DhcpOption<'_>]) -> Option<u64> {
+    let whole = last(options, 6)?.len() / 4;
+    Some(whole.min(MAX_DNS_SERVER_COUNT) as u64)
+}
+
+// The number that these bytes are, the highest first.
+fn number_in(data: Option<&[u8]>) -> Option<u64> {
+    let mut number = 0;
+    for byte in data? {
+        number = (number << 8) | *byte as u64;
+    }
+    Some(number)
+}
+
+// An address as a number.
+fn number_of(address: Option<Ipv4Address>) -> Option<u64> {
+    number_in(Some(&address?.octets()))
+}
+
+// A time as a number.
+fn seconds_of(seconds: Option<u32>) -> Option<u64> {
+    Some(seconds? as u64)
+}
+
+// What the value holds of the options of this kind: a number, and of a list how many entries it has.
+pub(crate) fn held(read: &Repr<'_>, kind: u8) -> Option<u64> {
+    match kind {
+        1 => number_of(read.subnet_mask),
+        3 => number_of(read.router),
+        6 => Some(read.dns_servers.as_ref()?.len() as u64),
+        50 => number_of(read.requested_ip),
+        51 => seconds_of(read.lease_duration),
+        53 => Some(u8::from(read.message_type) as u64),
+        54 => number_of(read.server_identifier),
+        55 => Some(read.parameter_request_list?.len() as u64),
+        57 => Some(read.max_size? as u64),
+        58 => seconds_of(read.renew_duration),
+        59 => seconds_of(read.rebind_duration),
+        61 => number_in(Some(&read.client_identifier?.0)),
+        _ => None,
     }
 }
 
@@ -165,7 +209,7 @@ fn compare(rt: &impl Abort, alloc: Global, octets: &[u8]) -> Result<(), Fail> {
 }
 
 // Compares the iterator of a view with these options of the plain reader.
-fn compare_view(rt: &impl Abort, octets: &[u8], plain: &[DhcpOption<'_>]) {
+pub(crate) fn compare_view(rt: &impl Abort, octets: &[u8], plain: &[DhcpOption<'_>]) {
     match Packet::new_checked(octets) {
         Ok(packet) => compare_options(rt, packet.options(), plain),
         Err(_) => holds_of(rt, octets, octets.len() < HEADER_LEN),
@@ -194,47 +238,25 @@ fn compare_options(rt: &impl Abort, options: OptionsIter<'_>, plain: &[DhcpOptio
     holds_of(rt, plain, options.next().is_none());
 }
 
+// The kinds of option that hold an address, a time or a size, and the length of their data.
+const NUMBERS: [(u8, usize); 8] = [
+    (1, 4),
+    (3, 4),
+    (50, 4),
+    (51, 4),
+    (54, 4),
+    (57, 2),
+    (58, 4),
+    (59, 4),
+];
+
 // Compares what a value holds of the options with the last ones of the plain reader.
 fn compare_fields(rt: &impl Abort, read: &Repr<'_>, plain: &[DhcpOption<'_>]) {
-    compare_addresses(rt, read, plain);
-    compare_numbers(rt, read, plain);
-    compare_lists(rt, read, plain);
-}
-
-// Compares the addresses, those of Internet and that of Ethernet.
-fn compare_addresses(rt: &impl Abort, read: &Repr<'_>, plain: &[DhcpOption<'_>]) {
-    for (address, kind) in [
-        (read.subnet_mask, 1),
-        (read.router, 3),
-        (read.requested_ip, 50),
-        (read.server_identifier, 54),
-    ] {
-        let octets = address.map(|address| address.octets());
-        holds_of(rt, kind, is_data(octets, last_of_len(plain, kind, 4)));
+    for (kind, len) in NUMBERS {
+        let number = number_in(last_of_len(plain, kind, len));
+        same_of(rt, kind, held(read, kind), number);
     }
-    let address = read.client_identifier.map(|address| address.0);
-    let identifier = last_of_len(plain, 61, 7).and_then(|data| data.get(1..));
-    holds_of(rt, 61, is_data(address, identifier));
-}
-
-// Compares the times and the greatest size.
-fn compare_numbers(rt: &impl Abort, read: &Repr<'_>, plain: &[DhcpOption<'_>]) {
-    for (seconds, kind) in [
-        (read.lease_duration, 51),
-        (read.renew_duration, 58),
-        (read.rebind_duration, 59),
-    ] {
-        let octets = seconds.map(|seconds| seconds.to_be_bytes());
-        holds_of(rt, kind, is_data(octets, last_of_len(plain, kind, 4)));
-    }
-    let size = read.max_size.map(|size| size.to_be_bytes());
-    holds_of(rt, 57, is_data(size, last_of_len(plain, 57, 2)));
-}
-
-// Compares the list of kinds, and how many servers there are.
-fn compare_lists(rt: &impl Abort, read: &Repr<'_>, plain: &[DhcpOption<'_>]) {
+    same_of(rt, 61, held(read, 61), number_in(client_address_in(plain)));
+    same_of(rt, 6, held(read, 6), server_count_in(plain));
     same(rt, read.parameter_request_list, last(plain, 55));
-    let servers = read.dns_servers.as_ref().map(|servers| servers.len());
-    let whole = last(plain, 6).map(|data| (data.len() / 4).min(MAX_DNS_SERVER_COUNT));
-    same(rt, servers, whole);
 }

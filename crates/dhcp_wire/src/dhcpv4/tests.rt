@@ -6,8 +6,8 @@ use super::{
     OPT_HOST_NAME, OPT_PAD, OPT_REBINDING_TIME_VALUE, OPT_RENEWAL_TIME_VALUE, OpCode, Packet,
     SERVER_PORT,
 };
-use crate::plain_reader::compare_damaged;
-use crate::testing::{same, same_of};
+use crate::plain_reader::{compare_damaged, compare_view};
+use crate::testing::{holds_of, same, same_of};
 use bitflags::Flags as _;
 use std::alloc::Global;
 use std::process::Abort;
@@ -25,97 +25,93 @@ pub(super) fn packet(alloc: Global, op: u8, options: &[u8]) -> Result<Vec<u8>, F
 
 // A Discover, and behind a thousand bytes of padding a mask.
 pub(super) fn padded_discover(alloc: Global) -> Result<Vec<u8>, Fail> {
-    let mut octets = packet(alloc, 1, &[0x35, 1, 1])?;
-    octets.extend_from_slice(&[0; 1000])?;
-    octets.extend_from_slice(&[0x01, 4, 0xff, 0xff, 0xff, 0x00])?;
-    Ok(octets)
+    let parts: [&[u8]; 3] = [
+        &[0x35, 1, 1],
+        &[0; 1000],
+        &[0x01, 4, 0xff, 0xff, 0xff, 0x00],
+    ];
+    packet(alloc, 1, parts.concat(alloc)?.as_slice())
 }
 
-// Appends an option: its kind, its data and ee.
-fn put_option(listed: &mut Vec<u8>, option: DhcpOption<'_>) -> Result<(), Fail> {
-    listed.push(option.kind)?;
-    listed.extend_from_slice(option.data)?;
-    listed.push(0xee)?;
-    Ok(())
-}
+// The name of a host of one letter, one of none, and an option of another kind with two letters.
+const NAME: DhcpOption<'static> = DhcpOption {
+    kind: OPT_HOST_NAME,
+    data: b"a",
+};
 
-// The options of a packet: the kind, the data and ee of each.
-fn listed(alloc: Global, packet: &[u8]) -> Result<Vec<u8>, Fail> {
-    let mut listed = Vec::new(alloc);
-    let Ok(view) = Packet::new_checked(packet) else {
-        return Ok(listed);
-    };
-    for option in view.options() {
-        put_option(&mut listed, option)?;
-    }
-    Ok(listed)
-}
+const EMPTY_NAME: DhcpOption<'static> = DhcpOption {
+    kind: OPT_HOST_NAME,
+    data: b"",
+};
 
-// Compares the options of a packet.
-fn check_listed(rt: &impl Abort, alloc: Global, packet: &[u8], wanted: &[u8]) -> Result<(), Fail> {
-    let options = listed(alloc, packet)?;
-    same_of(rt, packet, options.as_slice(), wanted);
+const LETTERS: DhcpOption<'static> = DhcpOption {
+    kind: 13,
+    data: b"bc",
+};
+
+// The type of a Discover.
+const DISCOVER: DhcpOption<'static> = DhcpOption {
+    kind: OPT_DHCP_MESSAGE_TYPE,
+    data: &[1],
+};
+
+// Compares the options of a packet, behind which comes the end for good.
+fn check_options(
+    rt: &impl Abort,
+    alloc: Global,
+    packet: &[u8],
+    wanted: &[DhcpOption<'_>],
+) -> Result<(), Fail> {
+    compare_view(rt, packet, wanted);
     compare_damaged(rt, alloc, packet)
 }
 
 #[test]
-fn options_in_turn(rt: HostRuntime) -> Result<(), Fail> {
-    const ROWS: &[(&[u8], &[u8])] = &[
+fn options_in_turn_and_then_the_end_for_good(rt: HostRuntime) -> Result<(), Fail> {
+    const ROWS: &[(&[u8], &[DhcpOption<'static>])] = &[
         (&[], &[]),
         (&[0xff, 1, 0], &[]),
-        (&[0, 0, 12, 1, 0x61], &[12, 0x61, 0xee]),
+        (&[0, 0, 12, 1, 0x61], &[NAME]),
         (&[12], &[]),
         (&[12, 2, 0x61], &[]),
-        (&[12, 0, 0xff, 12, 0], &[12, 0xee]),
-        (
-            &[12, 1, 0x61, 0, 13, 2, 0x62, 0x63, 0xff],
-            &[12, 0x61, 0xee, 13, 0x62, 0x63, 0xee],
-        ),
-        (&[12, 1, 0x61, 13, 2, 0x62], &[12, 0x61, 0xee]),
+        (&[12, 0, 0xff, 12, 0], &[EMPTY_NAME]),
+        (&[12, 1, 0x61, 0, 13, 2, 0x62, 0x63, 0xff], &[NAME, LETTERS]),
+        (&[12, 1, 0x61, 13, 2, 0x62], &[NAME]),
         (&[0, 0xff], &[]),
     ];
     for &(bytes, wanted) in ROWS {
         let octets = packet(rt.alloc(), 1, bytes)?;
-        check_listed(&rt, rt.alloc(), octets.as_slice(), wanted)?;
+        check_options(&rt, rt.alloc(), octets.as_slice(), wanted)?;
     }
-    Ok(())
-}
-
-#[test]
-fn after_the_last_option_comes_the_end_for_good(rt: HostRuntime) -> Result<(), Fail> {
-    let octets = packet(rt.alloc(), 1, &[12, 0, 0xff, 12, 0])?;
-    let view = Packet::new_checked(octets.as_slice())?;
-    let mut options = view.options();
-    same(&rt, options.next().is_some(), true);
-    same(&rt, options.next().is_none(), true);
-    same(&rt, options.next().is_none(), true);
     Ok(())
 }
 
 #[test]
 fn a_thousand_bytes_of_padding_before_an_option(rt: HostRuntime) -> Result<(), Fail> {
+    const MASK: DhcpOption<'static> = DhcpOption {
+        kind: 1,
+        data: &[0xff, 0xff, 0xff, 0x00],
+    };
     let octets = padded_discover(rt.alloc())?;
-    let wanted = [53, 1, 0xee, 1, 0xff, 0xff, 0xff, 0, 0xee];
-    check_listed(&rt, rt.alloc(), octets.as_slice(), &wanted)
+    check_options(&rt, rt.alloc(), octets.as_slice(), &[DISCOVER, MASK])
+}
+
+// Compares both names of a packet of this byte, whose names begin with another one.
+fn check_names(rt: &impl Abort, first: u8, rest: u8, wanted: Option<&str>) {
+    let mut octets = [rest; 240];
+    octets[34] = first;
+    octets[108] = first;
+    let view = Packet::new_unchecked(&octets[..]);
+    same_of(rt, (first, rest), view.get_sname().ok(), wanted);
+    same_of(rt, (first, rest), view.get_boot_file().ok(), wanted);
 }
 
 #[test]
-fn names_before_the_first_zero(rt: HostRuntime) -> Result<(), Fail> {
-    const ROWS: &[(u8, u8, Option<&str>)] = &[
-        (0x00, 0x00, None),
-        (0x61, 0x61, None),
-        (0xff, 0x00, None),
-        (0x61, 0x00, Some("a")),
-    ];
-    for &(first, rest, wanted) in ROWS {
-        let mut octets = [rest; 240];
-        octets[34] = first;
-        octets[108] = first;
-        let view = Packet::new_checked(&octets[..])?;
-        same_of(&rt, (first, rest), view.get_sname().ok(), wanted);
-        same_of(&rt, (first, rest), view.get_boot_file().ok(), wanted);
-    }
-    Ok(())
+fn names_before_the_first_zero(rt: HostRuntime) {
+    check_names(&rt, 0x00, 0x00, None);
+    check_names(&rt, 0x61, 0x61, None);
+    check_names(&rt, 0xff, 0x00, None);
+    check_names(&rt, 0x61, 0x00, Some("a"));
 }
 
 // Writes an option of four bytes over these octets, and the end mark. Of an option and a mark behind it none is taken.
@@ -245,9 +241,9 @@ fn fields_of_a_packet(rt: HostRuntime) -> Result<(), Fail> {
     let read = Packet::new_checked(&octets[..])?;
     check_numbers(&rt, &read);
     check_addresses(&rt, &read);
-    assert!(rt; read == read);
+    same(&rt, read, read);
     same(&rt, read.into_inner().len(), 250);
-    assert!(rt; Packet::new_checked(&[0; 239][..]).is_err());
+    holds_of(&rt, 239, Packet::new_checked(&[0; 239][..]).is_err());
     Ok(())
 }
 
@@ -283,7 +279,11 @@ fn numbers_of_types_of_message(rt: HostRuntime) {
         same(&rt, MessageType::from(number), message);
         same(&rt, u8::from(message), number);
     }
-    assert!(rt; MessageType::Inform < MessageType::Unknown(0));
+    holds_of(
+        &rt,
+        "their order",
+        MessageType::Inform < MessageType::Unknown(0),
+    );
 }
 
 #[test]
@@ -309,16 +309,9 @@ fn options_written_into_a_view(rt: HostRuntime) {
     let mut octets = [0x2a; 245];
     let mut view = Packet::new_unchecked(&mut octets[..]);
     let mut options = view.options_mut();
-    let message_type = DhcpOption {
-        kind: OPT_DHCP_MESSAGE_TYPE,
-        data: &[1],
-    };
-    let answers = [
-        options.emit(message_type),
-        options.emit(message_type),
-        options.end(),
-    ];
-    same(&rt, answers, [Ok(()), Err(Error), Ok(())]);
+    same(&rt, options.emit(DISCOVER), Ok(()));
+    same(&rt, options.emit(DISCOVER), Err(Error));
+    same(&rt, options.end(), Ok(()));
     let mut wanted = [0x2a; 245];
     wanted[240..244].copy_from_slice(&[0x35, 1, 1, 0xff]);
     same(&rt, octets, wanted);

@@ -2,10 +2,12 @@ ghost use Rattle.std.specs.Prelude.{◌≡◌, [], None, length};
 
 use super::Repr;
 use crate::dhcpv4::tests::packet;
-use crate::dhcpv4::{DhcpOption, MAX_DNS_SERVER_COUNT, MessageType};
-use crate::testing::same;
+use crate::dhcpv4::{DhcpOption, MAX_DNS_SERVER_COUNT, MessageType, Packet};
+use crate::plain_reader::held;
+use crate::testing::{fail, same};
 use arrayvec::ArrayVec;
 use std::alloc::Global;
+use std::process::Abort;
 use std::test::Fail;
 use wirebase::{EthernetAddress, Ipv4Address};
 
@@ -72,17 +74,33 @@ fn discover_with(alloc: Global, options: &[u8]) -> Result<Vec<u8>, Fail> {
     Ok(octets)
 }
 
+// What a packet that is read holds of the options of this kind.
+fn held_in(packet: &[u8], kind: u8) -> Option<Option<u64>> {
+    match Repr::parse(&Packet::new_unchecked(packet)) {
+        Ok(read) => Some(held(&read, kind)),
+        Err(_) => None,
+    }
+}
+
+// Reads a packet, which is to say this.
+fn compare_read(rt: &impl Abort, packet: &[u8], repr: &Repr<'_>) {
+    match Repr::parse(&Packet::new_unchecked(packet)) {
+        Ok(read) => same(rt, &read, repr),
+        Err(_) => fail(rt, "the packet is read"),
+    }
+}
+
 // The servers 10.0.0.1 to 10.0.0.5.
 fn five_servers() -> ArrayVec<Ipv4Address, MAX_DNS_SERVER_COUNT>
     ensures { length result.items ≡ 5 }
 {
-    let mut servers = ArrayVec::new();
-    servers.push(Ipv4Address::new(10, 0, 0, 1));
-    servers.push(Ipv4Address::new(10, 0, 0, 2));
-    servers.push(Ipv4Address::new(10, 0, 0, 3));
-    servers.push(Ipv4Address::new(10, 0, 0, 4));
-    servers.push(Ipv4Address::new(10, 0, 0, 5));
-    servers
+    ArrayVec::from([
+        Ipv4Address::new(10, 0, 0, 1),
+        Ipv4Address::new(10, 0, 0, 2),
+        Ipv4Address::new(10, 0, 0, 3),
+        Ipv4Address::new(10, 0, 0, 4),
+        Ipv4Address::new(10, 0, 0, 5),
+    ])
 }
 
 #[test]

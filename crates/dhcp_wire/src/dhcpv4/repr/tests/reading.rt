@@ -1,4 +1,4 @@
-use super::discover_with;
+use super::{bare, compare_read, discover_with, held_in};
 use crate::dhcpv4::tests::{packet, padded_discover};
 use crate::dhcpv4::{MessageType, Packet, Repr};
 use crate::plain_reader::compare_damaged;
@@ -22,11 +22,10 @@ fn type_in(packet: &[u8]) -> Option<MessageType> {
     }
 }
 
-// The mask of a packet, where it is read and has one.
-fn mask_in(packet: &[u8]) -> Option<Ipv4Address> {
-    match Repr::parse(&Packet::new_unchecked(packet)) {
-        Ok(read) => read.subnet_mask,
-        Err(_) => None,
+// Compares what a packet that is read holds of some kinds of option.
+fn check_held(rt: &impl Abort, packet: &[u8], wanted: &[(u8, Option<u64>)]) {
+    for &(kind, number) in wanted {
+        same_of(rt, kind, held_in(packet, kind), Some(number));
     }
 }
 
@@ -90,39 +89,62 @@ fn packets_that_are_not_of_ethernet_or_of_dhcp(rt: HostRuntime) -> Result<(), Fa
 
 #[test]
 fn the_last_option_of_a_kind_and_of_its_length(rt: HostRuntime) -> Result<(), Fail> {
-    let octets = packet(
-        rt.alloc(),
-        1,
-        &[
-            0x35, 1, 1, 1, 4, 255, 255, 255, 0, 1, 4, 255, 255, 0, 0, 0xff,
-        ],
-    )?;
-    let mask = Ipv4Address::new(255, 255, 0, 0);
-    same(&rt, mask_in(octets.as_slice()), Some(mask));
-    compare_damaged(&rt, rt.alloc(), octets.as_slice())
-}
-
-#[test]
-fn the_last_option_of_a_kind_is_of_another_length_or_cut_off(rt: HostRuntime) -> Result<(), Fail> {
-    let octets = packet(
-        rt.alloc(),
-        1,
-        &[
-            0x35, 1, 1, 1, 4, 255, 255, 255, 0, 1, 3, 0, 0, 0, 0x36, 4, 10,
-        ],
-    )?;
-    let read = Repr::parse(&Packet::new_unchecked(octets.as_slice()));
-    let Ok(read) = read else {
-        fail(&rt, "the packet is read");
-        return Ok(());
-    };
-    same(
-        &rt,
-        read.subnet_mask,
-        Some(Ipv4Address::new(255, 255, 255, 0)),
-    );
-    same(&rt, read.server_identifier, None);
-    compare_damaged(&rt, rt.alloc(), octets.as_slice())
+    // An operation and options, and what the packet holds of some kinds.
+    const ROWS: &[(u8, &[u8], &[(u8, Option<u64>)])] = &[
+        (
+            1,
+            &[
+                0x35, 1, 1, 1, 4, 255, 255, 255, 0, 1, 4, 255, 255, 0, 0, 0xff,
+            ],
+            &[(1, Some(0xffff_0000))],
+        ),
+        // The last one is of another length, or cut off.
+        (
+            1,
+            &[
+                0x35, 1, 1, 1, 4, 255, 255, 255, 0, 1, 3, 0, 0, 0, 0x36, 4, 10,
+            ],
+            &[(1, Some(0xffff_ff00)), (54, None)],
+        ),
+        // Lists are present and empty.
+        (
+            1,
+            &[0x35, 1, 1, 6, 0, 0x37, 0, 0x3d, 2, 0, 1, 0xff],
+            &[(61, None), (55, Some(0)), (6, Some(0))],
+        ),
+        // Every option stands there twice, and then of another length.
+        (
+            2,
+            &[
+                0x35, 1, 2, 0x35, 1, 5, 0x35, 2, 2, 2, 0x3d, 7, 1, 2, 0, 0, 0, 0, 1, 0x3d, 7, 1, 2,
+                0, 0, 0, 0, 2, 0x3d, 6, 1, 2, 0, 0, 0, 0, 0x36, 4, 10, 0, 0, 1, 0x36, 4, 10, 0, 0,
+                2, 0x36, 5, 10, 0, 0, 3, 0, 3, 4, 10, 0, 0, 3, 3, 4, 10, 0, 0, 4, 3, 8, 10, 0, 0,
+                5, 10, 0, 0, 6, 1, 4, 255, 0, 0, 0, 1, 4, 255, 255, 0, 0, 1, 3, 0, 0, 0, 0x32, 4,
+                10, 0, 0, 7, 0x32, 4, 10, 0, 0, 8, 0x32, 0, 0x39, 2, 0, 1, 0x39, 2, 0, 2, 0x39, 3,
+                0, 0, 3, 0x33, 4, 0, 0, 0, 1, 0x33, 4, 0, 0, 0, 2, 0x33, 3, 0, 0, 3, 0x3a, 4, 0, 0,
+                0, 3, 0x3a, 4, 0, 0, 0, 4, 0x3a, 5, 0, 0, 0, 5, 0, 0x3b, 4, 0, 0, 0, 5, 0x3b, 4, 0,
+                0, 0, 6, 0x3b, 2, 0, 7, 0xff,
+            ],
+            &[
+                (53, Some(5)),
+                (54, Some(0x0a00_0002)),
+                (3, Some(0x0a00_0004)),
+                (1, Some(0xffff_0000)),
+                (50, Some(0x0a00_0008)),
+                (61, Some(0x0200_0000_0002)),
+                (57, Some(2)),
+                (51, Some(2)),
+                (58, Some(4)),
+                (59, Some(6)),
+            ],
+        ),
+    ];
+    for &(op, options, wanted) in ROWS {
+        let octets = packet(rt.alloc(), op, options)?;
+        check_held(&rt, octets.as_slice(), wanted);
+        compare_damaged(&rt, rt.alloc(), octets.as_slice())?;
+    }
+    Ok(())
 }
 
 // Compares the list of servers of a packet.
@@ -170,62 +192,25 @@ fn lists_of_servers(rt: HostRuntime) -> Result<(), Fail> {
     Ok(())
 }
 
-fn check_offered_fields(rt: &impl Abort, read: &Repr<'_>) {
-    same(rt, read.message_type, MessageType::Offer);
-    same(rt, read.transaction_id, 0x1200_0000);
-    same(rt, read.secs, 5);
-    same(rt, read.broadcast, true);
-    same(rt, read.client_ip, Ipv4Address::UNSPECIFIED);
-    same(rt, read.your_ip, Ipv4Address::new(0, 0, 0, 7));
-    same(rt, read.server_ip, Ipv4Address::UNSPECIFIED);
-    same(rt, read.relay_agent_ip, Ipv4Address::UNSPECIFIED);
-    same(
-        rt,
-        read.client_hardware_address,
-        EthernetAddress([2, 0, 0, 0, 0, 0]),
-    );
-}
-
-// Compares the addresses: of the server, of the router, of the mask, the one that is asked for, and the client's.
-fn check_addresses(
-    rt: &impl Abort,
-    read: &Repr<'_>,
-    wanted: [Option<Ipv4Address>; 4],
-    client: EthernetAddress,
-) {
-    let addresses = [
-        read.server_identifier,
-        read.router,
-        read.subnet_mask,
-        read.requested_ip,
-    ];
-    same(rt, addresses, wanted);
-    same(rt, read.client_identifier, Some(client));
-}
-
-// Compares the greatest size, and the times of the lease, of its renewal and of its rebinding.
-fn check_times(rt: &impl Abort, read: &Repr<'_>, max_size: u16, times: [Option<u32>; 3]) {
-    same(rt, read.max_size, Some(max_size));
-    let read_times = [
-        read.lease_duration,
-        read.renew_duration,
-        read.rebind_duration,
-    ];
-    same(rt, read_times, times);
-}
-
-fn check_offered_options(rt: &impl Abort, read: &Repr<'_>) {
-    let addresses = [
-        Some(Ipv4Address::new(10, 0, 0, 1)),
-        Some(Ipv4Address::new(10, 0, 0, 2)),
-        Some(Ipv4Address::new(255, 0, 0, 0)),
-        Some(Ipv4Address::new(10, 0, 0, 9)),
-    ];
-    check_addresses(rt, read, addresses, EthernetAddress([2, 3, 4, 5, 6, 7]));
-    check_times(rt, read, 1500, [Some(3600), Some(1800), Some(3150)]);
-    same(rt, read.parameter_request_list, Some(&[1, 3][..]));
-    same(rt, read.dns_servers.is_none(), true);
-    same(rt, read.additional_options.is_empty(), true);
+// An offer with all that a client takes.
+fn offered() -> Repr<'static> {
+    let mut repr = bare(MessageType::Offer);
+    repr.transaction_id = 0x1200_0000;
+    repr.secs = 5;
+    repr.client_hardware_address = EthernetAddress([2, 0, 0, 0, 0, 0]);
+    repr.your_ip = Ipv4Address::new(0, 0, 0, 7);
+    repr.broadcast = true;
+    repr.router = Some(Ipv4Address::new(10, 0, 0, 2));
+    repr.subnet_mask = Some(Ipv4Address::new(255, 0, 0, 0));
+    repr.requested_ip = Some(Ipv4Address::new(10, 0, 0, 9));
+    repr.client_identifier = Some(EthernetAddress([2, 3, 4, 5, 6, 7]));
+    repr.server_identifier = Some(Ipv4Address::new(10, 0, 0, 1));
+    repr.parameter_request_list = Some(&[1, 3]);
+    repr.max_size = Some(1500);
+    repr.lease_duration = Some(3600);
+    repr.renew_duration = Some(1800);
+    repr.rebind_duration = Some(3150);
+    repr
 }
 
 #[test]
@@ -244,71 +229,13 @@ fn an_offer_with_all_that_a_client_takes(rt: HostRuntime) -> Result<(), Fail> {
     set(&mut octets, 10, 0x80);
     set(&mut octets, 19, 7);
     set(&mut octets, 28, 2);
-    let read = Repr::parse(&Packet::new_unchecked(octets.as_slice()));
-    let Ok(read) = read else {
-        fail(&rt, "the packet is read");
-        return Ok(());
-    };
-    check_offered_fields(&rt, &read);
-    check_offered_options(&rt, &read);
+    compare_read(&rt, octets.as_slice(), &offered());
     compare_damaged(&rt, rt.alloc(), octets.as_slice())
 }
 
 #[test]
 fn a_mask_behind_a_thousand_bytes_of_padding(rt: HostRuntime) -> Result<(), Fail> {
     let octets = padded_discover(rt.alloc())?;
-    let mask = Ipv4Address::new(255, 255, 255, 0);
-    same(&rt, mask_in(octets.as_slice()), Some(mask));
+    check_held(&rt, octets.as_slice(), &[(1, Some(0xffff_ff00))]);
     Ok(())
-}
-
-#[test]
-fn lists_that_are_present_and_empty(rt: HostRuntime) -> Result<(), Fail> {
-    let octets = packet(
-        rt.alloc(),
-        1,
-        &[0x35, 1, 1, 6, 0, 0x37, 0, 0x3d, 2, 0, 1, 0xff],
-    )?;
-    let read = Repr::parse(&Packet::new_unchecked(octets.as_slice()));
-    let Ok(read) = read else {
-        fail(&rt, "the packet is read");
-        return Ok(());
-    };
-    same(&rt, read.client_identifier, None);
-    same(&rt, read.parameter_request_list, Some(&[][..]));
-    assert!(rt; read.dns_servers.is_some_and(|servers| servers.is_empty()));
-    compare_damaged(&rt, rt.alloc(), octets.as_slice())
-}
-
-#[test]
-fn every_option_twice_and_last_of_another_length(rt: HostRuntime) -> Result<(), Fail> {
-    let octets = packet(
-        rt.alloc(),
-        2,
-        &[
-            0x35, 1, 2, 0x35, 1, 5, 0x35, 2, 2, 2, 0x3d, 7, 1, 2, 0, 0, 0, 0, 1, 0x3d, 7, 1, 2, 0,
-            0, 0, 0, 2, 0x3d, 6, 1, 2, 0, 0, 0, 0, 0x36, 4, 10, 0, 0, 1, 0x36, 4, 10, 0, 0, 2,
-            0x36, 5, 10, 0, 0, 3, 0, 3, 4, 10, 0, 0, 3, 3, 4, 10, 0, 0, 4, 3, 8, 10, 0, 0, 5, 10,
-            0, 0, 6, 1, 4, 255, 0, 0, 0, 1, 4, 255, 255, 0, 0, 1, 3, 0, 0, 0, 0x32, 4, 10, 0, 0, 7,
-            0x32, 4, 10, 0, 0, 8, 0x32, 0, 0x39, 2, 0, 1, 0x39, 2, 0, 2, 0x39, 3, 0, 0, 3, 0x33, 4,
-            0, 0, 0, 1, 0x33, 4, 0, 0, 0, 2, 0x33, 3, 0, 0, 3, 0x3a, 4, 0, 0, 0, 3, 0x3a, 4, 0, 0,
-            0, 4, 0x3a, 5, 0, 0, 0, 5, 0, 0x3b, 4, 0, 0, 0, 5, 0x3b, 4, 0, 0, 0, 6, 0x3b, 2, 0, 7,
-            0xff,
-        ],
-    )?;
-    let read = Repr::parse(&Packet::new_unchecked(octets.as_slice()));
-    let Ok(read) = read else {
-        fail(&rt, "the packet is read");
-        return Ok(());
-    };
-    same(&rt, read.message_type, MessageType::Ack);
-    let addresses = [
-        Some(Ipv4Address::new(10, 0, 0, 2)),
-        Some(Ipv4Address::new(10, 0, 0, 4)),
-        Some(Ipv4Address::new(255, 255, 0, 0)),
-        Some(Ipv4Address::new(10, 0, 0, 8)),
-    ];
-    check_addresses(&rt, &read, addresses, EthernetAddress([2, 0, 0, 0, 0, 2]));
-    check_times(&rt, &read, 2, [Some(2), Some(4), Some(6)]);
-    compare_damaged(&rt, rt.alloc(), octets.as_slice())
 }

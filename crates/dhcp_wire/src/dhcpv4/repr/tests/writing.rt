@@ -1,14 +1,13 @@
-ghost use Rattle.std.specs.Prelude.{◌≤◌, length};
+ghost use Rattle.std.specs.Prelude.{◌≤◌};
 
-use super::{bare, five_servers, with_options};
+use super::{bare, compare_read, five_servers, with_options};
 use crate::dhcpv4::tests::packet;
 use crate::dhcpv4::{DhcpOption, MessageType, Packet, Repr};
-use crate::plain_reader::options_in;
-use crate::testing::{fail, same, same_of};
+use crate::testing::{fail, holds_of, same, same_of};
 use std::alloc::Global;
 use std::process::Abort;
 use std::test::Fail;
-use wirebase::{Error, EthernetAddress, Ipv4Address};
+use wirebase::{EthernetAddress, Ipv4Address};
 
 // An option of more data than one byte counts.
 const LONG_DATA: [u8; 256] = [0; 256];
@@ -30,35 +29,42 @@ const SHORT_NAME: &[DhcpOption<'static>] = &[DhcpOption {
     data: b"a",
 }];
 
-// What stands in 340 bytes of this value after a packet was written over so many of them: its first fields, zeros for
-// the names, the cookie, its options up to the first for which there is no room, and the end mark behind the last.
-fn written(
-    alloc: Global,
-    fill: u8,
-    first_fields: &[u8; 34],
-    options: &[u8],
-    len: usize,
-) -> Result<Vec<u8>, Fail> {
-    let mut octets = Vec::from_slice(alloc, first_fields)?;
-    octets.extend_from_slice(&[0; 202])?;
-    octets.extend_from_slice(&[0x63, 0x82, 0x53, 0x63])?;
-    let mut fits = true;
-    for option in options_in(alloc, options)?.as_slice() {
-        let room = len.saturating_sub(octets.len());
-        fits = fits && option.data.len().saturating_add(2) <= room;
-        if fits {
-            octets.push(option.kind)?;
-            octets.push(u8::try_from(option.data.len()).unwrap_or(255))?;
-            octets.extend_from_slice(option.data)?;
+// How many bytes of these options are written where there is so much room: those of the options up to the first that
+// does not fit, and the end mark behind the last.
+fn written_len(options: &[u8], room: usize) -> usize {
+    let mut written: usize = 0;
+    for _ in 0..options.len() {
+        let len = match options.get(written..) {
+            Some([255, ..]) => 1,
+            Some([_, len, ..]) => *len as usize + 2,
+            _ => break,
+        };
+        let end = written.saturating_add(len);
+        if room < end {
+            break;
         }
+        written = end;
     }
-    if fits && octets.len() < len {
-        octets.push(0xff)?;
+    written
+}
+
+// Copies bytes to this place.
+fn put(octets: &mut [u8], place: usize, bytes: &[u8]) {
+    for (octet, byte) in octets.iter_mut().skip(place).zip(bytes) {
+        *octet = *byte;
     }
-    for _ in octets.len()..340 {
-        octets.push(fill)?;
-    }
-    Ok(octets)
+}
+
+// What stands in 340 bytes of this value after a packet was written over so many of them: its first fields, zeros for
+// the names, the cookie, and the options for which there is room.
+fn written(fill: u8, first_fields: &[u8; 34], options: &[u8], len: usize) -> [u8; 340] {
+    let mut octets = [fill; 340];
+    put(&mut octets, 0, first_fields);
+    put(&mut octets, 34, &[0; 202]);
+    put(&mut octets, 236, &[0x63, 0x82, 0x53, 0x63]);
+    let written = written_len(options, len.saturating_sub(240));
+    put(&mut octets, 240, options.get(..written).unwrap_or(&[]));
+    octets
 }
 
 // Writes a value over so many of 340 bytes of this content, where it fits or is refused; then this stands in them.
@@ -79,21 +85,14 @@ fn compare_emitted(
 }
 
 // Writes a value over buffers of every length and of three contents, and compares them with what is to stand there.
-fn compare_written(
-    rt: &impl Abort,
-    alloc: Global,
-    repr: &Repr<'_>,
-    first_fields: &[u8; 34],
-    options: &[u8],
-) -> Result<(), Fail> {
+fn compare_written(rt: &impl Abort, repr: &Repr<'_>, first_fields: &[u8; 34], options: &[u8]) {
     for fill in [0x00, 0xff, 0x2a] {
         for len in 240..=340 {
-            let wanted = written(alloc, fill, first_fields, options, len)?;
+            let wanted = written(fill, first_fields, options, len);
             let fits = options.len() <= len - 240;
-            compare_emitted(rt, repr, fill, len, fits, wanted.as_slice());
+            compare_emitted(rt, repr, fill, len, fits, &wanted);
         }
     }
-    Ok(())
 }
 
 // The first fields of a packet of this operation and of Ethernet, all others zero.
@@ -190,58 +189,88 @@ const REQUEST_OPTIONS: [u8; 35] = [
 ];
 
 #[test]
-fn discovers_over_buffers_of_every_length_and_of_three_contents(
-    rt: HostRuntime,
-) -> Result<(), Fail> {
-    let alloc = rt.alloc();
+fn discovers_over_buffers_of_every_length_and_of_three_contents(rt: HostRuntime) {
     let discover = bare(MessageType::Discover);
-    compare_written(&rt, alloc, &discover, &first_fields(1), &[0x35, 1, 1, 0xff])?;
+    compare_written(&rt, &discover, &first_fields(1), &[0x35, 1, 1, 0xff]);
     let named = with_options(MessageType::Discover, HOST_NAME);
     let named_options = [0x35, 1, 1, 12, 2, 0x61, 0x62, 0xff];
-    compare_written(&rt, alloc, &named, &first_fields(1), &named_options)
+    compare_written(&rt, &named, &first_fields(1), &named_options);
 }
 
 #[test]
-fn answers_over_buffers_of_every_length_and_of_three_contents(rt: HostRuntime) -> Result<(), Fail> {
-    let alloc = rt.alloc();
-    compare_written(&rt, alloc, &ack(), &first_fields(2), &ACK_OPTIONS)?;
-    compare_written(&rt, alloc, &offer(), &OFFER_FIRST_FIELDS, &OFFER_OPTIONS)
+fn answers_over_buffers_of_every_length_and_of_three_contents(rt: HostRuntime) {
+    compare_written(&rt, &ack(), &first_fields(2), &ACK_OPTIONS);
+    compare_written(&rt, &offer(), &OFFER_FIRST_FIELDS, &OFFER_OPTIONS);
 }
 
 #[test]
-fn a_request_over_buffers_of_every_length_and_of_three_contents(
-    rt: HostRuntime,
-) -> Result<(), Fail> {
-    compare_written(
-        &rt,
-        rt.alloc(),
-        &request(),
-        &REQUEST_FIRST_FIELDS,
-        &REQUEST_OPTIONS,
-    )
+fn a_request_over_buffers_of_every_length_and_of_three_contents(rt: HostRuntime) {
+    compare_written(&rt, &request(), &REQUEST_FIRST_FIELDS, &REQUEST_OPTIONS);
 }
 
-// Reads a packet, which is to say this.
-fn compare_read(rt: &impl Abort, packet: &[u8], repr: &Repr<'_>) {
-    let read = Repr::parse(&Packet::new_unchecked(packet));
-    same(rt, read.is_ok_and(|read| read == *repr), true);
-}
-
-#[test]
-fn an_ack_with_its_three_times(rt: HostRuntime) -> Result<(), Fail> {
-    let repr = ack();
-    let mut octets = [0x2a; 262];
-    same(&rt, repr.emit_into(&mut octets), Ok(()));
-    same(&rt, &octets[240..], &ACK_OPTIONS[..]);
-    compare_read(&rt, &octets, &repr);
-    Ok(())
+// Writes a value over so many bytes 0x2a, where it fits or is refused; then these parts stand at their places.
+fn compare_parts(
+    rt: &impl Abort,
+    repr: &Repr<'_>,
+    len: usize,
+    fits: bool,
+    parts: &[(usize, &[u8])],
+) {
+    holds_of(rt, len, 240 <= len && len <= 600);
+    let mut octets = [0x2a; 600];
+    same_of(rt, len, repr.emit_into(&mut octets[..len]).is_ok(), fits);
+    for &(place, part) in parts {
+        let rest = octets.get(place..).unwrap_or(&[]);
+        holds_of(rt, (place, part), rest.starts_with(part));
+    }
 }
 
 #[test]
-fn an_ack_without_room_for_its_last_time(rt: HostRuntime) -> Result<(), Fail> {
-    let mut octets = [0x2a; 255];
-    same(&rt, ack().emit_into(&mut octets), Err(Error));
-    same(&rt, &octets[240..], &ACK_OPTIONS[..15]);
+fn an_ack_without_room_for_its_last_time(rt: HostRuntime) {
+    compare_parts(&rt, &ack(), 255, false, &[(240, &ACK_OPTIONS[..15])]);
+}
+
+// Writes a Discover with this list over so many bytes.
+fn compare_list(
+    rt: &impl Abort,
+    list: &'static [u8],
+    len: usize,
+    fits: bool,
+    parts: &[(usize, &[u8])],
+) {
+    let mut repr = bare(MessageType::Discover);
+    repr.parameter_request_list = Some(list);
+    compare_parts(rt, &repr, len, fits, parts);
+}
+
+#[test]
+fn a_request_list_of_255_bytes(rt: HostRuntime) {
+    let parts: [(usize, &[u8]); 2] = [(243, &[0x37, 255, 42]), (500, &[0xff])];
+    compare_list(&rt, &[42; 255], 501, true, &parts);
+}
+
+#[test]
+fn a_request_list_of_256_bytes(rt: HostRuntime) {
+    let parts: [(usize, &[u8]); 1] = [(240, &[0x35, 1, 1, 0x2a, 0x2a, 0x2a])];
+    compare_list(&rt, &[42; 256], 600, false, &parts);
+}
+
+#[test]
+fn an_additional_option_of_256_bytes(rt: HostRuntime) {
+    let parts: [(usize, &[u8]); 2] = [(240, &[0x35, 1, 1]), (243, &[0x2a; 357])];
+    let repr = with_options(MessageType::Discover, LONG_OPTION);
+    compare_parts(&rt, &repr, 600, false, &parts);
+}
+
+#[test]
+fn a_value_written_into_a_view(rt: HostRuntime) -> Result<(), Fail> {
+    let repr = bare(MessageType::Inform);
+    let mut octets = [0xff; 244];
+    let mut view = Packet::new_unchecked(&mut octets[..]);
+    same(&rt, repr.emit(&mut view), Ok(()));
+    let wanted = packet(rt.alloc(), 1, &[0x35, 1, 8, 0xff])?;
+    same(&rt, &octets[..], wanted.as_slice());
+    Repr::same_text(&repr, &repr);
     Ok(())
 }
 
@@ -253,76 +282,49 @@ fn compare_read_back(rt: &impl Abort, repr: &Repr<'_>) {
 }
 
 #[test]
-fn values_written_are_read_back(rt: HostRuntime) -> Result<(), Fail> {
-    compare_read_back(&rt, &ack());
+fn values_written_are_read_back(rt: HostRuntime) {
     compare_read_back(&rt, &offer());
     compare_read_back(&rt, &request());
+}
+
+// Writes a value over as many bytes 0x2a as the packet of these options has. Then they are that packet, and are read as
+// the other value.
+fn compare_packet(
+    rt: &impl Abort,
+    alloc: Global,
+    repr: &Repr<'_>,
+    op: u8,
+    options: &[u8],
+    read: &Repr<'_>,
+) -> Result<(), Fail> {
+    let wanted = packet(alloc, op, options)?;
+    let len = wanted.len();
+    holds_of(rt, len, 240 <= len && len <= 340);
+    let mut octets = [0x2a; 340];
+    same(rt, repr.emit_into(&mut octets[..len]), Ok(()));
+    same(rt, &octets[..len], wanted.as_slice());
+    compare_read(rt, &octets[..len], read);
     Ok(())
 }
 
-#[test]
-fn a_request_list_of_255_bytes(rt: HostRuntime) -> Result<(), Fail> {
-    let mut repr = bare(MessageType::Discover);
-    repr.parameter_request_list = Some(&[42; 255]);
-    let mut octets = [0x2a; 501];
-    same(&rt, repr.emit_into(&mut octets), Ok(()));
-    same(&rt, &octets[243..246], &[0x37, 255, 42][..]);
-    same(&rt, octets[500], 0xff);
-    Ok(())
-}
-
-#[test]
-fn a_request_list_of_256_bytes(rt: HostRuntime) -> Result<(), Fail> {
-    let mut repr = bare(MessageType::Discover);
-    repr.parameter_request_list = Some(&[42; 256]);
-    let mut octets = [0x2a; 600];
-    same(&rt, repr.emit_into(&mut octets), Err(Error));
-    same(&rt, &octets[240..246], &[0x35, 1, 1, 0x2a, 0x2a, 0x2a][..]);
-    Ok(())
-}
-
-#[test]
-fn an_additional_option_of_256_bytes(rt: HostRuntime) -> Result<(), Fail> {
-    let repr = with_options(MessageType::Discover, LONG_OPTION);
-    let mut octets = [0x2a; 600];
-    same(&rt, repr.emit_into(&mut octets), Err(Error));
-    same(&rt, &octets[240..243], &[0x35, 1, 1][..]);
-    assert!(rt; octets[243..600].iter().all(|byte| *byte == 0x2a));
-    Ok(())
-}
-
-#[test]
-fn a_value_written_into_a_view(rt: HostRuntime) -> Result<(), Fail> {
-    let repr = bare(MessageType::Inform);
-    let mut octets = [0xff; 244];
-    let mut view = Packet::new_unchecked(&mut octets[..]);
-    same(&rt, repr.emit(&mut view), Ok(()));
-    let wanted = packet(rt.alloc(), 1, &[0x35, 1, 8, 0xff])?;
-    same(&rt, &octets[..], wanted.as_slice());
-    Repr::same_text(&repr, &bare(MessageType::Inform));
-    Ok(())
-}
-
-// Writes a value over octets, which are then this packet.
-fn compare_packet(rt: &impl Abort, repr: &Repr<'_>, octets: &mut [u8], packet: &[u8])
-    requires { 240 ≤ length octets.old }
-{
-    same(rt, repr.emit_into(octets), Ok(()));
-    same(rt, &octets[..], packet);
+// Writes an Ack with its three times, of which the renewal time is this.
+fn compare_ack(
+    rt: &impl Abort,
+    alloc: Global,
+    renew_duration: u32,
+    options: &[u8],
+) -> Result<(), Fail> {
+    let mut repr = ack();
+    repr.renew_duration = Some(renew_duration);
+    compare_read_back(rt, &repr);
+    compare_packet(rt, alloc, &repr, 2, options, &repr)
 }
 
 #[test]
 fn values_of_two_renewal_times_have_two_texts(rt: HostRuntime) -> Result<(), Fail> {
-    let mut later = ack();
-    later.renew_duration = Some(1801);
-    let mut octets = [0x2a; 262];
-    let wanted = packet(rt.alloc(), 2, &ACK_OPTIONS)?;
-    compare_packet(&rt, &ack(), &mut octets, wanted.as_slice());
-    let mut other_octets = [0x2a; 262];
-    let wanted = packet(rt.alloc(), 2, &LATER_ACK_OPTIONS)?;
-    compare_packet(&rt, &later, &mut other_octets, wanted.as_slice());
-    same(&rt, octets != other_octets, true);
-    compare_read_back(&rt, &later);
+    compare_ack(&rt, rt.alloc(), 1800, &ACK_OPTIONS)?;
+    compare_ack(&rt, rt.alloc(), 1801, &LATER_ACK_OPTIONS)?;
+    holds_of(&rt, "another text", ACK_OPTIONS != LATER_ACK_OPTIONS);
     Ok(())
 }
 
@@ -348,18 +350,21 @@ fn a_list_with_half_an_address_is_rewritten_without_it(rt: HostRuntime) -> Resul
     Ok(())
 }
 
+// Writes a Discover with additional options, which is read as one without them.
+fn compare_discover(
+    rt: &impl Abort,
+    alloc: Global,
+    additional_options: &'static [DhcpOption<'static>],
+    options: &[u8],
+) -> Result<(), Fail> {
+    let repr = with_options(MessageType::Discover, additional_options);
+    let read = bare(MessageType::Discover);
+    compare_packet(rt, alloc, &repr, 1, options, &read)
+}
+
 #[test]
 fn an_additional_option_is_all_that_two_texts_differ_by(rt: HostRuntime) -> Result<(), Fail> {
-    let alloc = rt.alloc();
-    let discover = bare(MessageType::Discover);
-    let mut octets = [0x2a; 244];
-    let wanted = packet(alloc, 1, &[0x35, 1, 1, 0xff])?;
-    compare_packet(&rt, &discover, &mut octets, wanted.as_slice());
-    compare_read(&rt, &octets, &discover);
-    let named = with_options(MessageType::Discover, SHORT_NAME);
-    let mut octets = [0x2a; 247];
-    let wanted = packet(alloc, 1, &[0x35, 1, 1, 12, 1, 0x61, 0xff])?;
-    compare_packet(&rt, &named, &mut octets, wanted.as_slice());
-    compare_read(&rt, &octets, &discover);
-    Ok(())
+    compare_discover(&rt, rt.alloc(), &[], &[0x35, 1, 1, 0xff])?;
+    let named = [0x35, 1, 1, 12, 1, 0x61, 0xff];
+    compare_discover(&rt, rt.alloc(), SHORT_NAME, &named)
 }
