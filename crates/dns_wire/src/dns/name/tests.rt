@@ -3,10 +3,8 @@
 use super::NameIter;
 use crate::dns::Packet;
 use crate::dns::tests::damaged::damaged;
-use crate::testing::{same, same_of};
-use std::alloc::Global;
+use crate::testing::{fail, holds_of, same, same_of};
 use std::process::Abort;
-use std::test::Fail;
 use wirebase::Error;
 
 // A response for www.facebook.com: its canonical name, and the address of that.
@@ -36,6 +34,18 @@ const CUT_LABEL: [u8; 18] = [
     0, 0, 0, 0, 0, 0, 0, 0, 0, 0, 0, 0, 3, 0x61, 0xc0, 0x0c, 0xc0, 0x0e,
 ];
 
+// The walk gives this item, and then it has taken so many steps.
+fn check_next<'a>(
+    rt: &impl Abort,
+    of: (&[u8], &[u8]),
+    walk: &mut NameIter<'a>,
+    item: Option<Result<&'a [u8], Error>>,
+    steps: usize,
+) {
+    same_of(rt, of, walk.next(), item);
+    same_of(rt, of, walk.steps(), steps);
+}
+
 // The walk gives these labels, an error where the name is broken, and then the end for good, after so many steps.
 fn check(
     rt: &impl Abort,
@@ -50,70 +60,44 @@ fn check(
     for &label in labels {
         same(rt, walk.next(), Some(Ok(label)));
     }
-    if broken {
-        same(rt, walk.next(), Some(Err(Error)));
-    }
+    let last = if broken { Some(Err(Error)) } else { None };
+    check_next(rt, (slice, message), &mut walk, last, steps);
     for _ in 0..2 {
-        same(rt, walk.next(), None);
+        check_next(rt, (slice, message), &mut walk, None, steps);
     }
-    same(rt, walk.steps(), steps);
 }
 
 #[test]
-fn names_of_a_response(rt: HostRuntime) {
-    let message = RESPONSE;
-    check(
-        &rt,
-        &message,
-        &message[12..],
-        &[b"www", b"facebook", b"com"],
-        false,
-        3,
-    );
-    check(
-        &rt,
-        &message,
-        &message[34..],
-        &[b"www", b"facebook", b"com"],
-        false,
-        4,
-    );
-    check(
-        &rt,
-        &message,
-        &message[46..],
-        &[b"star-mini", b"c10r", b"facebook", b"com"],
-        false,
-        5,
-    );
-    check(
-        &rt,
-        &message,
-        &message[63..],
-        &[b"star-mini", b"c10r", b"facebook", b"com"],
-        false,
-        6,
-    );
-}
-
-#[test]
-fn pointers_that_meet_or_lead_to_themselves(rt: HostRuntime) {
-    let meet = MEETING_POINTERS;
-    check(&rt, &meet, &meet[12..], &[b"a", b"b", b"a"], true, 5);
-    let itself = POINTER_TO_ITSELF;
-    check(&rt, &itself, &itself[12..], &[], true, 1);
-}
-
-#[test]
-fn a_first_pointer_forward_and_into_the_first_part(rt: HostRuntime) {
-    let message = POINTER_FORWARD;
-    check(&rt, &message, &message[12..], &[b"a\x00"], false, 3);
-}
-
-#[test]
-fn a_label_cut_by_its_window(rt: HostRuntime) {
-    let message = CUT_LABEL;
-    check(&rt, &message, &message[16..], &[], true, 2);
+fn names_in_messages(rt: HostRuntime) {
+    // A message, where its name begins, its labels, whether it is broken, and the steps over it.
+    const ROWS: &[(&[u8], usize, &[&[u8]], bool, usize)] = &[
+        (&RESPONSE, 12, &[b"www", b"facebook", b"com"], false, 3),
+        (&RESPONSE, 34, &[b"www", b"facebook", b"com"], false, 4),
+        (
+            &RESPONSE,
+            46,
+            &[b"star-mini", b"c10r", b"facebook", b"com"],
+            false,
+            5,
+        ),
+        (
+            &RESPONSE,
+            63,
+            &[b"star-mini", b"c10r", b"facebook", b"com"],
+            false,
+            6,
+        ),
+        (&MEETING_POINTERS, 12, &[b"a", b"b", b"a"], true, 5),
+        (&POINTER_TO_ITSELF, 12, &[], true, 1),
+        // Forward, and then into the first part.
+        (&POINTER_FORWARD, 12, &[b"a\x00"], false, 3),
+        // The label is cut by its window.
+        (&CUT_LABEL, 16, &[], true, 2),
+    ];
+    for &(message, at, labels, broken, steps) in ROWS {
+        holds_of(&rt, at, at <= message.len());
+        check(&rt, message, &message[at..], labels, broken, steps);
+    }
 }
 
 #[test]
@@ -128,39 +112,22 @@ fn slices_outside_the_message(rt: HostRuntime) {
 }
 
 #[test]
-fn the_greatest_target(rt: HostRuntime) -> Result<(), Fail> {
-    let zeros = vec![in rt.alloc(); 0; 16384]?;
+fn the_greatest_target(rt: HostRuntime) {
+    let zeros = [0; 16384];
     check(&rt, &zeros, &[0xff, 0xff], &[], false, 1);
     check(&rt, &zeros[..16383], &[0xff, 0xff], &[], true, 0);
-    Ok(())
-}
-
-// Appends a pointer to this place.
-fn put_pointer(message: &mut Vec<u8>, target: u16) -> Result<(), Fail> {
-    message.push(0xc0 | (target >> 8) as u8)?;
-    message.push((target & 0xff) as u8)?;
-    Ok(())
 }
 
 // A zero byte, then pointers, each to the one before it and the first to the zero byte.
 #[test]
-fn five_thousand_pointers(rt: HostRuntime) -> Result<(), Fail> {
-    let mut message = vec![in rt.alloc(); 0]?;
-    for k in 0..5000u16 {
-        put_pointer(&mut message, if k == 0 { 0 } else { 2 * k - 1 })?;
+fn five_thousand_pointers(rt: HostRuntime) {
+    let mut message = [0; 10_001];
+    for k in 0..5000usize {
+        let target = (2 * k).saturating_sub(1);
+        message[2 * k + 1] = 0xc0 | (target >> 8) as u8;
+        message[2 * k + 2] = (target & 0xff) as u8;
     }
-    same(&rt, message.len(), 10_001);
     check(&rt, &message, &message[9999..], &[], false, 5000);
-    Ok(())
-}
-
-// What a walk gives: each label after its length, whether the name ends, and the steps.
-type Found = (Vec<u8>, bool, usize);
-
-fn put_label(labels: &mut Vec<u8>, label: &[u8]) -> Result<(), Fail> {
-    labels.push(label.len().min(255) as u8)?;
-    labels.extend_from_slice(label)?;
-    Ok(())
 }
 
 // What a walk meets at the front of a window.
@@ -191,56 +158,40 @@ fn plain_step<'a>(message: &'a [u8], window: &'a [u8], above: usize) -> Step<'a>
     }
 }
 
-// The labels along the falling path, a window after another. Each turn is one step.
-fn plain_walk(alloc: Global, message: &[u8], slice: &[u8]) -> Result<Found, Fail> {
-    let mut labels = Vec::new(alloc);
+// Compares the walk over the name that begins in a slice with one along the falling path, a window after another. Each
+// turn is one step.
+fn compare_walk(rt: &impl Abort, message: &[u8], slice: &[u8]) {
+    let mut walk = Packet::new_unchecked(message).parse_name(slice);
     let mut window = slice;
     let mut above = message.len();
     for turn in 0..16usize {
         match plain_step(message, window, above) {
             Step::Label(label, behind) => {
-                put_label(&mut labels, label)?;
+                same_of(rt, (slice, message), walk.next(), Some(Ok(label)));
                 window = behind;
             }
             Step::Pointer(target, below) => {
                 window = below;
                 above = target;
             }
-            Step::End => return Ok((labels, true, turn)),
-            Step::Broken => return Ok((labels, false, turn)),
+            Step::End => {
+                check_next(rt, (slice, message), &mut walk, None, turn);
+                return;
+            }
+            Step::Broken => {
+                check_next(rt, (slice, message), &mut walk, Some(Err(Error)), turn);
+                return;
+            }
         }
     }
-    Err(Fail::from("too many steps"))
-}
-
-fn iterated_walk(alloc: Global, message: &[u8], slice: &[u8]) -> Result<Found, Fail> {
-    let mut labels = Vec::new(alloc);
-    let mut walk = Packet::new_unchecked(message).parse_name(slice);
-    while let Some(item) = walk.next() {
-        match item {
-            Ok(label) => put_label(&mut labels, label)?,
-            Err(_) => return Ok((labels, false, walk.steps())),
-        }
-    }
-    Ok((labels, true, walk.steps()))
-}
-
-// Compares the walks over the name that begins in a slice.
-fn compare_walk(rt: &impl Abort, alloc: Global, message: &[u8], slice: &[u8]) -> Result<(), Fail> {
-    let plain = plain_walk(alloc, message, slice)?;
-    let found = iterated_walk(alloc, message, slice)?;
-    same_of(rt, (slice, message), found.0.as_slice(), plain.0.as_slice());
-    same_of(rt, (slice, message), found.1, plain.1);
-    same_of(rt, (slice, message), found.2, plain.2);
-    Ok(())
+    fail(rt, "too many steps");
 }
 
 // Compares the walks from each place of a message.
-fn compare_walks(rt: &impl Abort, alloc: Global, message: &[u8]) -> Result<(), Fail> {
+fn compare_walks(rt: &impl Abort, message: &[u8]) {
     for offset in 0..=message.len() {
-        compare_walk(rt, alloc, message, &message[offset..])?;
+        compare_walk(rt, message, &message[offset..]);
     }
-    Ok(())
 }
 
 const SYMBOLS: [u8; 7] = [0x00, 0x01, 0x3f, 0x40, 0xc0, 0xc1, 0x02];
@@ -251,7 +202,7 @@ fn symbol(number: u32, place: u32) -> u8 {
 }
 
 #[test]
-fn all_short_messages_and_offsets(rt: HostRuntime) -> Result<(), Fail> {
+fn all_short_messages_and_offsets(rt: HostRuntime) {
     for number in 0..16807u32 {
         let whole = [
             symbol(number, 1),
@@ -261,31 +212,29 @@ fn all_short_messages_and_offsets(rt: HostRuntime) -> Result<(), Fail> {
             symbol(number, 2401),
         ];
         for len in 0..6usize {
-            compare_walks(&rt, rt.alloc(), &whole[..len])?;
+            compare_walks(&rt, &whole[..len]);
         }
     }
-    Ok(())
 }
 
 // What a byte of a message is set to, one byte at a time.
 const DAMAGE: &[u8] = &[0x00, 0x40, 0x7f, 0x80, 0xc0, 0xff];
 
 // Compares the walks over each shorter part of a message, and over each copy of it in which one byte is damaged.
-fn compare_damaged(rt: &impl Abort, alloc: Global, message: &[u8]) -> Result<(), Fail> {
+fn compare_damaged(rt: &impl Abort, message: &[u8]) {
+    holds_of(rt, message, message.len() <= 80);
     for len in 0..=message.len() {
-        compare_walks(rt, alloc, &message[..len])?;
+        compare_walks(rt, &message[..len]);
     }
     for at in 0..message.len() {
         for &value in DAMAGE {
-            let octets = damaged(alloc, message, at, value)?;
-            compare_walks(rt, alloc, octets.as_slice())?;
+            compare_walks(rt, &damaged(message, at, value)[..message.len()]);
         }
     }
-    Ok(())
 }
 
 #[test]
-fn names_of_cut_and_of_damaged_messages(rt: HostRuntime) -> Result<(), Fail> {
+fn names_of_cut_and_of_damaged_messages(rt: HostRuntime) {
     const ROWS: &[&[u8]] = &[
         &RESPONSE,
         &MEETING_POINTERS,
@@ -294,7 +243,6 @@ fn names_of_cut_and_of_damaged_messages(rt: HostRuntime) -> Result<(), Fail> {
         &CUT_LABEL,
     ];
     for &message in ROWS {
-        compare_damaged(&rt, rt.alloc(), message)?;
+        compare_damaged(&rt, message);
     }
-    Ok(())
 }

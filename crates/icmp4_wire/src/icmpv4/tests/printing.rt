@@ -3,10 +3,9 @@
 use super::{ECHO_REQUEST, PORT_UNREACHABLE, QUOTED_DATA, quoted};
 use crate::icmpv4::{DstUnreachable, Message, Packet, Repr, TimeExceeded};
 use crate::testing::{prints, prints_each, takes_writes};
-use std::test::Fail;
 
 #[test]
-fn types_print_their_words(rt: HostRuntime) -> Result<(), Fail> {
+fn types_print_their_words(rt: HostRuntime) {
     const MESSAGES: &[(u8, &str)] = &[
         (0, "echo reply"),
         (3, "destination unreachable"),
@@ -20,11 +19,11 @@ fn types_print_their_words(rt: HostRuntime) -> Result<(), Fail> {
         (14, "timestamp reply"),
         (255, "255"),
     ];
-    prints_each::<Message>(&rt, rt.alloc(), MESSAGES)
+    prints_each::<Message>(&rt, rt.alloc(), MESSAGES);
 }
 
 #[test]
-fn reasons_of_unreachables_print_their_words(rt: HostRuntime) -> Result<(), Fail> {
+fn reasons_of_unreachables_print_their_words(rt: HostRuntime) {
     const UNREACHABLES: &[(u8, &str)] = &[
         (0, "destination network unreachable"),
         (1, "destination host unreachable"),
@@ -44,21 +43,21 @@ fn reasons_of_unreachables_print_their_words(rt: HostRuntime) -> Result<(), Fail
         (15, "precedence cutoff in effect"),
         (16, "16"),
     ];
-    prints_each::<DstUnreachable>(&rt, rt.alloc(), UNREACHABLES)
+    prints_each::<DstUnreachable>(&rt, rt.alloc(), UNREACHABLES);
 }
 
 #[test]
-fn reasons_of_exceeded_times_print_their_words(rt: HostRuntime) -> Result<(), Fail> {
+fn reasons_of_exceeded_times_print_their_words(rt: HostRuntime) {
     const TIMES: &[(u8, &str)] = &[
         (0, "time-to-live exceeded in transit"),
         (1, "fragment reassembly time exceeded"),
         (2, "2"),
     ];
-    prints_each::<TimeExceeded>(&rt, rt.alloc(), TIMES)
+    prints_each::<TimeExceeded>(&rt, rt.alloc(), TIMES);
 }
 
 #[test]
-fn packets_print_their_message_or_why_not(rt: HostRuntime) -> Result<(), Fail> {
+fn packets_print_their_message_or_why_not(rt: HostRuntime) {
     const ROWS: &[(&[u8], &str)] = &[
         (&ECHO_REQUEST, "ICMPv4 echo request id=4660 seq=43981 len=4"),
         (
@@ -94,31 +93,28 @@ fn packets_print_their_message_or_why_not(rt: HostRuntime) -> Result<(), Fail> {
     ];
     for &(octets, text) in ROWS {
         let packet = Packet::new_unchecked(octets);
-        prints(&rt, rt.alloc(), packet, text)?;
+        prints(&rt, rt.alloc(), packet, text);
     }
-    Ok(())
 }
 
 #[test]
-fn an_exceeded_time_prints_its_reason(rt: HostRuntime) -> Result<(), Fail> {
+fn an_exceeded_time_prints_its_reason(rt: HostRuntime) {
     let time_exceeded = Repr::TimeExceeded {
         reason: TimeExceeded::FragExpired,
         header: quoted(8),
         data: &QUOTED_DATA,
     };
     let text = "ICMPv4 time exceeded (fragment reassembly time exceeded)";
-    prints(&rt, rt.alloc(), time_exceeded, text)?;
-    Ok(())
+    prints(&rt, rt.alloc(), time_exceeded, text);
 }
 
 #[test]
-fn a_packet_of_a_wrong_checksum_prints_why_it_is_refused(rt: HostRuntime) -> Result<(), Fail> {
+fn a_packet_of_a_wrong_checksum_prints_why_it_is_refused(rt: HostRuntime) {
     let mut octets = ECHO_REQUEST;
     octets[3] ^= 1;
     let packet = Packet::new_unchecked(&mut octets[..]);
     let text = "ICMPv4 (wire::Error) type=EchoRequest code=0";
-    prints(&rt, rt.alloc(), packet, text)?;
-    Ok(())
+    prints(&rt, rt.alloc(), packet, text);
 }
 
 #[test]
