@@ -1,9 +1,8 @@
 //! The checksum beside a loop that takes one word of 16 bits at a time.
 
-ghost use Rattle.std.specs.Prelude.{◌≡◌, ◌+◌, ◌<◌, ◌≤◌, length, vec_len, IfOk};
+ghost use Rattle.std.specs.Prelude.{◌+◌, ◌<◌, ◌≤◌, length};
 
 use byteorder::{BigEndian, ByteOrder};
-use std::alloc::{AllocError, Allocator};
 use std::io;
 use std::rt::Clock;
 use std::time::Instant;
@@ -17,53 +16,58 @@ const TRIES: usize = 5;
 /// The slices start at so many places, so that no call is like the one before it.
 const STARTS: usize = 16;
 
-/// Prints the bytes per nanosecond, which are gigabytes per second, at four lengths.
-pub fn measure<R: Alloc + Clock + Print>(rt: &R) -> io::Result<()> {
-    let bytes = buffer(rt.alloc(), 65_536 + STARTS)?;
-    println!(rt;
-        "{:>6} {:>14} {:>14}",
-        "bytes", "checksum GB/s", "plain GB/s"
-    )?;
-    row(rt, bytes.as_slice(), 20)?;
-    row(rt, bytes.as_slice(), 64)?;
-    row(rt, bytes.as_slice(), 1_500)?;
-    row(rt, bytes.as_slice(), 65_536)
+/// The checksum of the library, or that of the plain loop.
+enum Sum {
+    Library,
+    Plain,
 }
 
-fn buffer<A: Allocator>(alloc: A, len: usize) -> Result<Vec<u8, A>, AllocError>
-    ensures { IfOk result (λ bytes. vec_len bytes ≡ len) }
-{
-    vec![in alloc; 0x5a; len]
+impl Sum {
+    fn of(&self, data: &[u8]) -> u16 {
+        match self {
+            Sum::Library => checksum::data(data),
+            Sum::Plain => plain(data),
+        }
+    }
+}
+
+/// Prints the bytes per nanosecond, which are gigabytes per second, at four lengths.
+pub fn measure<R: Clock + Print>(rt: &R) -> io::Result<()> {
+    let bytes = [0x5a; 65_536 + STARTS];
+    println!(rt; " bytes  checksum GB/s     plain GB/s")?;
+    row(rt, &bytes, 20)?;
+    row(rt, &bytes, 64)?;
+    row(rt, &bytes, 1_500)?;
+    row(rt, &bytes, 65_536)
 }
 
 fn row<R: Clock + Print>(rt: &R, bytes: &[u8], len: usize) -> io::Result<()>
     requires some { 0 < len }
     requires room { len + STARTS ≤ length bytes.now }
 {
-    let (fast, first) = best(rt, bytes, len, checksum::data)?;
-    let (slow, second) = best(rt, bytes, len, plain)?;
+    let (library, first) = best(rt, bytes, len, &Sum::Library)?;
+    let (plain, second) = best(rt, bytes, len, &Sum::Plain)?;
     let note = if first == second {
         ""
     } else {
         " (the sums differ)"
     };
+    print(rt, len, library, plain, note)
+}
+
+// Prints a row: two rates in hundredths of a gigabyte per second.
+fn print<R: Print>(rt: &R, len: usize, library: u128, plain: u128, note: &str) -> io::Result<()> {
     println!(rt;
         "{len:>6} {:>11}.{:02} {:>11}.{:02}{note}",
-        fast / 100,
-        fast % 100,
-        slow / 100,
-        slow % 100
+        library / 100,
+        library % 100,
+        plain / 100,
+        plain % 100
     )
 }
 
 // The best rate of some tries, in hundredths of a gigabyte per second, and the total of the sums.
-fn best<R: Clock, F: Fn(&[u8]) -> u16>(
-    rt: &R,
-    bytes: &[u8],
-    len: usize,
-    sum: F,
-) -> io::Result<(u128, u64)>
-    requires callable { F.IsAlwaysCallable sum }
+fn best<R: Clock>(rt: &R, bytes: &[u8], len: usize, sum: &Sum) -> io::Result<(u128, u64)>
     requires some { 0 < len }
     requires room { len + STARTS ≤ length bytes.now }
 {
@@ -71,7 +75,7 @@ fn best<R: Clock, F: Fn(&[u8]) -> u16>(
     let mut total: u64 = 0;
     for _ in 0..TRIES {
         let start = Instant::now(rt)?;
-        total = total.wrapping_add(run(bytes, len, &sum));
+        total = total.wrapping_add(run(bytes, len, sum));
         let nanoseconds = start.elapsed(rt)?.as_nanos().max(1);
         best = best.max(BYTES as u128 * 100 / nanoseconds);
     }
@@ -81,15 +85,14 @@ fn best<R: Clock, F: Fn(&[u8]) -> u16>(
 // Sums about `BYTES` bytes, `len` at a time. It is kept apart, so that no length is known to the
 // compiler.
 #[inline(never)]
-fn run<F: Fn(&[u8]) -> u16>(bytes: &[u8], len: usize, sum: &F) -> u64
-    requires callable { F.IsAlwaysCallable sum.now }
+fn run(bytes: &[u8], len: usize, sum: &Sum) -> u64
     requires some { 0 < len }
     requires room { len + STARTS ≤ length bytes.now }
 {
     let mut total: u64 = 0;
     for round in 0..BYTES / len {
         let from = round % STARTS;
-        total = total.wrapping_add(sum(&bytes[from..from + len]) as u64);
+        total = total.wrapping_add(sum.of(&bytes[from..from + len]) as u64);
     }
     total
 }

@@ -4,16 +4,20 @@
 mod checksum;
 mod packets;
 
+use std::rt::Clock;
 use std::{env, io};
 
 fn main(rt: HostRuntime) -> io::Result<()> {
     for word in env::args(&rt)?.skip(1) {
-        if word.as_str() == "checksum" {
-            checksum::measure(&rt)?;
-        }
-        if word.as_str() == "packets" {
-            packets::measure(&rt)?;
-        }
+        measure(&rt, word.as_str())?;
     }
     Ok(())
+}
+
+fn measure<R: Alloc + Clock + Print>(rt: &R, word: &str) -> io::Result<()> {
+    match word {
+        "checksum" => checksum::measure(rt),
+        "packets" => packets::measure(rt),
+        _ => Ok(()),
+    }
 }

@@ -1,164 +1,134 @@
 //! What it takes to read a packet, and to read it and write its value.
 
-ghost use Rattle.std.specs.Prelude.{◌≤◌, length};
-
 mod samples;
 mod work;
 
-use std::alloc::{AllocError, Allocator};
 use std::io;
 use std::rt::Clock;
 use std::time::Instant;
-use work::{
-    read_dhcp, read_dns_name, read_dns_question, read_hop_by_hop, read_icmpv4, read_icmpv6,
-    read_igmp, read_ndisc_option, sum, write_dhcp, write_dns_question, write_hop_by_hop,
-    write_icmpv4, write_icmpv6, write_igmp, write_ndisc_option,
-};
+use work::Work;
 
 // How often a packet is read for a figure, and how often a figure is taken: the best counts.
 const ROUNDS: usize = 1_000_000;
 
 const TRIES: u32 = 5;
 
-// Copies of a packet that are read in turn, so that no call is like the one before it, and the bytes of the longest.
+// Copies of a packet that are read in turn, so that no call is like the one before it.
 const COPIES: usize = 16;
-
-const MOST: usize = 1_500;
 
 // The bytes that the longest packet here is written into.
 const ROOM: usize = 244;
 
+struct Row {
+    name: &'static str,
+    packet: &'static [u8],
+    read: Work,
+    write: Work,
+}
+
+// Over IPv4, over IPv6, and over UDP.
+const ROWS: &[Row] = &[
+    Row {
+        name: "fixed loop",
+        packet: &samples::FIXED,
+        read: Work::Sum,
+        write: Work::Sum,
+    },
+    Row {
+        name: "icmpv4 echo",
+        packet: &samples::ECHO_REQUEST,
+        read: Work::ReadIcmpv4,
+        write: Work::WriteIcmpv4,
+    },
+    Row {
+        name: "icmpv4 unreachable",
+        packet: &samples::PORT_UNREACHABLE,
+        read: Work::ReadIcmpv4,
+        write: Work::WriteIcmpv4,
+    },
+    Row {
+        name: "igmp query",
+        packet: &samples::QUERY,
+        read: Work::ReadIgmp,
+        write: Work::WriteIgmp,
+    },
+    Row {
+        name: "hop-by-hop",
+        packet: &samples::HOP_BY_HOP,
+        read: Work::ReadHopByHop,
+        write: Work::WriteHopByHop,
+    },
+    Row {
+        name: "icmpv6 echo",
+        packet: &samples::ECHO_REQUEST_V6,
+        read: Work::ReadIcmpv6,
+        write: Work::WriteIcmpv6,
+    },
+    Row {
+        name: "ndisc mtu",
+        packet: &samples::MTU,
+        read: Work::ReadNdiscOption,
+        write: Work::WriteNdiscOption,
+    },
+    Row {
+        name: "dhcp discover",
+        packet: &samples::DISCOVER,
+        read: Work::ReadDhcp,
+        write: Work::WriteDhcp,
+    },
+    Row {
+        name: "dns question",
+        packet: &samples::QUESTION,
+        read: Work::ReadDnsQuestion,
+        write: Work::WriteDnsQuestion,
+    },
+    Row {
+        name: "dns name",
+        packet: &samples::RESPONSE,
+        read: Work::ReadDnsName,
+        write: Work::ReadDnsName,
+    },
+];
+
 /// Prints nanoseconds a packet, and for a loop that never changes: by its figure two runs can be compared.
 pub fn measure<R: Alloc + Clock + Print>(rt: &R) -> io::Result<()> {
-    println!(rt;
-        "{:<18} {:>8} {:>18}",
-        "packet", "read ns", "read and write ns"
-    )?;
-    let fixed = [0x5a; 1_500];
-    row(rt, "fixed loop", &fixed, sum, sum)?;
-    measure_over_ipv4(rt)?;
-    measure_over_ipv6(rt)?;
-    measure_over_udp(rt)
+    println!(rt; "packet              read ns  read and write ns")?;
+    for row in ROWS {
+        let copies = row.packet.repeat(rt.alloc(), COPIES)?;
+        measure_row(rt, row, copies.as_slice())?;
+    }
+    Ok(())
 }
 
-fn measure_over_ipv4<R: Alloc + Clock + Print>(rt: &R) -> io::Result<()> {
-    row(
-        rt,
-        "icmpv4 echo",
-        &samples::ECHO_REQUEST,
-        read_icmpv4,
-        write_icmpv4,
-    )?;
-    row(
-        rt,
-        "icmpv4 unreachable",
-        &samples::PORT_UNREACHABLE,
-        read_icmpv4,
-        write_icmpv4,
-    )?;
-    row(rt, "igmp query", &samples::QUERY, read_igmp, write_igmp)
-}
-
-fn measure_over_ipv6<R: Alloc + Clock + Print>(rt: &R) -> io::Result<()> {
-    row(
-        rt,
-        "hop-by-hop",
-        &samples::HOP_BY_HOP,
-        read_hop_by_hop,
-        write_hop_by_hop,
-    )?;
-    row(
-        rt,
-        "icmpv6 echo",
-        &samples::ECHO_REQUEST_V6,
-        read_icmpv6,
-        write_icmpv6,
-    )?;
-    row(
-        rt,
-        "ndisc mtu",
-        &samples::MTU,
-        read_ndisc_option,
-        write_ndisc_option,
-    )
-}
-
-fn measure_over_udp<R: Alloc + Clock + Print>(rt: &R) -> io::Result<()> {
-    row(
-        rt,
-        "dhcp discover",
-        &samples::discover(),
-        read_dhcp,
-        write_dhcp,
-    )?;
-    row(
-        rt,
-        "dns question",
-        &samples::QUESTION,
-        read_dns_question,
-        write_dns_question,
-    )?;
-    row(
-        rt,
-        "dns name",
-        &samples::RESPONSE,
-        read_dns_name,
-        read_dns_name,
-    )
-}
-
-fn row<R: Alloc + Clock + Print, F: Fn(&[u8], &mut [u8]) -> u64, G: Fn(&[u8], &mut [u8]) -> u64>(
-    rt: &R,
-    name: &str,
-    packet: &[u8],
-    read: F,
-    write: G,
-) -> io::Result<()>
-    requires small { length packet.now ≤ MOST }
-    requires reads { F.IsAlwaysCallable read }
-    requires writes { G.IsAlwaysCallable write }
-{
-    let copies = copies(rt.alloc(), packet)?;
-    let (first, third) = best(rt, copies.as_slice(), packet.len(), read)?;
-    let (second, fourth) = best(rt, copies.as_slice(), packet.len(), write)?;
-    let note = if third.wrapping_add(fourth) == 0 {
+fn measure_row<R: Clock + Print>(rt: &R, row: &Row, copies: &[u8]) -> io::Result<()> {
+    let (read, first) = best(rt, copies, &row.read)?;
+    let (write, second) = best(rt, copies, &row.write)?;
+    let note = if first.wrapping_add(second) == 0 {
         " (refused)"
     } else {
         ""
     };
+    print(rt, row.name, read, write, note)
+}
+
+// Prints a row: two times in hundredths of a nanosecond.
+fn print<R: Print>(rt: &R, name: &str, read: u128, write: u128, note: &str) -> io::Result<()> {
     println!(rt;
         "{name:<18} {:>5}.{:02} {:>15}.{:02}{note}",
-        first / 100,
-        first % 100,
-        second / 100,
-        second % 100
+        read / 100,
+        read % 100,
+        write / 100,
+        write % 100
     )
 }
 
-// The packet, so many times one after another.
-fn copies<A: Allocator>(alloc: A, packet: &[u8]) -> Result<Vec<u8, A>, AllocError> {
-    let mut bytes = Vec::new(alloc);
-    for _ in 0..COPIES {
-        bytes.extend_from_slice(packet)?;
-    }
-    Ok(bytes)
-}
-
 // The least time of some tries, in hundredths of a nanosecond a packet, and the sum of the answers.
-fn best<R: Clock, F: Fn(&[u8], &mut [u8]) -> u64>(
-    rt: &R,
-    copies: &[u8],
-    len: usize,
-    work: F,
-) -> io::Result<(u128, u64)>
-    requires callable { F.IsAlwaysCallable work }
-    requires small { len ≤ MOST }
-{
+fn best<R: Clock>(rt: &R, copies: &[u8], work: &Work) -> io::Result<(u128, u64)> {
     let mut best = u128::MAX;
     let mut total: u64 = 0;
     for _ in 0..TRIES {
         let start = Instant::now(rt)?;
-        total = total.wrapping_add(run(copies, len, &work));
+        total = total.wrapping_add(run(copies, work));
         best = best.min(start.elapsed(rt)?.as_nanos() / (ROUNDS as u128 / 100));
     }
     Ok((best, total))
@@ -166,16 +136,14 @@ fn best<R: Clock, F: Fn(&[u8], &mut [u8]) -> u64>(
 
 // Reads, or reads and writes, a packet again and again. It is kept apart, so that no packet is known to the compiler.
 #[inline(never)]
-fn run<F: Fn(&[u8], &mut [u8]) -> u64>(copies: &[u8], len: usize, work: &F) -> u64
-    requires callable { F.IsAlwaysCallable work.now }
-    requires small { len ≤ MOST }
-{
+fn run(copies: &[u8], work: &Work) -> u64 {
+    let len = copies.len() / COPIES;
     let mut room = [0; ROOM];
     let mut total: u64 = 0;
     for round in 0..ROUNDS {
         let from = round % COPIES * len;
         if let Some(packet) = copies.get(from..from + len) {
-            let answer = work(packet, &mut room);
+            let answer = work.answer(packet, &mut room);
             total = total
                 .wrapping_add(answer)
                 .wrapping_add(room[round % ROOM] as u64);

@@ -1,8 +1,8 @@
-use super::{discover, read_lease, request};
+use super::{Lease, discover, read_lease, request};
 use crate::testing::same;
 use control_wire::dhcpv4::MessageType;
 use control_wire::{EthernetAddress, Ipv4Address};
-use std::test::Fail;
+use std::process::Abort;
 
 // The header of an answer to the client 00:0b:82:01:fc:42 in exchange 0x00003d1d, with the address 192.168.0.10.
 const HEADER: [u8; 34] = [
@@ -29,37 +29,71 @@ fn offer() -> [u8; 294] {
 }
 
 #[test]
-fn an_offer_gives_all_that_it_says(rt: HostRuntime) -> Result<(), Fail> {
+fn an_offer_gives_all_that_it_says(rt: HostRuntime) {
     let client = EthernetAddress::from_bytes(&CLIENT);
-    let octets = offer();
-    let lease = read_lease(&octets, MessageType::Offer, 0x3d1d, client).ok_or("refused")?;
-    assert!(rt; lease.address == Ipv4Address::new(192, 168, 0, 10));
-    assert!(rt; lease.server == Ipv4Address::new(192, 168, 0, 1));
-    assert!(rt; lease.subnet_mask == Some(Ipv4Address::new(255, 255, 255, 0)));
-    assert!(rt; lease.router == Some(Ipv4Address::new(192, 168, 0, 254)));
+    let Some(lease) = read_lease(&offer(), MessageType::Offer, 0x3d1d, client) else {
+        panic!(rt; "refused");
+    };
+    gives_addresses(&rt, &lease);
     same(&rt, lease.lease_duration, Some(3600));
     same(&rt, lease.renew_duration, Some(1800));
     same(&rt, lease.rebind_duration, Some(3150));
-    let servers = lease.dns_servers.ok_or("no DNS servers")?;
-    same(&rt, servers.len(), 2);
-    assert!(rt; servers.as_slice()[0] == Ipv4Address::new(8, 8, 8, 8));
-    assert!(rt; servers.as_slice()[1] == Ipv4Address::new(1, 1, 1, 1));
-    Ok(())
+}
+
+fn gives_addresses(rt: &impl Abort, lease: &Lease) {
+    same(rt, lease.address, Ipv4Address::new(192, 168, 0, 10));
+    same(rt, lease.server, Ipv4Address::new(192, 168, 0, 1));
+    let mask = Ipv4Address::new(255, 255, 255, 0);
+    same(rt, lease.subnet_mask, Some(mask));
+    let router = Ipv4Address::new(192, 168, 0, 254);
+    same(rt, lease.router, Some(router));
+    let servers = [Ipv4Address::new(8, 8, 8, 8), Ipv4Address::new(1, 1, 1, 1)];
+    same(rt, dns_servers(lease), servers.as_slice());
+}
+
+fn dns_servers(lease: &Lease) -> &[Ipv4Address] {
+    match &lease.dns_servers {
+        Some(servers) => servers.as_slice(),
+        None => &[],
+    }
 }
 
 #[test]
 fn what_is_of_another_exchange_gives_nothing(rt: HostRuntime) {
-    let client = EthernetAddress::from_bytes(&CLIENT);
-    let other = EthernetAddress::from_bytes(&[0x00, 0x0b, 0x82, 0x01, 0xfc, 0x43]);
-    let octets = offer();
-    assert!(rt; read_lease(&octets, MessageType::Ack, 0x3d1d, client).is_none());
-    assert!(rt; read_lease(&octets, MessageType::Offer, 0x3d1e, client).is_none());
-    assert!(rt; read_lease(&octets, MessageType::Offer, 0x3d1d, other).is_none());
-    assert!(rt; read_lease(&HEADER, MessageType::Offer, 0x3d1d, client).is_none());
+    let mut octets = offer();
+    let other = [0x00, 0x0b, 0x82, 0x01, 0xfc, 0x43];
+    same(
+        &rt,
+        gives(&octets, MessageType::Ack, 0x3d1d, &CLIENT),
+        false,
+    );
+    same(
+        &rt,
+        gives(&octets, MessageType::Offer, 0x3d1e, &CLIENT),
+        false,
+    );
+    same(
+        &rt,
+        gives(&octets, MessageType::Offer, 0x3d1d, &other),
+        false,
+    );
+    same(
+        &rt,
+        gives(&HEADER, MessageType::Offer, 0x3d1d, &CLIENT),
+        false,
+    );
     // without the server's identifier
-    let mut octets = octets;
     octets[267] = 0x37;
-    assert!(rt; read_lease(&octets, MessageType::Offer, 0x3d1d, client).is_none());
+    same(
+        &rt,
+        gives(&octets, MessageType::Offer, 0x3d1d, &CLIENT),
+        false,
+    );
+}
+
+fn gives(octets: &[u8], type_: MessageType, transaction_id: u32, client: &[u8; 6]) -> bool {
+    let client = EthernetAddress::from_bytes(client);
+    read_lease(octets, type_, transaction_id, client).is_some()
 }
 
 // Up to the client's hardware address, and from the cookie on.

@@ -1,9 +1,10 @@
 use super::{answer, link_address, router};
 use crate::testing::same;
-use control_wire::ndiscoption::PrefixInfoFlags;
+use control_wire::ndiscoption::{PrefixInfoFlags, PrefixInformation};
 use control_wire::{
     Duration, EthernetAddress, IPV6_LINK_LOCAL_ALL_NODES, Ipv6Address, RawHardwareAddress,
 };
+use std::process::Abort;
 
 const OWN_LINK_ADDRESS: EthernetAddress = EthernetAddress([0x02, 0x00, 0x00, 0x00, 0x00, 0x02]);
 
@@ -68,46 +69,42 @@ fn a_solicitation_is_answered_with_the_address_on_the_link(rt: HostRuntime) {
 
 #[test]
 fn what_is_no_solicitation_for_this_host_or_has_no_room_is_not_answered(rt: HostRuntime) {
+    let (peer, asked, own) = (peer(), asked(), own());
     let lladdr = OWN_LINK_ADDRESS;
     let mut reply = [0x2a; 32];
     // For another address, of another checksum, and no solicitation.
-    let none = answer(
-        &peer(),
-        &asked(),
-        &peer(),
-        lladdr,
-        &SOLICITATION,
-        &mut reply,
-    );
+    let none = answer(&peer, &asked, &peer, lladdr, &SOLICITATION, &mut reply);
     same(&rt, none, None);
-    let none = answer(&peer(), &own(), &own(), lladdr, &SOLICITATION, &mut reply);
+    let none = answer(&peer, &own, &own, lladdr, &SOLICITATION, &mut reply);
     same(&rt, none, None);
-    let none = answer(&own(), &peer(), &own(), lladdr, &ADVERTISEMENT, &mut reply);
+    let none = answer(&own, &peer, &own, lladdr, &ADVERTISEMENT, &mut reply);
     same(&rt, none, None);
     same(&rt, reply, [0x2a; 32]);
     let mut short = [0x2a; 31];
-    let none = answer(&peer(), &asked(), &own(), lladdr, &SOLICITATION, &mut short);
+    let none = answer(&peer, &asked, &own, lladdr, &SOLICITATION, &mut short);
     same(&rt, none, None);
     same(&rt, short, [0x2a; 31]);
 }
 
 #[test]
 fn the_address_on_the_link_is_read_from_an_advertisement(rt: HostRuntime) {
-    let told = link_address(&own(), &peer(), &own(), &ADVERTISEMENT);
+    let (peer, asked, own) = (peer(), asked(), own());
+    let told = link_address(&own, &peer, &own, &ADVERTISEMENT);
     same(&rt, told, Some(RawHardwareAddress::from(OWN_LINK_ADDRESS)));
     // Of another neighbor, of another checksum, and with no address of the target.
-    same(
-        &rt,
-        link_address(&own(), &peer(), &peer(), &ADVERTISEMENT),
-        None,
-    );
-    same(
-        &rt,
-        link_address(&own(), &asked(), &own(), &ADVERTISEMENT),
-        None,
-    );
-    same(&rt, link_address(&own(), &peer(), &own(), &BARE), None);
-    same(&rt, link_address(&own(), &peer(), &own(), &OF_SENDER), None);
+    same(&rt, is_told(&own, &peer, &peer, &ADVERTISEMENT), false);
+    same(&rt, is_told(&own, &asked, &own, &ADVERTISEMENT), false);
+    same(&rt, is_told(&own, &peer, &own, &BARE), false);
+    same(&rt, is_told(&own, &peer, &own, &OF_SENDER), false);
+}
+
+fn is_told(
+    source: &Ipv6Address,
+    destination: &Ipv6Address,
+    neighbor: &Ipv6Address,
+    octets: &[u8],
+) -> bool {
+    link_address(source, destination, neighbor, octets).is_some()
 }
 
 #[test]
@@ -121,16 +118,26 @@ fn lifetime_mtu_and_prefix_are_read_from_a_router(rt: HostRuntime) {
     let Some(info) = told.prefix_info else {
         panic!(rt; "no prefix");
     };
-    same(&rt, info.prefix_len, 64);
-    assert!(rt; info.flags == PrefixInfoFlags::ON_LINK | PrefixInfoFlags::ADDRCONF);
-    same(&rt, info.valid_lifetime, Duration::from_secs(2_592_000));
-    same(&rt, info.preferred_lifetime, Duration::from_secs(604_800));
-    same(
-        &rt,
-        info.prefix,
-        Ipv6Address::new(0x2001, 0xdb8, 0, 0, 0, 0, 0, 0),
-    );
-    // To another address the checksum is not good; and no advertisement of a router.
-    assert!(rt; router(&peer(), &own(), &ROUTER).is_none());
-    assert!(rt; router(&own(), &peer(), &ADVERTISEMENT).is_none());
+    is_prefix(&rt, &info);
+}
+
+fn is_prefix(rt: &impl Abort, info: &PrefixInformation) {
+    same(rt, info.prefix_len, 64);
+    let flags = PrefixInfoFlags::ON_LINK | PrefixInfoFlags::ADDRCONF;
+    same(rt, info.flags == flags, true);
+    same(rt, info.valid_lifetime, Duration::from_secs(2_592_000));
+    same(rt, info.preferred_lifetime, Duration::from_secs(604_800));
+    let prefix = Ipv6Address::new(0x2001, 0xdb8, 0, 0, 0, 0, 0, 0);
+    same(rt, info.prefix, prefix);
+}
+
+// To another address the checksum is not good; and no advertisement of a router.
+#[test]
+fn what_no_router_advertises_is_not_read(rt: HostRuntime) {
+    same(&rt, is_advertised(&peer(), &own(), &ROUTER), false);
+    same(&rt, is_advertised(&own(), &peer(), &ADVERTISEMENT), false);
+}
+
+fn is_advertised(source: &Ipv6Address, destination: &Ipv6Address, octets: &[u8]) -> bool {
+    router(source, destination, octets).is_some()
 }

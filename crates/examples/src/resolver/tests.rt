@@ -4,7 +4,7 @@ use super::{Address, next_address, query, read_answers};
 use crate::testing::same;
 use control_wire::Ipv4Address;
 use control_wire::dns::Type;
-use std::test::Fail;
+use std::process::Abort;
 
 const NAME: [u8; 18] = [
     0x03, 0x77, 0x77, 0x77, 0x08, 0x66, 0x61, 0x63, 0x65, 0x62, 0x6f, 0x6f, 0x6b, 0x03, 0x63, 0x6f,
@@ -42,45 +42,59 @@ fn the_query_is_that_of_a_real_client(rt: HostRuntime) {
 }
 
 #[test]
-fn the_address_of_an_alias(rt: HostRuntime) -> Result<(), Fail> {
-    let message = RESPONSE;
-    let name = NAME;
-    let all = read_answers(&message, 0x786c, &name, Type::A).ok_or("no response")?;
-    same(&rt, all.left, 2);
-    let (address, rest) = next_address(all).ok_or("no address")?;
-    assert!(rt; address == Address::V4(Ipv4Address::new(31, 13, 83, 36)));
-    assert!(rt; next_address(rest).is_none());
-    Ok(())
+fn the_address_of_an_alias(rt: HostRuntime) {
+    let address = Ipv4Address::new(31, 13, 83, 36);
+    has_addresses(&rt, &RESPONSE, 0x786c, &NAME, &[address]);
+}
+
+// Ends the test unless the response has two answers, and these addresses in turn and no other.
+fn has_addresses(
+    rt: &impl Abort,
+    message: &[u8],
+    transaction_id: u16,
+    name: &[u8],
+    addresses: &[Ipv4Address],
+) {
+    let Some(all) = read_answers(message, transaction_id, name, Type::A) else {
+        panic!(rt; "no response");
+    };
+    same(rt, all.left, 2);
+    let mut left = all;
+    for address in addresses {
+        let Some((found, rest)) = next_address(left) else {
+            panic!(rt; "no address");
+        };
+        same(rt, found == Address::V4(*address), true);
+        left = rest;
+    }
+    same(rt, next_address(left).is_none(), true);
 }
 
 #[test]
 fn responses_to_others(rt: HostRuntime) {
-    let message = RESPONSE;
-    let name = NAME;
-    assert!(rt; read_answers(&message, 0x786d, &name, Type::A).is_none());
-    assert!(rt; read_answers(&message, 0x786c, &name, Type::Aaaa).is_none());
-    assert!(rt; read_answers(&message, 0x786c, &name[4..], Type::A).is_none());
-    assert!(rt; read_answers(&message[..33], 0x786c, &name, Type::A).is_none());
+    same(&rt, answers(&RESPONSE, 0x786d, &NAME, Type::A), false);
+    same(&rt, answers(&RESPONSE, 0x786c, &NAME, Type::Aaaa), false);
+    same(&rt, answers(&RESPONSE, 0x786c, &NAME[4..], Type::A), false);
+    same(&rt, answers(&RESPONSE[..33], 0x786c, &NAME, Type::A), false);
     let mut failed = RESPONSE;
     failed[3] = 0x83;
-    assert!(rt; read_answers(&failed, 0x786c, &name, Type::A).is_none());
+    same(&rt, answers(&failed, 0x786c, &NAME, Type::A), false);
     let mut asked = RESPONSE;
     asked[2] = 0x01;
-    assert!(rt; read_answers(&asked, 0x786c, &name, Type::A).is_none());
+    same(&rt, answers(&asked, 0x786c, &NAME, Type::A), false);
+}
+
+fn answers(message: &[u8], transaction_id: u16, name: &[u8], type_: Type) -> bool {
+    read_answers(message, transaction_id, name, type_).is_some()
 }
 
 // The second record is cut, or is of another name: the canonical name of the first has no address then.
 #[test]
-fn no_address(rt: HostRuntime) -> Result<(), Fail> {
-    let name = NAME;
-    let message = RESPONSE;
-    let all = read_answers(&message[..78], 0x786c, &name, Type::A).ok_or("no response")?;
-    assert!(rt; next_address(all).is_none());
+fn no_address(rt: HostRuntime) {
+    has_addresses(&rt, &RESPONSE[..78], 0x786c, &NAME, &[]);
     let mut other = RESPONSE;
     other[64] = 0x2f;
-    let all = read_answers(&other, 0x786c, &name, Type::A).ok_or("no response")?;
-    assert!(rt; next_address(all).is_none());
-    Ok(())
+    has_addresses(&rt, &other, 0x786c, &NAME, &[]);
 }
 
 // A response with two addresses, each of the name that the question has, to which a pointer leads.
@@ -92,13 +106,7 @@ const TWO_ADDRESSES: [u8; 51] = [
 ];
 
 #[test]
-fn both_addresses_of_a_name(rt: HostRuntime) -> Result<(), Fail> {
-    let message = TWO_ADDRESSES;
-    let all = read_answers(&message, 0x1234, b"\x01a\x00", Type::A).ok_or("no response")?;
-    let (first, rest) = next_address(all).ok_or("no address")?;
-    assert!(rt; first == Address::V4(Ipv4Address::new(10, 0, 0, 1)));
-    let (second, rest) = next_address(rest).ok_or("no second address")?;
-    assert!(rt; second == Address::V4(Ipv4Address::new(10, 0, 0, 2)));
-    assert!(rt; next_address(rest).is_none());
-    Ok(())
+fn both_addresses_of_a_name(rt: HostRuntime) {
+    let addresses = [Ipv4Address::new(10, 0, 0, 1), Ipv4Address::new(10, 0, 0, 2)];
+    has_addresses(&rt, &TWO_ADDRESSES, 0x1234, b"\x01a\x00", &addresses);
 }
