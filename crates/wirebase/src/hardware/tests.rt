@@ -1,5 +1,5 @@
 use super::Hardware;
-use crate::testing::same_of;
+use crate::testing::{same, same_of};
 use std::test::Fail;
 
 #[test]
@@ -14,7 +14,7 @@ fn hardware_by_its_number(rt: HostRuntime) -> Result<(), Fail> {
         same_of(&rt, number, Hardware::from(number), hardware);
         same_of(&rt, hardware, u16::from(hardware), number);
     }
-    assert!(rt; Hardware::Ethernet < Hardware::Unknown(0));
-    assert!(rt; Hardware::Unknown(0) < Hardware::Unknown(2));
+    same(&rt, Hardware::Ethernet < Hardware::Unknown(0), true);
+    same(&rt, Hardware::Unknown(0) < Hardware::Unknown(2), true);
     Ok(())
 }

@@ -100,15 +100,15 @@ fn parted_by_a_run(text: &str) -> Option<(&str, &str)> {
 
 // The text with such a run left out.
 fn shortened(alloc: Global, whole: &str) -> Result<String, Fail> {
-    let mut text = String::new(alloc);
-    let Some((before, after)) = parted_by_a_run(whole) else {
-        text.push_str(whole.trim_matches(':'))?;
-        return Ok(text);
+    let parts = match parted_by_a_run(whole) {
+        Some((before, after)) => [
+            before.strip_prefix(":").unwrap_or(before),
+            "::",
+            after.strip_suffix(":").unwrap_or(after),
+        ],
+        None => [whole.trim_matches(':'), "", ""],
     };
-    text.push_str(before.strip_prefix(":").unwrap_or(before))?;
-    text.push_str("::")?;
-    text.push_str(after.strip_suffix(":").unwrap_or(after))?;
-    Ok(text)
+    Ok(parts.concat(alloc)?)
 }
 
 #[test]
@@ -137,24 +137,27 @@ fn printing_a_header_fails_only_with_its_writer(rt: HostRuntime) -> Result<(), F
 #[test]
 fn kinds_of_addresses(rt: HostRuntime) -> Result<(), Fail> {
     // The groups of an address, and whether it is unspecified, multicast and link-local.
-    const ROWS: &[([u16; 8], bool, bool, bool)] = &[
-        ([0; 8], true, false, false),
-        ([0, 0, 0, 0, 0, 0, 0, 1], false, false, false),
-        ([0xfe80, 0, 0, 0, 0, 0, 0, 1], false, false, true),
+    const ROWS: &[([u16; 8], [bool; 3])] = &[
+        ([0; 8], [true, false, false]),
+        ([0, 0, 0, 0, 0, 0, 0, 1], [false, false, false]),
+        ([0xfe80, 0, 0, 0, 0, 0, 0, 1], [false, false, true]),
         // The first ten bits are those of a link, but not the 54 behind them.
-        ([0xfe81, 0, 0, 0, 0, 0, 0, 1], false, false, false),
-        ([0xfebf, 0, 0, 0, 0, 0, 0, 1], false, false, false),
-        ([0xfe80, 0, 0, 1, 0, 0, 0, 1], false, false, false),
-        ([0xfe00, 0, 0, 0, 0, 0, 0, 1], false, false, false),
-        ([0xff02, 0, 0, 0, 0, 0, 0, 1], false, true, false),
-        ([0xff00, 0, 0, 0, 0, 0, 0, 0], false, true, false),
-        ([0xfeff, 0, 0, 0, 0, 0, 0, 0], false, false, false),
+        ([0xfe81, 0, 0, 0, 0, 0, 0, 1], [false, false, false]),
+        ([0xfebf, 0, 0, 0, 0, 0, 0, 1], [false, false, false]),
+        ([0xfe80, 0, 0, 1, 0, 0, 0, 1], [false, false, false]),
+        ([0xfe00, 0, 0, 0, 0, 0, 0, 1], [false, false, false]),
+        ([0xff02, 0, 0, 0, 0, 0, 0, 1], [false, true, false]),
+        ([0xff00, 0, 0, 0, 0, 0, 0, 0], [false, true, false]),
+        ([0xfeff, 0, 0, 0, 0, 0, 0, 0], [false, false, false]),
     ];
-    for &(groups, unspecified, multicast, link_local) in ROWS {
+    for &(groups, wanted) in ROWS {
         let address = address_of(groups);
-        same_of(&rt, address, address.is_unspecified(), unspecified);
-        same_of(&rt, address, address.is_multicast(), multicast);
-        same_of(&rt, address, address.is_link_local(), link_local);
+        let kinds = [
+            address.is_unspecified(),
+            address.is_multicast(),
+            address.is_link_local(),
+        ];
+        same_of(&rt, address, kinds, wanted);
     }
     Ok(())
 }
