@@ -1,12 +1,12 @@
 // A second reader of messages, by the layouts of RFC 4443, RFC 3810 and RFC 4861, and by smoltcp's rules of what is
 // refused. The tests compare the crate with it.
 
+ghost use Rattle.std.specs.Prelude.{◌<◌};
+
 use crate::icmpv6::Packet;
-use crate::testing::{holds_of, same_of};
+use crate::testing::same_of;
 use crate::{icmpv6, mld, ndisc};
-use std::alloc::Global;
 use std::process::Abort;
-use std::test::Fail;
 use wirebase::{ChecksumCapabilities, IpProtocol, Ipv6Address, Ipv6Repr};
 
 mod control;
@@ -54,35 +54,26 @@ fn split_ip_header(octets: &[u8]) -> Option<(Ipv6Repr, &[u8])> {
 // What a byte of a message is set to, one byte at a time.
 const DAMAGE: &[u8] = &[0x00, 0x40, 0x7f, 0x80, 0xc0, 0xff];
 
-// Compares the crate with the plain reader over these octets, over each shorter part of them from their start on, and
-// over each copy of them in which one byte is damaged.
-pub(crate) fn compare_damaged(rt: &impl Abort, alloc: Global, message: &[u8]) -> Result<(), Fail> {
-    for len in 0..=message.len() {
+// Compares the crate with the plain reader over this message, over each shorter part of it from its start on, and over
+// each copy of it in which one byte is damaged.
+pub(crate) fn compare_damaged<const N: usize>(rt: &impl Abort, message: &[u8; N]) {
+    for len in 0..=N {
         compare(rt, &message[..len]);
     }
-    for at in 0..message.len() {
-        for &value in DAMAGE {
-            compare_changed(rt, alloc, message, at, value)?;
-        }
+    for at in 0..N {
+        compare_changed(rt, message, at);
     }
-    Ok(())
 }
 
-// The same over a copy in which the byte at this place is another one.
-fn compare_changed(
-    rt: &impl Abort,
-    alloc: Global,
-    message: &[u8],
-    at: usize,
-    value: u8,
-) -> Result<(), Fail> {
-    let mut damaged = Vec::new(alloc);
-    damaged.extend_from_slice(message)?;
-    if let Some(octet) = damaged.as_mut_slice().get_mut(at) {
-        *octet = value;
+// The same over copies in which the byte at this place is another one.
+fn compare_changed<const N: usize>(rt: &impl Abort, message: &[u8; N], at: usize)
+    requires { at < N }
+{
+    for &value in DAMAGE {
+        let mut damaged = *message;
+        damaged[at] = value;
+        compare(rt, &damaged);
     }
-    compare(rt, damaged.as_slice());
-    Ok(())
 }
 
 // Compares the check of a header and the three readers.
@@ -96,31 +87,22 @@ fn compare(rt: &impl Abort, octets: &[u8]) {
 }
 
 fn compare_neighbor(rt: &impl Abort, octets: &[u8], packet: &Packet<&[u8]>) {
+    let read = ndisc::Repr::parse(packet);
     let plain = neighbor::message(octets);
-    let Ok(read) = ndisc::Repr::parse(packet) else {
-        holds_of(rt, octets, plain.is_none());
-        return;
-    };
-    same_of(rt, octets, &Some(read), &plain);
+    same_of(rt, octets, read.as_ref().ok(), plain.as_ref());
 }
 
 fn compare_listener(rt: &impl Abort, octets: &[u8], packet: &Packet<&[u8]>) {
+    let read = mld::Repr::parse(packet);
     let plain = listener::message(octets);
-    let Ok(read) = mld::Repr::parse(packet) else {
-        holds_of(rt, octets, plain.is_none());
-        return;
-    };
-    same_of(rt, octets, &Some(read), &plain);
+    same_of(rt, octets, read.as_ref().ok(), plain.as_ref());
 }
 
 // The checksum is not looked at.
 fn compare_control(rt: &impl Abort, octets: &[u8], packet: &Packet<&[u8]>) {
-    let plain = control::message(octets);
     let nobody = Ipv6Address::UNSPECIFIED;
     let caps = ChecksumCapabilities::ignored();
-    let Ok(read) = icmpv6::Repr::parse(&nobody, &nobody, packet, &caps) else {
-        holds_of(rt, octets, plain.is_none());
-        return;
-    };
-    same_of(rt, octets, &Some(read), &plain);
+    let read = icmpv6::Repr::parse(&nobody, &nobody, packet, &caps);
+    let plain = control::message(octets);
+    same_of(rt, octets, read.as_ref().ok(), plain.as_ref());
 }

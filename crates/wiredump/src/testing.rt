@@ -7,13 +7,6 @@ ghost use Rattle.std.specs.Prelude.{◌≡◌, true};
 use std::fmt::Debug;
 use std::process::Abort;
 
-// Ends the test where the two differ.
-pub(crate) fn same<T: PartialEq + Debug + Drop>(rt: &impl Abort, left: T, right: T)
-    ensures { T.eq left right ≡ true }
-{
-    assert!(rt; left == right, "{left:?} is not {right:?}");
-}
-
 // Ends the test where the two differ, and says what they are of.
 pub(crate) fn same_of<T: PartialEq + Debug + Drop>(
     rt: &impl Abort,

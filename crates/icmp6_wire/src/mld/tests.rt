@@ -1,13 +1,12 @@
 ghost use Rattle.std.specs.Prelude.{◌≡◌, ℕ, List, length};
 ghost use Rattle.wirebase.specs.Ipv6Address.{IsMulticast};
-ghost use Rattle.icmp6_wire.specs.Mld.{CanEmit, value_of, text_len, told_len};
+ghost use Rattle.icmp6_wire.specs.Mld.{CanEmit, value_of, values_of, records, text_len, told_len};
 
 use super::{AddressRecord, AddressRecordRepr, RecordType, Repr};
 use crate::icmpv6::Packet;
 use crate::plain_reader::compare_damaged;
 use crate::testing::{fail, holds_of, same, same_of};
 use std::process::Abort;
-use std::test::Fail;
 use wirebase::{IPV6_LINK_LOCAL_ALL_NODES, IPV6_LINK_LOCAL_ALL_ROUTERS, Ipv6Address};
 
 mod inside_icmpv6;
@@ -35,12 +34,29 @@ const SOURCE_REPORT: [u8; 44] = [
     0x00, 0x00, 0x00, 0x00, 0x00, 0x00, 0x00, 0x00, 0x00, 0x00, 0x00, 0x02,
 ];
 
-// Writes a message over these octets, and checks that it is those which are wanted.
-fn check_written(rt: &impl Abort, message: &Repr<'_>, octets: &mut [u8], wanted: &[u8])
-    requires { CanEmit (value_of message.now) octets.old }
+// Writes a message over octets that are all the same, and checks that it is those which are wanted.
+fn check_written<const N: usize>(rt: &impl Abort, message: &Repr<'_>, wanted: &[u8; N])
+    requires { (bytes : List ℕ) → length bytes ≡ N → CanEmit (value_of message.now) bytes }
 {
-    message.emit(&mut Packet::new_unchecked(&mut *octets));
-    same(rt, &*octets, wanted);
+    for &fill in FILLS {
+        let mut octets = [fill; N];
+        message.emit(&mut Packet::new_unchecked(octets.as_mut_slice()));
+        same_of(rt, fill, &octets, wanted);
+    }
+    let mut octets = [0; N];
+    message.emit_into(&mut octets);
+    same(rt, &octets, wanted);
+}
+
+// Writes a report of these records as `check_written` does, and checks what it says of its length.
+fn check_list<const N: usize>(rt: &impl Abort, list: &[AddressRecordRepr<'_>], wanted: &[u8; N])
+    requires can { (bytes : List ℕ) → length bytes ≡ N
+        → CanEmit (records (values_of list.now)) bytes }
+    requires len { text_len (records (values_of list.now)) ≡ N }
+{
+    let report = Repr::ReportRecordReprs(list);
+    same(rt, [report.buffer_len(), report.packet_len()], [8, N]);
+    check_written(rt, &report, wanted);
 }
 
 // Checks that these octets are read as this message.
@@ -75,9 +91,7 @@ fn query() -> Repr<'static>
 #[test]
 fn queries_are_written_and_read(rt: HostRuntime) {
     let query = query();
-    for &fill in FILLS {
-        check_written(&rt, &query, &mut [fill; 44], &QUERY);
-    }
+    check_written(&rt, &query, &QUERY);
     check_read(&rt, &QUERY, &query);
     same(&rt, [query.buffer_len(), query.packet_len()], [44, 44]);
 }
@@ -104,9 +118,7 @@ fn report_of(count: u16) -> Repr<'static>
 #[test]
 fn reports_are_written_and_read(rt: HostRuntime) {
     let report = report_of(1);
-    for &fill in FILLS {
-        check_written(&rt, &report, &mut [fill; 28], &REPORT);
-    }
+    check_written(&rt, &report, &REPORT);
     check_read(&rt, &REPORT, &report);
     same(&rt, [report.buffer_len(), report.packet_len()], [28, 28]);
 }
@@ -117,15 +129,7 @@ fn a_list_of_records_is_written_as_a_report(rt: HostRuntime) {
         RecordType::ChangeToExclude,
         IPV6_LINK_LOCAL_ALL_ROUTERS,
     )];
-    let by_records = Repr::ReportRecordReprs(&records);
-    for &fill in FILLS {
-        check_written(&rt, &by_records, &mut [fill; 28], &REPORT);
-    }
-    same(
-        &rt,
-        [by_records.buffer_len(), by_records.packet_len()],
-        [8, 28],
-    );
+    check_list(&rt, &records, &REPORT);
 }
 
 #[test]
@@ -137,24 +141,32 @@ fn reports_are_read_by_their_first_8_bytes(rt: HostRuntime) {
     holds_of(&rt, 8, Repr::parse(&packet).is_ok());
 }
 
+// Checks the flag and the robustness variable of a query in which their octet is this one.
+fn check_flag_octet(rt: &impl Abort, byte: u8) {
+    let mut octets = [0; 25];
+    octets[24] = byte;
+    let packet = Packet::new_unchecked(octets.as_slice());
+    same_of(rt, byte, packet.s_flag(), byte & 8 != 0);
+    same_of(rt, byte, packet.qrv(), byte & 7);
+    let mut robust = octets;
+    Packet::new_unchecked(robust.as_mut_slice()).set_qrv(2);
+    let mut set = octets;
+    Packet::new_unchecked(set.as_mut_slice()).set_s_flag();
+    let mut cleared = octets;
+    Packet::new_unchecked(cleared.as_mut_slice()).clear_s_flag();
+    let written = [robust[24], set[24], cleared[24]];
+    same_of(
+        rt,
+        byte,
+        written,
+        [(byte & 8) | 2, (byte & 7) | 8, byte & 7],
+    );
+}
+
 #[test]
 fn the_flag_and_the_robustness_variable(rt: HostRuntime) {
     for byte in 0..=255 {
-        let mut octets = [0; 25];
-        octets[24] = byte;
-        let mut packet = Packet::new_unchecked(octets.as_mut_slice());
-        same_of(&rt, byte, packet.s_flag(), byte & 8 != 0);
-        same_of(&rt, byte, packet.qrv(), byte & 7);
-        packet.set_qrv(2);
-        same_of(&rt, byte, octets[24], (byte & 8) | 2);
-        octets[24] = byte;
-        let mut packet = Packet::new_unchecked(octets.as_mut_slice());
-        packet.set_s_flag();
-        same_of(&rt, byte, octets[24], (byte & 7) | 8);
-        octets[24] = byte;
-        let mut packet = Packet::new_unchecked(octets.as_mut_slice());
-        packet.clear_s_flag();
-        same_of(&rt, byte, octets[24], byte & 7);
+        check_flag_octet(&rt, byte);
     }
 }
 
@@ -184,7 +196,7 @@ fn records_are_read_by_their_first_20_bytes(rt: HostRuntime) {
         holds_of(&rt, len, AddressRecordRepr::parse(&record).is_err());
     }
     let record = AddressRecord::new_unchecked(SHORT_RECORD.as_slice());
-    assert!(rt; AddressRecordRepr::parse(&record) == Ok(short_record()));
+    same(&rt, AddressRecordRepr::parse(&record), Ok(short_record()));
 }
 
 #[test]
@@ -219,19 +231,21 @@ fn records_are_written_in_their_order(rt: HostRuntime) {
         },
         AddressRecordRepr::new(RecordType::Unknown(7), IPV6_LINK_LOCAL_ALL_ROUTERS),
     ];
-    let report = Repr::ReportRecordReprs(&records);
-    same(&rt, report.packet_len(), 48);
-    for &fill in FILLS {
-        check_written(&rt, &report, &mut [fill; 48], &TWO_RECORDS);
-    }
+    check_list(&rt, &records, &TWO_RECORDS);
 }
 
 #[test]
 fn an_empty_list_of_records_is_written(rt: HostRuntime) {
-    let report = Repr::ReportRecordReprs(&[]);
-    same(&rt, report.packet_len(), 8);
-    for &fill in FILLS {
-        check_written(&rt, &report, &mut [fill; 8], &[0x8f, 0, 0, 0, 0, 0, 0, 0]);
+    check_list(&rt, &[], &[0x8f, 0, 0, 0, 0, 0, 0, 0]);
+}
+
+// Checks that these octets count 300 records, and that each of them is this one.
+fn check_300_records(rt: &impl Abort, octets: &[u8; 6008], record: &[u8; 20]) {
+    let head = [0x8f, 0x00, 0x00, 0x00, 0x00, 0x00, 0x01, 0x2c];
+    same(rt, &octets[..8], head.as_slice());
+    for at in 0..300 {
+        let start = 8 + 20 * at;
+        same_of(rt, at, &octets[start..start + 20], record.as_slice());
     }
 }
 
@@ -240,18 +254,13 @@ fn a_report_of_300_records(rt: HostRuntime) {
     let record = AddressRecordRepr::new(RecordType::ModeIsExclude, IPV6_LINK_LOCAL_ALL_NODES);
     let records = [record; 300];
     let report = Repr::ReportRecordReprs(&records);
-    same(&rt, report.buffer_len(), 8);
-    same(&rt, report.packet_len(), 6008);
+    same(&rt, [report.buffer_len(), report.packet_len()], [8, 6008]);
     let mut octets = [0x2a; 6008];
     report.emit(&mut Packet::new_unchecked(octets.as_mut_slice()));
-    let head = [0x8f, 0x00, 0x00, 0x00, 0x00, 0x00, 0x01, 0x2c];
     let one = [
         0x02, 0, 0, 0, 0xff, 0x02, 0, 0, 0, 0, 0, 0, 0, 0, 0, 0, 0, 0, 0, 0x01,
     ];
-    for (at, byte) in octets.iter().enumerate() {
-        let wanted = if at < 8 { head[at] } else { one[(at - 8) % 20] };
-        same_of(&rt, at, *byte, wanted);
-    }
+    check_300_records(&rt, &octets, &one);
 }
 
 #[test]
@@ -262,10 +271,10 @@ fn fields_of_queries_and_reports(rt: HostRuntime) {
     packet.set_mcast_addr(IPV6_LINK_LOCAL_ALL_ROUTERS);
     packet.set_qqic(0x12);
     packet.set_num_srcs(0x0304);
-    same(&rt, packet.max_resp_code(), 0x0102);
+    let numbers = [packet.max_resp_code(), packet.num_srcs()];
+    same(&rt, numbers, [0x0102, 0x0304]);
     same(&rt, packet.mcast_addr(), IPV6_LINK_LOCAL_ALL_ROUTERS);
     same(&rt, packet.qqic(), 0x12);
-    same(&rt, packet.num_srcs(), 0x0304);
     let written = [
         0x2a, 0x2a, 0x2a, 0x2a, 0x01, 0x02, 0x2a, 0x2a, 0xff, 0x02, 0, 0, 0, 0, 0, 0, 0, 0, 0, 0,
         0, 0, 0, 0x02, 0x2a, 0x12, 0x03, 0x04,
@@ -315,8 +324,9 @@ fn fields_of_records_are_read(rt: HostRuntime) {
 fn records_are_compared_with_what_stands_behind_them(rt: HostRuntime) {
     let record = AddressRecord::new_unchecked(RECORD.as_slice());
     same(&rt, record.payload(), [0xaa, 0xbb].as_slice());
-    assert!(rt; record == AddressRecord::new_unchecked(RECORD.as_slice()));
-    assert!(rt; record != AddressRecord::new_unchecked(&RECORD[..21]));
+    let whole = AddressRecord::new_unchecked(RECORD.as_slice());
+    let part = AddressRecord::new_unchecked(&RECORD[..21]);
+    same(&rt, [record == whole, record == part], [true, false]);
 }
 
 #[test]
@@ -327,11 +337,8 @@ fn a_list_of_records_and_a_report_have_the_same_text(rt: HostRuntime) {
     )];
     let by_records = Repr::ReportRecordReprs(&records);
     let report = report_of(1);
-    let mut one = [0; 28];
-    by_records.emit_into(&mut one);
-    let mut two = [0; 28];
-    report.emit_into(&mut two);
-    same(&rt, one, two);
+    check_written(&rt, &by_records, &REPORT);
+    check_written(&rt, &report, &REPORT);
     holds_of(&rt, "another value of the same text", by_records != report);
     Repr::same_text(&by_records, &report);
 }
@@ -340,11 +347,10 @@ fn a_list_of_records_and_a_report_have_the_same_text(rt: HostRuntime) {
 fn reports_of_other_counts_have_other_texts(rt: HostRuntime) {
     let report = report_of(1);
     let other = report_of(2);
-    let mut two = [0; 28];
-    report.emit_into(&mut two);
-    let mut three = [0; 28];
-    other.emit_into(&mut three);
-    same(&rt, two == three, false);
+    let mut text = REPORT;
+    text[7] = 2;
+    check_written(&rt, &report, &REPORT);
+    check_written(&rt, &other, &text);
     Repr::same_text(&report, &other);
 }
 
@@ -364,8 +370,8 @@ fn equal_texts_of_records_have_equal_normal_forms(rt: HostRuntime) {
 }
 
 #[test]
-fn damaged_queries_and_reports(rt: HostRuntime) -> Result<(), Fail> {
-    compare_damaged(&rt, rt.alloc(), &QUERY)?;
-    compare_damaged(&rt, rt.alloc(), &REPORT)?;
-    compare_damaged(&rt, rt.alloc(), &SOURCE_REPORT)
+fn damaged_queries_and_reports(rt: HostRuntime) {
+    compare_damaged(&rt, &QUERY);
+    compare_damaged(&rt, &REPORT);
+    compare_damaged(&rt, &SOURCE_REPORT);
 }

@@ -1,6 +1,6 @@
 //! Packets of DHCP.
 
-use super::{check_line, compare_changed};
+use super::{append, check_line, compare_changed, joined};
 use std::alloc::Global;
 use std::process::Abort;
 use std::test::Fail;
@@ -64,9 +64,8 @@ fn said_of<'a>(said: &'a str, name: &str) -> Option<&'a str> {
 fn listing(alloc: Global, said: &str) -> Result<String, Fail> {
     let mut text = String::new(alloc);
     for (name, default) in FIELDS {
-        text.push_str(name)?;
-        text.push_str(said_of(said, name).unwrap_or(default))?;
-        text.push_str("\n")?;
+        let value = said_of(said, name).unwrap_or(default);
+        append(&mut text, &[name, value, "\n"])?;
     }
     Ok(text)
 }
@@ -88,7 +87,7 @@ fn check_fields(
 
 // A line of a packet with this header and these options.
 fn line_with(alloc: Global, header: &str, options: &str) -> Result<String, Fail> {
-    Ok(format!(in alloc; "dhcp {header}{ZEROS}63825363{options}")?)
+    joined(alloc, &["dhcp ", header, ZEROS, "63825363", options])
 }
 
 #[test]

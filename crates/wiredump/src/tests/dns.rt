@@ -1,6 +1,6 @@
 //! Questions and names of DNS.
 
-use super::{check, check_changed, check_line, compare_changed, line_of};
+use super::{check, check_changed, check_line, compare_changed, joined};
 use std::fmt::Write;
 use std::test::Fail;
 
@@ -67,7 +67,7 @@ fn names_of_changed_messages(rt: HostRuntime) -> Result<(), Fail> {
     const MESSAGE: &str = "000000000000000000000000026100c011c00e0161c00c";
     const WORDS: &[&str] = &["name 5", "name 12", "name 16"];
     for words in WORDS {
-        let line = line_of(rt.alloc(), words, MESSAGE)?;
+        let line = joined(rt.alloc(), &[words, " ", MESSAGE])?;
         compare_changed(&rt, rt.alloc(), line.as_bytes(), words.len())?;
     }
     Ok(())

@@ -1,8 +1,9 @@
 //! Readers and writers that fail.
 
+use super::{joined, repeated};
 use crate::line::show_line;
 use crate::reading::{Line, read_line};
-use crate::testing::{holds_of, same, same_of};
+use crate::testing::{holds_of, same_of};
 use crate::{Fault, run, status};
 use std::alloc::Global;
 use std::io;
@@ -11,32 +12,24 @@ use std::process::Abort;
 use std::test::Fail;
 
 // A line of each word, and a bad one.
-const LINES: &[&[u8]] = &[
-    b"hbh 010400000000\n",
-    b"icmp4 08008efe1234abcdaa0000ff\n",
-    b"icmp6 fe800000000000000000000000000001 fe800000000000000000000000000002 800019b31234ab\
+const LINES: &[&str] = &[
+    "hbh 010400000000\n",
+    "icmp4 08008efe1234abcdaa0000ff\n",
+    "icmp6 fe800000000000000000000000000001 fe800000000000000000000000000002 800019b31234ab\
         cdaa0000ff\n",
-    b"mld 8f0000000000000104000000ff020000000000000000000000000002\n",
-    b"igmp 1180ee7f00000000\n",
-    b"dhcp 010106000000000000000000000000000000000000000000000000000000000000000000000000000\
+    "mld 8f0000000000000104000000ff020000000000000000000000000002\n",
+    "igmp 1180ee7f00000000\n",
+    "dhcp 010106000000000000000000000000000000000000000000000000000000000000000000000000000\
         00000000000000000000000000000000000000000000000000000000000000000000000000000000000000\
         00000000000000000000000000000000000000000000000000000000000000000000000000000000000000\
         00000000000000000000000000000000000000000000000000000000000000000000000000000000000000\
         00000000000000000000000000000000000000000000000000000000000000000000000000000000000000\
         0000000000000000000000000000000000000000000000063825363350101ff\n",
-    b"ndopt 05010000000005dc\n",
-    b"question 01610000010001\n",
-    b"name 12 0000000000000000000000000161c0100162c00c\n",
-    b"foo -\n",
+    "ndopt 05010000000005dc\n",
+    "question 01610000010001\n",
+    "name 12 0000000000000000000000000161c0100162c00c\n",
+    "foo -\n",
 ];
-
-fn whole_input(alloc: Global) -> Result<Vec<u8>, Fail> {
-    let mut input = Vec::new(alloc);
-    for line in LINES {
-        input.extend_from_slice(line)?;
-    }
-    Ok(input)
-}
 
 #[test]
 fn statuses(rt: HostRuntime) -> Result<(), Fail> {
@@ -48,7 +41,7 @@ fn statuses(rt: HostRuntime) -> Result<(), Fail> {
         (Err(Fault::Memory), 3),
     ];
     for (answer, code) in ROWS {
-        same(&rt, status(answer), *code);
+        same_of(&rt, answer, status(answer), *code);
     }
     Ok(())
 }
@@ -101,31 +94,48 @@ fn check_source(
     }
 }
 
+// Fails at each call in turn, and at one more than there are.
+fn check_sources(
+    rt: &impl Abort,
+    alloc: Global,
+    octets: &[u8],
+    kind: ErrorKind,
+    fails: bool,
+    undisturbed: &[u8],
+) {
+    // Calls for all octets, and one more at the end.
+    let calls = octets.len() / GIVEN + 1;
+    for fails_at in 0..calls + 1 {
+        let source = Source {
+            octets,
+            calls: 0,
+            fails_at,
+            kind,
+        };
+        check_source(rt, alloc, source, fails && fails_at < calls, undisturbed);
+    }
+}
+
+// What an input with a bad line prints where nothing fails.
+fn printed(rt: &impl Abort, alloc: Global, input: &[u8]) -> Vec<u8> {
+    let mut output = Vec::new(alloc);
+    same_of(rt, input, run(alloc, input, &mut output), Ok(false));
+    output
+}
+
 #[test]
 fn reads_that_fail(rt: HostRuntime) -> Result<(), Fail> {
-    let input = whole_input(rt.alloc())?;
-    let mut undisturbed = Vec::new(rt.alloc());
-    let answer = run(rt.alloc(), input.as_slice(), &mut undisturbed);
-    same(&rt, answer, Ok(false));
-    // Calls for all octets, and one more at the end.
-    let calls = input.len() / GIVEN + 1;
     const ROWS: &[(ErrorKind, bool)] = &[
         (ErrorKind::ConnectionReset, true),
         (ErrorKind::OutOfMemory, true),
         // It is tried again.
         (ErrorKind::Interrupted, false),
     ];
+    let input = joined(rt.alloc(), LINES)?;
+    let undisturbed = printed(&rt, rt.alloc(), input.as_bytes());
+    let (input, undisturbed) = (input.as_bytes(), undisturbed.as_slice());
     for &(kind, fails) in ROWS {
-        for fails_at in 0..calls + 1 {
-            let source = Source {
-                octets: input.as_slice(),
-                calls: 0,
-                fails_at,
-                kind,
-            };
-            let fails = fails && fails_at < calls;
-            check_source(&rt, rt.alloc(), source, fails, undisturbed.as_slice());
-        }
+        check_sources(&rt, rt.alloc(), input, kind, fails, undisturbed);
     }
     Ok(())
 }
@@ -165,14 +175,10 @@ impl Write for Sink<'_> {
 }
 
 // A line of each word, and then lines of 255 octets that print about 540 each.
-fn long_input(alloc: Global) -> Result<Vec<u8>, Fail> {
-    let mut input = whole_input(alloc)?;
-    for _ in 0..60 {
-        input.extend_from_slice(b"hbh 11ff")?;
-        input.extend_from_slice(&[b'a'; 510])?;
-        input.extend_from_slice(b"\nfoo\n")?;
-    }
-    Ok(input)
+fn long_input(alloc: Global) -> Result<String, Fail> {
+    let long = repeated(alloc, &[("hbh 11ff", 1), ("a", 510), ("\nfoo\n", 1)])?;
+    let lines = joined(alloc, LINES)?;
+    repeated(alloc, &[(lines.as_str(), 1), (long.as_str(), 60)])
 }
 
 // Compares what was printed to a sink with what is printed to one that never fails; true where no write failed.
@@ -194,39 +200,63 @@ fn check_written(
     false
 }
 
+// Compares what is printed to a sink that fails at one call, or from it on; true where no write failed.
+fn check_sink(
+    rt: &impl Abort,
+    alloc: Global,
+    input: &[u8],
+    fails_at: usize,
+    row: &(ErrorKind, Fault, bool),
+    undisturbed: &[u8],
+) -> bool {
+    let (kind, fault, for_good) = *row;
+    let mut output = Vec::new(alloc);
+    let sink = Sink {
+        output: &mut output,
+        calls: 0,
+        fails_at,
+        for_good,
+        kind,
+    };
+    let answer = run(alloc, input, sink);
+    let output = output.as_slice();
+    check_written(rt, fails_at, answer, Ok(false), fault, output, undisturbed)
+}
+
+// Fails at each call in turn, until there are no more calls.
+fn check_sinks(
+    rt: &impl Abort,
+    alloc: Global,
+    input: &[u8],
+    row: &(ErrorKind, Fault, bool),
+    undisturbed: &[u8],
+) {
+    let mut succeeded = false;
+    for fails_at in 0..16 {
+        let printed = check_sink(rt, alloc, input, fails_at, row, undisturbed);
+        holds_of(rt, fails_at, printed || !succeeded);
+        succeeded = printed;
+    }
+    holds_of(rt, "16 calls were too few", succeeded);
+}
+
 #[test]
 fn writes_that_fail(rt: HostRuntime) -> Result<(), Fail> {
-    let input = long_input(rt.alloc())?;
-    let mut undisturbed = Vec::new(rt.alloc());
-    same(
-        &rt,
-        run(rt.alloc(), input.as_slice(), &mut undisturbed),
-        Ok(false),
-    );
     const ROWS: &[(ErrorKind, Fault, bool)] = &[
         (ErrorKind::BrokenPipe, Fault::Write, false),
         (ErrorKind::BrokenPipe, Fault::Write, true),
         (ErrorKind::OutOfMemory, Fault::Write, true),
     ];
-    for &(kind, fault, for_good) in ROWS {
-        let mut succeeded = false;
-        for fails_at in 0..16 {
-            let mut output = Vec::new(rt.alloc());
-            let sink = Sink {
-                output: &mut output,
-                calls: 0,
-                fails_at,
-                for_good,
-                kind,
-            };
-            let answer = run(rt.alloc(), input.as_slice(), sink);
-            let (output, undisturbed) = (output.as_slice(), undisturbed.as_slice());
-            let known = Ok(false);
-            let printed = check_written(&rt, fails_at, answer, known, fault, output, undisturbed);
-            holds_of(&rt, fails_at, printed || !succeeded);
-            succeeded = printed;
-        }
-        holds_of(&rt, "16 calls were too few", succeeded);
+    let input = long_input(rt.alloc())?;
+    let undisturbed = printed(&rt, rt.alloc(), input.as_bytes());
+    for row in ROWS {
+        check_sinks(
+            &rt,
+            rt.alloc(),
+            input.as_bytes(),
+            row,
+            undisturbed.as_slice(),
+        );
     }
     Ok(())
 }
@@ -234,7 +264,7 @@ fn writes_that_fail(rt: HostRuntime) -> Result<(), Fail> {
 fn only_line(rt: &impl Abort, alloc: Global, octets: &[u8]) -> Result<Line, Fail> {
     let mut input = BufReader::new(alloc, octets)?;
     let mut line = Line::new(alloc);
-    same(rt, read_line(&mut input, &mut line), Ok(true));
+    same_of(rt, octets, read_line(&mut input, &mut line), Ok(true));
     Ok(line)
 }
 
@@ -260,23 +290,37 @@ fn check_line(
     check_written(rt, fails_at, answer, known, fault, output, undisturbed)
 }
 
+// At how many calls writing a line fails, each call in turn; 500 where it fails at each that is tried.
+fn faults_of(
+    rt: &impl Abort,
+    alloc: Global,
+    line: &Line,
+    known: Result<bool, Fault>,
+    undisturbed: &[u8],
+) -> usize {
+    for fails_at in 0..500 {
+        if check_line(rt, alloc, line, fails_at, known, undisturbed) {
+            return fails_at;
+        }
+    }
+    500
+}
+
+fn check_faults(rt: &impl Abort, alloc: Global, text: &str) -> Result<(), Fail> {
+    let line = only_line(rt, alloc, text.as_bytes())?;
+    let mut undisturbed = Vec::new(alloc);
+    let known = show_line(alloc, &mut undisturbed, &line);
+    holds_of(rt, text, known.is_ok());
+    let faults = faults_of(rt, alloc, &line, known, undisturbed.as_slice());
+    holds_of(rt, text, faults > 1 && faults < 500);
+    Ok(())
+}
+
 // Each write of what a line prints fails in turn, with no buffer between.
 #[test]
 fn writes_of_each_word_that_fail(rt: HostRuntime) -> Result<(), Fail> {
-    for octets in LINES {
-        let line = only_line(&rt, rt.alloc(), octets)?;
-        let mut undisturbed = Vec::new(rt.alloc());
-        let known = show_line(rt.alloc(), &mut undisturbed, &line);
-        holds_of(&rt, octets, known.is_ok());
-        let undisturbed = undisturbed.as_slice();
-        let mut faults = 0;
-        for fails_at in 0..500 {
-            if check_line(&rt, rt.alloc(), &line, fails_at, known, undisturbed) {
-                break;
-            }
-            faults = fails_at;
-        }
-        holds_of(&rt, octets, faults > 0 && faults < 499);
+    for line in LINES {
+        check_faults(&rt, rt.alloc(), line)?;
     }
     Ok(())
 }

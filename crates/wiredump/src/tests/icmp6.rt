@@ -1,6 +1,6 @@
 //! Messages of ICMPv6 and of multicast listener discovery.
 
-use super::{both, check, check_changed, check_line, check_with_data};
+use super::{check, check_changed, check_line, check_with_data, repeated};
 use std::test::Fail;
 
 /// A message from one address of the link to another.
@@ -111,26 +111,16 @@ fn errors_of_icmpv6_by_their_quote(rt: HostRuntime) -> Result<(), Fail> {
 // As much of a datagram of 9,999 bytes as an error has room for.
 #[test]
 fn a_packet_too_big_of_1240_bytes(rt: HostRuntime) -> Result<(), Fail> {
-    let mut data = String::new(rt.alloc());
-    for _ in 0..1_192 {
-        data.push_str("aa")?;
-    }
     let header = "02000c3f00000500\
         60000000270f1140fe800000000000000000000000000001fe800000000000000000000000000002";
+    let line = [(BETWEEN, 1), (" ", 1), (header, 1), ("aa", 1_192)];
+    let line = repeated(rt.alloc(), &line)?;
     let want = "PktTooBig\nmtu=1280\nheader.src_addr=fe800000000000000000000000000001\n\
         header.dst_addr=fe800000000000000000000000000002\nheader.next_header=17\n\
         header.payload_len=9999\nheader.hop_limit=64\ndata=";
-    let data = data.as_str();
-    let printed = both(rt.alloc(), data, "\n")?;
-    check_with_data(
-        &rt,
-        rt.alloc(),
-        BETWEEN,
-        header,
-        data,
-        want,
-        printed.as_str(),
-    )
+    let want = repeated(rt.alloc(), &[(want, 1), ("aa", 1_192), ("\n", 1)])?;
+    check_line(&rt, rt.alloc(), line.as_str(), want.as_str());
+    Ok(())
 }
 
 #[test]

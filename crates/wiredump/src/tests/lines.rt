@@ -1,6 +1,6 @@
 //! Lines of every shape, and at the limits of what a line may have.
 
-use super::{both, check_run, check_with_data};
+use super::{check_line, check_run, joined, repeated};
 use crate::testing::same_of;
 use crate::{read_word, run, status};
 use std::alloc::Global;
@@ -127,26 +127,18 @@ fn check_digits(
     length: Option<usize>,
     want: &str,
 ) -> Result<(), Fail> {
-    let text = vec![in alloc; b'0'; digits]?;
-    let word = read_word(alloc, text.as_slice())?;
-    same_of(rt, digits, word.as_ref().map(|word| word.len()), length);
-    let line = line_of_word(alloc, text.as_slice())?;
-    let is_known = length.is_some();
-    check_run(
+    let word = repeated(alloc, &[("0", digits)])?;
+    let octets = read_word(alloc, word.as_bytes())?;
+    same_of(
         rt,
-        alloc,
-        &digits,
-        line.as_slice(),
-        is_known,
-        want.as_bytes(),
+        digits,
+        octets.as_ref().map(|octets| octets.len()),
+        length,
     );
+    let line = joined(alloc, &["hbh ", word.as_str()])?;
+    let (input, want) = (line.as_bytes(), want.as_bytes());
+    check_run(rt, alloc, &digits, input, length.is_some(), want);
     Ok(())
-}
-
-fn line_of_word(alloc: Global, word: &[u8]) -> Result<Vec<u8>, Fail> {
-    let mut line = Vec::from_slice(alloc, b"hbh ")?;
-    line.extend_from_slice(word)?;
-    Ok(line)
 }
 
 #[test]
@@ -166,18 +158,7 @@ fn words_of_the_most_digits(rt: HostRuntime) -> Result<(), Fail> {
     Ok(())
 }
 
-// A line that is made of texts, each so often, with another behind it.
-fn repeated(alloc: Global, texts: &[(&str, usize)]) -> Result<Vec<u8>, Fail> {
-    let mut input = Vec::new(alloc);
-    for (text, count) in texts {
-        for _ in 0..*count {
-            input.extend_from_slice(text.as_bytes())?;
-        }
-    }
-    input.extend_from_slice(b"\nhbh 00")?;
-    Ok(input)
-}
-
+// A line that is made of texts, each so often, prints this, and then another line what it does.
 fn check_repeated(
     rt: &impl Abort,
     alloc: Global,
@@ -185,9 +166,11 @@ fn check_repeated(
     known: bool,
     want: &str,
 ) -> Result<(), Fail> {
-    let input = repeated(alloc, texts)?;
-    let want = both(alloc, want, "Pad1\n")?;
-    check_run(rt, alloc, &texts, input.as_slice(), known, want.as_bytes());
+    let mut input = repeated(alloc, texts)?;
+    input.push_str("\nhbh 00")?;
+    let want = joined(alloc, &[want, "Pad1\n"])?;
+    let (input, want) = (input.as_bytes(), want.as_bytes());
+    check_run(rt, alloc, &texts, input, known, want);
     Ok(())
 }
 
@@ -256,16 +239,9 @@ fn digits_of_octets(alloc: Global) -> Result<String, Fail> {
 #[test]
 fn octets_of_every_value(rt: HostRuntime) -> Result<(), Fail> {
     let digits = digits_of_octets(rt.alloc())?;
-    let digits = digits.as_str();
+    let line = joined(rt.alloc(), &["hbh 11ff", digits.as_str()])?;
     let want = "Unknown\ntype_=17\nlength=255\ndata=";
-    let printed = both(rt.alloc(), digits, "\n")?;
-    check_with_data(
-        &rt,
-        rt.alloc(),
-        "hbh",
-        "11ff",
-        digits,
-        want,
-        printed.as_str(),
-    )
+    let want = joined(rt.alloc(), &[want, digits.as_str(), "\n"])?;
+    check_line(&rt, rt.alloc(), line.as_str(), want.as_str());
+    Ok(())
 }

@@ -11,44 +11,45 @@ mod text;
 
 use std::alloc::Global;
 
-/// What a line without its end prints, and whether its shape is known.
-pub fn printed(alloc: Global, line: &[u8]) -> (Vec<u8>, bool) {
-    let mut listing = Vec::new(alloc);
-    match show_line(alloc, &mut listing, line) {
-        Some(true) => (listing, true),
-        Some(false) => (only(listing, "refused"), true),
-        None => (only(listing, "bad line"), false),
+/// Writes what a line without its end prints, and answers whether its shape is known.
+pub fn print(alloc: Global, text: &mut Vec<u8>, line: &[u8]) -> bool {
+    let read = show_line(alloc, text, line);
+    if read != Some(true) {
+        text.clear();
+        text::line(
+            text,
+            if read.is_some() {
+                "refused"
+            } else {
+                "bad line"
+            },
+        );
     }
+    read.is_some()
 }
 
-// A listing of one line, in the place of another.
-fn only(mut listing: Vec<u8>, line: &str) -> Vec<u8> {
-    listing.clear();
-    text::line(&mut listing, line);
-    listing
-}
-
-// What the words of a line print: whether the packet is read, or None where the line is bad.
+// What a line prints: whether the packet is read, or None where the line is bad.
 fn show_line(alloc: Global, text: &mut Vec<u8>, line: &[u8]) -> Option<bool> {
     let mut words: [&[u8]; 4] = [b""; 4];
-    let mut count = 0;
-    for word in line.split(|octet| *octet == b' ') {
-        if word.is_empty() {
-            continue;
-        }
-        if count >= 4 {
-            return None;
-        }
-        words[count] = word;
-        count += 1;
-    }
-    match count {
+    match take_words(line, &mut words)? {
         0 => Some(true),
         2 => show_alone(alloc, text, words[0], words[1]),
         3 => show_name(alloc, text, words[0], words[1], words[2]),
         4 => show_icmp6(alloc, text, &words),
         _ => None,
     }
+}
+
+// How many words a line has, which are put in; None where these are too many.
+fn take_words<'a>(line: &'a [u8], words: &mut [&'a [u8]; 4]) -> Option<usize> {
+    let mut count = 0;
+    for word in line.split(|octet| *octet == b' ') {
+        if !word.is_empty() {
+            *words.get_mut(count)? = word;
+            count += 1;
+        }
+    }
+    Some(count)
 }
 
 // What a word and digits print: whether the packet is read, or None where they are no command and packet.
@@ -97,14 +98,23 @@ fn show_name(
 
 // The same of a word, two addresses and digits.
 fn show_icmp6(alloc: Global, text: &mut Vec<u8>, words: &[&[u8]; 4]) -> Option<bool> {
-    let source = spelled(alloc, words[1])?;
-    let destination = spelled(alloc, words[2])?;
-    let packet = spelled(alloc, words[3])?;
-    if !is(words[0], "icmp6") || source.len() != 16 || destination.len() != 16 {
+    if !is(words[0], "icmp6") {
         return None;
     }
-    let (source, destination) = (source.as_slice(), destination.as_slice());
-    Some(icmp6::show_icmp6(text, source, destination, packet.as_slice()))
+    let source = address_sum(alloc, words[1])?;
+    let destination = address_sum(alloc, words[2])?;
+    let packet = spelled(alloc, words[3])?;
+    let addresses = source.wrapping_add(destination);
+    Some(icmp6::show_icmp6(text, addresses, packet.as_slice()))
+}
+
+// The sum of the 16 octets of an address.
+fn address_sum(alloc: Global, digits: &[u8]) -> Option<u64> {
+    let octets = spelled(alloc, digits)?;
+    if octets.len() != 16 {
+        return None;
+    }
+    Some(text::sum(octets.as_slice()))
 }
 
 fn is(word: &[u8], name: &str) -> bool {
@@ -114,21 +124,25 @@ fn is(word: &[u8], name: &str) -> bool {
 // The octets of hexadecimal digits.
 fn spelled(alloc: Global, digits: &[u8]) -> Option<Vec<u8>> {
     let mut octets = Vec::new(alloc);
-    if is(digits, "-") {
-        return Some(octets);
-    }
-    for pair in digits.chunks(2) {
-        let octet = octet_of(pair)?;
-        octets.push(octet).ok()?;
+    if !is(digits, "-") {
+        spell(&mut octets, digits)?;
     }
     Some(octets)
 }
 
-fn octet_of(pair: &[u8]) -> Option<u8> {
-    match pair {
-        [high, low] => Some(digit(*high)? << 4 | digit(*low)?),
-        _ => None,
+// Puts the octets of digits behind others; None where they are none.
+fn spell(octets: &mut Vec<u8>, digits: &[u8]) -> Option<()> {
+    for pair in digits.chunks(2) {
+        octets.push(octet_of(pair)?).ok()?;
     }
+    Some(())
+}
+
+// The octet of two digits.
+fn octet_of(pair: &[u8]) -> Option<u8> {
+    let high = digit(text::octet(pair, 0))?;
+    let low = digit(text::octet(pair, 1))?;
+    Some(high << 4 | low)
 }
 
 fn digit(octet: u8) -> Option<u8> {

@@ -1,7 +1,7 @@
 //! Values behind a field's name.
 
 use crate::printer::{field, line, part_field};
-use crate::testing::same;
+use crate::testing::same_of;
 use std::io;
 use std::test::Fail;
 
@@ -37,6 +37,6 @@ fn fields_of_values_and_of_their_parts(rt: HostRuntime) -> Result<(), Fail> {
     let want = "Redirect\nreachable_time=4294967295\ndelay=18446744073709551615\nrouter=true\n\
         override=false\nmtu=none\nhop_limit=64\nrest=7\n61\nredirected_hdr.header.payload_len=1280\n\
         redirected_hdr.header.src_addr=fe800001\nredirected_hdr.data=-\ntarget=0a\n";
-    same(&rt, output.as_slice(), want.as_bytes());
+    same_of(&rt, "fields", output.as_slice(), want.as_bytes());
     Ok(())
 }

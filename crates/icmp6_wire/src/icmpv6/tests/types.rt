@@ -73,55 +73,36 @@ fn check_type(rt: &impl Abort, alloc: Global, message: Message, classes: [bool; 
     same(rt, printed.as_str(), text);
 }
 
-#[test]
-fn types_of_errors(rt: HostRuntime) {
-    const ROWS: &[(Message, &str)] = &[
-        (Message::DstUnreachable, "destination unreachable"),
-        (Message::PktTooBig, "packet too big"),
-        (Message::TimeExceeded, "time exceeded"),
-        (Message::ParamProblem, "parameter problem"),
-        (Message::Unknown(5), "5"),
-    ];
-    for &(message, text) in ROWS {
-        check_type(&rt, rt.alloc(), message, [true, false, false], text);
-    }
-}
+const ERROR: [bool; 3] = [true, false, false];
+
+const NEIGHBOR: [bool; 3] = [false, true, false];
+
+const LISTENER: [bool; 3] = [false, false, true];
+
+const OTHER: [bool; 3] = [false, false, false];
 
 #[test]
-fn types_of_neighbor_discovery(rt: HostRuntime) {
-    const ROWS: &[(Message, &str)] = &[
-        (Message::RouterSolicit, "router solicitation"),
-        (Message::RouterAdvert, "router advertisement"),
-        (Message::NeighborSolicit, "neighbor solicitation"),
-        (Message::NeighborAdvert, "neighbor advert"),
-        (Message::Redirect, "redirect"),
+fn classes_and_texts_of_types(rt: HostRuntime) {
+    const ROWS: &[(Message, [bool; 3], &str)] = &[
+        (Message::DstUnreachable, ERROR, "destination unreachable"),
+        (Message::PktTooBig, ERROR, "packet too big"),
+        (Message::TimeExceeded, ERROR, "time exceeded"),
+        (Message::ParamProblem, ERROR, "parameter problem"),
+        (Message::Unknown(5), ERROR, "5"),
+        (Message::RouterSolicit, NEIGHBOR, "router solicitation"),
+        (Message::RouterAdvert, NEIGHBOR, "router advertisement"),
+        (Message::NeighborSolicit, NEIGHBOR, "neighbor solicitation"),
+        (Message::NeighborAdvert, NEIGHBOR, "neighbor advert"),
+        (Message::Redirect, NEIGHBOR, "redirect"),
+        (Message::MldQuery, LISTENER, "multicast listener query"),
+        (Message::MldReport, LISTENER, "multicast listener report"),
+        (Message::EchoRequest, OTHER, "echo request"),
+        (Message::EchoReply, OTHER, "echo reply"),
+        (Message::RplControl, OTHER, "RPL control message"),
+        (Message::Unknown(0xff), OTHER, "255"),
     ];
-    for &(message, text) in ROWS {
-        check_type(&rt, rt.alloc(), message, [false, true, false], text);
-    }
-}
-
-#[test]
-fn types_of_listener_discovery(rt: HostRuntime) {
-    const ROWS: &[(Message, &str)] = &[
-        (Message::MldQuery, "multicast listener query"),
-        (Message::MldReport, "multicast listener report"),
-    ];
-    for &(message, text) in ROWS {
-        check_type(&rt, rt.alloc(), message, [false, false, true], text);
-    }
-}
-
-#[test]
-fn types_of_no_class(rt: HostRuntime) {
-    const ROWS: &[(Message, &str)] = &[
-        (Message::EchoRequest, "echo request"),
-        (Message::EchoReply, "echo reply"),
-        (Message::RplControl, "RPL control message"),
-        (Message::Unknown(0xff), "255"),
-    ];
-    for &(message, text) in ROWS {
-        check_type(&rt, rt.alloc(), message, [false, false, false], text);
+    for &(message, classes, text) in ROWS {
+        check_type(&rt, rt.alloc(), message, classes, text);
     }
 }
 
@@ -139,8 +120,7 @@ fn texts_of_codes(rt: HostRuntime) -> Result<(), Fail> {
         rt.alloc(),
         DstUnreachable::FailedPolicy,
         "source address failed ingress/egress policy",
-    )?;
-    Ok(())
+    )
 }
 
 #[test]

@@ -1,10 +1,11 @@
+ghost use Rattle.std.specs.Prelude.{◌≡◌, ℕ, List, length};
 ghost use Rattle.icmp6_wire.specs.Icmpv6.{CanEmit, value_of};
 
 use super::{FILLS, QUERY, REPORT, SOURCE_REPORT, query};
 use crate::icmpv6::{Packet, Repr};
 use crate::mld;
 use crate::mld::{AddressRecordRepr, RecordType};
-use crate::testing::{holds_of, same};
+use crate::testing::{holds_of, same, same_of};
 use std::process::Abort;
 use wirebase::{
     ChecksumCapabilities, IPV6_LINK_LOCAL_ALL_NODES, IPV6_LINK_LOCAL_ALL_ROUTERS, Result,
@@ -20,23 +21,26 @@ fn read<'a>(octets: &'a [u8], caps: &ChecksumCapabilities) -> Result<Repr<'a>> {
     )
 }
 
-// Writes a message from ff02::1 to ff02::2 over these octets, and checks that it is those which are wanted.
-fn check_written(
+// Writes a message from ff02::1 to ff02::2 over octets that are all the same, and checks that it is those which are
+// wanted.
+fn check_written<const N: usize>(
     rt: &impl Abort,
     message: &Repr<'_>,
     caps: &ChecksumCapabilities,
-    octets: &mut [u8],
-    wanted: &[u8],
+    wanted: &[u8; N],
 )
-    requires { CanEmit (value_of message.now) octets.old }
+    requires { (bytes : List ℕ) → length bytes ≡ N → CanEmit (value_of message.now) bytes }
 {
-    message.emit(
-        &IPV6_LINK_LOCAL_ALL_NODES,
-        &IPV6_LINK_LOCAL_ALL_ROUTERS,
-        &mut Packet::new_unchecked(&mut *octets),
-        caps,
-    );
-    same(rt, &*octets, wanted);
+    for &fill in FILLS {
+        let mut octets = [fill; N];
+        message.emit(
+            &IPV6_LINK_LOCAL_ALL_NODES,
+            &IPV6_LINK_LOCAL_ALL_ROUTERS,
+            &mut Packet::new_unchecked(octets.as_mut_slice()),
+            caps,
+        );
+        same_of(rt, fill, &octets, wanted);
+    }
 }
 
 // The query with the checksum that it has from ff02::1 to ff02::2.
@@ -51,9 +55,7 @@ fn queries_inside_icmpv6_have_a_checksum(rt: HostRuntime) {
     let caps = ChecksumCapabilities::default();
     let query = Repr::Mld(query());
     same(&rt, [query.buffer_len(), query.packet_len()], [44, 44]);
-    for &fill in FILLS {
-        check_written(&rt, &query, &caps, &mut [fill; 44], &SEALED_QUERY);
-    }
+    check_written(&rt, &query, &caps, &SEALED_QUERY);
     same(&rt, &read(&SEALED_QUERY, &caps), &Ok(query));
 }
 
@@ -71,9 +73,7 @@ fn reports_inside_icmpv6_have_a_checksum(rt: HostRuntime) {
         data: &SOURCE_REPORT[8..],
     });
     same(&rt, [report.buffer_len(), report.packet_len()], [44, 44]);
-    for &fill in FILLS {
-        check_written(&rt, &report, &caps, &mut [fill; 44], &SOURCE_REPORT);
-    }
+    check_written(&rt, &report, &caps, &SOURCE_REPORT);
     same(&rt, &read(&SOURCE_REPORT, &caps), &Ok(report));
 }
 
@@ -90,9 +90,7 @@ fn a_list_of_records_is_read_back_as_a_report(rt: HostRuntime) {
         [by_records.buffer_len(), by_records.packet_len()],
         [8, 28],
     );
-    for &fill in FILLS {
-        check_written(&rt, &by_records, &caps, &mut [fill; 28], &REPORT);
-    }
+    check_written(&rt, &by_records, &caps, &REPORT);
     let report = Repr::Mld(mld::Repr::Report {
         nr_mcast_addr_rcrds: 1,
         data: &REPORT[8..],

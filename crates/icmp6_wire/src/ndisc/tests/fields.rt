@@ -15,14 +15,17 @@ fn fields_of_a_router_advertisement(rt: HostRuntime) {
     let packet = Packet::new_unchecked(ADVERT_FIELDS.as_slice());
     same(&rt, packet.current_hop_limit(), 64);
     same(&rt, packet.router_flags(), RouterFlags::MANAGED);
-}
-
-#[test]
-fn times_of_a_router_advertisement(rt: HostRuntime) {
-    let packet = Packet::new_unchecked(ADVERT_FIELDS.as_slice());
-    same(&rt, packet.router_lifetime(), Duration::from_secs(900));
-    same(&rt, packet.reachable_time(), Duration::from_millis(900));
-    same(&rt, packet.retrans_time(), Duration::from_millis(901));
+    let times = [
+        packet.router_lifetime(),
+        packet.reachable_time(),
+        packet.retrans_time(),
+    ];
+    let wanted = [
+        Duration::from_secs(900),
+        Duration::from_millis(900),
+        Duration::from_millis(901),
+    ];
+    same(&rt, times, wanted);
 }
 
 #[test]
@@ -62,8 +65,8 @@ fn fields_of_neighbor_messages(rt: HostRuntime) {
         packet.neighbor_flags(),
         NeighborFlags::SOLICITED | NeighborFlags::OVERRIDE,
     );
-    same(&rt, packet.target_addr(), here());
-    same(&rt, packet.dest_addr(), there());
+    let addresses = [packet.target_addr(), packet.dest_addr()];
+    same(&rt, addresses, [here(), there()]);
     same(&rt, bytes, NEIGHBOR_FIELDS);
 }
 
@@ -92,42 +95,28 @@ fn sets_of_flags(rt: HostRuntime) {
 
 #[test]
 fn sets_of_router_flags_are_joined_and_parted(rt: HostRuntime) {
-    same(&rt, (!RouterFlags::MANAGED), RouterFlags::OTHER);
-    same(
-        &rt,
-        (RouterFlags::all() - RouterFlags::MANAGED),
+    let found = [
+        !RouterFlags::MANAGED,
+        RouterFlags::all() - RouterFlags::MANAGED,
+        RouterFlags::MANAGED ^ RouterFlags::OTHER,
+        RouterFlags::MANAGED & RouterFlags::OTHER,
+    ];
+    let wanted = [
         RouterFlags::OTHER,
-    );
-    same(
-        &rt,
-        (RouterFlags::MANAGED ^ RouterFlags::OTHER),
+        RouterFlags::OTHER,
         RouterFlags::all(),
-    );
-    same(
-        &rt,
-        (RouterFlags::MANAGED & RouterFlags::OTHER),
         RouterFlags::empty(),
-    );
+    ];
+    same(&rt, found, wanted);
 }
 
 #[test]
 fn sets_of_neighbor_flags_are_joined_and_parted(rt: HostRuntime) {
-    same(
-        &rt,
-        [
-            (!NeighborFlags::ROUTER).bits(),
-            (NeighborFlags::all() ^ NeighborFlags::ROUTER).bits(),
-        ],
-        [0x60, 0x60],
-    );
-    same(
-        &rt,
-        (NeighborFlags::all() & NeighborFlags::ROUTER),
-        NeighborFlags::ROUTER,
-    );
-    same(
-        &rt,
-        (NeighborFlags::all() - NeighborFlags::all()),
-        NeighborFlags::empty(),
-    );
+    let found = [
+        (!NeighborFlags::ROUTER).bits(),
+        (NeighborFlags::all() ^ NeighborFlags::ROUTER).bits(),
+        (NeighborFlags::all() & NeighborFlags::ROUTER).bits(),
+        (NeighborFlags::all() - NeighborFlags::all()).bits(),
+    ];
+    same(&rt, found, [0x60, 0x60, 0x80, 0]);
 }

@@ -1,8 +1,6 @@
 //! Packets of DHCP (RFC 2131, RFC 2132).
 
-use super::text::{
-    be32, behind, dotted, none, number, number16, number32, octet, octets, part, truth,
-};
+use super::text::{be32, behind, dotted, field, fields, none, number, octet, octets, part, truth};
 
 /// Writes a packet; false where it is none.
 pub fn show(text: &mut Vec<u8>, packet: &[u8]) -> bool {
@@ -31,9 +29,12 @@ fn is_of_ethernet(packet: &[u8]) -> bool {
 }
 
 fn show_sender(text: &mut Vec<u8>, packet: &[u8]) {
-    number32(text, "transaction_id", packet, 4);
-    number16(text, "secs", packet, 8);
-    octets(text, "client_hardware_address", part(packet, 28, 6));
+    const FIELDS: &[(&str, usize, usize)] = &[
+        ("transaction_id", 4, 4),
+        ("secs", 8, 2),
+        ("client_hardware_address", 28, 6),
+    ];
+    fields(text, "", packet, FIELDS);
 }
 
 fn show_addresses(text: &mut Vec<u8>, packet: &[u8], options: &[u8]) {
@@ -94,29 +95,34 @@ fn show_servers(text: &mut Vec<u8>, options: &[u8]) {
 
 fn show_size(text: &mut Vec<u8>, options: &[u8]) {
     match last(options, 57, Some(2)) {
-        Some(data) => number16(text, "max_size", data, 0),
+        Some(data) => field(text, "max_size", data, 0, 2),
         None => none(text, "max_size"),
     }
 }
 
 fn show_seconds(text: &mut Vec<u8>, name: &str, options: &[u8], kind: u8) {
     match last(options, kind, Some(4)) {
-        Some(data) => number32(text, name, data, 0),
+        Some(data) => field(text, name, data, 0, 4),
         None => none(text, name),
     }
 }
 
-// The option at the front, as its kind and data, and what follows it. Padding is an option of no data.
-fn first(rest: &[u8]) -> Option<(u8, &[u8], &[u8])> {
-    match rest {
-        [] | [255, ..] => None,
-        [0, rest @ ..] => Some((0, &[], rest)),
-        [kind, len, rest @ ..] if rest.len() >= usize::from(*len) => {
-            let (data, rest) = rest.split_at(usize::from(*len));
-            Some((*kind, data, rest))
-        }
-        _ => None,
+// The option at the front, with its kind and length; None where there is none. Padding is an octet alone.
+fn first(rest: &[u8]) -> Option<&[u8]> {
+    let len = match octet(rest, 0) {
+        0 => 1,
+        255 => return None,
+        _ => usize::from(octet(rest, 1)) + 2,
+    };
+    if rest.len() < len {
+        return None;
     }
+    Some(part(rest, 0, len))
+}
+
+// Whether an option is of a kind, and of a length where one is given.
+fn is(option: &[u8], kind: u8, len: Option<usize>) -> bool {
+    octet(option, 0) == kind && (len.is_none() || len == Some(behind(option, 2).len()))
 }
 
 // The data of the last option of a kind, of those with that length.
@@ -124,15 +130,24 @@ fn last(options: &[u8], kind: u8, len: Option<usize>) -> Option<&[u8]> {
     let mut rest = options;
     let mut last = None;
     for _ in 0..options.len() {
-        let Some((found, data, after)) = first(rest) else {
+        let Some(option) = first(rest) else {
             break;
         };
-        if found == kind && (len.is_none() || len == Some(data.len())) {
-            last = Some(data);
+        if is(option, kind, len) {
+            last = Some(behind(option, 2));
         }
-        rest = after;
+        rest = behind(rest, option.len());
     }
     last
+}
+
+// Which operation sends a type of message.
+fn sent_by(message: u8) -> u8 {
+    match message {
+        1 | 3 | 4 | 7 | 8 => 1,
+        2 | 5 | 6 => 2,
+        _ => 0,
+    }
 }
 
 // The last type of message that is sent by this operation.
@@ -140,20 +155,14 @@ fn message_type(operation: u8, options: &[u8]) -> Option<u8> {
     let mut rest = options;
     let mut last = None;
     for _ in 0..options.len() {
-        let Some((kind, data, after)) = first(rest) else {
+        let Some(option) = first(rest) else {
             break;
         };
-        if let [message] = data {
-            let sent_by = match *message {
-                1 | 3 | 4 | 7 | 8 => 1,
-                2 | 5 | 6 => 2,
-                _ => 0,
-            };
-            if kind == 53 && sent_by == operation {
-                last = Some(*message);
-            }
+        let message = octet(option, 2);
+        if is(option, 53, Some(1)) && sent_by(message) == operation {
+            last = Some(message);
         }
-        rest = after;
+        rest = behind(rest, option.len());
     }
     last
 }
@@ -162,13 +171,13 @@ fn message_type(operation: u8, options: &[u8]) -> Option<u8> {
 fn are_of_ethernet(options: &[u8]) -> bool {
     let mut rest = options;
     for _ in 0..options.len() {
-        let Some((kind, data, after)) = first(rest) else {
+        let Some(option) = first(rest) else {
             break;
         };
-        if kind == 61 && data.len() == 7 && octet(data, 0) != 1 {
+        if is(option, 61, Some(7)) && octet(option, 2) != 1 {
             return false;
         }
-        rest = after;
+        rest = behind(rest, option.len());
     }
     true
 }

@@ -1,6 +1,6 @@
 //! Questions and names of DNS (RFC 1035 section 4.1).
 
-use super::text::{be16, behind, digits, number, number16, octets, part};
+use super::text::{be16, behind, digits, field, number, octet, octets, part};
 
 // More labels and pointers than a packet has.
 const MOST_STEPS: usize = 65_536;
@@ -15,7 +15,7 @@ pub fn show_question(text: &mut Vec<u8>, packet: &[u8]) -> bool {
         return false;
     }
     octets(text, "name", part(packet, 0, len));
-    number16(text, "type_", fields, 0);
+    field(text, "type_", fields, 0, 2);
     number(text, "rest", behind(fields, 4).len() as u64);
     true
 }
@@ -24,35 +24,37 @@ pub fn show_question(text: &mut Vec<u8>, packet: &[u8]) -> bool {
 fn name_len(packet: &[u8]) -> Option<usize> {
     let mut rest = packet;
     for _ in 0..packet.len() {
-        let Some((_, after)) = label(rest) else {
+        let Some(label) = label(rest) else {
             break;
         };
-        rest = after;
+        rest = behind(rest, label.len().wrapping_add(1));
     }
-    let labels = packet.len().wrapping_sub(rest.len());
-    match rest {
-        [0, ..] => Some(labels.wrapping_add(1)),
-        [0xc0..=0xff, _, ..] => Some(labels.wrapping_add(2)),
-        _ => None,
+    let end = match octet(rest, 0) {
+        0 => 1,
+        0xc0..=0xff => 2,
+        _ => return None,
+    };
+    if rest.len() < end {
+        return None;
     }
+    Some(packet.len().wrapping_sub(rest.len()).wrapping_add(end))
 }
 
-// The label at the front, and what is behind it.
-fn label(rest: &[u8]) -> Option<(&[u8], &[u8])> {
-    match rest {
-        [len @ 1..=63, after @ ..] if after.len() >= usize::from(*len) => {
-            Some(after.split_at(usize::from(*len)))
-        }
-        _ => None,
+// The label at the front, behind its length.
+fn label(rest: &[u8]) -> Option<&[u8]> {
+    let len = usize::from(octet(rest, 0));
+    if len == 0 || len > 63 || rest.len() <= len {
+        return None;
     }
+    Some(part(rest, 1, len))
 }
 
 // Where the pointer at the front leads to.
 fn pointer(rest: &[u8]) -> Option<usize> {
-    match rest {
-        [0xc0..=0xff, _, ..] => Some(usize::from(be16(rest, 0) & 0x3fff)),
-        _ => None,
+    if rest.len() < 2 || octet(rest, 0) < 0xc0 {
+        return None;
     }
+    Some(usize::from(be16(rest, 0) & 0x3fff))
 }
 
 /// Writes the walk over the name that begins at an offset of a message. A pointer leads to what stands before the
@@ -62,9 +64,9 @@ pub fn show_name(text: &mut Vec<u8>, offset: usize, message: &[u8]) {
     let mut open = message.len();
     let mut steps = 0u64;
     for _ in 0..MOST_STEPS {
-        if let Some((label, after)) = label(rest) {
+        if let Some(label) = label(rest) {
             digits(text, label);
-            rest = after;
+            rest = behind(rest, label.len().wrapping_add(1));
         } else {
             match pointer(rest) {
                 Some(target) if target < open => {
@@ -77,9 +79,6 @@ pub fn show_name(text: &mut Vec<u8>, offset: usize, message: &[u8]) {
         steps = steps.wrapping_add(1);
     }
     let is_whole = rest.first() == Some(&0);
-    number(
-        text,
-        if is_whole { "end steps" } else { "error steps" },
-        steps,
-    );
+    let name = if is_whole { "end steps" } else { "error steps" };
+    number(text, name, steps);
 }

@@ -1,7 +1,7 @@
 //! Messages of ICMPv4 (RFC 792) and of IGMP (RFC 2236, RFC 3376).
 
 use super::text::{
-    be16, behind, dotted, is_good, line, number, number8, number16, octet, octets, part, sum,
+    REST, be16, behind, dotted, field, fields, is_good, line, number, octet, octets, part, sum,
 };
 
 /// Writes a message with a good checksum; false where it is none.
@@ -22,9 +22,8 @@ pub fn show_icmp4(text: &mut Vec<u8>, packet: &[u8]) -> bool {
 /// Writes an echo of either ICMP.
 pub fn show_echo(text: &mut Vec<u8>, name: &str, packet: &[u8]) -> bool {
     line(text, name);
-    number16(text, "ident", packet, 4);
-    number16(text, "seq_no", packet, 6);
-    octets(text, "data", behind(packet, 8));
+    const FIELDS: &[(&str, usize, usize)] = &[("ident", 4, 2), ("seq_no", 6, 2), ("data", 8, REST)];
+    fields(text, "", packet, FIELDS);
     true
 }
 
@@ -38,7 +37,7 @@ fn show_error(text: &mut Vec<u8>, name: &str, packet: &[u8]) -> bool {
         return false;
     }
     line(text, name);
-    number8(text, "reason", packet, 1);
+    field(text, "reason", packet, 1, 1);
     show_quote(text, quote, data);
     true
 }
@@ -46,9 +45,9 @@ fn show_error(text: &mut Vec<u8>, name: &str, packet: &[u8]) -> bool {
 fn show_quote(text: &mut Vec<u8>, quote: &[u8], data: &[u8]) {
     dotted(text, "header.src_addr", part(quote, 12, 4));
     dotted(text, "header.dst_addr", part(quote, 16, 4));
-    number8(text, "header.next_header", quote, 9);
+    field(text, "header.next_header", quote, 9, 1);
     number(text, "header.payload_len", data.len() as u64);
-    number8(text, "header.hop_limit", quote, 8);
+    field(text, "header.hop_limit", quote, 8, 1);
     octets(text, "data", data);
 }
 

@@ -2,14 +2,10 @@
 
 use super::icmp4::show_echo;
 use super::ndisc::show_neighbor_message;
-use super::text::{
-    behind, is_good, line, number, number8, number16, number32, octet, octets, part, sum, truth,
-    word,
-};
+use super::text::{REST, behind, field, fields, is_good, line, number, octet, octets, sum, truth};
 
-/// Writes a message from one address to another with a good checksum; false where it is none.
-pub fn show_icmp6(text: &mut Vec<u8>, source: &[u8], destination: &[u8], packet: &[u8]) -> bool {
-    let addresses = sum(source).wrapping_add(sum(destination));
+/// Writes a message between addresses of this sum with a good checksum; false where it is none.
+pub fn show_icmp6(text: &mut Vec<u8>, addresses: u64, packet: &[u8]) -> bool {
     let pseudo_header = addresses.wrapping_add(packet.len() as u64).wrapping_add(58);
     if packet.len() < 8 || !is_good(sum(packet).wrapping_add(pseudo_header)) {
         return false;
@@ -52,26 +48,24 @@ fn show_reason(text: &mut Vec<u8>, packet: &[u8]) {
         },
     );
     if kind == 2 {
-        return number32(text, "mtu", packet, 4);
+        return field(text, "mtu", packet, 4, 4);
     }
-    number8(text, "reason", packet, 1);
+    field(text, "reason", packet, 1, 1);
     if kind == 4 {
-        number32(text, "pointer", packet, 4);
+        field(text, "pointer", packet, 4, 4);
     }
 }
 
 /// Writes the header of a packet of IPv6, behind the name of the part that quotes it.
 pub fn show_quoted_header(text: &mut Vec<u8>, name: &str, quote: &[u8]) {
-    word(text, name);
-    octets(text, "header.src_addr", part(quote, 8, 16));
-    word(text, name);
-    octets(text, "header.dst_addr", part(quote, 24, 16));
-    word(text, name);
-    number8(text, "header.next_header", quote, 6);
-    word(text, name);
-    number16(text, "header.payload_len", quote, 4);
-    word(text, name);
-    number8(text, "header.hop_limit", quote, 7);
+    const FIELDS: &[(&str, usize, usize)] = &[
+        ("header.src_addr", 8, 16),
+        ("header.dst_addr", 24, 16),
+        ("header.next_header", 6, 1),
+        ("header.payload_len", 4, 2),
+        ("header.hop_limit", 7, 1),
+    ];
+    fields(text, name, quote, FIELDS);
 }
 
 /// Writes a message of multicast listener discovery; false where it is none.
@@ -87,17 +81,28 @@ pub fn show_mld(text: &mut Vec<u8>, packet: &[u8]) -> bool {
 fn show_query(text: &mut Vec<u8>, packet: &[u8]) {
     let flags = octet(packet, 24);
     line(text, "Query");
-    number16(text, "max_resp_code", packet, 4);
-    octets(text, "mcast_addr", part(packet, 8, 16));
+    fields(
+        text,
+        "",
+        packet,
+        &[("max_resp_code", 4, 2), ("mcast_addr", 8, 16)],
+    );
     truth(text, "s_flag", flags & 8 != 0);
     number(text, "qrv", u64::from(flags & 7));
-    number8(text, "qqic", packet, 25);
-    number16(text, "num_srcs", packet, 26);
-    octets(text, "data", behind(packet, 28));
+    const FIELDS: &[(&str, usize, usize)] = &[
+        ("qqic", 25, 1),
+        ("num_srcs", 26, 2),
+        ("data", 28, REST),
+    ];
+    fields(text, "", packet, FIELDS);
 }
 
 fn show_report(text: &mut Vec<u8>, packet: &[u8]) {
     line(text, "Report");
-    number16(text, "nr_mcast_addr_rcrds", packet, 6);
-    octets(text, "data", behind(packet, 8));
+    fields(
+        text,
+        "",
+        packet,
+        &[("nr_mcast_addr_rcrds", 6, 2), ("data", 8, REST)],
+    );
 }

@@ -1,9 +1,7 @@
 //! Messages of neighbour discovery (RFC 4861 sections 4.1 to 4.5).
 
 use super::options::{block, is_option, show_prefix, show_redirected};
-use super::text::{
-    be16, behind, line, none, number, number8, number32, octet, octets, part, seconds,
-};
+use super::text::{be16, behind, field, fields, line, none, number, octet, octets, part, seconds};
 
 /// Writes a message; false where it is none.
 pub fn show_neighbor_message(text: &mut Vec<u8>, packet: &[u8]) -> bool {
@@ -51,11 +49,15 @@ fn show_addresses(text: &mut Vec<u8>, packet: &[u8]) {
 
 fn show_router(text: &mut Vec<u8>, packet: &[u8]) {
     line(text, "RouterAdvert");
-    number8(text, "hop_limit", packet, 4);
+    field(text, "hop_limit", packet, 4, 1);
     number(text, "flags", u64::from(octet(packet, 5) & 0xc0));
     seconds(text, "router_lifetime", be16(packet, 6).into());
-    number32(text, "reachable_time", packet, 8);
-    number32(text, "retrans_time", packet, 12);
+    fields(
+        text,
+        "",
+        packet,
+        &[("reachable_time", 8, 4), ("retrans_time", 12, 4)],
+    );
 }
 
 fn show_options(text: &mut Vec<u8>, kind: u8, options: &[u8]) {
@@ -84,7 +86,7 @@ fn show_redirected_option(text: &mut Vec<u8>, options: &[u8]) {
 
 fn show_router_options(text: &mut Vec<u8>, options: &[u8]) {
     match last(options, 5) {
-        Some(block) => number32(text, "mtu", block, 4),
+        Some(block) => field(text, "mtu", block, 4, 4),
         None => none(text, "mtu"),
     }
     match last(options, 3) {

@@ -2,8 +2,7 @@
 
 use super::icmp6::show_quoted_header;
 use super::text::{
-    be16, be32, behind, line, number, number8, number16, number32, octet, octets, part, seconds,
-    word,
+    REST, be16, be32, behind, field, fields, line, number, octet, octets, part, seconds, word,
 };
 
 // The most options that are kept; the next one is looked at.
@@ -27,11 +26,10 @@ pub fn show_header(text: &mut Vec<u8>, packet: &[u8]) -> bool {
 
 // The option at the front of the octets; None where there is none.
 fn first(rest: &[u8]) -> Option<&[u8]> {
-    let len = match rest {
-        [0, ..] => 1,
-        [5, length, ..] if *length != 2 => return None,
-        [_, length, ..] => usize::from(*length) + 2,
-        _ => return None,
+    let len = match octet(rest, 0) {
+        0 => 1,
+        5 if octet(rest, 1) != 2 => return None,
+        _ => usize::from(octet(rest, 1)) + 2,
     };
     if rest.len() < len {
         return None;
@@ -42,17 +40,16 @@ fn first(rest: &[u8]) -> Option<&[u8]> {
 fn show_option(text: &mut Vec<u8>, option: &[u8]) {
     match octet(option, 0) {
         0 => line(text, "Pad1"),
-        1 => number8(text, "PadN", option, 1),
-        5 => number16(text, "RouterAlert", option, 2),
+        1 => field(text, "PadN", option, 1, 1),
+        5 => field(text, "RouterAlert", option, 2, 2),
         _ => show_unknown(text, option),
     }
 }
 
 fn show_unknown(text: &mut Vec<u8>, option: &[u8]) {
     line(text, "Unknown");
-    number8(text, "type_", option, 0);
-    number8(text, "length", option, 1);
-    octets(text, "data", behind(option, 2));
+    const FIELDS: &[(&str, usize, usize)] = &[("type_", 0, 1), ("length", 1, 1), ("data", 2, REST)];
+    fields(text, "", option, FIELDS);
 }
 
 /// The block at the front of the octets, by its length in units of eight; None where there is none.
@@ -103,23 +100,21 @@ fn show_block(text: &mut Vec<u8>, block: &[u8]) {
             line(text, "RedirectedHeader");
             show_redirected(text, "", block);
         }
-        5 => number32(text, "Mtu", block, 4),
+        5 => field(text, "Mtu", block, 4, 4),
         _ => show_unknown(text, block),
     }
 }
 
 /// Writes a prefix, behind the name of its part.
 pub fn show_prefix(text: &mut Vec<u8>, name: &str, block: &[u8]) {
-    word(text, name);
-    number8(text, "prefix_len", block, 2);
+    fields(text, name, block, &[("prefix_len", 2, 1)]);
     word(text, name);
     number(text, "flags", u64::from(octet(block, 3) & 0xc0));
     word(text, name);
     seconds(text, "valid_lifetime", be32(block, 4));
     word(text, name);
     seconds(text, "preferred_lifetime", be32(block, 8));
-    word(text, name);
-    octets(text, "prefix", part(block, 16, 16));
+    fields(text, name, block, &[("prefix", 16, 16)]);
 }
 
 /// Writes a redirected packet, behind the name of its part.

@@ -67,17 +67,25 @@ pub fn number(text: &mut Vec<u8>, name: &str, value: u64) {
     let _ = writeln!(text, "{name}={value}");
 }
 
-/// Writes a field that is the number of an octet, or of two or four, that stand there in a packet.
-pub fn number8(text: &mut Vec<u8>, name: &str, packet: &[u8], at: usize) {
-    number(text, name, u64::from(octet(packet, at)));
+/// The length of a field that is all the octets from there on.
+pub const REST: usize = usize::MAX;
+
+/// Writes a field that stands there in a packet: the number of an octet, or of two or four, or else octets.
+pub fn field(text: &mut Vec<u8>, name: &str, packet: &[u8], at: usize, len: usize) {
+    match len {
+        1 => number(text, name, u64::from(octet(packet, at))),
+        2 => number(text, name, u64::from(be16(packet, at))),
+        4 => number(text, name, u64::from(be32(packet, at))),
+        _ => octets(text, name, part(packet, at, len)),
+    }
 }
 
-pub fn number16(text: &mut Vec<u8>, name: &str, packet: &[u8], at: usize) {
-    number(text, name, u64::from(be16(packet, at)));
-}
-
-pub fn number32(text: &mut Vec<u8>, name: &str, packet: &[u8], at: usize) {
-    number(text, name, u64::from(be32(packet, at)));
+/// Writes fields by their names, where they stand and how long they are, each behind the name of their part.
+pub fn fields(text: &mut Vec<u8>, part: &str, packet: &[u8], rows: &[(&str, usize, usize)]) {
+    for (name, at, len) in rows {
+        word(text, part);
+        field(text, name, packet, *at, *len);
+    }
 }
 
 /// Writes a field that is seconds, in thousandths.
