@@ -1,5 +1,5 @@
-//! What is measured: a call that reads a packet, and one that reads it and writes a value, for each kind of packet. Each
-//! answers a number that depends on what was read.
+//! What is measured: a call that reads a packet, and one that reads it and writes a value, for each kind of packet.
+//! Each answers a number that depends on what was read.
 
 use crate::checksum::plain;
 use dhcp_wire::dhcpv4;
