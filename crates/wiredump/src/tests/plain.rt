@@ -124,18 +124,14 @@ fn is(word: &[u8], name: &str) -> bool {
 // The octets of hexadecimal digits.
 fn spelled(alloc: Global, digits: &[u8]) -> Option<Vec<u8>> {
     let mut octets = Vec::new(alloc);
-    if !is(digits, "-") {
-        spell(&mut octets, digits)?;
+    if is(digits, "-") {
+        return Some(octets);
+    }
+    for pair in digits.chunks(2) {
+        let octet = octet_of(pair)?;
+        octets.push(octet).ok()?;
     }
     Some(octets)
-}
-
-// Puts the octets of digits behind others; None where they are none.
-fn spell(octets: &mut Vec<u8>, digits: &[u8]) -> Option<()> {
-    for pair in digits.chunks(2) {
-        octets.push(octet_of(pair)?).ok()?;
-    }
-    Some(())
 }
 
 // The octet of two digits.
