@@ -7,7 +7,6 @@ ghost use Rattle.std.specs.Prelude.{◌≡◌, true};
 use std::alloc::Global;
 use std::fmt::{Debug, Display, Write};
 use std::process::Abort;
-use std::test::Fail;
 use wirebase::failing_writer::FailingWriter;
 
 // Ends the test where the two differ.
@@ -41,15 +40,10 @@ pub(crate) fn fail(rt: &impl Abort, wanted: &str) {
     assert!(rt; false, "{wanted}");
 }
 
-// Ends the test where the value prints another text.
-pub(crate) fn prints(
-    rt: &impl Abort,
-    alloc: Global,
-    value: impl Display + Drop,
-    text: &str,
-) -> Result<(), Fail> {
-    same(rt, value.to_string(alloc)?.as_str(), text);
-    Ok(())
+// Ends the test where the value prints another text, or where there is no memory for it.
+pub(crate) fn prints(rt: &impl Abort, alloc: Global, value: &impl Display, text: &str) {
+    let printed = value.to_string(alloc).ok();
+    same(rt, printed.as_deref(), Some(text));
 }
 
 // Ends the test unless the value is printed in so many writes, and fails where its writer refuses one of them.

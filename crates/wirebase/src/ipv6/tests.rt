@@ -26,7 +26,7 @@ fn second() -> Ipv6Address {
 }
 
 #[test]
-fn addresses_in_hexadecimal(rt: HostRuntime) -> Result<(), Fail> {
+fn addresses_in_hexadecimal(rt: HostRuntime) {
     const ROWS: &[([u16; 8], &str)] = &[
         ([1, 0, 0, 2, 3, 0, 0, 4], "1::2:3:0:0:4"),
         ([0; 8], "::"),
@@ -44,16 +44,15 @@ fn addresses_in_hexadecimal(rt: HostRuntime) -> Result<(), Fail> {
         ([0xff02, 0, 0, 0, 0, 0, 0, 2], "ff02::2"),
     ];
     for &(groups, text) in ROWS {
-        prints(&rt, rt.alloc(), address_of(groups), text)?;
+        prints(&rt, rt.alloc(), &address_of(groups), text);
     }
-    Ok(())
 }
 
 #[test]
-fn addresses_that_have_a_name_in_hexadecimal(rt: HostRuntime) -> Result<(), Fail> {
-    prints(&rt, rt.alloc(), Ipv6Address::UNSPECIFIED, "::")?;
-    prints(&rt, rt.alloc(), IPV6_LINK_LOCAL_ALL_NODES, "ff02::1")?;
-    prints(&rt, rt.alloc(), IPV6_LINK_LOCAL_ALL_ROUTERS, "ff02::2")
+fn addresses_that_have_a_name_in_hexadecimal(rt: HostRuntime) {
+    prints(&rt, rt.alloc(), &Ipv6Address::UNSPECIFIED, "::");
+    prints(&rt, rt.alloc(), &IPV6_LINK_LOCAL_ALL_NODES, "ff02::1");
+    prints(&rt, rt.alloc(), &IPV6_LINK_LOCAL_ALL_ROUTERS, "ff02::2");
 }
 
 // A run of groups that are zero, in a text that begins and ends with a colon; the longest first.
@@ -117,25 +116,25 @@ fn addresses_of_every_pattern_of_zero_groups(rt: HostRuntime) -> Result<(), Fail
         let groups = groups_of(pattern);
         let whole = whole_text(rt.alloc(), &groups)?;
         let text = shortened(rt.alloc(), whole.as_str())?;
-        prints(&rt, rt.alloc(), address_of(groups), text.as_str())?;
+        prints(&rt, rt.alloc(), &address_of(groups), text.as_str());
     }
     Ok(())
 }
 
 #[test]
-fn printing_a_header_fails_only_with_its_writer(rt: HostRuntime) -> Result<(), Fail> {
+fn printing_a_header_fails_only_with_its_writer(rt: HostRuntime) {
     let header = quoted();
     takes_writes(&rt, &header, 12);
     prints(
         &rt,
         rt.alloc(),
-        header,
+        &header,
         "IPv6 src=fe80::1 dst=fe80::2 nxt_hdr=17 hop_limit=64",
-    )
+    );
 }
 
 #[test]
-fn kinds_of_addresses(rt: HostRuntime) -> Result<(), Fail> {
+fn kinds_of_addresses(rt: HostRuntime) {
     // The groups of an address, and whether it is unspecified, multicast and link-local.
     const ROWS: &[([u16; 8], [bool; 3])] = &[
         ([0; 8], [true, false, false]),
@@ -159,17 +158,15 @@ fn kinds_of_addresses(rt: HostRuntime) -> Result<(), Fail> {
         ];
         same_of(&rt, address, kinds, wanted);
     }
-    Ok(())
 }
 
 #[test]
-fn addresses_by_their_octets(rt: HostRuntime) -> Result<(), Fail> {
+fn addresses_by_their_octets(rt: HostRuntime) {
     const OCTETS: [u8; 16] = [0xfe, 0x80, 0, 0, 0, 0, 0, 0, 0, 0, 0, 0, 0, 0, 0, 1];
     same(&rt, Ipv6Address::from_octets(OCTETS), first());
     same(&rt, first().octets().as_slice(), OCTETS.as_slice());
     holds_of(&rt, "another octet", first() != second());
     holds_of(&rt, "::", Ipv6Address::UNSPECIFIED.is_unspecified());
-    Ok(())
 }
 
 // The header from fe80::1 to fe80::2 of 12 bytes over UDP with hop limit 64, and what stands behind it (RFC 8200
@@ -194,7 +191,7 @@ fn quoted() -> Ipv6Repr
 }
 
 #[test]
-fn headers_are_written_over_the_front(rt: HostRuntime) -> Result<(), Fail> {
+fn headers_are_written_over_the_front(rt: HostRuntime) {
     for fill in [0x00, 0xff, 0x2a] {
         let mut octets = [fill; 41];
         let mut packet = Ipv6Packet::new_unchecked(octets.as_mut_slice());
@@ -204,31 +201,28 @@ fn headers_are_written_over_the_front(rt: HostRuntime) -> Result<(), Fail> {
         same_of(&rt, fill, octets.as_slice(), want.as_slice());
     }
     same(&rt, quoted().buffer_len(), 40);
-    Ok(())
 }
 
 #[test]
-fn headers_are_read(rt: HostRuntime) -> Result<(), Fail> {
+fn headers_are_read(rt: HostRuntime) {
     let packet = Ipv6Packet::new_unchecked(&PACKET[..]);
     same(&rt, packet.src_addr(), first());
     same(&rt, packet.dst_addr(), second());
     same(&rt, Ipv6Repr::parse(&packet), Ok(quoted()));
-    Ok(())
 }
 
 #[test]
-fn numbers_of_a_header(rt: HostRuntime) -> Result<(), Fail> {
+fn numbers_of_a_header(rt: HostRuntime) {
     let packet = Ipv6Packet::new_unchecked(&PACKET[..]);
     same(&rt, packet.version(), 6);
     same(&rt, packet.header_len(), 40);
     same(&rt, packet.payload_len(), 12);
     same(&rt, packet.hop_limit(), 64);
     same(&rt, packet.next_header(), IpProtocol::Udp);
-    Ok(())
 }
 
 #[test]
-fn packets_are_whole_by_their_own_length(rt: HostRuntime) -> Result<(), Fail> {
+fn packets_are_whole_by_their_own_length(rt: HostRuntime) {
     for len in 0..=52 {
         let octets = &PACKET[..len];
         let whole = len == 52;
@@ -238,11 +232,10 @@ fn packets_are_whole_by_their_own_length(rt: HostRuntime) -> Result<(), Fail> {
     }
     same(&rt, IPV6_HEADER_LEN, 40);
     same(&rt, IPV6_MIN_MTU, 1280);
-    Ok(())
 }
 
 #[test]
-fn the_version_is_looked_at_by_the_parser_alone(rt: HostRuntime) -> Result<(), Fail> {
+fn the_version_is_looked_at_by_the_parser_alone(rt: HostRuntime) {
     let mut other = PACKET;
     other[0] = 0x4f;
     holds_of(
@@ -256,11 +249,10 @@ fn the_version_is_looked_at_by_the_parser_alone(rt: HostRuntime) -> Result<(), F
         "the version is looked at",
         Ipv6Repr::parse(&packet).is_err(),
     );
-    Ok(())
 }
 
 #[test]
-fn pseudo_headers_are_summed(rt: HostRuntime) -> Result<(), Fail> {
+fn pseudo_headers_are_summed(rt: HostRuntime) {
     // fe80 + 1 + fe80 + 2 + 12 + 58, with the carries added at the low end (RFC 8200 section 8.1).
     same(
         &rt,
@@ -287,5 +279,4 @@ fn pseudo_headers_are_summed(rt: HostRuntime) -> Result<(), Fail> {
         ),
         61,
     );
-    Ok(())
 }

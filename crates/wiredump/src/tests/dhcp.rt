@@ -3,7 +3,6 @@
 use super::{append, check_line, compare_changed, joined};
 use std::alloc::Global;
 use std::process::Abort;
-use std::test::Fail;
 
 // What stands in a packet between the client's hardware address and the cookie.
 const ZEROS: &str =
@@ -61,37 +60,32 @@ fn said_of<'a>(said: &'a str, name: &str) -> Option<&'a str> {
 }
 
 // The fields with these in the place of what is printed of none.
-fn listing(alloc: Global, said: &str) -> Result<String, Fail> {
+fn listing(rt: &impl Abort, alloc: Global, said: &str) -> String {
     let mut text = String::new(alloc);
     for (name, default) in FIELDS {
-        let value = said_of(said, name).unwrap_or(default);
-        append(&mut text, &[name, value, "\n"])?;
+        for part in [name, said_of(said, name).unwrap_or(default), "\n"] {
+            append(rt, &mut text, part, 1);
+        }
     }
-    Ok(text)
+    text
 }
 
 // Packets of a header and options, each with the fields of which it says something.
-fn check_fields(
-    rt: &impl Abort,
-    alloc: Global,
-    header: &str,
-    rows: &[(&str, &str)],
-) -> Result<(), Fail> {
+fn check_fields(rt: &impl Abort, alloc: Global, header: &str, rows: &[(&str, &str)]) {
     for (options, said) in rows {
-        let line = line_with(alloc, header, options)?;
-        let want = listing(alloc, said)?;
+        let line = line_with(rt, alloc, header, options);
+        let want = listing(rt, alloc, said);
         check_line(rt, alloc, line.as_str(), want.as_str());
     }
-    Ok(())
 }
 
 // A line of a packet with this header and these options.
-fn line_with(alloc: Global, header: &str, options: &str) -> Result<String, Fail> {
-    joined(alloc, &["dhcp ", header, ZEROS, "63825363", options])
+fn line_with(rt: &impl Abort, alloc: Global, header: &str, options: &str) -> String {
+    joined(rt, alloc, &["dhcp ", header, ZEROS, "63825363", options])
 }
 
 #[test]
-fn dhcp_messages_by_their_type(rt: HostRuntime) -> Result<(), Fail> {
+fn dhcp_messages_by_their_type(rt: HostRuntime) {
     const REQUESTS: &[(&str, &str)] = &[
         ("350101ff", "message_type=1"),
         ("350103ff", "message_type=3"),
@@ -103,19 +97,19 @@ fn dhcp_messages_by_their_type(rt: HostRuntime) -> Result<(), Fail> {
         ("350101350103ff", "message_type=3"),
         ("3501013502030300ff", "message_type=1"),
     ];
-    check_fields(&rt, rt.alloc(), REQUEST, REQUESTS)?;
+    check_fields(&rt, rt.alloc(), REQUEST, REQUESTS);
     const REPLIES: &[(&str, &str)] = &[
         ("350102ff", "message_type=2"),
         ("350105ff", "message_type=5"),
         ("350106ff", "message_type=6"),
     ];
-    check_fields(&rt, rt.alloc(), REPLY, REPLIES)?;
+    check_fields(&rt, rt.alloc(), REPLY, REPLIES);
     const OTHERS: &[(&str, &str)] = &[("350109ff", "message_type=9"), ("350100", "message_type=0")];
-    check_fields(&rt, rt.alloc(), UNKNOWN, OTHERS)
+    check_fields(&rt, rt.alloc(), UNKNOWN, OTHERS);
 }
 
 #[test]
-fn dhcp_options(rt: HostRuntime) -> Result<(), Fail> {
+fn dhcp_options(rt: HostRuntime) {
     const REQUESTS: &[(&str, &str)] = &[
         (
             "3501010104ffffff000104ffff0000ff",
@@ -145,30 +139,29 @@ fn dhcp_options(rt: HostRuntime) -> Result<(), Fail> {
              parameter_request_list=01030642 max_size=576",
         ),
     ];
-    check_fields(&rt, rt.alloc(), REQUEST, REQUESTS)?;
+    check_fields(&rt, rt.alloc(), REQUEST, REQUESTS);
     const REPLIES: &[(&str, &str)] = &[(
         "350105330400000e103a04000007083b0400000c4eff",
         "message_type=5 lease_duration=3600 renew_duration=1800 rebind_duration=3150",
     )];
-    check_fields(&rt, rt.alloc(), REPLY, REPLIES)
+    check_fields(&rt, rt.alloc(), REPLY, REPLIES);
 }
 
 #[test]
-fn dhcp_packets_refused(rt: HostRuntime) -> Result<(), Fail> {
+fn dhcp_packets_refused(rt: HostRuntime) {
     const OPTIONS: &[&str] = &["350102ff", "ff", "3501013d0702000000000000ff"];
     for options in OPTIONS {
-        let line = line_with(rt.alloc(), REQUEST, options)?;
+        let line = line_with(&rt, rt.alloc(), REQUEST, options);
         check_line(&rt, rt.alloc(), line.as_str(), "refused\n");
     }
     check_line(&rt, rt.alloc(), "dhcp -", "refused\n");
-    Ok(())
 }
 
 #[test]
-fn dhcp_packet_with_every_field(rt: HostRuntime) -> Result<(), Fail> {
+fn dhcp_packet_with_every_field(rt: HostRuntime) {
     let options = "35010203040a0000010104ffffff0032040a0000033d070152540012345736040a0000023703010\
         30606080a0000050a000006390205dc330400000e103a04000007083b0400000c4eff";
-    let line = line_with(rt.alloc(), WHOLE, options)?;
+    let line = line_with(&rt, rt.alloc(), WHOLE, options);
     let want = "message_type=2\ntransaction_id=305419896\nsecs=258\n\
         client_hardware_address=525400123456\nclient_ip=10.0.0.10\nyour_ip=10.0.0.11\n\
         server_ip=10.0.0.12\nrouter=10.0.0.1\nsubnet_mask=255.255.255.0\n\
@@ -178,5 +171,5 @@ fn dhcp_packet_with_every_field(rt: HostRuntime) -> Result<(), Fail> {
         lease_duration=3600\nrenew_duration=1800\nrebind_duration=3150\n";
     check_line(&rt, rt.alloc(), line.as_str(), want);
     // Its options cut and changed.
-    compare_changed(&rt, rt.alloc(), line.as_bytes(), OPTIONS_AT)
+    compare_changed(&rt, rt.alloc(), line.as_bytes(), OPTIONS_AT);
 }

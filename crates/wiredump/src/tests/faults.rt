@@ -9,7 +9,6 @@ use std::alloc::Global;
 use std::io;
 use std::io::{BufReader, ErrorKind, Read, Write};
 use std::process::Abort;
-use std::test::Fail;
 
 // A line of each word, and a bad one.
 const LINES: &[&str] = &[
@@ -32,7 +31,7 @@ const LINES: &[&str] = &[
 ];
 
 #[test]
-fn statuses(rt: HostRuntime) -> Result<(), Fail> {
+fn statuses(rt: HostRuntime) {
     const ROWS: &[(Result<bool, Fault>, u8)] = &[
         (Ok(true), 0),
         (Ok(false), 2),
@@ -43,7 +42,6 @@ fn statuses(rt: HostRuntime) -> Result<(), Fail> {
     for (answer, code) in ROWS {
         same_of(&rt, answer, status(answer), *code);
     }
-    Ok(())
 }
 
 // How many octets are given at a call.
@@ -124,20 +122,19 @@ fn printed(rt: &impl Abort, alloc: Global, input: &[u8]) -> Vec<u8> {
 }
 
 #[test]
-fn reads_that_fail(rt: HostRuntime) -> Result<(), Fail> {
+fn reads_that_fail(rt: HostRuntime) {
     const ROWS: &[(ErrorKind, bool)] = &[
         (ErrorKind::ConnectionReset, true),
         (ErrorKind::OutOfMemory, true),
         // It is tried again.
         (ErrorKind::Interrupted, false),
     ];
-    let input = joined(rt.alloc(), LINES)?;
+    let input = joined(&rt, rt.alloc(), LINES);
     let undisturbed = printed(&rt, rt.alloc(), input.as_bytes());
     let (input, undisturbed) = (input.as_bytes(), undisturbed.as_slice());
     for &(kind, fails) in ROWS {
         check_sources(&rt, rt.alloc(), input, kind, fails, undisturbed);
     }
-    Ok(())
 }
 
 // Takes some octets a call, and fails at one call, or from it on.
@@ -175,10 +172,10 @@ impl Write for Sink<'_> {
 }
 
 // A line of each word, and then lines of 255 octets that print about 540 each.
-fn long_input(alloc: Global) -> Result<String, Fail> {
-    let long = repeated(alloc, &[("hbh 11ff", 1), ("a", 510), ("\nfoo\n", 1)])?;
-    let lines = joined(alloc, LINES)?;
-    repeated(alloc, &[(lines.as_str(), 1), (long.as_str(), 60)])
+fn long_input(rt: &impl Abort, alloc: Global) -> String {
+    let long = repeated(rt, alloc, &[("hbh 11ff", 1), ("a", 510), ("\nfoo\n", 1)]);
+    let lines = joined(rt, alloc, LINES);
+    repeated(rt, alloc, &[(lines.as_str(), 1), (long.as_str(), 60)])
 }
 
 // Compares what was printed to a sink with what is printed to one that never fails; true where no write failed.
@@ -241,13 +238,13 @@ fn check_sinks(
 }
 
 #[test]
-fn writes_that_fail(rt: HostRuntime) -> Result<(), Fail> {
+fn writes_that_fail(rt: HostRuntime) {
     const ROWS: &[(ErrorKind, Fault, bool)] = &[
         (ErrorKind::BrokenPipe, Fault::Write, false),
         (ErrorKind::BrokenPipe, Fault::Write, true),
         (ErrorKind::OutOfMemory, Fault::Write, true),
     ];
-    let input = long_input(rt.alloc())?;
+    let input = long_input(&rt, rt.alloc());
     let undisturbed = printed(&rt, rt.alloc(), input.as_bytes());
     for row in ROWS {
         check_sinks(
@@ -258,14 +255,16 @@ fn writes_that_fail(rt: HostRuntime) -> Result<(), Fail> {
             undisturbed.as_slice(),
         );
     }
-    Ok(())
 }
 
-fn only_line(rt: &impl Abort, alloc: Global, octets: &[u8]) -> Result<Line, Fail> {
-    let mut input = BufReader::new(alloc, octets)?;
+fn only_line(rt: &impl Abort, alloc: Global, octets: &[u8]) -> Line {
     let mut line = Line::new(alloc);
+    let Ok(mut input) = BufReader::new(alloc, octets) else {
+        holds_of(rt, octets, false);
+        return line;
+    };
     same_of(rt, octets, read_line(&mut input, &mut line), Ok(true));
-    Ok(line)
+    line
 }
 
 // Compares what a line prints to a sink that fails at one call; true where no write failed.
@@ -306,21 +305,19 @@ fn faults_of(
     500
 }
 
-fn check_faults(rt: &impl Abort, alloc: Global, text: &str) -> Result<(), Fail> {
-    let line = only_line(rt, alloc, text.as_bytes())?;
+fn check_faults(rt: &impl Abort, alloc: Global, text: &str) {
+    let line = only_line(rt, alloc, text.as_bytes());
     let mut undisturbed = Vec::new(alloc);
     let known = show_line(alloc, &mut undisturbed, &line);
     holds_of(rt, text, known.is_ok());
     let faults = faults_of(rt, alloc, &line, known, undisturbed.as_slice());
     holds_of(rt, text, faults > 1 && faults < 500);
-    Ok(())
 }
 
 // Each write of what a line prints fails in turn, with no buffer between.
 #[test]
-fn writes_of_each_word_that_fail(rt: HostRuntime) -> Result<(), Fail> {
+fn writes_of_each_word_that_fail(rt: HostRuntime) {
     for line in LINES {
-        check_faults(&rt, rt.alloc(), line)?;
+        check_faults(&rt, rt.alloc(), line);
     }
-    Ok(())
 }

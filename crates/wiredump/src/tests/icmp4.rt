@@ -1,10 +1,9 @@
 //! Messages of ICMPv4 and of IGMP.
 
 use super::{check, check_changed, check_with_data};
-use std::test::Fail;
 
 #[test]
-fn echoes_of_icmpv4(rt: HostRuntime) -> Result<(), Fail> {
+fn echoes_of_icmpv4(rt: HostRuntime) {
     const ROWS: &[(&str, &str)] = &[
         (
             "08008efe1234abcdaa0000ff",
@@ -30,7 +29,7 @@ fn echoes_of_icmpv4(rt: HostRuntime) -> Result<(), Fail> {
         ("0000000000000000", "refused\n"),
         ("-", "refused\n"),
     ];
-    check(&rt, rt.alloc(), "icmp4", ROWS)
+    check(&rt, rt.alloc(), "icmp4", ROWS);
 }
 
 // A datagram from 10.0.0.1 to 10.0.0.2, and what a message that quotes it prints of it.
@@ -40,20 +39,19 @@ const QUOTED: &str = "header.src_addr=10.0.0.1\nheader.dst_addr=10.0.0.2\nheader
     header.payload_len=8\nheader.hop_limit=64\ndata=0035003500080000\n";
 
 #[test]
-fn errors_of_icmpv4(rt: HostRuntime) -> Result<(), Fail> {
+fn errors_of_icmpv4(rt: HostRuntime) {
     const ROWS: &[(&str, &str)] = &[
         ("0303fc8a00000000", "DstUnreachable\nreason=3\n"),
         ("0b00f48d00000000", "TimeExceeded\nreason=0\n"),
         ("0b01f48c00000000", "TimeExceeded\nreason=1\n"),
     ];
     for (header, want) in ROWS {
-        check_with_data(&rt, rt.alloc(), "icmp4", header, QUOTE, want, QUOTED)?;
+        check_with_data(&rt, rt.alloc(), "icmp4", header, QUOTE, want, QUOTED);
     }
-    Ok(())
 }
 
 #[test]
-fn types_of_icmpv4_that_are_not_read(rt: HostRuntime) -> Result<(), Fail> {
+fn types_of_icmpv4_that_are_not_read(rt: HostRuntime) {
     const HEADERS: &[&str] = &[
         "0500fa8d00000000",
         "0900f68d00000000",
@@ -63,13 +61,12 @@ fn types_of_icmpv4_that_are_not_read(rt: HostRuntime) -> Result<(), Fail> {
         "0e00f18d00000000",
     ];
     for header in HEADERS {
-        check_with_data(&rt, rt.alloc(), "icmp4", header, QUOTE, "refused\n", "")?;
+        check_with_data(&rt, rt.alloc(), "icmp4", header, QUOTE, "refused\n", "");
     }
-    Ok(())
 }
 
 #[test]
-fn errors_of_icmpv4_by_their_quote(rt: HostRuntime) -> Result<(), Fail> {
+fn errors_of_icmpv4_by_their_quote(rt: HostRuntime) {
     const ROWS: &[(&str, &str)] = &[
         // The quote's own checksum is not looked at.
         (
@@ -102,11 +99,11 @@ fn errors_of_icmpv4_by_their_quote(rt: HostRuntime) -> Result<(), Fail> {
             "refused\n",
         ),
     ];
-    check(&rt, rt.alloc(), "icmp4", ROWS)
+    check(&rt, rt.alloc(), "icmp4", ROWS);
 }
 
 #[test]
-fn messages_of_igmp(rt: HostRuntime) -> Result<(), Fail> {
+fn messages_of_igmp(rt: HostRuntime) {
     const ROWS: &[(&str, &str)] = &[
         (
             "1180ee7f00000000",
@@ -143,5 +140,5 @@ fn messages_of_igmp(rt: HostRuntime) -> Result<(), Fail> {
         ("22000000e0000001", "refused\n"),
         ("-", "refused\n"),
     ];
-    check_changed(&rt, rt.alloc(), "igmp", ROWS)
+    check_changed(&rt, rt.alloc(), "igmp", ROWS);
 }

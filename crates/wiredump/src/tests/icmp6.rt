@@ -1,13 +1,12 @@
 //! Messages of ICMPv6 and of multicast listener discovery.
 
 use super::{check, check_changed, check_line, check_with_data, repeated};
-use std::test::Fail;
 
 /// A message from one address of the link to another.
 pub const BETWEEN: &str = "icmp6 fe800000000000000000000000000001 fe800000000000000000000000000002";
 
 #[test]
-fn echoes_of_icmpv6(rt: HostRuntime) -> Result<(), Fail> {
+fn echoes_of_icmpv6(rt: HostRuntime) {
     const ROWS: &[(&str, &str)] = &[
         (
             "800019b31234abcdaa0000ff",
@@ -26,7 +25,7 @@ fn echoes_of_icmpv6(rt: HostRuntime) -> Result<(), Fail> {
         ("84007eb800000000", "refused\n"),
         ("-", "refused\n"),
     ];
-    check(&rt, rt.alloc(), BETWEEN, ROWS)
+    check(&rt, rt.alloc(), BETWEEN, ROWS);
 }
 
 #[test]
@@ -62,7 +61,7 @@ const QUOTED: &str = "header.src_addr=fe800000000000000000000000000001\n\
     header.payload_len=12\nheader.hop_limit=64\ndata=bf000035000c124daa0000ff\n";
 
 #[test]
-fn errors_of_icmpv6(rt: HostRuntime) -> Result<(), Fail> {
+fn errors_of_icmpv6(rt: HostRuntime) {
     const ROWS: &[(&str, &str)] = &[
         ("010016a500000000", "DstUnreachable\nreason=0\n"),
         ("010116a400000000", "DstUnreachable\nreason=1\n"),
@@ -77,19 +76,18 @@ fn errors_of_icmpv6(rt: HostRuntime) -> Result<(), Fail> {
         ("0403137a00000028", "ParamProblem\nreason=3\npointer=40\n"),
     ];
     for (header, want) in ROWS {
-        check_with_data(&rt, rt.alloc(), BETWEEN, header, QUOTE, want, QUOTED)?;
+        check_with_data(&rt, rt.alloc(), BETWEEN, header, QUOTE, want, QUOTED);
     }
-    Ok(())
 }
 
 #[test]
-fn a_packet_too_big_with_a_code(rt: HostRuntime) -> Result<(), Fail> {
+fn a_packet_too_big_with_a_code(rt: HostRuntime) {
     let header = "02010fc8000005dc";
-    check_with_data(&rt, rt.alloc(), BETWEEN, header, QUOTE, "refused\n", "")
+    check_with_data(&rt, rt.alloc(), BETWEEN, header, QUOTE, "refused\n", "");
 }
 
 #[test]
-fn errors_of_icmpv6_by_their_quote(rt: HostRuntime) -> Result<(), Fail> {
+fn errors_of_icmpv6_by_their_quote(rt: HostRuntime) {
     const ROWS: &[(&str, &str)] = &[
         // A header alone, and a header less an octet.
         (
@@ -105,26 +103,25 @@ fn errors_of_icmpv6_by_their_quote(rt: HostRuntime) -> Result<(), Fail> {
             "refused\n",
         ),
     ];
-    check(&rt, rt.alloc(), BETWEEN, ROWS)
+    check(&rt, rt.alloc(), BETWEEN, ROWS);
 }
 
 // As much of a datagram of 9,999 bytes as an error has room for.
 #[test]
-fn a_packet_too_big_of_1240_bytes(rt: HostRuntime) -> Result<(), Fail> {
+fn a_packet_too_big_of_1240_bytes(rt: HostRuntime) {
     let header = "02000c3f00000500\
         60000000270f1140fe800000000000000000000000000001fe800000000000000000000000000002";
     let line = [(BETWEEN, 1), (" ", 1), (header, 1), ("aa", 1_192)];
-    let line = repeated(rt.alloc(), &line)?;
+    let line = repeated(&rt, rt.alloc(), &line);
     let want = "PktTooBig\nmtu=1280\nheader.src_addr=fe800000000000000000000000000001\n\
         header.dst_addr=fe800000000000000000000000000002\nheader.next_header=17\n\
         header.payload_len=9999\nheader.hop_limit=64\ndata=";
-    let want = repeated(rt.alloc(), &[(want, 1), ("aa", 1_192), ("\n", 1)])?;
+    let want = repeated(&rt, rt.alloc(), &[(want, 1), ("aa", 1_192), ("\n", 1)]);
     check_line(&rt, rt.alloc(), line.as_str(), want.as_str());
-    Ok(())
 }
 
 #[test]
-fn messages_of_mld(rt: HostRuntime) -> Result<(), Fail> {
+fn messages_of_mld(rt: HostRuntime) {
     const ROWS: &[(&str, &str)] = &[
         (
             "8f0000000000000104000000ff020000000000000000000000000002",
@@ -155,11 +152,11 @@ fn messages_of_mld(rt: HostRuntime) -> Result<(), Fail> {
         ),
         ("-", "refused\n"),
     ];
-    check_changed(&rt, rt.alloc(), "mld", ROWS)
+    check_changed(&rt, rt.alloc(), "mld", ROWS);
 }
 
 #[test]
-fn messages_of_mld_inside_icmpv6(rt: HostRuntime) -> Result<(), Fail> {
+fn messages_of_mld_inside_icmpv6(rt: HostRuntime) {
     const ROWS: &[(&str, &str)] = &[
         (
             "8200737404000000ff0200000000000000000000000000010a120001ff02000000000000000000000000\
@@ -180,5 +177,5 @@ fn messages_of_mld_inside_icmpv6(rt: HostRuntime) -> Result<(), Fail> {
         ),
     ];
     let between = "icmp6 ff020000000000000000000000000001 ff020000000000000000000000000002";
-    check(&rt, rt.alloc(), between, ROWS)
+    check(&rt, rt.alloc(), between, ROWS);
 }

@@ -1,12 +1,11 @@
 //! Lines of every shape, and at the limits of what a line may have.
 
-use super::{check_line, check_run, joined, repeated};
-use crate::testing::same_of;
+use super::{append, check_line, check_run, joined, repeated};
+use crate::testing::{holds_of, same_of};
 use crate::{read_word, run, status};
 use std::alloc::Global;
 use std::fmt::Write;
 use std::process::Abort;
-use std::test::Fail;
 
 // Each input prints this and ends with this status.
 fn check_lines(rt: &impl Abort, alloc: Global, rows: &[(&str, &str, u8)]) {
@@ -120,29 +119,21 @@ fn lines_that_are_no_text(rt: HostRuntime) {
 }
 
 // A word of so many digits is so many octets, or none, and a line of it prints this.
-fn check_digits(
-    rt: &impl Abort,
-    alloc: Global,
-    digits: usize,
-    length: Option<usize>,
-    want: &str,
-) -> Result<(), Fail> {
-    let word = repeated(alloc, &[("0", digits)])?;
-    let octets = read_word(alloc, word.as_bytes())?;
-    same_of(
-        rt,
-        digits,
-        octets.as_ref().map(|octets| octets.len()),
-        length,
-    );
-    let line = joined(alloc, &["hbh ", word.as_str()])?;
+fn check_digits(rt: &impl Abort, alloc: Global, digits: usize, length: Option<usize>, want: &str) {
+    let word = repeated(rt, alloc, &[("0", digits)]);
+    let Ok(octets) = read_word(alloc, word.as_bytes()) else {
+        holds_of(rt, digits, false);
+        return;
+    };
+    let octets_len = octets.as_ref().map(|octets| octets.len());
+    same_of(rt, digits, octets_len, length);
+    let line = joined(rt, alloc, &["hbh ", word.as_str()]);
     let (input, want) = (line.as_bytes(), want.as_bytes());
     check_run(rt, alloc, &digits, input, length.is_some(), want);
-    Ok(())
 }
 
 #[test]
-fn words_of_the_most_digits(rt: HostRuntime) -> Result<(), Fail> {
+fn words_of_the_most_digits(rt: HostRuntime) {
     const ROWS: &[(usize, Option<usize>, &str)] = &[
         (
             131_070,
@@ -153,9 +144,8 @@ fn words_of_the_most_digits(rt: HostRuntime) -> Result<(), Fail> {
         (131_072, None, "bad line\n"),
     ];
     for &(digits, length, want) in ROWS {
-        check_digits(&rt, rt.alloc(), digits, length, want)?;
+        check_digits(&rt, rt.alloc(), digits, length, want);
     }
-    Ok(())
 }
 
 // A line that is made of texts, each so often, prints this, and then another line what it does.
@@ -165,17 +155,16 @@ fn check_repeated(
     texts: &[(&str, usize)],
     known: bool,
     want: &str,
-) -> Result<(), Fail> {
-    let mut input = repeated(alloc, texts)?;
-    input.push_str("\nhbh 00")?;
-    let want = joined(alloc, &[want, "Pad1\n"])?;
+) {
+    let mut input = repeated(rt, alloc, texts);
+    append(rt, &mut input, "\nhbh 00", 1);
+    let want = joined(rt, alloc, &[want, "Pad1\n"]);
     let (input, want) = (input.as_bytes(), want.as_bytes());
     check_run(rt, alloc, &texts, input, known, want);
-    Ok(())
 }
 
 #[test]
-fn lines_at_their_limits(rt: HostRuntime) -> Result<(), Fail> {
+fn lines_at_their_limits(rt: HostRuntime) {
     const ROWS: &[(&[(&str, usize)], bool, &str)] = &[
         (
             &[("hbh ", 1), ("0", 131_070), ("\r", 1)],
@@ -222,26 +211,24 @@ fn lines_at_their_limits(rt: HostRuntime) -> Result<(), Fail> {
         (&[("hbh", 1), (" 0100", 4), (" \r", 1)], false, "bad line\n"),
     ];
     for &(texts, known, want) in ROWS {
-        check_repeated(&rt, rt.alloc(), texts, known, want)?;
+        check_repeated(&rt, rt.alloc(), texts, known, want);
     }
-    Ok(())
 }
 
 // The digits of all octets but the last.
-fn digits_of_octets(alloc: Global) -> Result<String, Fail> {
+fn digits_of_octets(rt: &impl Abort, alloc: Global) -> String {
     let mut digits = String::new(alloc);
     for octet in 0..255u8 {
-        write!(digits, "{octet:02x}")?;
+        holds_of(rt, octet, write!(digits, "{octet:02x}").is_ok());
     }
-    Ok(digits)
+    digits
 }
 
 #[test]
-fn octets_of_every_value(rt: HostRuntime) -> Result<(), Fail> {
-    let digits = digits_of_octets(rt.alloc())?;
-    let line = joined(rt.alloc(), &["hbh 11ff", digits.as_str()])?;
+fn octets_of_every_value(rt: HostRuntime) {
+    let digits = digits_of_octets(&rt, rt.alloc());
+    let line = joined(&rt, rt.alloc(), &["hbh 11ff", digits.as_str()]);
     let want = "Unknown\ntype_=17\nlength=255\ndata=";
-    let want = joined(rt.alloc(), &[want, digits.as_str(), "\n"])?;
+    let want = joined(&rt, rt.alloc(), &[want, digits.as_str(), "\n"]);
     check_line(&rt, rt.alloc(), line.as_str(), want.as_str());
-    Ok(())
 }

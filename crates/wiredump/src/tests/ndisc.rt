@@ -2,10 +2,9 @@
 
 use super::check;
 use super::icmp6::BETWEEN;
-use std::test::Fail;
 
 #[test]
-fn router_solicitations(rt: HostRuntime) -> Result<(), Fail> {
+fn router_solicitations(rt: HostRuntime) {
     const ROWS: &[(&str, &str)] = &[
         ("85007db800000000", "RouterSolicit\nlladdr=none\n"),
         (
@@ -23,11 +22,11 @@ fn router_solicitations(rt: HostRuntime) -> Result<(), Fail> {
         ),
         ("85007db10000000000000000000000", "refused\n"),
     ];
-    check(&rt, rt.alloc(), BETWEEN, ROWS)
+    check(&rt, rt.alloc(), BETWEEN, ROWS);
 }
 
 #[test]
-fn router_advertisements(rt: HostRuntime) -> Result<(), Fail> {
+fn router_advertisements(rt: HostRuntime) {
     const ROWS: &[(&str, &str)] = &[
         (
             "8600a9de4080038400000384000003840101525400123456",
@@ -72,11 +71,11 @@ fn router_advertisements(rt: HostRuntime) -> Result<(), Fail> {
             "refused\n",
         ),
     ];
-    check(&rt, rt.alloc(), BETWEEN, ROWS)
+    check(&rt, rt.alloc(), BETWEEN, ROWS);
 }
 
 #[test]
-fn neighbor_solicitations_and_advertisements(rt: HostRuntime) -> Result<(), Fail> {
+fn neighbor_solicitations_and_advertisements(rt: HostRuntime) {
     const ROWS: &[(&str, &str)] = &[
         (
             "87007d2500000000fe800000000000000000000000000002",
@@ -98,11 +97,11 @@ fn neighbor_solicitations_and_advertisements(rt: HostRuntime) -> Result<(), Fail
              lladdr=525400123456\n",
         ),
     ];
-    check(&rt, rt.alloc(), BETWEEN, ROWS)
+    check(&rt, rt.alloc(), BETWEEN, ROWS);
 }
 
 #[test]
-fn redirects(rt: HostRuntime) -> Result<(), Fail> {
+fn redirects(rt: HostRuntime) {
     const ROWS: &[(&str, &str)] = &[
         (
             "89007c9300000000fe800000000000000000000000000002fe800000000000000000000000000001",
@@ -133,5 +132,5 @@ fn redirects(rt: HostRuntime) -> Result<(), Fail> {
             "refused\n",
         ),
     ];
-    check(&rt, rt.alloc(), BETWEEN, ROWS)
+    check(&rt, rt.alloc(), BETWEEN, ROWS);
 }

@@ -1,10 +1,9 @@
 //! Options of IPv6 and of neighbour discovery.
 
 use super::check_changed;
-use std::test::Fail;
 
 #[test]
-fn hop_by_hop_headers(rt: HostRuntime) -> Result<(), Fail> {
+fn hop_by_hop_headers(rt: HostRuntime) {
     const PADS: &str = "Pad1\nPad1\nPad1\nPad1\nPad1\nPad1\nPad1\nPad1\n";
     const ROWS: &[(&str, &str)] = &[
         ("010400000000", "PadN=4\n"),
@@ -39,11 +38,11 @@ fn hop_by_hop_headers(rt: HostRuntime) -> Result<(), Fail> {
         ("0101", "refused\n"),
         ("-", "refused\n"),
     ];
-    check_changed(&rt, rt.alloc(), "hbh", ROWS)
+    check_changed(&rt, rt.alloc(), "hbh", ROWS);
 }
 
 #[test]
-fn neighbor_options(rt: HostRuntime) -> Result<(), Fail> {
+fn neighbor_options(rt: HostRuntime) {
     const ROWS: &[(&str, &str)] = &[
         ("05010000000005dc", "Mtu=1500\n"),
         ("05010000000005dcffff", "Mtu=1500\n"),
@@ -81,5 +80,5 @@ fn neighbor_options(rt: HostRuntime) -> Result<(), Fail> {
         ("0e00000000000000", "refused\n"),
         ("-", "refused\n"),
     ];
-    check_changed(&rt, rt.alloc(), "ndopt", ROWS)
+    check_changed(&rt, rt.alloc(), "ndopt", ROWS);
 }

@@ -1,9 +1,8 @@
 //! Values behind a field's name.
 
 use crate::printer::{field, line, part_field};
-use crate::testing::same_of;
+use crate::testing::{holds_of, same_of};
 use std::io;
-use std::test::Fail;
 
 fn show_numbers(output: &mut Vec<u8>) -> io::Result<()> {
     line(output, "Redirect")?;
@@ -29,14 +28,13 @@ fn show_parts(output: &mut Vec<u8>) -> io::Result<()> {
 }
 
 #[test]
-fn fields_of_values_and_of_their_parts(rt: HostRuntime) -> Result<(), Fail> {
+fn fields_of_values_and_of_their_parts(rt: HostRuntime) {
     let mut output = Vec::new(rt.alloc());
-    show_numbers(&mut output)?;
-    show_options(&mut output)?;
-    show_parts(&mut output)?;
+    holds_of(&rt, "numbers", show_numbers(&mut output).is_ok());
+    holds_of(&rt, "options", show_options(&mut output).is_ok());
+    holds_of(&rt, "parts", show_parts(&mut output).is_ok());
     let want = "Redirect\nreachable_time=4294967295\ndelay=18446744073709551615\nrouter=true\n\
         override=false\nmtu=none\nhop_limit=64\nrest=7\n61\nredirected_hdr.header.payload_len=1280\n\
         redirected_hdr.header.src_addr=fe800001\nredirected_hdr.data=-\ntarget=0a\n";
     same_of(&rt, "fields", output.as_slice(), want.as_bytes());
-    Ok(())
 }

@@ -93,7 +93,7 @@ fn packets_print_their_message_or_why_not(rt: HostRuntime) {
     ];
     for &(octets, text) in ROWS {
         let packet = Packet::new_unchecked(octets);
-        prints(&rt, rt.alloc(), packet, text);
+        prints(&rt, rt.alloc(), &packet, text);
     }
 }
 
@@ -105,7 +105,7 @@ fn an_exceeded_time_prints_its_reason(rt: HostRuntime) {
         data: &QUOTED_DATA,
     };
     let text = "ICMPv4 time exceeded (fragment reassembly time exceeded)";
-    prints(&rt, rt.alloc(), time_exceeded, text);
+    prints(&rt, rt.alloc(), &time_exceeded, text);
 }
 
 #[test]
@@ -114,7 +114,7 @@ fn a_packet_of_a_wrong_checksum_prints_why_it_is_refused(rt: HostRuntime) {
     octets[3] ^= 1;
     let packet = Packet::new_unchecked(&mut octets[..]);
     let text = "ICMPv4 (wire::Error) type=EchoRequest code=0";
-    prints(&rt, rt.alloc(), packet, text);
+    prints(&rt, rt.alloc(), &packet, text);
 }
 
 #[test]
