@@ -14,7 +14,7 @@ use opt_wire::ndiscoption::{PrefixInformation, RedirectedHeader};
 use wirebase::{ByteWriter, RawHardwareAddress};
 
 // The option of a link-layer address of the sender.
-pub(super) fn source_option<'a>(lladdr: Option<RawHardwareAddress>) -> Option<ndiscoption::Repr<'a>>
+fn source_option<'a>(lladdr: Option<RawHardwareAddress>) -> Option<ndiscoption::Repr<'a>>
     ensures { option_map option_value result ≡ sources lladdr }
 {
     match lladdr {
@@ -24,7 +24,7 @@ pub(super) fn source_option<'a>(lladdr: Option<RawHardwareAddress>) -> Option<nd
 }
 
 // The option of a link-layer address of the target.
-pub(super) fn target_option<'a>(lladdr: Option<RawHardwareAddress>) -> Option<ndiscoption::Repr<'a>>
+fn target_option<'a>(lladdr: Option<RawHardwareAddress>) -> Option<ndiscoption::Repr<'a>>
     ensures { option_map option_value result ≡ targets lladdr }
 {
     match lladdr {
@@ -78,6 +78,22 @@ pub(super) fn option_len(option: &Option<ndiscoption::Repr<'_>>) -> usize
     }
 }
 
+// The bytes of the option of a link-layer address of the sender.
+pub(super) fn source_len(lladdr: &Option<RawHardwareAddress>) -> usize
+    requires { option_len (sources lladdr.now) < 2 ^ 64 }
+    ensures { result ≡ option_len (sources lladdr.now) }
+{
+    option_len(&source_option(*lladdr))
+}
+
+// The bytes of the option of a link-layer address of the target.
+pub(super) fn target_len(lladdr: &Option<RawHardwareAddress>) -> usize
+    requires { option_len (targets lladdr.now) < 2 ^ 64 }
+    ensures { result ≡ option_len (targets lladdr.now) }
+{
+    option_len(&target_option(*lladdr))
+}
+
 // Writes an option, where there is one.
 pub(super) fn put_option(w: &mut ByteWriter<'_>, option: &Option<ndiscoption::Repr<'_>>)
     requires sound { IfThere CanEmitOption (option_map option_value option.now) }
@@ -92,6 +108,30 @@ pub(super) fn put_option(w: &mut ByteWriter<'_>, option: &Option<ndiscoption::Re
         Some(option) => put_some(w, option),
         None => w.put_bytes(&[]),
     }
+}
+
+// Writes the option of a link-layer address of the sender.
+pub(super) fn put_source(w: &mut ByteWriter<'_>, lladdr: &Option<RawHardwareAddress>)
+    requires sound { IfThere CanEmitOption (sources lladdr.now) }
+    requires small { option_len (sources lladdr.now) < 2 ^ 64 }
+    requires room { option_len (sources lladdr.now) ≤ length (free w.old) }
+    ensures puts { Puts w.old w.new (option_text (sources lladdr.now) ∷ []) }
+    ensures room { length (free w.old) ≡ option_len (sources lladdr.now) + length (free w.new) }
+    ensures same_slice { the_slice w.new ≡ the_slice w.old }
+{
+    put_option(w, &source_option(*lladdr));
+}
+
+// Writes the option of a link-layer address of the target.
+pub(super) fn put_target(w: &mut ByteWriter<'_>, lladdr: &Option<RawHardwareAddress>)
+    requires sound { IfThere CanEmitOption (targets lladdr.now) }
+    requires small { option_len (targets lladdr.now) < 2 ^ 64 }
+    requires room { option_len (targets lladdr.now) ≤ length (free w.old) }
+    ensures puts { Puts w.old w.new (option_text (targets lladdr.now) ∷ []) }
+    ensures room { length (free w.old) ≡ option_len (targets lladdr.now) + length (free w.new) }
+    ensures same_slice { the_slice w.new ≡ the_slice w.old }
+{
+    put_option(w, &target_option(*lladdr));
 }
 
 // Writes an option.

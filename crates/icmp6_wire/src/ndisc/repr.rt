@@ -21,8 +21,8 @@ use super::field;
 use super::flags::{NeighborFlags, RouterFlags};
 use super::found::Found;
 use super::options::{
-    mtu_option, option_len, prefix_option, put_option, redirected_option, source_option,
-    target_option,
+    mtu_option, option_len, prefix_option, put_option, put_source, put_target, redirected_option,
+    source_len, target_len,
 };
 use crate::icmpv6::{Message, Packet};
 use crate::writing::{put_address, put_type};
@@ -176,16 +176,16 @@ impl<'a> Repr<'a> {
         requires { option_lens (options_of (value_of self.now)) < 2 ^ 64 }
         ensures { result ≡ option_lens (options_of (value_of self.now)) }
     {
-        match *self {
-            Repr::RouterSolicit { lladdr } => option_len(&source_option(lladdr)),
+        match self {
+            Repr::RouterSolicit { lladdr } => source_len(lladdr),
             Repr::RouterAdvert {
                 lladdr,
                 mtu,
                 prefix_info,
                 ..
             } => router_options_len(lladdr, mtu, prefix_info),
-            Repr::NeighborSolicit { lladdr, .. } => option_len(&source_option(lladdr)),
-            Repr::NeighborAdvert { lladdr, .. } => option_len(&target_option(lladdr)),
+            Repr::NeighborSolicit { lladdr, .. } => source_len(lladdr),
+            Repr::NeighborAdvert { lladdr, .. } => target_len(lladdr),
             Repr::Redirect {
                 lladdr,
                 redirected_hdr,
@@ -244,7 +244,7 @@ impl<'a> Repr<'a> {
             ≡ header_len (value_of self.now) + length (free w.new) }
         ensures same_slice { the_slice w.new ≡ the_slice w.old }
     {
-        match *self {
+        match self {
             Repr::RouterSolicit { .. } => put_reserved(w, Message::RouterSolicit),
             Repr::RouterAdvert {
                 hop_limit,
@@ -254,20 +254,20 @@ impl<'a> Repr<'a> {
                 retrans_time,
                 ..
             } => {
-                put_router(w, hop_limit, flags);
-                put_times(w, router_lifetime, reachable_time, retrans_time);
+                put_router(w, *hop_limit, *flags);
+                put_times(w, *router_lifetime, *reachable_time, *retrans_time);
             }
             Repr::NeighborSolicit { target_addr, .. } => {
                 put_reserved(w, Message::NeighborSolicit);
-                put_address(w, target_addr);
+                put_address(w, *target_addr);
             }
             Repr::NeighborAdvert {
                 flags,
                 target_addr,
                 ..
             } => {
-                put_neighbor(w, flags);
-                put_address(w, target_addr);
+                put_neighbor(w, *flags);
+                put_address(w, *target_addr);
             }
             Repr::Redirect {
                 target_addr,
@@ -275,8 +275,8 @@ impl<'a> Repr<'a> {
                 ..
             } => {
                 put_reserved(w, Message::Redirect);
-                put_address(w, target_addr);
-                put_address(w, dest_addr);
+                put_address(w, *target_addr);
+                put_address(w, *dest_addr);
             }
         }
     }
@@ -288,16 +288,16 @@ impl<'a> Repr<'a> {
         ensures puts { Puts w.old w.new (option_texts (options_of (value_of self.now))) }
         ensures same_slice { the_slice w.new ≡ the_slice w.old }
     {
-        match *self {
-            Repr::RouterSolicit { lladdr } => put_option(w, &source_option(lladdr)),
+        match self {
+            Repr::RouterSolicit { lladdr } => put_source(w, lladdr),
             Repr::RouterAdvert {
                 lladdr,
                 mtu,
                 prefix_info,
                 ..
             } => put_router_options(w, lladdr, mtu, prefix_info),
-            Repr::NeighborSolicit { lladdr, .. } => put_option(w, &source_option(lladdr)),
-            Repr::NeighborAdvert { lladdr, .. } => put_option(w, &target_option(lladdr)),
+            Repr::NeighborSolicit { lladdr, .. } => put_source(w, lladdr),
+            Repr::NeighborAdvert { lladdr, .. } => put_target(w, lladdr),
             Repr::Redirect {
                 lladdr,
                 redirected_hdr,
@@ -328,28 +328,26 @@ fn read_router_advert<'a>(packet: &Packet<&'a [u8]>, found: &Found<'a>) -> Repr<
 
 // The bytes of the options of a router advertisement.
 fn router_options_len(
-    lladdr: Option<RawHardwareAddress>,
-    mtu: Option<u32>,
-    prefix_info: Option<PrefixInformation>,
+    lladdr: &Option<RawHardwareAddress>,
+    mtu: &Option<u32>,
+    prefix_info: &Option<PrefixInformation>,
 ) -> usize
-    requires { option_lens (sources lladdr ∷ mtus mtu ∷ prefixes prefix_info ∷ []) < 2 ^ 64 }
-    ensures { result ≡ option_lens (sources lladdr ∷ mtus mtu ∷ prefixes prefix_info ∷ []) }
+    requires { option_lens (sources lladdr.now ∷ mtus mtu.now ∷ prefixes prefix_info.now ∷ []) < 2 ^ 64 }
+    ensures { result ≡ option_lens (sources lladdr.now ∷ mtus mtu.now ∷ prefixes prefix_info.now ∷ []) }
 {
-    option_len(&source_option(lladdr))
-        + option_len(&mtu_option(mtu))
-        + option_len(&prefix_option(prefix_info))
+    source_len(lladdr) + option_len(&mtu_option(*mtu)) + option_len(&prefix_option(*prefix_info))
 }
 
 // The bytes of the options of a redirect.
 fn redirect_options_len(
-    lladdr: Option<RawHardwareAddress>,
-    header: Option<RedirectedHeader<'_>>,
+    lladdr: &Option<RawHardwareAddress>,
+    header: &Option<RedirectedHeader<'_>>,
 ) -> usize
-    requires { option_lens (targets lladdr ∷ packets (option_map packet_of header) ∷ []) < 2 ^ 64 }
+    requires { option_lens (targets lladdr.now ∷ packets (option_map packet_of header.now) ∷ []) < 2 ^ 64 }
     ensures { result
-        ≡ option_lens (targets lladdr ∷ packets (option_map packet_of header.entry) ∷ []) }
+        ≡ option_lens (targets lladdr.now ∷ packets (option_map packet_of header.now) ∷ []) }
 {
-    option_len(&target_option(lladdr)) + option_len(&redirected_option(header))
+    target_len(lladdr) + option_len(&redirected_option(*header))
 }
 
 // Writes a router advertisement up to its times.
@@ -368,38 +366,38 @@ fn put_router(w: &mut ByteWriter<'_>, hop_limit: u8, flags: RouterFlags)
 // Writes the options of a router advertisement.
 fn put_router_options(
     w: &mut ByteWriter<'_>,
-    lladdr: Option<RawHardwareAddress>,
-    mtu: Option<u32>,
-    prefix_info: Option<PrefixInformation>,
+    lladdr: &Option<RawHardwareAddress>,
+    mtu: &Option<u32>,
+    prefix_info: &Option<PrefixInformation>,
 )
-    requires sound { Each CanEmitOption (sources lladdr ∷ mtus mtu ∷ prefixes prefix_info ∷ []) }
-    requires room { option_lens (sources lladdr ∷ mtus mtu ∷ prefixes prefix_info ∷ [])
+    requires sound { Each CanEmitOption (sources lladdr.now ∷ mtus mtu.now ∷ prefixes prefix_info.now ∷ []) }
+    requires room { option_lens (sources lladdr.now ∷ mtus mtu.now ∷ prefixes prefix_info.now ∷ [])
         ≤ length (free w.old) }
     ensures puts { Puts w.old w.new
-        (option_texts (sources lladdr ∷ mtus mtu ∷ prefixes prefix_info ∷ [])) }
+        (option_texts (sources lladdr.now ∷ mtus mtu.now ∷ prefixes prefix_info.now ∷ [])) }
     ensures same_slice { the_slice w.new ≡ the_slice w.old }
 {
-    put_option(w, &source_option(lladdr));
-    put_option(w, &mtu_option(mtu));
-    put_option(w, &prefix_option(prefix_info));
+    put_source(w, lladdr);
+    put_option(w, &mtu_option(*mtu));
+    put_option(w, &prefix_option(*prefix_info));
 }
 
 // Writes the options of a redirect.
 fn put_redirect_options(
     w: &mut ByteWriter<'_>,
-    lladdr: Option<RawHardwareAddress>,
-    header: Option<RedirectedHeader<'_>>,
+    lladdr: &Option<RawHardwareAddress>,
+    header: &Option<RedirectedHeader<'_>>,
 )
     requires sound { Each CanEmitOption
-        (targets lladdr ∷ packets (option_map packet_of header) ∷ []) }
-    requires room { option_lens (targets lladdr ∷ packets (option_map packet_of header) ∷ [])
+        (targets lladdr.now ∷ packets (option_map packet_of header.now) ∷ []) }
+    requires room { option_lens (targets lladdr.now ∷ packets (option_map packet_of header.now) ∷ [])
         ≤ length (free w.old) }
     ensures puts { Puts w.old w.new
-        (option_texts (targets lladdr ∷ packets (option_map packet_of header.entry) ∷ [])) }
+        (option_texts (targets lladdr.now ∷ packets (option_map packet_of header.now) ∷ [])) }
     ensures same_slice { the_slice w.new ≡ the_slice w.old }
 {
-    put_option(w, &target_option(lladdr));
-    put_option(w, &redirected_option(header));
+    put_target(w, lladdr);
+    put_option(w, &redirected_option(*header));
 }
 
 // Writes a neighbor advertisement up to its address.
