@@ -21,9 +21,9 @@ pub(crate) fn put_type(w: &mut ByteWriter<'_>, kind: Message)
 }
 
 // Writes an address.
-pub(crate) fn put_address(w: &mut ByteWriter<'_>, address: Ipv6Address)
+pub(crate) fn put_address(w: &mut ByteWriter<'_>, address: &Ipv6Address)
     requires room { 16 ≤ length (free w.old) }
-    ensures puts { Puts w.old w.new (octets_of address ∷ []) }
+    ensures puts { Puts w.old w.new (octets_of address.now ∷ []) }
     ensures room { length (free w.old) ≡ 16 + length (free w.new) }
     ensures same_slice { the_slice w.new ≡ the_slice w.old }
 {

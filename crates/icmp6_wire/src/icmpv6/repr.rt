@@ -173,12 +173,13 @@ impl<'a> Repr<'a> {
         ensures bound { IsErrorValue (value_of self.now) → result ≤ 1240 }
     {
         match self {
-            Repr::DstUnreachable { header, data, .. } => error_len(header, data),
-            Repr::PktTooBig { header, data, .. } => error_len(header, data),
-            Repr::TimeExceeded { header, data, .. } => error_len(header, data),
-            Repr::ParamProblem { header, data, .. } => error_len(header, data),
-            Repr::EchoRequest { data, .. } => field::HEADER_END + data.len(),
-            Repr::EchoReply { data, .. } => field::HEADER_END + data.len(),
+            Repr::DstUnreachable { header, data, .. }
+            | Repr::PktTooBig { header, data, .. }
+            | Repr::TimeExceeded { header, data, .. }
+            | Repr::ParamProblem { header, data, .. } => error_len(header, data),
+            Repr::EchoRequest { data, .. } | Repr::EchoReply { data, .. } => {
+                field::HEADER_END + data.len()
+            }
             Repr::Mld(message) => message.packet_len(),
             Repr::Ndisc(message) => message.buffer_len(),
         }

@@ -294,6 +294,6 @@ impl<'a> AddressRecordRepr<'a> {
         w.put_u8(self.record_type.into());
         w.put_u8(self.aux_data_len);
         w.put_u16(self.num_srcs);
-        put_address(&mut w, self.mcast_addr);
+        put_address(&mut w, &self.mcast_addr);
     }
 }

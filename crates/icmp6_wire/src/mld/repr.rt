@@ -213,7 +213,7 @@ fn put_query(
     put_type(w, Message::MldQuery);
     w.put_u16(max_resp_code);
     w.put_u16(0);
-    put_address(w, mcast_addr);
+    put_address(w, &mcast_addr);
     let flag = if s_flag { 8 } else { 0 };
     w.put_u8(flag + qrv);
     w.put_u8(qqic);

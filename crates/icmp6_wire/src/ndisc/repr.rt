@@ -255,11 +255,11 @@ impl<'a> Repr<'a> {
                 ..
             } => {
                 put_router(w, *hop_limit, *flags);
-                put_times(w, *router_lifetime, *reachable_time, *retrans_time);
+                put_times(w, router_lifetime, reachable_time, retrans_time);
             }
             Repr::NeighborSolicit { target_addr, .. } => {
                 put_reserved(w, Message::NeighborSolicit);
-                put_address(w, *target_addr);
+                put_address(w, target_addr);
             }
             Repr::NeighborAdvert {
                 flags,
@@ -267,7 +267,7 @@ impl<'a> Repr<'a> {
                 ..
             } => {
                 put_neighbor(w, *flags);
-                put_address(w, *target_addr);
+                put_address(w, target_addr);
             }
             Repr::Redirect {
                 target_addr,
@@ -275,8 +275,8 @@ impl<'a> Repr<'a> {
                 ..
             } => {
                 put_reserved(w, Message::Redirect);
-                put_address(w, *target_addr);
-                put_address(w, *dest_addr);
+                put_address(w, target_addr);
+                put_address(w, dest_addr);
             }
         }
     }
@@ -332,8 +332,10 @@ fn router_options_len(
     mtu: &Option<u32>,
     prefix_info: &Option<PrefixInformation>,
 ) -> usize
-    requires { option_lens (sources lladdr.now ∷ mtus mtu.now ∷ prefixes prefix_info.now ∷ []) < 2 ^ 64 }
-    ensures { result ≡ option_lens (sources lladdr.now ∷ mtus mtu.now ∷ prefixes prefix_info.now ∷ []) }
+    requires { option_lens (sources lladdr.now ∷ mtus mtu.now ∷ prefixes prefix_info.now ∷ [])
+        < 2 ^ 64 }
+    ensures { result
+        ≡ option_lens (sources lladdr.now ∷ mtus mtu.now ∷ prefixes prefix_info.now ∷ []) }
 {
     source_len(lladdr) + option_len(&mtu_option(*mtu)) + option_len(&prefix_option(*prefix_info))
 }
@@ -343,7 +345,8 @@ fn redirect_options_len(
     lladdr: &Option<RawHardwareAddress>,
     header: &Option<RedirectedHeader<'_>>,
 ) -> usize
-    requires { option_lens (targets lladdr.now ∷ packets (option_map packet_of header.now) ∷ []) < 2 ^ 64 }
+    requires { option_lens (targets lladdr.now ∷ packets (option_map packet_of header.now) ∷ [])
+        < 2 ^ 64 }
     ensures { result
         ≡ option_lens (targets lladdr.now ∷ packets (option_map packet_of header.now) ∷ []) }
 {
@@ -370,7 +373,8 @@ fn put_router_options(
     mtu: &Option<u32>,
     prefix_info: &Option<PrefixInformation>,
 )
-    requires sound { Each CanEmitOption (sources lladdr.now ∷ mtus mtu.now ∷ prefixes prefix_info.now ∷ []) }
+    requires sound { Each CanEmitOption
+        (sources lladdr.now ∷ mtus mtu.now ∷ prefixes prefix_info.now ∷ []) }
     requires room { option_lens (sources lladdr.now ∷ mtus mtu.now ∷ prefixes prefix_info.now ∷ [])
         ≤ length (free w.old) }
     ensures puts { Puts w.old w.new
@@ -426,13 +430,13 @@ fn put_reserved(w: &mut ByteWriter<'_>, kind: Message)
 }
 
 // Writes the times of a router advertisement, in whole seconds and twice in whole milliseconds.
-fn put_times(w: &mut ByteWriter<'_>, lifetime: Duration, reachable: Duration, retrans: Duration)
+fn put_times(w: &mut ByteWriter<'_>, lifetime: &Duration, reachable: &Duration, retrans: &Duration)
     requires room { 10 ≤ length (free w.old) }
-    requires lifetime { seconds lifetime ≤ 65535 }
-    requires reachable { millis reachable ≤ 4294967295 }
-    requires retrans { millis retrans ≤ 4294967295 }
+    requires lifetime { seconds lifetime.now ≤ 65535 }
+    requires reachable { millis reachable.now ≤ 4294967295 }
+    requires retrans { millis retrans.now ≤ 4294967295 }
     ensures puts { Puts w.old w.new
-        (be16 (seconds lifetime) ∷ be32 (millis reachable) ∷ be32 (millis retrans) ∷ []) }
+        (be16 (seconds lifetime.now) ∷ be32 (millis reachable.now) ∷ be32 (millis retrans.now) ∷ []) }
     ensures room { length (free w.old) ≡ 10 + length (free w.new) }
     ensures same_slice { the_slice w.new ≡ the_slice w.old }
 {
