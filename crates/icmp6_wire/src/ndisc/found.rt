@@ -32,7 +32,9 @@ impl<'a> Found<'a> {
         let mut found = Found::nothing();
         let mut rest = payload;
         while !rest.is_empty() {
-            let (block, behind) = split_block(rest)?;
+            let Ok((block, behind)) = split_block(rest) else {
+                return Err(Error);
+            };
             found.note_block(block);
             rest = behind;
         }

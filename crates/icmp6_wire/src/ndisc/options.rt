@@ -14,55 +14,55 @@ use opt_wire::ndiscoption::{PrefixInformation, RedirectedHeader};
 use wirebase::{ByteWriter, RawHardwareAddress};
 
 // The option of a link-layer address of the sender.
-fn source_option<'a>(lladdr: Option<RawHardwareAddress>) -> Option<ndiscoption::Repr<'a>>
-    ensures { option_map option_value result ≡ sources lladdr }
+fn source_option<'a>(lladdr: &Option<RawHardwareAddress>) -> Option<ndiscoption::Repr<'a>>
+    ensures { option_map option_value result ≡ sources lladdr.now }
 {
     match lladdr {
-        Some(addr) => Some(ndiscoption::Repr::SourceLinkLayerAddr(addr)),
+        Some(addr) => Some(ndiscoption::Repr::SourceLinkLayerAddr(*addr)),
         None => None,
     }
 }
 
 // The option of a link-layer address of the target.
-fn target_option<'a>(lladdr: Option<RawHardwareAddress>) -> Option<ndiscoption::Repr<'a>>
-    ensures { option_map option_value result ≡ targets lladdr }
+fn target_option<'a>(lladdr: &Option<RawHardwareAddress>) -> Option<ndiscoption::Repr<'a>>
+    ensures { option_map option_value result ≡ targets lladdr.now }
 {
     match lladdr {
-        Some(addr) => Some(ndiscoption::Repr::TargetLinkLayerAddr(addr)),
+        Some(addr) => Some(ndiscoption::Repr::TargetLinkLayerAddr(*addr)),
         None => None,
     }
 }
 
 // The option of an MTU.
-pub(super) fn mtu_option<'a>(mtu: Option<u32>) -> Option<ndiscoption::Repr<'a>>
-    ensures { option_map option_value result ≡ mtus mtu }
+pub(super) fn mtu_option<'a>(mtu: &Option<u32>) -> Option<ndiscoption::Repr<'a>>
+    ensures { option_map option_value result ≡ mtus mtu.now }
 {
     match mtu {
-        Some(mtu) => Some(ndiscoption::Repr::Mtu(mtu)),
+        Some(mtu) => Some(ndiscoption::Repr::Mtu(*mtu)),
         None => None,
     }
 }
 
 // The option of a prefix.
 pub(super) fn prefix_option<'a>(
-    prefix_info: Option<PrefixInformation>,
+    prefix_info: &Option<PrefixInformation>,
 ) -> Option<ndiscoption::Repr<'a>>
-    ensures { option_map option_value result ≡ prefixes prefix_info }
+    ensures { option_map option_value result ≡ prefixes prefix_info.now }
 {
     match prefix_info {
-        Some(info) => Some(ndiscoption::Repr::PrefixInformation(info)),
+        Some(info) => Some(ndiscoption::Repr::PrefixInformation(*info)),
         None => None,
     }
 }
 
 // The option of a redirected packet.
-pub(super) fn redirected_option(
-    header: Option<RedirectedHeader<'_>>,
-) -> Option<ndiscoption::Repr<'_>>
-    ensures { option_map option_value result ≡ packets (option_map packet_of header.entry) }
+pub(super) fn redirected_option<'a>(
+    header: &Option<RedirectedHeader<'a>>,
+) -> Option<ndiscoption::Repr<'a>>
+    ensures { option_map option_value result ≡ packets (option_map packet_of header.now) }
 {
     match header {
-        Some(header) => Some(ndiscoption::Repr::RedirectedHeader(header)),
+        Some(header) => Some(ndiscoption::Repr::RedirectedHeader(*header)),
         None => None,
     }
 }
@@ -83,7 +83,7 @@ pub(super) fn source_len(lladdr: &Option<RawHardwareAddress>) -> usize
     requires { option_len (sources lladdr.now) < 2 ^ 64 }
     ensures { result ≡ option_len (sources lladdr.now) }
 {
-    option_len(&source_option(*lladdr))
+    option_len(&source_option(lladdr))
 }
 
 // The bytes of the option of a link-layer address of the target.
@@ -91,7 +91,7 @@ pub(super) fn target_len(lladdr: &Option<RawHardwareAddress>) -> usize
     requires { option_len (targets lladdr.now) < 2 ^ 64 }
     ensures { result ≡ option_len (targets lladdr.now) }
 {
-    option_len(&target_option(*lladdr))
+    option_len(&target_option(lladdr))
 }
 
 // Writes an option, where there is one.
@@ -119,7 +119,7 @@ pub(super) fn put_source(w: &mut ByteWriter<'_>, lladdr: &Option<RawHardwareAddr
     ensures room { length (free w.old) ≡ option_len (sources lladdr.now) + length (free w.new) }
     ensures same_slice { the_slice w.new ≡ the_slice w.old }
 {
-    put_option(w, &source_option(*lladdr));
+    put_option(w, &source_option(lladdr));
 }
 
 // Writes the option of a link-layer address of the target.
@@ -131,7 +131,7 @@ pub(super) fn put_target(w: &mut ByteWriter<'_>, lladdr: &Option<RawHardwareAddr
     ensures room { length (free w.old) ≡ option_len (targets lladdr.now) + length (free w.new) }
     ensures same_slice { the_slice w.new ≡ the_slice w.old }
 {
-    put_option(w, &target_option(*lladdr));
+    put_option(w, &target_option(lladdr));
 }
 
 // Writes an option.

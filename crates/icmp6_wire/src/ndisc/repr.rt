@@ -337,7 +337,7 @@ fn router_options_len(
     ensures { result
         ≡ option_lens (sources lladdr.now ∷ mtus mtu.now ∷ prefixes prefix_info.now ∷ []) }
 {
-    source_len(lladdr) + option_len(&mtu_option(*mtu)) + option_len(&prefix_option(*prefix_info))
+    source_len(lladdr) + option_len(&mtu_option(mtu)) + option_len(&prefix_option(prefix_info))
 }
 
 // The bytes of the options of a redirect.
@@ -350,7 +350,7 @@ fn redirect_options_len(
     ensures { result
         ≡ option_lens (targets lladdr.now ∷ packets (option_map packet_of header.now) ∷ []) }
 {
-    target_len(lladdr) + option_len(&redirected_option(*header))
+    target_len(lladdr) + option_len(&redirected_option(header))
 }
 
 // Writes a router advertisement up to its times.
@@ -382,8 +382,8 @@ fn put_router_options(
     ensures same_slice { the_slice w.new ≡ the_slice w.old }
 {
     put_source(w, lladdr);
-    put_option(w, &mtu_option(*mtu));
-    put_option(w, &prefix_option(*prefix_info));
+    put_option(w, &mtu_option(mtu));
+    put_option(w, &prefix_option(prefix_info));
 }
 
 // Writes the options of a redirect.
@@ -401,7 +401,7 @@ fn put_redirect_options(
     ensures same_slice { the_slice w.new ≡ the_slice w.old }
 {
     put_target(w, lladdr);
-    put_option(w, &redirected_option(*header));
+    put_option(w, &redirected_option(header));
 }
 
 // Writes a neighbor advertisement up to its address.
