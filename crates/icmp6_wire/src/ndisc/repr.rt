@@ -394,7 +394,8 @@ fn put_redirect_options(
 )
     requires sound { Each CanEmitOption
         (targets lladdr.now ∷ packets (option_map packet_of header.now) ∷ []) }
-    requires room { option_lens (targets lladdr.now ∷ packets (option_map packet_of header.now) ∷ [])
+    requires room { option_lens
+        (targets lladdr.now ∷ packets (option_map packet_of header.now) ∷ [])
         ≤ length (free w.old) }
     ensures puts { Puts w.old w.new
         (option_texts (targets lladdr.now ∷ packets (option_map packet_of header.now) ∷ [])) }
@@ -435,8 +436,8 @@ fn put_times(w: &mut ByteWriter<'_>, lifetime: &Duration, reachable: &Duration, 
     requires lifetime { seconds lifetime.now ≤ 65535 }
     requires reachable { millis reachable.now ≤ 4294967295 }
     requires retrans { millis retrans.now ≤ 4294967295 }
-    ensures puts { Puts w.old w.new
-        (be16 (seconds lifetime.now) ∷ be32 (millis reachable.now) ∷ be32 (millis retrans.now) ∷ []) }
+    ensures puts { Puts w.old w.new (be16 (seconds lifetime.now)
+        ∷ be32 (millis reachable.now) ∷ be32 (millis retrans.now) ∷ []) }
     ensures room { length (free w.old) ≡ 10 + length (free w.new) }
     ensures same_slice { the_slice w.new ≡ the_slice w.old }
 {
