@@ -32,9 +32,7 @@ impl<'a> Found<'a> {
         let mut found = Found::nothing();
         let mut rest = payload;
         while !rest.is_empty() {
-            let Ok((block, behind)) = split_block(rest) else {
-                return Err(Error);
-            };
+            let (block, behind) = split_block(rest)?;
             found.note_block(block);
             rest = behind;
         }

@@ -1,5 +1,4 @@
-use Rattle.std.proofs.Common.{ℕ, List, length, sym, ap, subst}
-use Rattle.std.specs.Result.{is_err}
+use Rattle.std.proofs.Common.{ℕ, List, length, refl, sym, subst}
 use Rattle.std.proofs.lemmas.Bool.{eqb-true, eqb-false}
 use Rattle.std.proofs.lemmas.List.{nil_from_length}
 use Rattle.icmp6_wire.specs.NdiscBlocks.{AreBlocks}
@@ -7,19 +6,19 @@ use Rattle.icmp6_wire.specs.NdiscFound.{kept_of}
 use Rattle.icmp6_wire.proofs.NdiscTiling.{front_lacks, blocks_behind, says_more, says_all}
 use Rattle.icmp6_wire.proofs.ndisc.found.Found.read.Goals as goal
 
-pub returns-in_default-clause-reads : goal.returns-in_default-clause-reads
-returns-in_default-clause-reads c = λ options blocks.
+pub returns-in_err-block-clause-reads : goal.returns-in_err-block-clause-reads
+returns-in_err-block-clause-reads c = λ options blocks.
     let rest = c.loop-rest.rest.now in
     let has = c.loop-rest.invariant.tiled options blocks in
     absurd (front_lacks rest has.options (eqb-false (length rest) 0 (sym c.loop-rest-test.ensures))
-    (c.split_block.ensures.refuses (ap is_err c.in_default.is)) has.tiling)
+    (c.in_err-block.ensures.refuses refl) has.tiling)
 
 pub loop-rest-preserved : goal.loop-rest-preserved
 loop-rest-preserved c =
     let rest = c.loop-rest.rest.now in
-    let block = c.in-Ok.block.now in
-    let behind = c.in-Ok.behind.now in
-    let parts = c.in-Ok.ensures.sound in
+    let block = c.in_ok-block.block.now in
+    let behind = c.in_ok-block.behind.now in
+    let parts = c.in_ok-block.ensures.sound in
     record {
       said = says_more c.args.payload.now rest block behind (kept_of c.loop-rest.found)
           (kept_of c.note_block.new.self) parts.0 parts.1 c.note_block.ensures c.loop-rest.invariant.said;
