@@ -1,6 +1,8 @@
 //! What is printed of octets that are refused: their type and their code, by the names of their cases.
 
-ghost use Rattle.std.specs.Prelude.{Some};
+ghost use Rattle.std.specs.Prelude.{[], ◌∷◌, Some, codes, decimal};
+ghost use Rattle.std.specs.Fmt.{WritesOnOk};
+ghost use Rattle.wirebase.specs.Display.{pieces};
 ghost use Rattle.icmp4_wire.specs.Icmpv4Display.{message_name, unreachable_name, time_exceeded_name};
 ghost use Rattle.icmp4_wire.specs.Icmpv4Display.{type_and_code_display};
 
@@ -53,7 +55,7 @@ impl fmt::Display for MessageName {
             Message::ParamProblem => "ParamProblem",
             Message::Timestamp => "Timestamp",
             Message::TimestampReply => "TimestampReply",
-            Message::Unknown(number) => return write!(f, "Unknown({number})"),
+            Message::Unknown(number) => return fmt_unknown(f, number),
         };
         f.write_str(words)
     }
@@ -84,7 +86,7 @@ impl fmt::Display for UnreachableName {
             DstUnreachable::CommProhibited => "CommProhibited",
             DstUnreachable::HostPrecedViol => "HostPrecedViol",
             DstUnreachable::PrecedCutoff => "PrecedCutoff",
-            DstUnreachable::Unknown(number) => return write!(f, "Unknown({number})"),
+            DstUnreachable::Unknown(number) => return fmt_unknown(f, number),
         };
         f.write_str(words)
     }
@@ -101,8 +103,16 @@ impl fmt::Display for TimeExceededName {
         let words = match self.0 {
             TimeExceeded::TtlExpired => "TtlExpired",
             TimeExceeded::FragExpired => "FragExpired",
-            TimeExceeded::Unknown(number) => return write!(f, "Unknown({number})"),
+            TimeExceeded::Unknown(number) => return fmt_unknown(f, number),
         };
         f.write_str(words)
     }
+}
+
+// What a number without a name prints.
+fn fmt_unknown<W: fmt::Write>(f: &mut fmt::Formatter<W>, number: u8) -> fmt::Result
+    ensures { WritesOnOk W.write_str_gives f.old result
+        (pieces (codes "Unknown(" ∷ decimal number ∷ codes ")" ∷ [])) f.new }
+{
+    write!(f, "Unknown({number})")
 }
