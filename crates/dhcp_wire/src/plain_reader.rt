@@ -7,7 +7,6 @@ use crate::dhcpv4::{DhcpOption, MAX_DNS_SERVER_COUNT, OptionsIter, Packet, Repr}
 use crate::testing::{holds_of, same, same_of};
 use std::alloc::Global;
 use std::process::Abort;
-use std::test::Fail;
 use wirebase::Ipv4Address;
 
 // The bytes before the options.
@@ -34,7 +33,7 @@ fn option_of(kind: u8, octets: &[u8]) -> Option<(Option<DhcpOption<'_>>, &[u8])>
 }
 
 // The options up to the end.
-fn options_in(alloc: Global, octets: &[u8]) -> Result<Vec<DhcpOption<'_>>, Fail> {
+fn options_in<'a>(rt: &impl Abort, alloc: Global, octets: &'a [u8]) -> Vec<DhcpOption<'a>> {
     let mut options = Vec::new(alloc);
     let mut rest = octets;
     for _ in 0..octets.len() {
@@ -42,11 +41,11 @@ fn options_in(alloc: Global, octets: &[u8]) -> Result<Vec<DhcpOption<'_>>, Fail>
             break;
         };
         if let Some(option) = option {
-            options.push(option)?;
+            holds_of(rt, octets, options.push(option).is_ok());
         }
         rest = after;
     }
-    Ok(options)
+    options
 }
 
 // Whether the option is of this kind and of this length.
@@ -173,39 +172,42 @@ pub(crate) fn held(read: &Repr<'_>, kind: u8) -> Option<u64> {
 }
 
 // What a byte of a packet is set to, one byte at a time.
-const DAMAGE: [u8; 6] = [0x00, 0x40, 0x7f, 0x80, 0xc0, 0xff];
-
-// A copy of the packet whose byte at this place is the value.
-fn damaged(alloc: Global, packet: &[u8], at: usize, value: u8) -> Result<Vec<u8>, Fail> {
-    let mut octets = Vec::from_slice(alloc, packet)?;
-    if let Some(octet) = octets.as_mut_slice().get_mut(at) {
-        *octet = value;
-    }
-    Ok(octets)
-}
+const DAMAGE: &[u8] = &[0x00, 0x40, 0x7f, 0x80, 0xc0, 0xff];
 
 // Compares the crate with the plain reader over this packet, over each shorter part of it from its start on, and over
-// each copy of it in which one byte is damaged.
-pub(crate) fn compare_damaged(rt: &impl Abort, alloc: Global, packet: &[u8]) -> Result<(), Fail> {
+// the packet in which one byte is damaged.
+pub(crate) fn compare_damaged(rt: &impl Abort, alloc: Global, packet: &mut [u8]) {
     for len in 0..=packet.len() {
-        compare(rt, alloc, &packet[..len])?;
+        compare(rt, alloc, &packet[..len]);
     }
     for at in 0..packet.len() {
-        for value in DAMAGE {
-            let octets = damaged(alloc, packet, at, value)?;
-            compare(rt, alloc, octets.as_slice())?;
-        }
+        compare_damaged_at(rt, alloc, packet, at);
     }
-    Ok(())
+}
+
+// The same over the packet in which the byte at this place is damaged.
+fn compare_damaged_at(rt: &impl Abort, alloc: Global, packet: &mut [u8], at: usize) {
+    let whole = *packet.get(at).unwrap_or(&0);
+    for &value in DAMAGE {
+        set(packet, at, value);
+        compare(rt, alloc, packet);
+    }
+    set(packet, at, whole);
+}
+
+// Writes a byte of a packet.
+pub(crate) fn set(packet: &mut [u8], at: usize, value: u8) {
+    if let Some(byte) = packet.get_mut(at) {
+        *byte = value;
+    }
 }
 
 // Compares the iterator and the parser with the plain reader.
-fn compare(rt: &impl Abort, alloc: Global, octets: &[u8]) -> Result<(), Fail> {
+fn compare(rt: &impl Abort, alloc: Global, octets: &[u8]) {
     let behind = octets.get(HEADER_LEN..).unwrap_or(&[]);
-    let plain = options_in(alloc, behind)?;
+    let plain = options_in(rt, alloc, behind);
     compare_view(rt, octets, plain.as_slice());
     compare_value(rt, octets, plain.as_slice());
-    Ok(())
 }
 
 // Compares the iterator of a view with these options of the plain reader.
@@ -239,7 +241,7 @@ fn compare_options(rt: &impl Abort, options: OptionsIter<'_>, plain: &[DhcpOptio
 }
 
 // The kinds of option that hold an address, a time or a size, and the length of their data.
-const NUMBERS: [(u8, usize); 8] = [
+const NUMBERS: &[(u8, usize)] = &[
     (1, 4),
     (3, 4),
     (50, 4),
@@ -252,7 +254,7 @@ const NUMBERS: [(u8, usize); 8] = [
 
 // Compares what a value holds of the options with the last ones of the plain reader.
 fn compare_fields(rt: &impl Abort, read: &Repr<'_>, plain: &[DhcpOption<'_>]) {
-    for (kind, len) in NUMBERS {
+    for &(kind, len) in NUMBERS {
         let number = number_in(last_of_len(plain, kind, len));
         same_of(rt, kind, held(read, kind), number);
     }

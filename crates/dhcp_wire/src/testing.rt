@@ -7,11 +7,18 @@ ghost use Rattle.std.specs.Prelude.{◌≡◌, true};
 use std::fmt::Debug;
 use std::process::Abort;
 
+// Ends the test unless these two are the same, and says what they are of.
+fn holds(rt: &impl Abort, is_same: bool, of: &impl Debug, left: &impl Debug, right: &impl Debug)
+    ensures { is_same ≡ true }
+{
+    assert!(rt; is_same, "{left:?} is not {right:?} of {of:?}");
+}
+
 // Ends the test where the two differ.
 pub(crate) fn same<T: PartialEq + Debug + Drop>(rt: &impl Abort, left: T, right: T)
     ensures { T.eq left right ≡ true }
 {
-    assert!(rt; left == right, "{left:?} is not {right:?}");
+    same_of(rt, (), left, right);
 }
 
 // Ends the test where the two differ, and says what they are of.
@@ -23,7 +30,7 @@ pub(crate) fn same_of<T: PartialEq + Debug + Drop>(
 )
     ensures { T.eq left right ≡ true }
 {
-    assert!(rt; left == right, "{left:?} is not {right:?} of {of:?}");
+    holds(rt, left == right, &of, &left, &right);
 }
 
 // Ends the test where this does not hold, and says what it was to hold of.

@@ -11,26 +11,42 @@ use crate::testing::{holds_of, same, same_of};
 use bitflags::Flags as _;
 use std::alloc::Global;
 use std::process::Abort;
-use std::test::Fail;
 use wirebase::{Error, EthernetAddress, Hardware, Ipv4Address};
 
+// These parts, one behind the other. Ends the test where there is no memory for them.
+fn joined(rt: &impl Abort, alloc: Global, parts: &[&[u8]]) -> Vec<u8> {
+    let mut octets = Vec::new(alloc);
+    for &part in parts {
+        holds_of(rt, part, octets.extend_from_slice(part).is_ok());
+    }
+    octets
+}
+
 // A packet of this operation, of Ethernet and with the cookie of DHCP, and these options behind it.
-pub(super) fn packet(alloc: Global, op: u8, options: &[u8]) -> Result<Vec<u8>, Fail> {
-    let mut octets = Vec::from_slice(alloc, &[op, 1, 6, 0])?;
-    octets.extend_from_slice(&[0; 232])?;
-    octets.extend_from_slice(&[0x63, 0x82, 0x53, 0x63])?;
-    octets.extend_from_slice(options)?;
-    Ok(octets)
+pub(super) fn packet(rt: &impl Abort, alloc: Global, op: u8, options: &[u8]) -> Vec<u8> {
+    let parts: [&[u8]; 4] = [
+        &[op, 1, 6, 0],
+        &[0; 232],
+        &[0x63, 0x82, 0x53, 0x63],
+        options,
+    ];
+    joined(rt, alloc, &parts)
+}
+
+// A Discover that has these options too.
+pub(super) fn discover_with(rt: &impl Abort, alloc: Global, options: &[u8]) -> Vec<u8> {
+    let parts: [&[u8]; 3] = [&[0x35, 1, 1], options, &[0xff]];
+    packet(rt, alloc, 1, joined(rt, alloc, &parts).as_slice())
 }
 
 // A Discover, and behind a thousand bytes of padding a mask.
-pub(super) fn padded_discover(alloc: Global) -> Result<Vec<u8>, Fail> {
+pub(super) fn padded_discover(rt: &impl Abort, alloc: Global) -> Vec<u8> {
     let parts: [&[u8]; 3] = [
         &[0x35, 1, 1],
         &[0; 1000],
         &[0x01, 4, 0xff, 0xff, 0xff, 0x00],
     ];
-    packet(alloc, 1, parts.concat(alloc)?.as_slice())
+    packet(rt, alloc, 1, joined(rt, alloc, &parts).as_slice())
 }
 
 // The name of a host of one letter, one of none, and an option of another kind with two letters.
@@ -56,18 +72,13 @@ const DISCOVER: DhcpOption<'static> = DhcpOption {
 };
 
 // Compares the options of a packet, behind which comes the end for good.
-fn check_options(
-    rt: &impl Abort,
-    alloc: Global,
-    packet: &[u8],
-    wanted: &[DhcpOption<'_>],
-) -> Result<(), Fail> {
+fn check_options(rt: &impl Abort, alloc: Global, packet: &mut [u8], wanted: &[DhcpOption<'_>]) {
     compare_view(rt, packet, wanted);
-    compare_damaged(rt, alloc, packet)
+    compare_damaged(rt, alloc, packet);
 }
 
 #[test]
-fn options_in_turn_and_then_the_end_for_good(rt: HostRuntime) -> Result<(), Fail> {
+fn options_in_turn_and_then_the_end_for_good(rt: HostRuntime) {
     const ROWS: &[(&[u8], &[DhcpOption<'static>])] = &[
         (&[], &[]),
         (&[0xff, 1, 0], &[]),
@@ -80,20 +91,19 @@ fn options_in_turn_and_then_the_end_for_good(rt: HostRuntime) -> Result<(), Fail
         (&[0, 0xff], &[]),
     ];
     for &(bytes, wanted) in ROWS {
-        let octets = packet(rt.alloc(), 1, bytes)?;
-        check_options(&rt, rt.alloc(), octets.as_slice(), wanted)?;
+        let mut octets = packet(&rt, rt.alloc(), 1, bytes);
+        check_options(&rt, rt.alloc(), octets.as_mut_slice(), wanted);
     }
-    Ok(())
 }
 
 #[test]
-fn a_thousand_bytes_of_padding_before_an_option(rt: HostRuntime) -> Result<(), Fail> {
+fn a_thousand_bytes_of_padding_before_an_option(rt: HostRuntime) {
     const MASK: DhcpOption<'static> = DhcpOption {
         kind: 1,
         data: &[0xff, 0xff, 0xff, 0x00],
     };
-    let octets = padded_discover(rt.alloc())?;
-    check_options(&rt, rt.alloc(), octets.as_slice(), &[DISCOVER, MASK])
+    let mut octets = padded_discover(&rt, rt.alloc());
+    check_options(&rt, rt.alloc(), octets.as_mut_slice(), &[DISCOVER, MASK]);
 }
 
 // Compares both names of a packet of this byte, whose names begin with another one.
@@ -116,19 +126,15 @@ fn names_before_the_first_zero(rt: HostRuntime) {
 
 // Writes an option of four bytes over these octets, and the end mark. Of an option and a mark behind it none is taken.
 fn check_writer(rt: &impl Abort, octets: &mut [u8]) {
-    let room = octets.len();
-    let name = DhcpOption {
+    const TWO_LETTERS: DhcpOption<'static> = DhcpOption {
         kind: OPT_HOST_NAME,
         data: b"ab",
     };
-    let empty = DhcpOption {
-        kind: OPT_HOST_NAME,
-        data: b"",
-    };
+    let room = octets.len();
     let mut writer = DhcpOptionWriter::new(octets);
-    let taken = [writer.emit(name).is_ok(), writer.end().is_ok()];
+    let taken = [writer.emit(TWO_LETTERS).is_ok(), writer.end().is_ok()];
     same_of(rt, room, taken, [4 <= room, room != 0 && room != 4]);
-    let behind_the_end = [writer.end(), writer.emit(empty)];
+    let behind_the_end = [writer.end(), writer.emit(EMPTY_NAME)];
     same_of(rt, room, behind_the_end, [Err(Error), Err(Error)]);
 }
 
@@ -233,18 +239,18 @@ fn octets_of_fields() -> [u8; 250] {
 }
 
 #[test]
-fn fields_of_a_packet(rt: HostRuntime) -> Result<(), Fail> {
+fn fields_of_a_packet(rt: HostRuntime) {
     let mut octets = [0x2a; 250];
     set_numbers(&mut octets);
     set_addresses(&mut octets);
     same(&rt, octets, octets_of_fields());
-    let read = Packet::new_checked(&octets[..])?;
+    holds_of(&rt, 250, Packet::new_checked(&octets[..]).is_ok());
+    let read = Packet::new_unchecked(&octets[..]);
     check_numbers(&rt, &read);
     check_addresses(&rt, &read);
     same(&rt, read, read);
     same(&rt, read.into_inner().len(), 250);
     holds_of(&rt, 239, Packet::new_checked(&[0; 239][..]).is_err());
-    Ok(())
 }
 
 #[test]
@@ -309,9 +315,12 @@ fn options_written_into_a_view(rt: HostRuntime) {
     let mut octets = [0x2a; 245];
     let mut view = Packet::new_unchecked(&mut octets[..]);
     let mut options = view.options_mut();
-    same(&rt, options.emit(DISCOVER), Ok(()));
-    same(&rt, options.emit(DISCOVER), Err(Error));
-    same(&rt, options.end(), Ok(()));
+    let answers = [
+        options.emit(DISCOVER),
+        options.emit(DISCOVER),
+        options.end(),
+    ];
+    same(&rt, answers, [Ok(()), Err(Error), Ok(())]);
     let mut wanted = [0x2a; 245];
     wanted[240..244].copy_from_slice(&[0x35, 1, 1, 0xff]);
     same(&rt, octets, wanted);

@@ -1,18 +1,10 @@
-use super::{bare, compare_read, discover_with, held_in};
-use crate::dhcpv4::tests::{packet, padded_discover};
+use super::{bare, compare_read, held_in};
+use crate::dhcpv4::tests::{discover_with, packet, padded_discover};
 use crate::dhcpv4::{MessageType, Packet, Repr};
-use crate::plain_reader::compare_damaged;
+use crate::plain_reader::{compare_damaged, set};
 use crate::testing::{fail, same, same_of};
 use std::process::Abort;
-use std::test::Fail;
 use wirebase::{EthernetAddress, Ipv4Address};
-
-// Writes a byte of a packet.
-fn set(octets: &mut Vec<u8>, place: usize, byte: u8) {
-    if let Some(place) = octets.get_mut(place) {
-        *place = byte;
-    }
-}
 
 // The type of message of a packet, where it is read.
 fn type_in(packet: &[u8]) -> Option<MessageType> {
@@ -30,7 +22,7 @@ fn check_held(rt: &impl Abort, packet: &[u8], wanted: &[(u8, Option<u64>)]) {
 }
 
 #[test]
-fn types_of_message_with_the_operation_of_the_packet(rt: HostRuntime) -> Result<(), Fail> {
+fn types_of_message_with_the_operation_of_the_packet(rt: HostRuntime) {
     const ROWS: &[(u8, &[u8], Option<MessageType>)] = &[
         (
             1,
@@ -58,15 +50,14 @@ fn types_of_message_with_the_operation_of_the_packet(rt: HostRuntime) -> Result<
         ),
     ];
     for &(op, options, wanted) in ROWS {
-        let octets = packet(rt.alloc(), op, options)?;
+        let mut octets = packet(&rt, rt.alloc(), op, options);
         same_of(&rt, (op, options), type_in(octets.as_slice()), wanted);
-        compare_damaged(&rt, rt.alloc(), octets.as_slice())?;
+        compare_damaged(&rt, rt.alloc(), octets.as_mut_slice());
     }
-    Ok(())
 }
 
 #[test]
-fn packets_that_are_not_of_ethernet_or_of_dhcp(rt: HostRuntime) -> Result<(), Fail> {
+fn packets_that_are_not_of_ethernet_or_of_dhcp(rt: HostRuntime) {
     const ROWS: &[(usize, u8)] = &[
         (1, 0),
         (1, 2),
@@ -77,18 +68,17 @@ fn packets_that_are_not_of_ethernet_or_of_dhcp(rt: HostRuntime) -> Result<(), Fa
         (0, 2),
     ];
     for &(place, byte) in ROWS {
-        let mut octets = packet(rt.alloc(), 1, &[0x35, 1, 1, 0xff])?;
+        let mut octets = packet(&rt, rt.alloc(), 1, &[0x35, 1, 1, 0xff]);
         let whole = type_in(octets.as_slice());
         same_of(&rt, place, whole, Some(MessageType::Discover));
-        set(&mut octets, place, byte);
+        set(octets.as_mut_slice(), place, byte);
         same_of(&rt, place, type_in(octets.as_slice()), None);
     }
     same(&rt, type_in(&[1; 239]), None);
-    Ok(())
 }
 
 #[test]
-fn the_last_option_of_a_kind_and_of_its_length(rt: HostRuntime) -> Result<(), Fail> {
+fn the_last_option_of_a_kind_and_of_its_length(rt: HostRuntime) {
     // An operation and options, and what the packet holds of some kinds.
     const ROWS: &[(u8, &[u8], &[(u8, Option<u64>)])] = &[
         (
@@ -140,11 +130,10 @@ fn the_last_option_of_a_kind_and_of_its_length(rt: HostRuntime) -> Result<(), Fa
         ),
     ];
     for &(op, options, wanted) in ROWS {
-        let octets = packet(rt.alloc(), op, options)?;
+        let mut octets = packet(&rt, rt.alloc(), op, options);
         check_held(&rt, octets.as_slice(), wanted);
-        compare_damaged(&rt, rt.alloc(), octets.as_slice())?;
+        compare_damaged(&rt, rt.alloc(), octets.as_mut_slice());
     }
-    Ok(())
 }
 
 // Compares the list of servers of a packet.
@@ -165,7 +154,7 @@ fn check_servers(rt: &impl Abort, packet: &[u8], wanted: &[[u8; 4]]) {
 }
 
 #[test]
-fn lists_of_servers(rt: HostRuntime) -> Result<(), Fail> {
+fn lists_of_servers(rt: HostRuntime) {
     // Options, and the addresses of the list.
     const ROWS: &[(&[u8], &[[u8; 4]])] = &[
         (&[6, 6, 8, 8, 8, 8, 1, 2], &[[8, 8, 8, 8]]),
@@ -185,11 +174,10 @@ fn lists_of_servers(rt: HostRuntime) -> Result<(), Fail> {
         ),
     ];
     for &(options, wanted) in ROWS {
-        let octets = discover_with(rt.alloc(), options)?;
+        let mut octets = discover_with(&rt, rt.alloc(), options);
         check_servers(&rt, octets.as_slice(), wanted);
-        compare_damaged(&rt, rt.alloc(), octets.as_slice())?;
+        compare_damaged(&rt, rt.alloc(), octets.as_mut_slice());
     }
-    Ok(())
 }
 
 // An offer with all that a client takes.
@@ -214,8 +202,9 @@ fn offered() -> Repr<'static> {
 }
 
 #[test]
-fn an_offer_with_all_that_a_client_takes(rt: HostRuntime) -> Result<(), Fail> {
+fn an_offer_with_all_that_a_client_takes(rt: HostRuntime) {
     let mut octets = packet(
+        &rt,
         rt.alloc(),
         2,
         &[
@@ -223,19 +212,19 @@ fn an_offer_with_all_that_a_client_takes(rt: HostRuntime) -> Result<(), Fail> {
             0x0e, 0x10, 0x3a, 4, 0, 0, 0x07, 0x08, 0x3b, 4, 0, 0, 0x0c, 0x4e, 0x37, 2, 1, 3, 0x39,
             2, 0x05, 0xdc, 0x32, 4, 10, 0, 0, 9, 0x3d, 7, 1, 2, 3, 4, 5, 6, 7, 0xff,
         ],
-    )?;
-    set(&mut octets, 4, 0x12);
-    set(&mut octets, 9, 5);
-    set(&mut octets, 10, 0x80);
-    set(&mut octets, 19, 7);
-    set(&mut octets, 28, 2);
-    compare_read(&rt, octets.as_slice(), &offered());
-    compare_damaged(&rt, rt.alloc(), octets.as_slice())
+    );
+    let octets = octets.as_mut_slice();
+    set(octets, 4, 0x12);
+    set(octets, 9, 5);
+    set(octets, 10, 0x80);
+    set(octets, 19, 7);
+    set(octets, 28, 2);
+    compare_read(&rt, octets, &offered());
+    compare_damaged(&rt, rt.alloc(), octets);
 }
 
 #[test]
-fn a_mask_behind_a_thousand_bytes_of_padding(rt: HostRuntime) -> Result<(), Fail> {
-    let octets = padded_discover(rt.alloc())?;
+fn a_mask_behind_a_thousand_bytes_of_padding(rt: HostRuntime) {
+    let octets = padded_discover(&rt, rt.alloc());
     check_held(&rt, octets.as_slice(), &[(1, Some(0xffff_ff00))]);
-    Ok(())
 }

@@ -6,7 +6,6 @@ use crate::dhcpv4::{DhcpOption, MessageType, Packet, Repr};
 use crate::testing::{fail, holds_of, same, same_of};
 use std::alloc::Global;
 use std::process::Abort;
-use std::test::Fail;
 use wirebase::{EthernetAddress, Ipv4Address};
 
 // An option of more data than one byte counts.
@@ -55,10 +54,10 @@ fn put(octets: &mut [u8], place: usize, bytes: &[u8]) {
     }
 }
 
-// What stands in 340 bytes of this value after a packet was written over so many of them: its first fields, zeros for
+// What stands in 600 bytes of this value after a packet was written over so many of them: its first fields, zeros for
 // the names, the cookie, and the options for which there is room.
-fn written(fill: u8, first_fields: &[u8; 34], options: &[u8], len: usize) -> [u8; 340] {
-    let mut octets = [fill; 340];
+fn written(fill: u8, first_fields: &[u8; 34], options: &[u8], len: usize) -> [u8; 600] {
+    let mut octets = [fill; 600];
     put(&mut octets, 0, first_fields);
     put(&mut octets, 34, &[0; 202]);
     put(&mut octets, 236, &[0x63, 0x82, 0x53, 0x63]);
@@ -67,30 +66,23 @@ fn written(fill: u8, first_fields: &[u8; 34], options: &[u8], len: usize) -> [u8
     octets
 }
 
-// Writes a value over so many of 340 bytes of this content, where it fits or is refused; then this stands in them.
-fn compare_emitted(
-    rt: &impl Abort,
-    repr: &Repr<'_>,
-    fill: u8,
-    len: usize,
-    fits: bool,
-    wanted: &[u8],
-)
-    requires { (240 ≤ len) × (len ≤ 340) }
+// Writes a value over so many of 600 bytes of this content, where it fits or is refused. Answers all 600.
+fn emitted(rt: &impl Abort, repr: &Repr<'_>, fill: u8, len: usize, fits: bool) -> [u8; 600]
+    requires { (240 ≤ len) × (len ≤ 600) }
 {
-    let mut octets = [fill; 340];
+    let mut octets = [fill; 600];
     let answer = repr.emit_into(&mut octets[..len]);
     same_of(rt, len, answer.is_ok(), fits);
-    same_of(rt, (len, fill), &octets[..], wanted);
+    octets
 }
 
 // Writes a value over buffers of every length and of three contents, and compares them with what is to stand there.
 fn compare_written(rt: &impl Abort, repr: &Repr<'_>, first_fields: &[u8; 34], options: &[u8]) {
-    for fill in [0x00, 0xff, 0x2a] {
+    for &fill in &[0x00, 0xff, 0x2a] {
         for len in 240..=340 {
+            let octets = emitted(rt, repr, fill, len, options.len() <= len - 240);
             let wanted = written(fill, first_fields, options, len);
-            let fits = options.len() <= len - 240;
-            compare_emitted(rt, repr, fill, len, fits, &wanted);
+            same_of(rt, (len, fill), octets, wanted);
         }
     }
 }
@@ -209,16 +201,10 @@ fn a_request_over_buffers_of_every_length_and_of_three_contents(rt: HostRuntime)
 }
 
 // Writes a value over so many bytes 0x2a, where it fits or is refused; then these parts stand at their places.
-fn compare_parts(
-    rt: &impl Abort,
-    repr: &Repr<'_>,
-    len: usize,
-    fits: bool,
-    parts: &[(usize, &[u8])],
-) {
-    holds_of(rt, len, 240 <= len && len <= 600);
-    let mut octets = [0x2a; 600];
-    same_of(rt, len, repr.emit_into(&mut octets[..len]).is_ok(), fits);
+fn compare_parts(rt: &impl Abort, repr: &Repr<'_>, len: usize, fits: bool, parts: &[(usize, &[u8])])
+    requires { (240 ≤ len) × (len ≤ 600) }
+{
+    let octets = emitted(rt, repr, 0x2a, len, fits);
     for &(place, part) in parts {
         let rest = octets.get(place..).unwrap_or(&[]);
         holds_of(rt, (place, part), rest.starts_with(part));
@@ -237,7 +223,9 @@ fn compare_list(
     len: usize,
     fits: bool,
     parts: &[(usize, &[u8])],
-) {
+)
+    requires { (240 ≤ len) × (len ≤ 600) }
+{
     let mut repr = bare(MessageType::Discover);
     repr.parameter_request_list = Some(list);
     compare_parts(rt, &repr, len, fits, parts);
@@ -263,22 +251,19 @@ fn an_additional_option_of_256_bytes(rt: HostRuntime) {
 }
 
 #[test]
-fn a_value_written_into_a_view(rt: HostRuntime) -> Result<(), Fail> {
+fn a_value_written_into_a_view(rt: HostRuntime) {
     let repr = bare(MessageType::Inform);
     let mut octets = [0xff; 244];
     let mut view = Packet::new_unchecked(&mut octets[..]);
     same(&rt, repr.emit(&mut view), Ok(()));
-    let wanted = packet(rt.alloc(), 1, &[0x35, 1, 8, 0xff])?;
+    let wanted = packet(&rt, rt.alloc(), 1, &[0x35, 1, 8, 0xff]);
     same(&rt, &octets[..], wanted.as_slice());
     Repr::same_text(&repr, &repr);
-    Ok(())
 }
 
 // Writes a value, and reads it back.
 fn compare_read_back(rt: &impl Abort, repr: &Repr<'_>) {
-    let mut octets = [0x2a; 600];
-    same(rt, repr.emit_into(&mut octets), Ok(()));
-    compare_read(rt, &octets, repr);
+    compare_read(rt, &emitted(rt, repr, 0x2a, 600, true), repr);
 }
 
 #[test]
@@ -296,36 +281,29 @@ fn compare_packet(
     op: u8,
     options: &[u8],
     read: &Repr<'_>,
-) -> Result<(), Fail> {
-    let wanted = packet(alloc, op, options)?;
+) {
+    let wanted = packet(rt, alloc, op, options);
     let len = wanted.len();
-    holds_of(rt, len, 240 <= len && len <= 340);
-    let mut octets = [0x2a; 340];
-    same(rt, repr.emit_into(&mut octets[..len]), Ok(()));
+    holds_of(rt, len, 240 <= len);
+    holds_of(rt, len, len <= 600);
+    let octets = emitted(rt, repr, 0x2a, len, true);
     same(rt, &octets[..len], wanted.as_slice());
     compare_read(rt, &octets[..len], read);
-    Ok(())
 }
 
 // Writes an Ack with its three times, of which the renewal time is this.
-fn compare_ack(
-    rt: &impl Abort,
-    alloc: Global,
-    renew_duration: u32,
-    options: &[u8],
-) -> Result<(), Fail> {
+fn compare_ack(rt: &impl Abort, alloc: Global, renew_duration: u32, options: &[u8]) {
     let mut repr = ack();
     repr.renew_duration = Some(renew_duration);
     compare_read_back(rt, &repr);
-    compare_packet(rt, alloc, &repr, 2, options, &repr)
+    compare_packet(rt, alloc, &repr, 2, options, &repr);
 }
 
 #[test]
-fn values_of_two_renewal_times_have_two_texts(rt: HostRuntime) -> Result<(), Fail> {
-    compare_ack(&rt, rt.alloc(), 1800, &ACK_OPTIONS)?;
-    compare_ack(&rt, rt.alloc(), 1801, &LATER_ACK_OPTIONS)?;
+fn values_of_two_renewal_times_have_two_texts(rt: HostRuntime) {
+    compare_ack(&rt, rt.alloc(), 1800, &ACK_OPTIONS);
+    compare_ack(&rt, rt.alloc(), 1801, &LATER_ACK_OPTIONS);
     holds_of(&rt, "another text", ACK_OPTIONS != LATER_ACK_OPTIONS);
-    Ok(())
 }
 
 // Reads a packet, and writes what it says.
@@ -339,15 +317,14 @@ fn rewritten(rt: &impl Abort, packet: &[u8]) -> [u8; 250] {
 }
 
 #[test]
-fn a_list_with_half_an_address_is_rewritten_without_it(rt: HostRuntime) -> Result<(), Fail> {
+fn a_list_with_half_an_address_is_rewritten_without_it(rt: HostRuntime) {
     let alloc = rt.alloc();
-    let octets = packet(alloc, 1, &[0x35, 1, 1, 6, 6, 8, 8, 8, 8, 1, 2, 0xff])?;
-    let wanted = packet(alloc, 1, &[0x35, 1, 1, 6, 4, 8, 8, 8, 8, 0xff])?;
+    let octets = packet(&rt, alloc, 1, &[0x35, 1, 1, 6, 6, 8, 8, 8, 8, 1, 2, 0xff]);
+    let wanted = packet(&rt, alloc, 1, &[0x35, 1, 1, 6, 4, 8, 8, 8, 8, 0xff]);
     let once = rewritten(&rt, octets.as_slice());
     same(&rt, &once[..], wanted.as_slice());
     let twice = rewritten(&rt, &once);
     same(&rt, &twice[..], wanted.as_slice());
-    Ok(())
 }
 
 // Writes a Discover with additional options, which is read as one without them.
@@ -356,15 +333,15 @@ fn compare_discover(
     alloc: Global,
     additional_options: &'static [DhcpOption<'static>],
     options: &[u8],
-) -> Result<(), Fail> {
+) {
     let repr = with_options(MessageType::Discover, additional_options);
     let read = bare(MessageType::Discover);
-    compare_packet(rt, alloc, &repr, 1, options, &read)
+    compare_packet(rt, alloc, &repr, 1, options, &read);
 }
 
 #[test]
-fn an_additional_option_is_all_that_two_texts_differ_by(rt: HostRuntime) -> Result<(), Fail> {
-    compare_discover(&rt, rt.alloc(), &[], &[0x35, 1, 1, 0xff])?;
+fn an_additional_option_is_all_that_two_texts_differ_by(rt: HostRuntime) {
+    compare_discover(&rt, rt.alloc(), &[], &[0x35, 1, 1, 0xff]);
     let named = [0x35, 1, 1, 12, 1, 0x61, 0xff];
-    compare_discover(&rt, rt.alloc(), SHORT_NAME, &named)
+    compare_discover(&rt, rt.alloc(), SHORT_NAME, &named);
 }
