@@ -102,13 +102,11 @@ fn compare_options(rt: &impl Abort, octets: &[u8]) {
 }
 
 fn compare_header(rt: &impl Abort, octets: &[u8]) {
-    let is_read = is_header(octets);
-    let Ok(header) = ipv6hbh::Repr::parse(&Header::new_unchecked(octets)) else {
-        holds_of(rt, octets, !is_read);
-        return;
-    };
-    holds_of(rt, octets, is_read);
-    compare_kept(rt, octets, header.options.as_slice());
+    let read = ipv6hbh::Repr::parse(&Header::new_unchecked(octets));
+    same_of(rt, octets, read.is_ok(), is_header(octets));
+    if let Ok(header) = read {
+        compare_kept(rt, octets, header.options.as_slice());
+    }
 }
 
 // Whether there are octets, of which as many options as a header keeps, and one more, are whole.
@@ -124,6 +122,14 @@ fn is_header(octets: &[u8]) -> bool {
         rest = after;
     }
     !octets.is_empty()
+}
+
+// Compares the options that are kept of these octets.
+pub(crate) fn check_kept(rt: &impl Abort, octets: &[u8], options: &[Repr<'_>]) {
+    match ipv6hbh::Repr::parse(&Header::new_unchecked(octets)) {
+        Ok(header) => same_of(rt, octets, header.options.as_slice(), options),
+        Err(_) => holds_of(rt, octets, false),
+    }
 }
 
 // Compares the options that a header keeps: all, or as many as it can.

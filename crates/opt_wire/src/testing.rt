@@ -12,11 +12,18 @@ use wirebase::failing_writer::FailingWriter;
 // What octets hold before a test writes over them.
 pub(crate) const FILLERS: &[u8] = &[0x00, 0xff, 0x2a, 0xa5];
 
+// Ends the test unless these two are the same, and says what they are of.
+fn holds(rt: &impl Abort, is_same: bool, of: &impl Debug, left: &impl Debug, right: &impl Debug)
+    ensures { is_same ≡ true }
+{
+    assert!(rt; is_same, "{left:?} is not {right:?} of {of:?}");
+}
+
 // Ends the test where the two differ.
 pub(crate) fn same<T: PartialEq + Debug + Drop>(rt: &impl Abort, left: T, right: T)
     ensures { T.eq left right ≡ true }
 {
-    assert!(rt; left == right, "{left:?} is not {right:?}");
+    same_of(rt, (), left, right);
 }
 
 // Ends the test where the two differ, and says what they are of.
@@ -28,7 +35,7 @@ pub(crate) fn same_of<T: PartialEq + Debug + Drop>(
 )
     ensures { T.eq left right ≡ true }
 {
-    assert!(rt; left == right, "{left:?} is not {right:?} of {of:?}");
+    holds(rt, left == right, &of, &left, &right);
 }
 
 // Ends the test where this does not hold, and says what it was to hold of.
@@ -51,10 +58,15 @@ pub(crate) fn prints(rt: &impl Abort, alloc: Global, value: &impl Display, text:
     same(rt, printed.as_deref(), Some(text));
 }
 
+// Whether the value is printed by a writer that takes so many writes.
+fn is_printed(value: &impl Display, left: u32) -> bool {
+    let mut writer = FailingWriter { left };
+    write!(writer, "{value}").is_ok()
+}
+
 // Ends the test unless the value is printed in so many writes, and fails where its writer refuses one of them.
 pub(crate) fn takes_writes(rt: &impl Abort, value: &impl Display, writes: u32) {
     for left in 0..=writes {
-        let mut writer = FailingWriter { left };
-        same_of(rt, left, write!(writer, "{value}").is_ok(), left == writes);
+        same_of(rt, left, is_printed(value, left), left == writes);
     }
 }

@@ -1,4 +1,4 @@
-ghost use Rattle.std.specs.Prelude.{◌≡◌, ◌≤◌, true};
+ghost use Rattle.std.specs.Prelude.{◌≡◌, ◌≤◌, true, length};
 ghost use Rattle.opt_wire.specs.Ipv6Option.{value_of, HasData};
 
 use super::{FailureType, Ipv6Option, Ipv6OptionsIterator, Repr, RouterAlert, Type};
@@ -183,15 +183,18 @@ fn views_are_equal_as_their_octets(rt: HostRuntime) {
     }
 }
 
+// Compares whether two views for writing are equal.
+fn check_equal(rt: &impl Abort, here: &mut [u8], there: &mut [u8], is_equal: bool) {
+    let view = Ipv6Option::new_unchecked(here);
+    let other = Ipv6Option::new_unchecked(there);
+    same(rt, [view == other, view != other], [is_equal, !is_equal]);
+}
+
 #[test]
 fn views_for_writing_are_equal_as_their_octets(rt: HostRuntime) {
     let mut here = [0x11, 0x01, 0xa1];
-    let mut there = [0x11, 0x01, 0xa1];
-    let mut other = [0x11, 0x01, 0xa2];
-    let view = Ipv6Option::new_unchecked(here.as_mut_slice());
-    let there = Ipv6Option::new_unchecked(there.as_mut_slice());
-    let other = Ipv6Option::new_unchecked(other.as_mut_slice());
-    same(&rt, [view == there, view != other], [true, true]);
+    check_equal(&rt, &mut here, &mut [0x11, 0x01, 0xa1], true);
+    check_equal(&rt, &mut here, &mut [0x11, 0x01, 0xa2], false);
 }
 
 // tests/refused has each of these with its one line in the wrong place: the data used after its buffer is gone, and the
@@ -292,16 +295,22 @@ fn holds_its_data(option: &Repr<'_>) -> bool
 fn written(rt: &impl Abort, option: &Repr<'_>, fill: u8, len: usize) -> [u8; 8]
     requires { len ≤ 8 }
 {
-    holds_of(
-        rt,
-        option,
-        holds_its_data(option) && option.buffer_len() <= len,
-    );
+    holds_of(rt, option, holds_its_data(option));
+    holds_of(rt, option, option.buffer_len() <= len);
     let mut octets = [fill; 8];
     option.emit(&mut Ipv6Option::new_unchecked(&mut octets[..len]));
     let mut plain = [fill; 8];
     option.emit_into(&mut plain[..len]);
     same_of(rt, option, plain, octets);
+    octets
+}
+
+// A text of at most eight octets, and octets of this kind behind it.
+fn filled(text: &[u8], fill: u8) -> [u8; 8]
+    requires { length text.now ≤ 8 }
+{
+    let mut octets = [fill; 8];
+    octets[..text.len()].copy_from_slice(text);
     octets
 }
 
@@ -315,10 +324,8 @@ fn check_written(
     len: usize,
 ) {
     holds_of(rt, option, text.len() <= len && len <= 8);
-    same_of(rt, option, option.buffer_len(), text.len());
     let octets = written(rt, option, fill, len);
-    same_of(rt, fill, &octets[..text.len()], text);
-    same_of(rt, option, &octets[text.len()..], &[fill; 8][text.len()..]);
+    same_of(rt, (option, fill), octets, filled(text, fill));
     check_read(rt, &octets[..len], Ok(*again));
 }
 
@@ -349,6 +356,7 @@ fn options_written_over_octets_of_any_kind(rt: HostRuntime) {
         ),
     ];
     for (option, text, again) in ROWS {
+        same_of(&rt, option, option.buffer_len(), text.len());
         for &fill in FILLERS {
             check_written(&rt, option, text, again, fill, text.len());
             check_written(&rt, option, text, again, fill, text.len() + 3);
@@ -365,11 +373,8 @@ fn the_default_option_is_a_pad1(rt: HostRuntime) {
 // The text of an option of four bytes.
 fn text_of(rt: &impl Abort, option: &Repr<'_>) -> [u8; 4] {
     let mut text = [0xff; 4];
-    holds_of(
-        rt,
-        option,
-        holds_its_data(option) && option.buffer_len() == 4,
-    );
+    holds_of(rt, option, holds_its_data(option));
+    holds_of(rt, option, option.buffer_len() == 4);
     option.emit_into(text.as_mut_slice());
     text
 }
@@ -404,18 +409,14 @@ fn data_past_its_length_is_no_part_of_the_text(rt: HostRuntime) {
         ),
         (Repr::PadN(2), false),
     ];
-    let whole = Repr::Unknown {
+    const WHOLE: &Repr<'static> = &Repr::Unknown {
         type_: Type::Unknown(0x11),
         length: 2,
         data: &[0xa1, 0xa2],
     };
-    for &(other, same) in ROWS {
-        Repr::same_text(&whole, &other);
-        same_of(
-            &rt,
-            other,
-            text_of(&rt, &whole) == text_of(&rt, &other),
-            same,
-        );
+    for (other, same) in ROWS {
+        Repr::same_text(WHOLE, other);
+        let is_same = text_of(&rt, WHOLE) == text_of(&rt, other);
+        same_of(&rt, other, is_same, *same);
     }
 }

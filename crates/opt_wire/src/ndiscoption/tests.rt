@@ -146,17 +146,25 @@ fn options_are_read(rt: HostRuntime) {
     check_read(&rt, &UNKNOWN, &unknown());
 }
 
+// What writing an option over so many of 56 octets of this kind leaves.
+fn written(repr: &Repr<'_>, filler: u8, len: usize) -> [u8; 56]
+    requires sound { CanEmit (value_of repr.now) }
+    requires room { (text_len (value_of repr.now) ≤ len) × (len ≤ 56) }
+{
+    let mut octets = [filler; 56];
+    repr.emit_into(&mut octets[..len]);
+    octets
+}
+
 // Writes an option over as many octets as it takes, 56 at most, of any kind.
 fn check_written(rt: &impl Abort, repr: &Repr<'_>, text: &[u8])
     requires sound { CanEmit (value_of repr.now) }
     requires counted { text_len (value_of repr.now) < 2 ^ 64 }
 {
     let len = repr.buffer_len();
-    assert!(rt; len <= 56);
+    holds_of(rt, text, len <= 56);
     for &filler in FILLERS {
-        let mut octets = [filler; 56];
-        repr.emit_into(&mut octets[..len]);
-        same_of(rt, filler, &octets[..len], text);
+        same_of(rt, filler, &written(repr, filler, len)[..len], text);
     }
 }
 
@@ -174,7 +182,7 @@ fn options_are_written_over_octets_of_any_kind(rt: HostRuntime) {
 
 // Writes a source's address over more octets than it takes, of any kind, of which the others stay.
 fn check_address_is_written(rt: &impl Abort, address: &[u8], bytes: &[u8]) {
-    assert!(rt; address.len() <= 8);
+    holds_of(rt, address, address.len() <= 8);
     let repr = Repr::SourceLinkLayerAddr(RawHardwareAddress::from_bytes(address));
     let len = repr.buffer_len();
     for &filler in FILLERS {
@@ -241,15 +249,16 @@ fn check_units(rt: &impl Abort, kind: u8, units: usize, whole: bool, reads: bool
     let mut bytes = [0; 48];
     bytes[0] = kind;
     bytes[1] = units as u8;
-    let view = NdiscOption::new_unchecked(&bytes[..]);
-    same_of(rt, (kind, units), view.check_len().is_ok(), whole);
-    let checked = NdiscOption::new_checked(&bytes[..]);
-    same_of(rt, (kind, units), checked.is_ok(), whole && units > 0);
-    same_of(rt, (kind, units), is_read(&bytes), reads);
     // All units but for a byte.
-    if units > 1 {
-        holds_of(rt, (kind, units), !is_read(&bytes[..8 * units - 1]));
-    }
+    let shorter = &bytes[..(8 * units).saturating_sub(1)];
+    let found = [
+        NdiscOption::new_unchecked(&bytes[..]).check_len().is_ok(),
+        NdiscOption::new_checked(&bytes[..]).is_ok(),
+        is_read(&bytes),
+        is_read(shorter),
+    ];
+    let wanted = [whole, whole && units > 0, reads, false];
+    same_of(rt, (kind, units), found, wanted);
 }
 
 #[test]

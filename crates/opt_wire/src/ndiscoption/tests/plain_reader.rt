@@ -76,7 +76,7 @@ fn prefix(data: &[u8]) -> Option<Repr<'_>> {
 fn redirected(data: &[u8]) -> Option<Repr<'_>> {
     let packet = data.get(6..)?;
     let header = header(packet)?;
-    let data = packet.get(40..)?.get(..header.payload_len)?;
+    let data = packet.get(40..header.payload_len.saturating_add(40))?;
     Some(Repr::RedirectedHeader(RedirectedHeader { header, data }))
 }
 
@@ -129,9 +129,8 @@ fn compare(rt: &impl Abort, octets: &[u8]) {
     let checked = NdiscOption::new_checked(octets).is_ok();
     same_of(rt, octets, checked, front(octets).is_some());
     let plain = option(octets);
-    let Ok(read) = Repr::parse(&NdiscOption::new_unchecked(octets)) else {
-        holds_of(rt, octets, plain.is_none());
-        return;
-    };
-    same_of(rt, octets, &Some(read), &plain);
+    match Repr::parse(&NdiscOption::new_unchecked(octets)) {
+        Ok(read) => same_of(rt, octets, &Some(read), &plain),
+        Err(_) => holds_of(rt, octets, plain.is_none()),
+    }
 }
