@@ -134,6 +134,7 @@ fn a_header_is_written_by_its_first_two_bytes(rt: HostRuntime) {
 }
 
 #[test]
+#[tactic(auto, using(wirebase::proofs::Pieces::pieces))]
 fn a_payload_is_lent_for_writing(rt: HostRuntime) {
     const WRITTEN: &[u8] = &[
         0x11, 0x01, 0xa5, 0xa5, 0xa5, 0xa5, 0xa5, 0xa5, 0xa5, 0xa5, 0xa5, 0xa5, 0xa5, 0xa5, 0xa5,
@@ -143,10 +144,8 @@ fn a_payload_is_lent_for_writing(rt: HostRuntime) {
     let mut header = Header::new_unchecked(longer.as_mut_slice());
     header.set_next_header(IpProtocol::Udp);
     header.set_header_len(1);
+    header.payload_mut()[13] = 0x2a;
     same(&rt, header.next_header(), IpProtocol::Udp);
     same(&rt, header.header_len(), 1);
-    if let Some(octet) = header.payload_mut().get_mut(13) {
-        *octet = 0x2a;
-    }
     same(&rt, longer.as_slice(), WRITTEN);
 }
