@@ -1,4 +1,4 @@
-// What the tests compare by, each over one macro of std: the prover goes through the code of a macro anew at each place
+// What the tests compare by, over one macro of std: the prover goes through the code of a macro anew at each place
 // where it stands, and through a call of these in a sixth of the time. They take the test's runtime, so that they
 // can't stand once in a library: the gate refuses a public function that may end the process.
 
@@ -6,13 +6,6 @@ ghost use Rattle.std.specs.Prelude.{◌≡◌, true};
 
 use std::fmt::Debug;
 use std::process::Abort;
-
-// Ends the test unless these two are the same, and says what they are of.
-fn holds(rt: &impl Abort, is_same: bool, of: &impl Debug, left: &impl Debug, right: &impl Debug)
-    ensures { is_same ≡ true }
-{
-    assert!(rt; is_same, "{left:?} is not {right:?} of {of:?}");
-}
 
 // Ends the test where the two differ.
 pub(crate) fn same<T: PartialEq + Debug + Drop>(rt: &impl Abort, left: T, right: T)
@@ -30,7 +23,7 @@ pub(crate) fn same_of<T: PartialEq + Debug + Drop>(
 )
     ensures { T.eq left right ≡ true }
 {
-    holds(rt, left == right, &of, &left, &right);
+    assert!(rt; left == right, "{of:?}: {left:?} is not {right:?}");
 }
 
 // Ends the test where this does not hold, and says what it was to hold of.

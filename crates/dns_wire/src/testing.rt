@@ -1,4 +1,4 @@
-// What the tests compare by, each over one macro of std: the prover goes through the code of a macro anew at each place
+// What the tests compare by, over one macro of std: the prover goes through the code of a macro anew at each place
 // where it stands, and through a call of these in a sixth of the time. They take the test's runtime, so that they
 // can't stand once in a library: the gate refuses a public function that may end the process.
 
@@ -11,7 +11,7 @@ use std::process::Abort;
 pub(crate) fn same<T: PartialEq + Debug + Drop>(rt: &impl Abort, left: T, right: T)
     ensures { T.eq left right ≡ true }
 {
-    assert!(rt; left == right, "{left:?} is not {right:?}");
+    same_of(rt, (), left, right);
 }
 
 // Ends the test where the two differ, and says what they are of.
@@ -23,7 +23,7 @@ pub(crate) fn same_of<T: PartialEq + Debug + Drop>(
 )
     ensures { T.eq left right ≡ true }
 {
-    assert!(rt; left == right, "{left:?} is not {right:?} of {of:?}");
+    assert!(rt; left == right, "{of:?}: {left:?} is not {right:?}");
 }
 
 // Ends the test where this does not hold, and says what it was to hold of.

@@ -1,4 +1,4 @@
-// What the tests compare by, each over one macro of std: the prover goes through the code of a macro anew at each place
+// What the tests compare by, over one macro of std: the prover goes through the code of a macro anew at each place
 // where it stands, and through a call of these in a sixth of the time. They take the test's runtime, so that they
 // can't stand once in a library: the gate refuses a public function that may end the process.
 
