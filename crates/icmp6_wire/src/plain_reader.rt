@@ -6,32 +6,35 @@ ghost use Rattle.std.specs.Prelude.{◌<◌};
 use crate::icmpv6::Packet;
 use crate::testing::same_of;
 use crate::{icmpv6, mld, ndisc};
+use std::fmt::Debug;
 use std::process::Abort;
-use wirebase::{ChecksumCapabilities, IpProtocol, Ipv6Address, Ipv6Repr};
+use wirebase::{ChecksumCapabilities, IpProtocol, Ipv6Address, Ipv6Repr, Result};
 
 mod control;
 mod listener;
 mod neighbor;
 
+// The bytes of the header of a message of this type.
+fn header_len(kind: u8) -> Option<usize> {
+    match kind {
+        // RFC 4443 sections 3 and 4.
+        1..=4 | 128 | 129 => Some(8),
+        // RFC 3810 sections 5.1 and 5.2.
+        130 => Some(28),
+        143 => Some(8),
+        // RFC 4861 sections 4.1 to 4.5.
+        133 => Some(8),
+        134 => Some(16),
+        135 | 136 => Some(24),
+        137 => Some(40),
+        _ => None,
+    }
+}
+
 // The header of a message, by its type, and what stands behind it.
 fn split_header(octets: &[u8]) -> Option<(&[u8], &[u8])> {
-    let len = match *octets.first()? {
-        // RFC 4443 sections 3 and 4.
-        1 | 2 | 3 | 4 | 128 | 129 => 8,
-        // RFC 3810 sections 5.1 and 5.2.
-        130 => 28,
-        143 => 8,
-        // RFC 4861 sections 4.1 to 4.5.
-        133 => 8,
-        134 => 16,
-        135 | 136 => 24,
-        137 => 40,
-        _ => return None,
-    };
-    if octets.len() < len {
-        return None;
-    }
-    Some(octets.split_at(len))
+    let len = header_len(*octets.first()?)?;
+    octets.split_at_checked(len)
 }
 
 // A header of any version (RFC 8200 section 3), and all that stands behind it.
@@ -78,31 +81,41 @@ fn compare_changed<const N: usize>(rt: &impl Abort, message: &[u8; N], at: usize
 
 // Compares the check of a header and the three readers.
 fn compare(rt: &impl Abort, octets: &[u8]) {
-    let checked = Packet::new_checked(octets).is_ok();
-    same_of(rt, octets, checked, split_header(octets).is_some());
-    let packet = Packet::new_unchecked(octets);
-    compare_neighbor(rt, octets, &packet);
-    compare_listener(rt, octets, &packet);
-    compare_control(rt, octets, &packet);
+    compare_header(rt, octets);
+    compare_neighbor(rt, octets);
+    compare_listener(rt, octets);
+    compare_control(rt, octets);
 }
 
-fn compare_neighbor(rt: &impl Abort, octets: &[u8], packet: &Packet<&[u8]>) {
-    let read = ndisc::Repr::parse(packet);
-    let plain = neighbor::message(octets);
-    same_of(rt, octets, read.as_ref().ok(), plain.as_ref());
+fn compare_header(rt: &impl Abort, octets: &[u8]) {
+    let is_whole = Packet::new_checked(octets).is_ok();
+    same_of(rt, octets, is_whole, split_header(octets).is_some());
 }
 
-fn compare_listener(rt: &impl Abort, octets: &[u8], packet: &Packet<&[u8]>) {
-    let read = mld::Repr::parse(packet);
-    let plain = listener::message(octets);
-    same_of(rt, octets, read.as_ref().ok(), plain.as_ref());
+fn compare_neighbor(rt: &impl Abort, octets: &[u8]) {
+    let read = ndisc::Repr::parse(&Packet::new_unchecked(octets));
+    agree(rt, octets, &read, &neighbor::message(octets));
+}
+
+fn compare_listener(rt: &impl Abort, octets: &[u8]) {
+    let read = mld::Repr::parse(&Packet::new_unchecked(octets));
+    agree(rt, octets, &read, &listener::message(octets));
 }
 
 // The checksum is not looked at.
-fn compare_control(rt: &impl Abort, octets: &[u8], packet: &Packet<&[u8]>) {
+fn compare_control(rt: &impl Abort, octets: &[u8]) {
     let nobody = Ipv6Address::UNSPECIFIED;
     let caps = ChecksumCapabilities::ignored();
-    let read = icmpv6::Repr::parse(&nobody, &nobody, packet, &caps);
-    let plain = control::message(octets);
+    let read = icmpv6::Repr::parse(&nobody, &nobody, &Packet::new_unchecked(octets), &caps);
+    agree(rt, octets, &read, &control::message(octets));
+}
+
+// Ends the test where the two readers differ. Over any type, for the prover looks into each value of a message.
+fn agree<T: PartialEq + Debug + Drop>(
+    rt: &impl Abort,
+    octets: &[u8],
+    read: &Result<T>,
+    plain: &Option<T>,
+) {
     same_of(rt, octets, read.as_ref().ok(), plain.as_ref());
 }

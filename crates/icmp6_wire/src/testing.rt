@@ -7,6 +7,7 @@ ghost use Rattle.std.specs.Prelude.{◌≡◌, true};
 use std::alloc::Global;
 use std::fmt::{Debug, Display, Write};
 use std::process::Abort;
+use wirebase::Result;
 use wirebase::failing_writer::FailingWriter;
 
 // Ends the test where the two differ.
@@ -35,9 +36,15 @@ pub(crate) fn holds_of(rt: &impl Abort, of: impl Debug + Drop, is_so: bool)
     same_of(rt, of, is_so, true);
 }
 
-// Ends the test, for want of what should have been.
-pub(crate) fn fail(rt: &impl Abort, wanted: &str) {
-    assert!(rt; false, "{wanted}");
+// Ends the test unless this was read. Over any type, as the one below: to compare messages costs the prover more where
+// it knows what they are.
+pub(crate) fn reads<T: PartialEq + Debug + Drop>(rt: &impl Abort, read: &Result<T>, wanted: &T) {
+    same(rt, read.as_ref().ok(), Some(wanted));
+}
+
+// Ends the test unless the two differ.
+pub(crate) fn differ<T: PartialEq + Debug>(rt: &impl Abort, of: &str, left: &T, right: &T) {
+    holds_of(rt, of, left != right);
 }
 
 // Ends the test where the value prints another text, or where there is no memory for it.

@@ -3,7 +3,7 @@ ghost use Rattle.icmp6_wire.specs.Icmpv6.{CanEmit, value_of};
 
 use super::{Packet, Repr};
 use crate::plain_reader::compare_damaged;
-use crate::testing::{fail, holds_of, same, same_of};
+use crate::testing::{holds_of, reads, same_of};
 use std::process::Abort;
 use wirebase::capabilities::Checksum;
 use wirebase::{ChecksumCapabilities, Ipv6Address};
@@ -64,25 +64,33 @@ fn is_read(octets: &[u8], checksum: Checksum) -> bool {
     read(octets, checksum).is_ok()
 }
 
+// Whether the octets have the checksum of their addresses.
+fn verifies(octets: &[u8]) -> bool {
+    Packet::new_unchecked(octets).verify_checksum(&source(), &destination())
+}
+
+// What a message makes of octets that are all this one.
+fn written_over<const N: usize>(message: &Repr<'_>, fill: u8) -> [u8; N]
+    requires { (bytes : List ℕ) → length bytes ≡ N → CanEmit (value_of message.now) bytes }
+{
+    let mut octets = [fill; N];
+    let mut packet = Packet::new_unchecked(octets.as_mut_slice());
+    message.emit(&source(), &destination(), &mut packet, &all(Checksum::Both));
+    octets
+}
+
 // Writes a message over octets that are all the same, and checks that it is those which are wanted.
 fn check_written<const N: usize>(rt: &impl Abort, message: &Repr<'_>, wanted: &[u8; N])
     requires { (bytes : List ℕ) → length bytes ≡ N → CanEmit (value_of message.now) bytes }
 {
-    let caps = all(Checksum::Both);
     for &fill in FILLS {
-        let mut octets = [fill; N];
-        let mut packet = Packet::new_unchecked(octets.as_mut_slice());
-        message.emit(&source(), &destination(), &mut packet, &caps);
-        same_of(rt, fill, &octets, wanted);
+        same_of(rt, fill, written_over(message, fill), *wanted);
     }
 }
 
 // Checks that what was read is this message.
 fn check_found(rt: &impl Abort, found: &wirebase::Result<Repr<'_>>, wanted: &Repr<'_>) {
-    match found {
-        Ok(found) => same(rt, found, wanted),
-        Err(_) => fail(rt, "a message"),
-    }
+    reads(rt, found, wanted);
 }
 
 #[test]
@@ -98,9 +106,8 @@ fn echo_requests_are_written_and_read(rt: HostRuntime) {
 
 #[test]
 fn the_checksum_of_an_echo_is_of_its_addresses(rt: HostRuntime) {
+    holds_of(&rt, "to its address", verifies(&ECHO));
     let packet = Packet::new_unchecked(ECHO.as_slice());
-    let is_good = packet.verify_checksum(&source(), &destination());
-    holds_of(&rt, "to its address", is_good);
     let caps = all(Checksum::Both);
     holds_of(
         &rt,
@@ -128,10 +135,7 @@ fn check_code(rt: &impl Abort, kind: u8, code: u8, len: usize, wanted: bool) {
     let mut octets = TOO_BIG;
     octets[0] = kind;
     octets[1] = code;
-    let Some(message) = octets.get(..len) else {
-        fail(rt, "60 octets are enough");
-        return;
-    };
+    let message = octets.get(..len).expect(rt, "60 octets are enough");
     same_of(rt, (kind, code), is_read(message, Checksum::None), wanted);
 }
 
@@ -177,9 +181,8 @@ fn check_turned(rt: &impl Abort, at: usize, mask: u8)
 {
     let mut octets = TOO_BIG;
     octets[at] ^= mask;
-    let packet = Packet::new_unchecked(octets.as_slice());
     let found = [
-        packet.verify_checksum(&source(), &destination()),
+        verifies(&octets),
         is_read(&octets, Checksum::Rx),
         is_read(&octets, Checksum::Tx),
     ];

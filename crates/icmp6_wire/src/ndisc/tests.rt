@@ -83,6 +83,15 @@ fn check_written<const N: usize>(rt: &impl Abort, repr: &Repr<'_>, wanted: &[u8;
     }
 }
 
+// Checks that the message is written as these octets, and read from them.
+fn check_both<const N: usize>(rt: &impl Abort, repr: &Repr<'_>, octets: &[u8; N])
+    requires can { CanEmit (value_of repr.now) }
+    requires room { text_len (value_of repr.now) ≡ N }
+{
+    check_written(rt, repr, octets);
+    check_read(rt, octets, repr);
+}
+
 // Hop limit 64, flag M, a lifetime of 900 s, times of 900 ms, and a link-layer address.
 const ROUTER_ADVERT: [u8; 24] = [
     0x86, 0x00, 0x00, 0x00, 0x40, 0x80, 0x03, 0x84, 0x00, 0x00, 0x03, 0x84, 0x00, 0x00, 0x03, 0x84,
@@ -117,8 +126,7 @@ fn router_advert_of(router_lifetime: Duration) -> Repr<'static>
 #[test]
 fn router_advertisements_are_written_and_read(rt: HostRuntime) {
     let repr = router_advert();
-    check_written(&rt, &repr, &ROUTER_ADVERT);
-    check_read(&rt, &ROUTER_ADVERT, &repr);
+    check_both(&rt, &repr, &ROUTER_ADVERT);
     check_cut(&rt, &ROUTER_ADVERT, 0, 15);
     holds_of(&rt, 15, read(&ROUTER_ADVERT[..15]).is_err());
     // All flag bits are set; those without a name are not read.
@@ -141,8 +149,7 @@ fn router_lifetimes_that_differ_by_a_second_have_other_texts(rt: HostRuntime) {
     let mut text = ROUTER_ADVERT;
     text[7] = 0x85;
     let repr = router_advert_of(Duration::from_secs(901));
-    check_written(&rt, &repr, &text);
-    check_read(&rt, &text, &repr);
+    check_both(&rt, &repr, &text);
     holds_of(&rt, "a message", read(&ROUTER_ADVERT).is_ok());
     check_other(&rt, &ROUTER_ADVERT, &repr);
 }
@@ -257,8 +264,7 @@ fn full_router_advert() -> Repr<'static>
 #[test]
 fn router_advertisements_with_all_options(rt: HostRuntime) {
     let repr = full_router_advert();
-    check_written(&rt, &repr, &FULL_ROUTER_ADVERT);
-    check_read(&rt, &FULL_ROUTER_ADVERT, &repr);
+    check_both(&rt, &repr, &FULL_ROUTER_ADVERT);
     Repr::same_text(&repr, &router_advert());
     check_cut(&rt, &FULL_ROUTER_ADVERT, 0, 16);
     check_cut(&rt, &FULL_ROUTER_ADVERT, 33, 63);
@@ -276,9 +282,8 @@ fn solicitations_are_written_and_read(rt: HostRuntime) {
         target_addr: here(),
         lladdr: None,
     };
-    check_read(&rt, &BARE_SOLICIT, &neighbor);
+    check_both(&rt, &neighbor, &BARE_SOLICIT);
     holds_of(&rt, 23, read(&BARE_SOLICIT[..23]).is_err());
-    check_written(&rt, &neighbor, &BARE_SOLICIT);
 }
 
 #[test]
@@ -314,8 +319,7 @@ fn advertisements_of_neighbors_are_written_and_read(rt: HostRuntime) {
         target_addr: here(),
         lladdr: None,
     };
-    check_read(&rt, &BARE_ADVERT, &repr);
-    check_written(&rt, &repr, &BARE_ADVERT);
+    check_both(&rt, &repr, &BARE_ADVERT);
     holds_of(&rt, 23, read(&BARE_ADVERT[..23]).is_err());
     // The link-layer address is that of the target, not that of a source.
     let told = Repr::NeighborAdvert {
@@ -359,9 +363,7 @@ fn redirect() -> Repr<'static>
 
 #[test]
 fn redirects_are_written_and_read(rt: HostRuntime) {
-    let repr = redirect();
-    check_written(&rt, &repr, &REDIRECT);
-    check_read(&rt, &REDIRECT, &repr);
+    check_both(&rt, &redirect(), &REDIRECT);
     holds_of(&rt, 39, read(&REDIRECT[..39]).is_err());
 }
 

@@ -84,11 +84,10 @@ fn split_option(octets: &[u8]) -> Option<(&[u8], &[u8])> {
         4 => 6,
         _ => 1,
     };
-    let len = 8 * *units as usize;
-    if *units < least || octets.len() < len {
+    if *units < least {
         return None;
     }
-    Some(octets.split_at(len))
+    octets.split_at_checked(8 * *units as usize)
 }
 
 fn are_options(octets: &[u8]) -> bool {

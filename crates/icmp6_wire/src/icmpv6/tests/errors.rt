@@ -3,7 +3,7 @@ ghost use Rattle.icmp6_wire.specs.Icmpv6.{CanEmit, text_len, value_of};
 
 use super::{TOO_BIG, all, behind, check_found, check_written, destination, is_read, read, source};
 use crate::icmpv6::{DstUnreachable, Packet, ParamProblem, Repr, TimeExceeded};
-use crate::testing::{holds_of, same, same_of};
+use crate::testing::{differ, holds_of, same, same_of};
 use std::process::Abort;
 use wirebase::capabilities::Checksum;
 use wirebase::{IpProtocol, Ipv6Repr};
@@ -100,13 +100,11 @@ fn check_quoted(rt: &impl Abort, data: &[u8], cut: &[u8], fill: u8) -> [u8; 1240
     octets
 }
 
-// Checks that errors with these data differ, and asks `same_text` about both.
-fn check_same_text(rt: &impl Abort, cut: &[u8], whole: &[u8]) {
-    let one = port_unreachable(cut);
-    let other = port_unreachable(whole);
-    same(rt, one == other, false);
+// Checks that these errors differ, and asks `same_text` about both.
+fn check_same_text(rt: &impl Abort, one: &Repr<'_>, other: &Repr<'_>) {
+    differ(rt, "errors with other data", one, other);
     let caps = all(Checksum::Both);
-    Repr::same_text(&one, &other, &source(), &destination(), &caps);
+    Repr::same_text(one, other, &source(), &destination(), &caps);
 }
 
 #[test]
@@ -118,7 +116,7 @@ fn errors_that_differ_past_what_they_quote_have_the_same_text(rt: HostRuntime) {
     let written = check_quoted(&rt, cut, cut, 0);
     let over = check_quoted(&rt, &data, cut, 0xff);
     same(&rt, written.as_slice(), over.as_slice());
-    check_same_text(&rt, cut, &data);
+    check_same_text(&rt, &port_unreachable(cut), &port_unreachable(&data));
     check_found(&rt, &read(&written, Checksum::Both), &port_unreachable(cut));
 }
 
@@ -165,6 +163,14 @@ fn what_an_error_quotes_is_read(rt: HostRuntime) {
     check_found(&rt, &read(&octets, Checksum::Both), &too_big(&data[..1192]));
 }
 
+// The bytes of the data that a packet that is too big quotes; nothing where the octets are another message.
+fn quoted_len(octets: &[u8]) -> Option<usize> {
+    match &read(octets, Checksum::Both) {
+        Ok(Repr::PktTooBig { data, .. }) => Some(data.len()),
+        _ => None,
+    }
+}
+
 // Checks an error of these data, more than it quotes, that is written into a longer buffer.
 fn check_in_longer_buffer(rt: &impl Abort, data: &[u8]) {
     let mut octets = [0xff; 1300];
@@ -174,11 +180,7 @@ fn check_in_longer_buffer(rt: &impl Abort, data: &[u8]) {
     same(rt, &octets[2..4], [0xcc, 0x9f].as_slice());
     same(rt, &octets[1240..], [0xff; 60].as_slice());
     // All behind the quoted header is read as its data.
-    let data_len = match read(&octets, Checksum::Both) {
-        Ok(Repr::PktTooBig { data, .. }) => data.len(),
-        _ => 0,
-    };
-    same(rt, data_len, 1252);
+    same(rt, quoted_len(&octets), Some(1252));
 }
 
 #[test]

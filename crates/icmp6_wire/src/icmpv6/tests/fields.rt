@@ -1,37 +1,38 @@
+ghost use Rattle.std.specs.Prelude.{◌≡◌, ◌≤◌, ℕ, List, length};
+ghost use Rattle.icmp6_wire.specs.Icmpv6Packet.{CanClear};
+ghost use Rattle.icmp6_wire.specs.Icmpv6Tables.{message_of};
+
 use super::{ECHO, destination, source};
 use crate::icmpv6::{Message, Packet};
 use crate::testing::{holds_of, same, same_of};
+use std::process::Abort;
+
+// Clears what is reserved in a message of which all but the type is 0xff, and checks that it is what is wanted.
+fn check_cleared<const N: usize>(rt: &impl Abort, kind: u8, wanted: &[u8; N])
+    requires some { 1 ≤ N }
+    requires can { (bytes : List ℕ) → length bytes ≡ N → CanClear (message_of kind) bytes }
+{
+    let mut octets = [0xff; N];
+    octets[0] = kind;
+    Packet::new_unchecked(octets.as_mut_slice()).clear_reserved();
+    same(rt, &octets, wanted);
+}
 
 #[test]
 fn what_solicitations_have_reserved_is_cleared(rt: HostRuntime) {
-    let mut octets = [0xff; 8];
-    octets[0] = 0x85;
-    Packet::new_unchecked(octets.as_mut_slice()).clear_reserved();
-    same(&rt, octets, [0x85, 0xff, 0xff, 0xff, 0, 0, 0, 0]);
-    let mut octets = [0xff; 9];
-    octets[0] = 0x87;
-    Packet::new_unchecked(octets.as_mut_slice()).clear_reserved();
-    same(&rt, octets, [0x87, 0xff, 0xff, 0xff, 0, 0, 0, 0, 0xff]);
+    check_cleared(&rt, 0x85, &[0x85, 0xff, 0xff, 0xff, 0, 0, 0, 0]);
+    check_cleared(&rt, 0x87, &[0x87, 0xff, 0xff, 0xff, 0, 0, 0, 0, 0xff]);
 }
 
 #[test]
 fn what_neighbor_advertisements_and_redirects_have_reserved_is_cleared(rt: HostRuntime) {
-    let mut octets = [0xff; 9];
-    octets[0] = 0x88;
-    Packet::new_unchecked(octets.as_mut_slice()).clear_reserved();
-    same(&rt, octets, [0x88, 0xff, 0xff, 0xff, 0, 0, 0, 0, 0xff]);
-    let mut octets = [0xff; 9];
-    octets[0] = 0x89;
-    Packet::new_unchecked(octets.as_mut_slice()).clear_reserved();
-    same(&rt, octets, [0x89, 0xff, 0xff, 0xff, 0, 0, 0, 0, 0xff]);
+    check_cleared(&rt, 0x88, &[0x88, 0xff, 0xff, 0xff, 0, 0, 0, 0, 0xff]);
+    check_cleared(&rt, 0x89, &[0x89, 0xff, 0xff, 0xff, 0, 0, 0, 0, 0xff]);
 }
 
 #[test]
 fn what_a_report_has_reserved_is_cleared(rt: HostRuntime) {
-    let mut octets = [0xff; 6];
-    octets[0] = 0x8f;
-    Packet::new_unchecked(octets.as_mut_slice()).clear_reserved();
-    same(&rt, octets, [0x8f, 0xff, 0xff, 0xff, 0, 0]);
+    check_cleared(&rt, 0x8f, &[0x8f, 0xff, 0xff, 0xff, 0, 0]);
 }
 
 #[test]

@@ -1,6 +1,6 @@
-use super::{REDIRECT, THREE_MTUS, check_read, here, read, there};
+use super::{REDIRECT, THREE_MTUS, check_read, check_refused, here, read, there};
 use crate::ndisc::Repr;
-use crate::testing::{fail, holds_of, same_of};
+use crate::testing::{holds_of, same_of};
 use std::process::Abort;
 
 // The MTU that a router advertisement with these options tells; nothing where it is refused.
@@ -52,10 +52,7 @@ fn check_option(rt: &impl Abort, kind: u8, units: u8, len: usize, wanted: Option
     let mut octets = BARE;
     octets[16] = kind;
     octets[17] = units;
-    let Some(part) = octets.get(..len) else {
-        fail(rt, "64 octets are enough");
-        return;
-    };
+    let part = octets.get(..len).expect(rt, "64 octets are enough");
     check_mtu(rt, part, wanted);
 }
 
@@ -97,5 +94,5 @@ fn a_redirected_packet_that_is_not_whole_is_left_out(rt: HostRuntime) {
         redirected_hdr: None,
     };
     check_read(&rt, &octets, &repr);
-    holds_of(&rt, 39, read(&octets[..39]).is_err());
+    check_refused(&rt, &octets[..39]);
 }
