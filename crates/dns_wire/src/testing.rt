@@ -6,6 +6,7 @@ ghost use Rattle.std.specs.Prelude.{◌≡◌, true};
 
 use std::fmt::Debug;
 use std::process::Abort;
+use wirebase::Result;
 
 // Ends the test where the two differ.
 pub(crate) fn same<T: PartialEq + Debug + Drop>(rt: &impl Abort, left: T, right: T)
@@ -31,6 +32,17 @@ pub(crate) fn holds_of(rt: &impl Abort, of: impl Debug + Drop, is_so: bool)
     ensures { is_so ≡ true }
 {
     same_of(rt, of, is_so, true);
+}
+
+// Ends the test where the library reads something else than the plain reader. Over any type, for where the prover knows
+// what a message is, it looks into each of its values.
+pub(crate) fn agree<T: PartialEq + Debug + Drop>(
+    rt: &impl Abort,
+    octets: &[u8],
+    read: &Result<T>,
+    plain: &Option<T>,
+) {
+    same_of(rt, octets, read.as_ref().ok(), plain.as_ref());
 }
 
 // Ends the test, for want of what should have been.

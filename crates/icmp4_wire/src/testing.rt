@@ -7,6 +7,7 @@ ghost use Rattle.std.specs.Prelude.{◌≡◌, true};
 use std::alloc::Global;
 use std::fmt::{Debug, Display, Write};
 use std::process::Abort;
+use wirebase::Result;
 use wirebase::failing_writer::FailingWriter;
 
 // Ends the test where the two differ.
@@ -33,6 +34,17 @@ pub(crate) fn holds_of(rt: &impl Abort, of: impl Debug + Drop, is_so: bool)
     ensures { is_so ≡ true }
 {
     same_of(rt, of, is_so, true);
+}
+
+// Ends the test where the library reads something else than the plain reader. Over any type, for where the prover knows
+// what a message is, it looks into each of its values.
+pub(crate) fn agree<T: PartialEq + Debug + Drop>(
+    rt: &impl Abort,
+    octets: &[u8],
+    read: &Result<T>,
+    plain: &Option<T>,
+) {
+    same_of(rt, octets, read.as_ref().ok(), plain.as_ref());
 }
 
 // Ends the test where the value prints another text, or where there is no memory for it.

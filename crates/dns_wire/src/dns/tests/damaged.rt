@@ -5,10 +5,10 @@ ghost use Rattle.std.specs.Prelude.{◌≤◌, ◌<◌, length};
 
 use super::{is_question, is_record};
 use crate::dns::{Flags, Opcode, Packet, Question, Rcode, Record, RecordData, Type};
-use crate::testing::{fail, holds_of, same_of};
+use crate::testing::{agree, fail, holds_of, same_of};
 use bitflags::Flags as _;
 use std::process::Abort;
-use wirebase::{Error, Ipv4Address, Ipv6Address};
+use wirebase::{Ipv4Address, Ipv6Address};
 
 // What stands behind the part of a name at the front of the octets: labels after their lengths, and byte 0 or a
 // pointer of two bytes.
@@ -90,14 +90,12 @@ fn read_record(octets: &[u8]) -> Option<(&[u8], Record<'_>)> {
 
 // Compares the reader of questions with the plain one over these octets.
 fn compare_question(rt: &impl Abort, octets: &[u8]) {
-    let question = read_question(octets).ok_or(Error);
-    same_of(rt, octets, Question::parse(octets), question);
+    agree(rt, octets, &Question::parse(octets), &read_question(octets));
 }
 
 // Compares the reader of records with the plain one over these octets.
 fn compare_record(rt: &impl Abort, octets: &[u8]) {
-    let record = read_record(octets).ok_or(Error);
-    same_of(rt, octets, Record::parse(octets), record);
+    agree(rt, octets, &Record::parse(octets), &read_record(octets));
 }
 
 // Compares a number of a header with the two octets from this place on.

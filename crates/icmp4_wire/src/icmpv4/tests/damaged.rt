@@ -2,9 +2,9 @@
 
 use super::{ALL, ECHO_REQUEST, PORT_UNREACHABLE};
 use crate::icmpv4::{DstUnreachable, Packet, Repr, TimeExceeded};
-use crate::testing::{holds_of, same_of};
+use crate::testing::{agree, holds_of, same_of};
 use std::process::Abort;
-use wirebase::{ChecksumCapabilities, Error, IpProtocol, Ipv4Address, Ipv4Repr};
+use wirebase::{ChecksumCapabilities, IpProtocol, Ipv4Address, Ipv4Repr};
 
 // Whether the words of the octets sum to all ones, each carry added as it comes (RFC 1071).
 fn is_good(octets: &[u8]) -> bool {
@@ -106,12 +106,12 @@ fn compare_checks(rt: &impl Abort, octets: &[u8]) {
 
 // Compares the message that is read with the plain reader's over these octets.
 fn compare(rt: &impl Abort, octets: &[u8]) {
-    let plain = read(octets).ok_or(Error);
-    let verified = if is_good(octets) { plain } else { Err(Error) };
+    let plain = read(octets);
     let packet = Packet::new_unchecked(octets);
     let ignored = ChecksumCapabilities::ignored();
-    same_of(rt, octets, Repr::parse(&packet, &ignored), plain);
-    same_of(rt, octets, Repr::parse(&packet, &ALL), verified);
+    agree(rt, octets, &Repr::parse(&packet, &ignored), &plain);
+    let verified = if is_good(octets) { plain } else { None };
+    agree(rt, octets, &Repr::parse(&packet, &ALL), &verified);
 }
 
 // Compares the fields of the view with the octets at their places.

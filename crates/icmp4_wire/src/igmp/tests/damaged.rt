@@ -2,7 +2,7 @@
 
 use crate::igmp::IgmpVersion::{Version1, Version2};
 use crate::igmp::{Packet, Repr};
-use crate::testing::{holds_of, same_of};
+use crate::testing::{agree, holds_of, same_of};
 use std::process::Abort;
 use wirebase::{Duration, Ipv4Address};
 
@@ -70,7 +70,7 @@ fn compare(rt: &impl Abort, octets: &[u8]) {
     let is_long = octets.len() >= 8;
     same_of(rt, octets, packet.check_len().is_ok(), is_long);
     same_of(rt, octets, Packet::new_checked(octets).is_ok(), is_long);
-    same_of(rt, octets, Repr::parse(&packet).ok(), read(octets));
+    agree(rt, octets, &Repr::parse(&packet), &read(octets));
     compare_fields(rt, octets);
 }
 
