@@ -1,6 +1,6 @@
 //! Questions and names of DNS.
 
-use super::{check, check_changed, check_line, compare_changed, joined};
+use super::{check, check_changed, check_line, check_lines, compare_changed, joined};
 use crate::testing::holds_of;
 use std::fmt::Write;
 
@@ -56,10 +56,20 @@ fn names(rt: HostRuntime) {
         ("name 0 40", "error steps=0\n"),
         ("name 0 c0", "error steps=0\n"),
         ("name 5 00c000c001c003", "end steps=3\n"),
+        // A label of 63 octets, and one of 64.
+        (
+            "name 0 3f4142434445464748494a4b4c4d4e4f505152535455565758595a4142434445464748494a4b4c\
+             4d4e4f505152535455565758595a4142434445464748494a4b00",
+            "4142434445464748494a4b4c4d4e4f505152535455565758595a4142434445464748494a4b4c4d4e4f505\
+             152535455565758595a4142434445464748494a4b\nend steps=1\n",
+        ),
+        (
+            "name 0 404142434445464748494a4b4c4d4e4f505152535455565758595a4142434445464748494a4b4c\
+             4d4e4f505152535455565758595a4142434445464748494a4b5a00",
+            "error steps=0\n",
+        ),
     ];
-    for (line, want) in ROWS {
-        check_line(&rt, rt.alloc(), line, want);
-    }
+    check_lines(&rt, rt.alloc(), ROWS);
 }
 
 #[test]

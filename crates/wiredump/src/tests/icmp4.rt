@@ -45,24 +45,20 @@ fn errors_of_icmpv4(rt: HostRuntime) {
         ("0b00f48d00000000", "TimeExceeded\nreason=0\n"),
         ("0b01f48c00000000", "TimeExceeded\nreason=1\n"),
     ];
-    for (header, want) in ROWS {
-        check_with_data(&rt, rt.alloc(), "icmp4", header, QUOTE, want, QUOTED);
-    }
+    check_with_data(&rt, rt.alloc(), "icmp4", ROWS, QUOTE, QUOTED);
 }
 
 #[test]
 fn types_of_icmpv4_that_are_not_read(rt: HostRuntime) {
-    const HEADERS: &[&str] = &[
-        "0500fa8d00000000",
-        "0900f68d00000000",
-        "0a00f58d00000000",
-        "0c00f38d00000000",
-        "0d00f28d00000000",
-        "0e00f18d00000000",
+    const ROWS: &[(&str, &str)] = &[
+        ("0500fa8d00000000", "refused\n"),
+        ("0900f68d00000000", "refused\n"),
+        ("0a00f58d00000000", "refused\n"),
+        ("0c00f38d00000000", "refused\n"),
+        ("0d00f28d00000000", "refused\n"),
+        ("0e00f18d00000000", "refused\n"),
     ];
-    for header in HEADERS {
-        check_with_data(&rt, rt.alloc(), "icmp4", header, QUOTE, "refused\n", "");
-    }
+    check_with_data(&rt, rt.alloc(), "icmp4", ROWS, QUOTE, "");
 }
 
 #[test]

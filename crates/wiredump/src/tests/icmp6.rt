@@ -1,6 +1,6 @@
 //! Messages of ICMPv6 and of multicast listener discovery.
 
-use super::{check, check_changed, check_line, check_with_data, repeated};
+use super::{check, check_changed, check_line, check_lines, check_with_data, repeated};
 
 /// A message from one address of the link to another.
 pub const BETWEEN: &str = "icmp6 fe800000000000000000000000000001 fe800000000000000000000000000002";
@@ -47,9 +47,7 @@ fn echoes_between_other_addresses(rt: HostRuntime) {
             "refused\n",
         ),
     ];
-    for (line, want) in ROWS {
-        check_line(&rt, rt.alloc(), line, want);
-    }
+    check_lines(&rt, rt.alloc(), ROWS);
 }
 
 // A datagram between the addresses, and what a message that quotes it prints of it.
@@ -75,15 +73,13 @@ fn errors_of_icmpv6(rt: HostRuntime) {
         ("0402137b00000028", "ParamProblem\nreason=2\npointer=40\n"),
         ("0403137a00000028", "ParamProblem\nreason=3\npointer=40\n"),
     ];
-    for (header, want) in ROWS {
-        check_with_data(&rt, rt.alloc(), BETWEEN, header, QUOTE, want, QUOTED);
-    }
+    check_with_data(&rt, rt.alloc(), BETWEEN, ROWS, QUOTE, QUOTED);
 }
 
 #[test]
 fn a_packet_too_big_with_a_code(rt: HostRuntime) {
-    let header = "02010fc8000005dc";
-    check_with_data(&rt, rt.alloc(), BETWEEN, header, QUOTE, "refused\n", "");
+    const ROWS: &[(&str, &str)] = &[("02010fc8000005dc", "refused\n")];
+    check_with_data(&rt, rt.alloc(), BETWEEN, ROWS, QUOTE, "");
 }
 
 #[test]

@@ -1,108 +1,105 @@
 //! Lines of every shape, and at the limits of what a line may have.
 
 use super::{append, check_line, check_run, joined, repeated};
+use crate::read_word;
 use crate::testing::{holds_of, same_of};
-use crate::{read_word, run, status};
 use std::alloc::Global;
 use std::fmt::Write;
 use std::process::Abort;
 
-// Each input prints this and ends with this status.
-fn check_lines(rt: &impl Abort, alloc: Global, rows: &[(&str, &str, u8)]) {
-    for (input, want, code) in rows {
-        check_status(rt, alloc, input, want, *code);
+// Each input prints this; its lines are known, or one of them is not.
+fn check_inputs(rt: &impl Abort, alloc: Global, rows: &[(&str, &str, bool)]) {
+    for (input, want, known) in rows {
+        check_run(rt, alloc, input, input.as_bytes(), *known, want.as_bytes());
     }
-}
-
-fn check_status(rt: &impl Abort, alloc: Global, input: &str, want: &str, code: u8) {
-    let mut output = Vec::new(alloc);
-    let answer = run(alloc, input.as_bytes(), &mut output);
-    same_of(rt, input, status(&answer), code);
-    same_of(rt, input, output.as_slice(), want.as_bytes());
 }
 
 #[test]
 fn lines_of_every_shape(rt: HostRuntime) {
-    const ROWS: &[(&str, &str, u8)] = &[
+    const ROWS: &[(&str, &str, bool)] = &[
         // Without a word.
-        ("", "", 0),
-        ("\n\n", "", 0),
-        ("  \n\r\n \r\n\r", "", 0),
+        ("", "", true),
+        ("\n\n", "", true),
+        ("  \n\r\n \r\n\r", "", true),
         // Ends and spaces.
-        ("hbh 0100\nhbh 00\n", "PadN=0\nPad1\n", 0),
-        ("hbh 0100\nhbh 00", "PadN=0\nPad1\n", 0),
-        ("hbh 0100\r\nhbh 00\r", "PadN=0\nPad1\n", 0),
-        ("  hbh   0100  \r\n", "PadN=0\n", 0),
-        ("hbh 0100\r\r\nhbh 00\r\r", "bad line\nbad line\n", 2),
-        ("\r\r\n\rhbh 00\n", "bad line\nbad line\n", 2),
-        ("hbh 0100\r \n", "bad line\n", 2),
-        ("hbh\t0100\n\thbh 00\n", "bad line\nbad line\n", 2),
-        ("hbh 01\0\nhbh\x0b00\n", "bad line\nbad line\n", 2),
+        ("hbh 0100\nhbh 00\n", "PadN=0\nPad1\n", true),
+        ("hbh 0100\nhbh 00", "PadN=0\nPad1\n", true),
+        ("hbh 0100\r\nhbh 00\r", "PadN=0\nPad1\n", true),
+        ("  hbh   0100  \r\n", "PadN=0\n", true),
+        ("hbh 0100\r\r\nhbh 00\r\r", "bad line\nbad line\n", false),
+        ("\r\r\n\rhbh 00\n", "bad line\nbad line\n", false),
+        ("hbh 0100\r \n", "bad line\n", false),
+        ("hbh\t0100\n\thbh 00\n", "bad line\nbad line\n", false),
+        ("hbh 01\0\nhbh\x0b00\n", "bad line\nbad line\n", false),
         // A bad line among others, and a refused one.
-        ("hbh 00\nhbh\nhbh 00\n", "Pad1\nbad line\nPad1\n", 2),
-        ("hbh 00\nhbh -\nhbh 00\n", "Pad1\nrefused\nPad1\n", 0),
+        ("hbh 00\nhbh\nhbh 00\n", "Pad1\nbad line\nPad1\n", false),
+        ("hbh 00\nhbh -\nhbh 00\n", "Pad1\nrefused\nPad1\n", true),
     ];
-    check_lines(&rt, rt.alloc(), ROWS);
+    check_inputs(&rt, rt.alloc(), ROWS);
 }
 
 #[test]
 fn lines_with_a_wrong_word(rt: HostRuntime) {
-    const ROWS: &[(&str, &str, u8)] = &[
+    const ROWS: &[(&str, &str, bool)] = &[
         // Words that are no packet.
-        ("hbh 5\nhbh 010\n", "bad line\nbad line\n", 2),
-        ("hbh 0g\nhbh 0x00\n", "bad line\nbad line\n", 2),
-        ("hbh --\nhbh -0\n", "bad line\nbad line\n", 2),
+        ("hbh 5\nhbh 010\n", "bad line\nbad line\n", false),
+        ("hbh 0g\nhbh 0x00\n", "bad line\nbad line\n", false),
+        ("hbh --\nhbh -0\n", "bad line\nbad line\n", false),
         // Commands that are none.
-        ("foo -\nhbh\n-\n", "bad line\nbad line\nbad line\n", 2),
-        ("HBH 00\nhbhh 00\n00\n", "bad line\nbad line\nbad line\n", 2),
-        ("hbh - -\nhbh 00 00\n", "bad line\nbad line\n", 2),
-        ("hbh 0 0 0 00\n1 2 3 4 5 6\n", "bad line\nbad line\n", 2),
+        ("foo -\nhbh\n-\n", "bad line\nbad line\nbad line\n", false),
+        (
+            "HBH 00\nhbhh 00\n00\n",
+            "bad line\nbad line\nbad line\n",
+            false,
+        ),
+        ("hbh - -\nhbh 00 00\n", "bad line\nbad line\n", false),
+        ("hbh 0 0 0 00\n1 2 3 4 5 6\n", "bad line\nbad line\n", false),
     ];
-    check_lines(&rt, rt.alloc(), ROWS);
+    check_inputs(&rt, rt.alloc(), ROWS);
 }
 
 #[test]
 fn lines_with_a_wrong_offset_or_address(rt: HostRuntime) {
-    const ROWS: &[(&str, &str, u8)] = &[
+    const ROWS: &[(&str, &str, bool)] = &[
         // Offsets and addresses that are none, and an offset past its message.
-        ("name 00\nname 0 0 00\n", "bad line\nbad line\n", 2),
+        ("name 00\nname 0 0 00\n", "bad line\nbad line\n", false),
         (
             "name x 00\nname -1 00\nname +1 00\n",
             "bad line\nbad line\nbad line\n",
-            2,
+            false,
         ),
         (
             "name 3 0000\nname 1 -\nname 65536 -\n",
             "bad line\nbad line\nbad line\n",
-            2,
+            false,
         ),
         (
             "name 0 5\nquestion 0 00\nname 1 00\n",
             "bad line\nbad line\nerror steps=0\n",
-            2,
+            false,
         ),
         (
             "icmp6 00\nicmp6 0 0 00\nicmp6 - - 00\n",
             "bad line\nbad line\nbad line\n",
-            2,
+            false,
         ),
         (
             "icmp6 fe80000000000000000000000000000 fe800000000000000000000000000002 00\n",
             "bad line\n",
-            2,
+            false,
         ),
         (
             "icmp6 fe800000000000000000000000000001 fe80000000000000000000000000000g 00\n",
             "bad line\n",
-            2,
+            false,
         ),
         (
             "icmp6 fe800000000000000000000000000001 fe800000000000000000000000000002 0\n",
             "bad line\n",
-            2,
+            false,
         ),
     ];
-    check_lines(&rt, rt.alloc(), ROWS);
+    check_inputs(&rt, rt.alloc(), ROWS);
 }
 
 #[test]

@@ -1,40 +1,43 @@
 //! Values behind a field's name.
 
-use crate::printer::{field, line, part_field};
+use crate::printer::{Value, field, line, part_field};
 use crate::testing::{holds_of, same_of};
-use std::io;
+use std::alloc::Global;
+use std::process::Abort;
 
-fn show_numbers(output: &mut Vec<u8>) -> io::Result<()> {
-    line(output, "Redirect")?;
-    field(output, "reachable_time", 4_294_967_295u32)?;
-    field(output, "delay", 18_446_744_073_709_551_615u64)?;
-    field(output, "router", true)?;
-    field(output, "override", false)
-}
-
-fn show_options(output: &mut Vec<u8>) -> io::Result<()> {
-    field(output, "mtu", None::<u32>)?;
-    field(output, "hop_limit", Some(64u8))?;
-    field(output, "rest", 7usize)?;
-    line(output, b"\x61".as_slice())
-}
-
-fn show_parts(output: &mut Vec<u8>) -> io::Result<()> {
-    let header = "redirected_hdr.header.";
-    part_field(output, header, "payload_len", 1_280u16)?;
-    part_field(output, header, "src_addr", b"\xfe\x80\0\x01".as_slice())?;
-    part_field(output, "redirected_hdr.", "data", b"".as_slice())?;
-    field(output, "target", b"\x0a".as_slice())
+// A field of this value prints its name, `=` and this.
+fn check_field<V: Value>(rt: &impl Abort, alloc: Global, value: V, want: &str) {
+    let mut output = Vec::new(alloc);
+    holds_of(rt, want, field(&mut output, "delay", value).is_ok());
+    same_of(rt, want, output.as_slice(), want.as_bytes());
 }
 
 #[test]
-fn fields_of_values_and_of_their_parts(rt: HostRuntime) {
+fn fields_of_values(rt: HostRuntime) {
+    let alloc = rt.alloc();
+    check_field(&rt, alloc, u8::MAX, "delay=255\n");
+    check_field(&rt, alloc, 1_280u16, "delay=1280\n");
+    check_field(&rt, alloc, u32::MAX, "delay=4294967295\n");
+    check_field(&rt, alloc, u64::MAX, "delay=18446744073709551615\n");
+    check_field(&rt, alloc, usize::MAX, "delay=18446744073709551615\n");
+    check_field(&rt, alloc, true, "delay=true\n");
+    check_field(&rt, alloc, false, "delay=false\n");
+    check_field(&rt, alloc, None::<u32>, "delay=none\n");
+    check_field(&rt, alloc, Some(64u8), "delay=64\n");
+    check_field(&rt, alloc, b"".as_slice(), "delay=-\n");
+    check_field(&rt, alloc, b"\xfe\x80\0\x01".as_slice(), "delay=fe800001\n");
+}
+
+#[test]
+fn lines_and_fields_of_parts(rt: HostRuntime) {
     let mut output = Vec::new(rt.alloc());
-    holds_of(&rt, "numbers", show_numbers(&mut output).is_ok());
-    holds_of(&rt, "options", show_options(&mut output).is_ok());
-    holds_of(&rt, "parts", show_parts(&mut output).is_ok());
-    let want = "Redirect\nreachable_time=4294967295\ndelay=18446744073709551615\nrouter=true\n\
-        override=false\nmtu=none\nhop_limit=64\nrest=7\n61\nredirected_hdr.header.payload_len=1280\n\
-        redirected_hdr.header.src_addr=fe800001\nredirected_hdr.data=-\ntarget=0a\n";
-    same_of(&rt, "fields", output.as_slice(), want.as_bytes());
+    holds_of(&rt, "line", line(&mut output, "Redirect").is_ok());
+    let part = part_field(&mut output, "redirected_hdr.", "data", b"\x61".as_slice());
+    holds_of(&rt, "part", part.is_ok());
+    same_of(
+        &rt,
+        "both",
+        output.as_slice(),
+        b"Redirect\nredirected_hdr.data=61\n",
+    );
 }

@@ -116,6 +116,8 @@ fn the_greatest_target(rt: HostRuntime) {
     let zeros = [0; 16384];
     check(&rt, &zeros, &[0xff, 0xff], &[], false, 1);
     check(&rt, &zeros[..16383], &[0xff, 0xff], &[], true, 0);
+    compare_walk(&rt, &zeros, &[0xff, 0xff]);
+    compare_walk(&rt, &zeros[..16383], &[0xff, 0xff]);
 }
 
 // A zero byte, then pointers, each to the one before it and the first to the zero byte.
