@@ -31,13 +31,17 @@ fn fields_of_values(rt: HostRuntime) {
 #[test]
 fn lines_and_fields_of_parts(rt: HostRuntime) {
     let mut output = Vec::new(rt.alloc());
-    holds_of(&rt, "line", line(&mut output, "Redirect").is_ok());
-    let part = part_field(&mut output, "redirected_hdr.", "data", b"\x61".as_slice());
-    holds_of(&rt, "part", part.is_ok());
-    same_of(
-        &rt,
-        "both",
-        output.as_slice(),
-        b"Redirect\nredirected_hdr.data=61\n",
+    holds_of(&rt, "name", line(&mut output, "Redirect").is_ok());
+    holds_of(&rt, "octets", line(&mut output, b"\x61".as_slice()).is_ok());
+    let number = part_field(
+        &mut output,
+        "redirected_hdr.header.",
+        "payload_len",
+        1_280u16,
     );
+    holds_of(&rt, "number", number.is_ok());
+    let data = part_field(&mut output, "redirected_hdr.", "data", b"".as_slice());
+    holds_of(&rt, "data", data.is_ok());
+    let want = "Redirect\n61\nredirected_hdr.header.payload_len=1280\nredirected_hdr.data=-\n";
+    same_of(&rt, "all", output.as_slice(), want.as_bytes());
 }
