@@ -104,8 +104,8 @@ content-canonical bytes (echo_reply ident seq_no d) are some small m = (
   omega (arith, m.sequence, number_of-small 6 8 bytes refl are),
   omega (arith, ap (λ (l : List ℕ). length l) m.data_, length-drop 8 bytes),
 )
-content-canonical bytes (mld m) are some small c = mld_format.accepted bytes m are small c.0
 content-canonical bytes (ndisc m) are some small c = ndisc_format.accepted bytes m are small c.0
+content-canonical bytes (mld m) are some small c = mld_format.accepted bytes m are small c.0
 
 -- ---- the normal form
 
@@ -116,8 +116,8 @@ norm-canonical (time_exceeded reason quoted d) c = c
 norm-canonical (param_problem reason pointer quoted d) c = c
 norm-canonical (echo_request ident seq_no d) c = c
 norm-canonical (echo_reply ident seq_no d) c = c
-norm-canonical (mld m) c = mld_format.norm_canonical m c
 norm-canonical (ndisc m) c = ndisc_format.norm_canonical m c
+norm-canonical (mld m) c = mld_format.norm_canonical m c
 
 norm-norm : (v : MessageValue) → norm (norm v) ≡ norm v
 norm-norm (unreachable reason quoted d) = ap (λ (l : List ℕ). unreachable reason quoted l) (quoted-quoted d)
@@ -127,8 +127,8 @@ norm-norm (param_problem reason pointer quoted d) =
     ap (λ (l : List ℕ). param_problem reason pointer quoted l) (quoted-quoted d)
 norm-norm (echo_request ident seq_no d) = refl
 norm-norm (echo_reply ident seq_no d) = refl
-norm-norm (mld m) = ap (λ (x : MldValue). mld x) (mld_format.norm_norm m)
 norm-norm (ndisc m) = ap (λ (x : NdiscValue). ndisc x) (ndisc_format.norm_norm m)
+norm-norm (mld m) = ap (λ (x : MldValue). mld x) (mld_format.norm_norm m)
 
 quoted-fields : (t code word : ℕ) (quoted : Ipv6Repr) (d : List ℕ)
     → fields (error_fields t code word quoted (quoted_data d)) ≡ fields (error_fields t code word quoted d)
@@ -141,8 +141,8 @@ norm-text (time_exceeded reason quoted d) c = quoted-fields 3 (time_exceeded_num
 norm-text (param_problem reason pointer quoted d) c = quoted-fields 4 (param_problem_number reason) pointer quoted d
 norm-text (echo_request ident seq_no d) c = refl
 norm-text (echo_reply ident seq_no d) c = refl
-norm-text (mld m) c = norm-mld m
 norm-text (ndisc m) c = norm-ndisc m c
+norm-text (mld m) c = norm-mld m
 
 few : (d : List ℕ) → (1192 < length d → ⊥) → length d ≤ 1192
 few d uncut = grind (arith, uncut)
@@ -158,8 +158,8 @@ norm-uncut bytes (param_problem reason pointer quoted d) are c uncut =
     ap (λ (l : List ℕ). param_problem reason pointer quoted l) (quoted-whole d (few d uncut))
 norm-uncut bytes (echo_request ident seq_no d) are c uncut = refl
 norm-uncut bytes (echo_reply ident seq_no d) are c uncut = refl
-norm-uncut bytes (mld m) are c uncut = ap (λ (x : MldValue). mld x) (norm-read bytes m c.0)
 norm-uncut bytes (ndisc m) are c uncut = ap (λ (x : NdiscValue). ndisc x) (message-kept bytes m are c.0)
+norm-uncut bytes (mld m) are c uncut = ap (λ (x : MldValue). mld x) (norm-read bytes m c.0)
 
 -- ---- all of it
 

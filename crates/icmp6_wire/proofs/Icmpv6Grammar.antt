@@ -28,13 +28,13 @@ kind_of message.TimeExceeded = 3
 kind_of message.ParamProblem = 4
 kind_of message.EchoRequest = 5
 kind_of message.EchoReply = 6
-kind_of message.MldQuery = 7
-kind_of message.MldReport = 7
-kind_of message.RouterSolicit = 8
-kind_of message.RouterAdvert = 8
-kind_of message.NeighborSolicit = 8
-kind_of message.NeighborAdvert = 8
-kind_of message.Redirect = 8
+kind_of message.RouterSolicit = 7
+kind_of message.RouterAdvert = 7
+kind_of message.NeighborSolicit = 7
+kind_of message.NeighborAdvert = 7
+kind_of message.Redirect = 7
+kind_of message.MldQuery = 8
+kind_of message.MldReport = 8
 kind_of _ = 0
 
 abbrev value_kind : MessageValue → ℕ
@@ -44,8 +44,8 @@ value_kind (time_exceeded reason quoted d) = 3
 value_kind (param_problem reason pointer quoted d) = 4
 value_kind (echo_request ident seq_no d) = 5
 value_kind (echo_reply ident seq_no d) = 6
-value_kind (mld m) = 7
-value_kind (ndisc m) = 8
+value_kind (ndisc m) = 7
+value_kind (mld m) = 8
 
 same_kind : (t : ℕ) (bytes : List ℕ) → byte_of type_field bytes ≡ t
     → kind_of (message_in bytes) ≡ kind_of (message_of t)
@@ -59,15 +59,15 @@ content-value_kind bytes (time_exceeded reason quoted d) c = same_kind 3 bytes c
 content-value_kind bytes (param_problem reason pointer quoted d) c = same_kind 4 bytes c.0.kind
 content-value_kind bytes (echo_request ident seq_no d) c = same_kind 0x80 bytes c.kind
 content-value_kind bytes (echo_reply ident seq_no d) c = same_kind 0x81 bytes c.kind
-content-value_kind bytes (mld (query code group flag qrv qqic sources d)) c = same_kind 0x82 bytes c.0.kind
-content-value_kind bytes (mld (report count d)) c = same_kind 0x8f bytes c.0.kind
-content-value_kind bytes (mld (records rs)) c = absurd c.0
 content-value_kind bytes (ndisc (router_solicit l)) c = same_kind 0x85 bytes c.0.content.0
 content-value_kind bytes (ndisc (router_advert hops flags lifetime reachable retrans l m p)) c =
     same_kind 0x86 bytes c.0.content.0.kind
 content-value_kind bytes (ndisc (neighbor_solicit t l)) c = same_kind 0x87 bytes c.0.content.0
 content-value_kind bytes (ndisc (neighbor_advert flags t l)) c = same_kind 0x88 bytes c.0.content.0
 content-value_kind bytes (ndisc (redirect t d l r)) c = same_kind 0x89 bytes c.0.content.0
+content-value_kind bytes (mld (query code group flag qrv qqic sources d)) c = same_kind 0x82 bytes c.0.kind
+content-value_kind bytes (mld (report count d)) c = same_kind 0x8f bytes c.0.kind
+content-value_kind bytes (mld (records rs)) c = absurd c.0
 
 error-unique : (t : ℕ) (bytes : List ℕ) (quoted other : Ipv6Repr) (d e : List ℕ) → IsError t bytes quoted d
     → IsError t bytes other e → (quoted ≡ other) × (d ≡ e)
@@ -104,8 +104,8 @@ content-unique bytes (echo_request ident seq_no d) (echo_request other number e)
     a.identifier ∙ sym b.identifier in let two = a.sequence ∙ sym b.sequence in let three = a.data_ ∙ sym b.data_ in cc
 content-unique bytes (echo_reply ident seq_no d) (echo_reply other number e) a b same = let one =
     a.identifier ∙ sym b.identifier in let two = a.sequence ∙ sym b.sequence in let three = a.data_ ∙ sym b.data_ in cc
-content-unique bytes (mld m) (mld n) a b same = ap (λ (x : MldValue). mld x) (message-one bytes m n a.0 b.0)
 content-unique bytes (ndisc m) (ndisc n) a b same = ap (λ (x : NdiscValue). ndisc x) (neighbor-one bytes m n a.0 b.0)
+content-unique bytes (mld m) (mld n) a b same = ap (λ (x : MldValue). mld x) (message-one bytes m n a.0 b.0)
 content-unique bytes _ _ a b same = absurd (omega arith)
 
 pub content-one : (bytes : List ℕ) (v w : MessageValue) → IsContent bytes v → IsContent bytes w → v ≡ w
@@ -137,11 +137,11 @@ whole-content bytes (time_exceeded reason quoted d) some c = header-known 3 8 by
 whole-content bytes (param_problem reason pointer quoted d) some c = header-known 4 8 bytes some refl refl some c.0.kind
 whole-content bytes (echo_request ident seq_no d) some c = header-known 0x80 8 bytes some refl refl some c.kind
 whole-content bytes (echo_reply ident seq_no d) some c = header-known 0x81 8 bytes some refl refl some c.kind
+whole-content bytes (ndisc m) some c = c.0.whole
 whole-content bytes (mld (query code group flag qrv qqic sources d)) some c =
     header-known 0x82 28 bytes some refl refl c.0.whole c.0.kind
 whole-content bytes (mld (report count d)) some c = header-known 0x8f 8 bytes some refl refl c.0.whole c.0.kind
 whole-content bytes (mld (records rs)) some c = absurd c.0
-whole-content bytes (ndisc m) some c = c.0.whole
 
 other_class : (t : ℕ) (bytes : List ℕ) → is_ndisc (message_of t) ≡ false → byte_of type_field bytes ≡ t
     → is_ndisc (message_in bytes) ≡ true → ⊥
@@ -158,8 +158,8 @@ no_neighbor bytes (time_exceeded reason quoted d) c kind none = other_class 3 by
 no_neighbor bytes (param_problem reason pointer quoted d) c kind none = other_class 4 bytes refl c.0.kind kind
 no_neighbor bytes (echo_request ident seq_no d) c kind none = other_class 0x80 bytes refl c.kind kind
 no_neighbor bytes (echo_reply ident seq_no d) c kind none = other_class 0x81 bytes refl c.kind kind
+no_neighbor bytes (ndisc m) c kind none = none m c.0
 no_neighbor bytes (mld (query code group flag qrv qqic sources d)) c kind none =
     other_class 0x82 bytes refl c.0.kind kind
 no_neighbor bytes (mld (report count d)) c kind none = other_class 0x8f bytes refl c.0.kind kind
 no_neighbor bytes (mld (records rs)) c kind none = absurd c.0
-no_neighbor bytes (ndisc m) c kind none = none m c.0

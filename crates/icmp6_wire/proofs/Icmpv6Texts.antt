@@ -89,8 +89,8 @@ length-text (time_exceeded reason quoted d) = length-error 3 (time_exceeded_numb
 length-text (param_problem reason pointer quoted d) = length-error 4 (param_problem_number reason) pointer quoted d
 length-text (echo_request ident seq_no d) = omega (arith, ap length (echo_text 0x80 ident seq_no d))
 length-text (echo_reply ident seq_no d) = omega (arith, ap length (echo_text 0x81 ident seq_no d))
-length-text (mld m) = length-mld m
 length-text (ndisc m) = length-ndisc m
+length-text (mld m) = length-mld m
 
 pub text_some : (v : MessageValue) → 8 ≤ text_len v
 text_some (unreachable reason quoted d) = omega arith
@@ -99,8 +99,8 @@ text_some (time_exceeded reason quoted d) = omega arith
 text_some (param_problem reason pointer quoted d) = omega arith
 text_some (echo_request ident seq_no d) = omega arith
 text_some (echo_reply ident seq_no d) = omega arith
-text_some (mld m) = mld_some m
 text_some (ndisc m) = ndisc_some m
+text_some (mld m) = mld_some m
 
 pub length-packet_text : (capabilities : ChecksumCapabilities) (source destination : Ipv6Address) (v : MessageValue)
     → length (packet_text capabilities source destination v) ≡ text_len v
@@ -196,8 +196,8 @@ module _ (capabilities : ChecksumCapabilities) (source destination : Ipv6Address
       (read.error, param_problem_of-number reason c.0 ∙ ap param_problem_of (sym read.code_), read.word_)
   content_read (echo_request ident seq_no d) c = sealed_echo 0x80 ident seq_no d c.0 c.1
   content_read (echo_reply ident seq_no d) c = sealed_echo 0x81 ident seq_no d c.0 c.1
-  content_read (mld m) c = sealed_mld m c
   content_read (ndisc m) c = sealed_ndisc m c
+  content_read (mld m) c = sealed_mld m c
 
 -- the packet of a canonical value is read as its normal form
 pub message_text : (capabilities : ChecksumCapabilities) (source destination : Ipv6Address) (v : MessageValue)

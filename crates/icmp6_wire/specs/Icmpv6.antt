@@ -43,8 +43,8 @@ pub data MessageValue : Type 0 where
   param_problem : ParamProblem → ℕ → Ipv6Repr → List ℕ → MessageValue
   echo_request : ℕ → ℕ → List ℕ → MessageValue
   echo_reply : ℕ → ℕ → List ℕ → MessageValue
-  mld : MldValue → MessageValue
   ndisc : NdiscValue → MessageValue
+  mld : MldValue → MessageValue
 
 abbrev pub value_of : Repr → MessageValue
 value_of (repr.DstUnreachable reason quoted d) = unreachable reason quoted d.now
@@ -53,8 +53,8 @@ value_of (repr.TimeExceeded reason quoted d) = time_exceeded reason quoted d.now
 value_of (repr.ParamProblem reason pointer quoted d) = param_problem reason pointer quoted d.now
 value_of (repr.EchoRequest ident seq_no d) = echo_request ident seq_no d.now
 value_of (repr.EchoReply ident seq_no d) = echo_reply ident seq_no d.now
-value_of (repr.Mld m) = mld (listeners.value_of m)
 value_of (repr.Ndisc m) = ndisc (neighbors.value_of m)
+value_of (repr.Mld m) = mld (listeners.value_of m)
 
 -- ---- the text
 
@@ -74,8 +74,8 @@ message_fields (time_exceeded reason quoted d) = error_fields 3 (time_exceeded_n
 message_fields (param_problem reason pointer quoted d) = error_fields 4 (param_problem_number reason) pointer quoted d
 message_fields (echo_request ident seq_no d) = echo_fields 0x80 ident seq_no d
 message_fields (echo_reply ident seq_no d) = echo_fields 0x81 ident seq_no d
-message_fields (mld m) = listeners.message_fields m
 message_fields (ndisc m) = neighbors.message_fields m
+message_fields (mld m) = listeners.message_fields m
 
 abbrev pub text : MessageValue → List ℕ
 text v = fields (message_fields v)
@@ -91,8 +91,8 @@ text_len (time_exceeded reason quoted d) = error_len d
 text_len (param_problem reason pointer quoted d) = error_len d
 text_len (echo_request ident seq_no d) = 8 + length d
 text_len (echo_reply ident seq_no d) = 8 + length d
-text_len (mld m) = listeners.text_len m
 text_len (ndisc m) = neighbors.text_len m
+text_len (mld m) = listeners.text_len m
 
 abbrev pub told_len : MessageValue → ℕ
 told_len (mld m) = listeners.told_len m
@@ -102,8 +102,8 @@ told_len v = text_len v
 abbrev pub IsErrorValue : MessageValue → Type 0
 IsErrorValue (echo_request ident seq_no d) = ⊥
 IsErrorValue (echo_reply ident seq_no d) = ⊥
-IsErrorValue (mld m) = ⊥
 IsErrorValue (ndisc m) = ⊥
+IsErrorValue (mld m) = ⊥
 IsErrorValue _ = Unit {0}
 
 -- the octets with their checksum, where the capabilities have it computed
@@ -131,8 +131,8 @@ CanEmit (time_exceeded reason quoted d) bytes = CanEmitError quoted d bytes
 CanEmit (param_problem reason pointer quoted d) bytes = CanEmitError quoted d bytes
 CanEmit (echo_request ident seq_no d) bytes = Reaches header bytes
 CanEmit (echo_reply ident seq_no d) bytes = Reaches header bytes
-CanEmit (mld m) bytes = listeners.CanEmit m bytes
 CanEmit (ndisc m) bytes = neighbors.CanEmit m × (neighbors.text_len m ≤ length bytes)
+CanEmit (mld m) bytes = listeners.CanEmit m bytes
 
 -- ---- the grammar
 
@@ -156,8 +156,8 @@ IsContent bytes (param_problem reason pointer quoted d) =
     × (pointer ≡ number_of word_field bytes)
 IsContent bytes (echo_request ident seq_no d) = IsEcho 0x80 bytes ident seq_no d
 IsContent bytes (echo_reply ident seq_no d) = IsEcho 0x81 bytes ident seq_no d
-IsContent bytes (mld m) = listeners.IsMessage bytes m × (byte_of code_field bytes ≡ 0)
 IsContent bytes (ndisc m) = neighbors.IsMessage bytes m × (byte_of code_field bytes ≡ 0)
+IsContent bytes (mld m) = listeners.IsMessage bytes m × (byte_of code_field bytes ≡ 0)
 
 -- The grammar: the header of the type is there, its checksum is good where it is verified, and the message is this one.
 pub record IsMessage (capabilities : ChecksumCapabilities) (source destination : Ipv6Address) (bytes : List ℕ)
@@ -186,8 +186,8 @@ IsCanonical (param_problem reason pointer quoted d) =
     × CanQuote quoted
 IsCanonical (echo_request ident seq_no d) = (ident < 2 ^ 16) × (seq_no < 2 ^ 16) × (8 + length d ≤ 65535)
 IsCanonical (echo_reply ident seq_no d) = (ident < 2 ^ 16) × (seq_no < 2 ^ 16) × (8 + length d ≤ 65535)
-IsCanonical (mld m) = listeners.IsCanonical m
 IsCanonical (ndisc m) = neighbors.IsCanonical m
+IsCanonical (mld m) = listeners.IsCanonical m
 
 -- the checksum is filled where it is verified
 abbrev pub Fills : ChecksumCapabilities → Type 0
@@ -200,8 +200,8 @@ norm (unreachable reason quoted d) = unreachable reason quoted (quoted_data d)
 norm (too_big mtu quoted d) = too_big mtu quoted (quoted_data d)
 norm (time_exceeded reason quoted d) = time_exceeded reason quoted (quoted_data d)
 norm (param_problem reason pointer quoted d) = param_problem reason pointer quoted (quoted_data d)
-norm (mld m) = mld (listeners.norm m)
 norm (ndisc m) = ndisc (neighbors.norm m)
+norm (mld m) = mld (listeners.norm m)
 norm v = v
 
 -- an error with more data than it quotes

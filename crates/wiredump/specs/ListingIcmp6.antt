@@ -41,8 +41,8 @@ icmp6_listing (param_problem reason pointer quoted d) =
     ++ quote_listing quoted d
 icmp6_listing (echo_request ident seq_no d) = echo_listing (codes "EchoRequest") ident seq_no d
 icmp6_listing (echo_reply ident seq_no d) = echo_listing (codes "EchoReply") ident seq_no d
-icmp6_listing (mld message) = mld_listing message
 icmp6_listing (ndisc message) = ndisc_listing message
+icmp6_listing (mld message) = mld_listing message
 
 -- a message between the addresses of these octets
 abbrev pub Icmp6Prints : List ℕ → List ℕ → List ℕ → List ℕ → Type 0

@@ -85,8 +85,8 @@ fn show_message<W: Write>(output: &mut W, message: &Repr<'_>) -> io::Result<()>
             seq_no,
             data,
         } => show_echo(output, "EchoReply", *ident, *seq_no, data),
-        Repr::Mld(message) => mld::show_message(output, message),
         Repr::Ndisc(message) => ndisc::show_message(output, message),
+        Repr::Mld(message) => mld::show_message(output, message),
     }
 }
 

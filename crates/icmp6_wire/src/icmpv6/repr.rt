@@ -75,10 +75,10 @@ pub enum Repr<'a> {
         seq_no: u16,
         data: &'a [u8],
     },
-    /// A message of multicast listener discovery (RFC 3810).
-    Mld(mld::Repr<'a>),
     /// A message of neighbor discovery (RFC 4861).
     Ndisc(ndisc::Repr<'a>),
+    /// A message of multicast listener discovery (RFC 3810).
+    Mld(mld::Repr<'a>),
 }
 
 impl<'a> Repr<'a> {
@@ -86,8 +86,8 @@ impl<'a> Repr<'a> {
     /// header of a type that is read here, where their checksum is to be verified and isn't good, and where the message
     /// is none of these. Of all but three errors the code is 0: those of an unreachable destination, an exceeded time
     /// and a parameter problem. An error quotes a whole header, whose version and payload length are not looked at, and
-    /// all that stands behind that header is the data. A query and a report are read by `mld::Repr::parse`, a message
-    /// of neighbor discovery by `ndisc::Repr::parse`.
+    /// all that stands behind that header is the data. A message of neighbor discovery is read by `ndisc::Repr::parse`,
+    /// a query and a report by `mld::Repr::parse`.
     pub fn parse(
         src_addr: &Ipv6Address,
         dst_addr: &Ipv6Address,
@@ -180,8 +180,8 @@ impl<'a> Repr<'a> {
             Repr::EchoRequest { data, .. } | Repr::EchoReply { data, .. } => {
                 field::HEADER_END + data.len()
             }
-            Repr::Mld(message) => message.packet_len(),
             Repr::Ndisc(message) => message.buffer_len(),
+            Repr::Mld(message) => message.packet_len(),
         }
     }
 
@@ -282,8 +282,8 @@ impl<'a> Repr<'a> {
                 seq_no,
                 data,
             } => write_echo(octets, Message::EchoReply, *ident, *seq_no, data),
-            Repr::Mld(message) => message.emit_into(octets),
             Repr::Ndisc(message) => message.emit_into(octets),
+            Repr::Mld(message) => message.emit_into(octets),
         }
     }
 }

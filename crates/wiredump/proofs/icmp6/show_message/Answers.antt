@@ -13,8 +13,8 @@ returns-in-EchoRequest g c = rw c.in-EchoRequest.is c.show_echo.ensures
 pub returns-in-EchoReply : goal.returns-in-EchoReply
 returns-in-EchoReply g c = rw c.in-EchoReply.is c.show_echo-in-EchoReply.ensures
 
-pub returns-in-Mld : goal.returns-in-Mld
-returns-in-Mld g c = rw c.in-Mld.is c.show_message.ensures
-
 pub returns-in-Ndisc : goal.returns-in-Ndisc
-returns-in-Ndisc g c = rw c.in-Ndisc.is c.show_message-in-Ndisc.ensures
+returns-in-Ndisc g c = rw c.in-Ndisc.is c.show_message.ensures
+
+pub returns-in-Mld : goal.returns-in-Mld
+returns-in-Mld g c = rw c.in-Mld.is c.show_message-in-Mld.ensures
