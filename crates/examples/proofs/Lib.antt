@@ -1,5 +1,5 @@
 pub mod Alerts
 pub mod Asking
 pub mod Cuts
-pub mod Neighbours
+pub mod Neighbors
 pub mod ResolverSearch

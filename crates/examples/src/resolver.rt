@@ -29,8 +29,8 @@ pub enum Address {
     V6(Ipv6Address),
 }
 
-/// Writes the query for the records of a type at a name over the front of the octets, and says how many bytes it
-/// takes. None exactly where they have no room; then they are as they were. Asks a name of at most 255 bytes (RFC 1035
+/// Writes the query for the records of a type at a name over the front of the octets, and says how many bytes it takes.
+/// None exactly where they have no room; then they are as they were. Requires a name of at most 255 bytes (RFC 1035
 /// section 2.3.4).
 pub fn query(transaction_id: u16, name: &[u8], type_: Type, out: &mut [u8]) -> Option<usize>
     requires { length name.now ≤ 255 }

@@ -47,7 +47,7 @@ mod field {
 }
 
 impl<T: Octets> Packet<T> {
-    /// The hop limit that a router advertisement asks hosts to set, 0 for none. Asks 5 bytes.
+    /// The hop limit that a router advertisement asks hosts to set, 0 for none. Requires at least 5 bytes.
     pub fn current_hop_limit(&self) -> u8
         requires { Reaches hop_limit_field (T.bytes (inner self.now)) }
         ensures { result ≡ byte_of hop_limit_field (T.bytes (inner self.now)) }
@@ -55,7 +55,7 @@ impl<T: Octets> Packet<T> {
         self.buffer.u8_at(field::HOP_LIMIT)
     }
 
-    /// The flags of a router advertisement that have a name. Asks 6 bytes.
+    /// The flags of a router advertisement that have a name. Requires at least 6 bytes.
     #[tactic(auto, unfolding(bitflags::specs::Sets::known_from))]
     pub fn router_flags(&self) -> RouterFlags
         requires { Reaches router_flags_field (T.bytes (inner self.now)) }
@@ -65,7 +65,7 @@ impl<T: Octets> Packet<T> {
         RouterFlags::from_bits_truncate(self.buffer.u8_at(field::ROUTER_FLAGS))
     }
 
-    /// How long the sender of a router advertisement is a default router, in whole seconds. Asks 8 bytes.
+    /// How long the sender of a router advertisement is a default router, in whole seconds. Requires at least 8 bytes.
     pub fn router_lifetime(&self) -> Duration
         requires { Reaches router_lifetime_field (T.bytes (inner self.now)) }
         ensures { result ≡ 1000000 * number_of router_lifetime_field (T.bytes (inner self.now)) }
@@ -73,7 +73,8 @@ impl<T: Octets> Packet<T> {
         Duration::from_secs(self.buffer.u16_at(field::ROUTER_LIFETIME) as u64)
     }
 
-    /// How long a neighbor counts as reachable, in whole milliseconds; 0 where it is not told. Asks 12 bytes.
+    /// How long a neighbor counts as reachable, in whole milliseconds; 0 where it is not told. Requires at least 12
+    /// bytes.
     pub fn reachable_time(&self) -> Duration
         requires { Reaches reachable_time_field (T.bytes (inner self.now)) }
         ensures { result ≡ 1000 * number_of reachable_time_field (T.bytes (inner self.now)) }
@@ -81,7 +82,7 @@ impl<T: Octets> Packet<T> {
         Duration::from_millis(self.buffer.u32_at(field::REACHABLE_TIME) as u64)
     }
 
-    /// The time between solicitations, in whole milliseconds; 0 where it is not told. Asks 16 bytes.
+    /// The time between solicitations, in whole milliseconds; 0 where it is not told. Requires at least 16 bytes.
     pub fn retrans_time(&self) -> Duration
         requires { Reaches retrans_time_field (T.bytes (inner self.now)) }
         ensures { result ≡ 1000 * number_of retrans_time_field (T.bytes (inner self.now)) }
@@ -89,7 +90,7 @@ impl<T: Octets> Packet<T> {
         Duration::from_millis(self.buffer.u32_at(field::RETRANS_TIME) as u64)
     }
 
-    /// The address that a neighbor message or a redirect speaks of. Asks 24 bytes.
+    /// The address that a neighbor message or a redirect speaks of. Requires at least 24 bytes.
     pub fn target_addr(&self) -> Ipv6Address
         requires { Reaches target_addr_field (T.bytes (inner self.now)) }
         ensures { octets_of result ≡ bytes_of target_addr_field (T.bytes (inner self.now)) }
@@ -97,7 +98,7 @@ impl<T: Octets> Packet<T> {
         Ipv6Address::from_octets(self.buffer.field(field::TARGET_ADDR).try_into().unwrap())
     }
 
-    /// The flags of a neighbor advertisement that have a name. Asks 5 bytes.
+    /// The flags of a neighbor advertisement that have a name. Requires at least 5 bytes.
     #[tactic(auto, unfolding(bitflags::specs::Sets::known_from))]
     pub fn neighbor_flags(&self) -> NeighborFlags
         requires { Reaches neighbor_flags_field (T.bytes (inner self.now)) }
@@ -107,7 +108,7 @@ impl<T: Octets> Packet<T> {
         NeighborFlags::from_bits_truncate(self.buffer.u8_at(field::NEIGHBOR_FLAGS))
     }
 
-    /// The destination that a redirect redirects. Asks 40 bytes.
+    /// The destination that a redirect redirects. Requires at least 40 bytes.
     pub fn dest_addr(&self) -> Ipv6Address
         requires { Reaches dest_addr_field (T.bytes (inner self.now)) }
         ensures { octets_of result ≡ bytes_of dest_addr_field (T.bytes (inner self.now)) }
@@ -117,7 +118,7 @@ impl<T: Octets> Packet<T> {
 }
 
 impl<T: OctetsMut> Packet<T> {
-    /// Writes the hop limit that hosts are to set. Asks 5 bytes.
+    /// Writes the hop limit that hosts are to set. Requires at least 5 bytes.
     pub fn set_current_hop_limit(&mut self, value: u8)
         requires { Reaches hop_limit_field (T.bytes (inner self.old)) }
         ensures writes { Sets T.bytes T.put self.old self.new hop_limit_field (value ∷ []) }
@@ -126,7 +127,7 @@ impl<T: OctetsMut> Packet<T> {
         self.buffer.set_u8(field::HOP_LIMIT, value);
     }
 
-    /// Writes the flags of a router advertisement, all their bits. Asks 6 bytes.
+    /// Writes the flags of a router advertisement, all their bits. Requires at least 6 bytes.
     pub fn set_router_flags(&mut self, flags: RouterFlags)
         requires { Reaches router_flags_field (T.bytes (inner self.old)) }
         ensures writes { Sets T.bytes T.put self.old self.new router_flags_field
@@ -136,8 +137,8 @@ impl<T: OctetsMut> Packet<T> {
         self.buffer.set_u8(field::ROUTER_FLAGS, flags.bits());
     }
 
-    /// Writes how long the sender is a default router, in whole seconds; what is past them is left out. Asks 8 bytes,
-    /// and 65,535 seconds at most.
+    /// Writes how long the sender is a default router, in whole seconds; what is past them is left out. Requires at
+    /// least 8 bytes, and 65,535 seconds at most.
     pub fn set_router_lifetime(&mut self, value: Duration)
         requires room { Reaches router_lifetime_field (T.bytes (inner self.old)) }
         requires fits { seconds value ≤ 65535 }
@@ -149,8 +150,8 @@ impl<T: OctetsMut> Packet<T> {
             .set_u16(field::ROUTER_LIFETIME, value.secs() as u16);
     }
 
-    /// Writes how long a neighbor counts as reachable, in whole milliseconds; what is past them is left out. Asks 12
-    /// bytes, and 4,294,967,295 milliseconds at most.
+    /// Writes how long a neighbor counts as reachable, in whole milliseconds; what is past them is left out. Requires
+    /// at least 12 bytes, and 4,294,967,295 milliseconds at most.
     pub fn set_reachable_time(&mut self, value: Duration)
         requires room { Reaches reachable_time_field (T.bytes (inner self.old)) }
         requires fits { millis value ≤ 4294967295 }
@@ -162,8 +163,8 @@ impl<T: OctetsMut> Packet<T> {
             .set_u32(field::REACHABLE_TIME, value.total_millis() as u32);
     }
 
-    /// Writes the time between solicitations, in whole milliseconds; what is past them is left out. Asks 16 bytes, and
-    /// 4,294,967,295 milliseconds at most.
+    /// Writes the time between solicitations, in whole milliseconds; what is past them is left out. Requires at least
+    /// 16 bytes, and 4,294,967,295 milliseconds at most.
     pub fn set_retrans_time(&mut self, value: Duration)
         requires room { Reaches retrans_time_field (T.bytes (inner self.old)) }
         requires fits { millis value ≤ 4294967295 }
@@ -175,7 +176,7 @@ impl<T: OctetsMut> Packet<T> {
             .set_u32(field::RETRANS_TIME, value.total_millis() as u32);
     }
 
-    /// Writes the address that the message speaks of. Asks 24 bytes.
+    /// Writes the address that the message speaks of. Requires at least 24 bytes.
     pub fn set_target_addr(&mut self, value: Ipv6Address)
         requires { Reaches target_addr_field (T.bytes (inner self.old)) }
         ensures writes { Sets T.bytes T.put self.old self.new target_addr_field (octets_of value) }
@@ -184,7 +185,7 @@ impl<T: OctetsMut> Packet<T> {
         self.buffer.set_bytes(field::TARGET_ADDR, &value.octets());
     }
 
-    /// Writes the flags of a neighbor advertisement, all their bits. Asks 5 bytes.
+    /// Writes the flags of a neighbor advertisement, all their bits. Requires at least 5 bytes.
     pub fn set_neighbor_flags(&mut self, flags: NeighborFlags)
         requires { Reaches neighbor_flags_field (T.bytes (inner self.old)) }
         ensures writes { Sets T.bytes T.put self.old self.new neighbor_flags_field
@@ -194,7 +195,7 @@ impl<T: OctetsMut> Packet<T> {
         self.buffer.set_u8(field::NEIGHBOR_FLAGS, flags.bits());
     }
 
-    /// Writes the destination that a redirect redirects. Asks 40 bytes.
+    /// Writes the destination that a redirect redirects. Requires at least 40 bytes.
     pub fn set_dest_addr(&mut self, value: Ipv6Address)
         requires { Reaches dest_addr_field (T.bytes (inner self.old)) }
         ensures writes { Sets T.bytes T.put self.old self.new dest_addr_field (octets_of value) }

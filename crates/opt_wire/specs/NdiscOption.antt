@@ -1,4 +1,4 @@
--- The view of one option of neighbour discovery (RFC 4861 section 4.6): a block of whole units of 8 bytes, which counts
+-- The view of one option of neighbor discovery (RFC 4861 section 4.6): a block of whole units of 8 bytes, which counts
 -- its units.
 --
 -- Of any type:

@@ -1,4 +1,4 @@
--- Options of neighbour discovery (RFC 4861 section 4.6) by their content: their text, what is read in a block, and the
+-- Options of neighbor discovery (RFC 4861 section 4.6) by their content: their text, what is read in a block, and the
 -- format.
 use Rattle.std.specs.Prelude.{◌≡◌, ◌≢◌, ℕ, ◌+◌, ◌-◌, ◌*◌, ◌/◌, ◌≤◌, ◌<◌, ◌^◌, nat_lt, if◌then◌else◌, List, [], ◌∷◌}
 use Rattle.std.specs.Prelude.{◌++◌, codes, decimal, length, replicate}

@@ -1,4 +1,4 @@
--- The numbers of a neighbour discovery option: its type, and the flags of a prefix.
+-- The numbers of a neighbor discovery option: its type, and the flags of a prefix.
 use Rattle.std.specs.Prelude.{◌≡◌, ℕ, List, [], ◌∷◌, codes, decimal}
 use Rattle.std.specs.Int.RustNames.{bit_and}
 use Rattle.wirebase.specs.Numbered.{rows_of, case_in}

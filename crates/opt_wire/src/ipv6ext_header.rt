@@ -71,7 +71,7 @@ impl<T: Octets> Header<T> {
         self.buffer
     }
 
-    /// What follows the header. Asks 1 byte.
+    /// What follows the header. Requires at least 1 byte.
     pub fn next_header(&self) -> IpProtocol
         requires { Reaches next_header_field (T.bytes (inner self.now)) }
         ensures { result ≡ protocol_of (byte_of next_header_field (T.bytes (inner self.now))) }
@@ -79,7 +79,7 @@ impl<T: Octets> Header<T> {
         IpProtocol::from(self.buffer.u8_at(field::NEXT_HEADER))
     }
 
-    /// The length: eight bytes each, without the first eight. Asks 2 bytes.
+    /// The length: eight bytes each, without the first eight. Requires at least 2 bytes.
     pub fn header_len(&self) -> u8
         requires { Reaches length_field (T.bytes (inner self.now)) }
         ensures { result ≡ byte_of length_field (T.bytes (inner self.now)) }
@@ -96,7 +96,7 @@ fn end_of(length: u8) -> usize
 }
 
 impl<'a> Header<&'a [u8]> {
-    /// The payload, for as long as the octets live. Asks the bytes that the length counts.
+    /// The payload, for as long as the octets live. Requires the bytes that the length counts.
     #[tactic(auto, using(wirebase::proofs::Pieces::pieces), unfolding(wirebase::specs::Bytes::part))]
     pub fn payload(&self) -> &'a [u8]
         requires counted { Reaches length_field (view_octets self.now) }
@@ -110,7 +110,7 @@ impl<'a> Header<&'a [u8]> {
 }
 
 impl<T: OctetsMut> Header<T> {
-    /// Writes what follows the header. Asks 1 byte.
+    /// Writes what follows the header. Requires at least 1 byte.
     pub fn set_next_header(&mut self, value: IpProtocol)
         requires { Reaches next_header_field (T.bytes (inner self.old)) }
         ensures writes { Sets T.bytes T.put self.old self.new next_header_field
@@ -120,7 +120,7 @@ impl<T: OctetsMut> Header<T> {
         self.buffer.set_u8(field::NEXT_HEADER, value.into());
     }
 
-    /// Writes the length: eight bytes each, without the first eight. Asks 2 bytes.
+    /// Writes the length: eight bytes each, without the first eight. Requires at least 2 bytes.
     pub fn set_header_len(&mut self, value: u8)
         requires { Reaches length_field (T.bytes (inner self.old)) }
         ensures writes { Sets T.bytes T.put self.old self.new length_field (value ∷ []) }
@@ -129,7 +129,7 @@ impl<T: OctetsMut> Header<T> {
         self.buffer.set_u8(field::LENGTH, value);
     }
 
-    /// Lends the payload for writing; the other octets stay. Asks the bytes that the length counts.
+    /// Lends the payload for writing; the other octets stay. Requires the bytes that the length counts.
     pub fn payload_mut(&mut self) -> &mut [u8]
         requires counted { Reaches length_field (T.bytes (inner self.old)) }
         requires whole { Reaches (payload_field (T.bytes (inner self.old)))
@@ -205,8 +205,8 @@ impl<'a> Repr<'a> {
         field::PAYLOAD
     }
 
-    /// Writes the next header and the length over the front of the octets; the others, the payload too, stay. Asks 2
-    /// bytes.
+    /// Writes the next header and the length over the front of the octets; the others, the payload too, stay. Requires
+    /// at least 2 bytes.
     pub fn emit<T: OctetsMut>(&self, header: &mut Header<T>)
         requires { 2 ≤ length (T.bytes (inner header.old)) }
         ensures place { inner header.new ≡ T.put (inner header.old) (T.bytes (inner header.new)) }

@@ -162,7 +162,7 @@ impl<'a> Repr<'a> {
         Repr { options }
     }
 
-    /// Adds padding, a PadN of `n` bytes of data, last. Asks that the list has room.
+    /// Adds padding, a PadN of `n` bytes of data, last. Requires that the list has room.
     pub fn push_padn_option(&mut self, n: u8)
         requires { length (value_of self.old) < IPV6_HBH_MAX_OPTIONS }
         ensures { value_of self.new ≡ value_of self.old ++ pad_n n ∷ [] }
@@ -170,7 +170,7 @@ impl<'a> Repr<'a> {
         self.options.push(ipv6option::Repr::PadN(n));
     }
 
-    /// Writes the options over the front of the octets; the others stay. Asks the bytes that they take, and that
+    /// Writes the options over the front of the octets; the others stay. Requires the bytes that they take, and that
     /// each holds as much data as it counts.
     pub fn emit<T: OctetsMut>(&self, header: &mut Header<T>)
         requires enough { HaveData (value_of self.now) }

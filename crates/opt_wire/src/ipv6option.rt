@@ -97,7 +97,7 @@ impl<T: Octets> Ipv6Option<T> {
         self.buffer
     }
 
-    /// The type. Asks 1 byte.
+    /// The type. Requires at least 1 byte.
     pub fn option_type(&self) -> Type
         requires { Reaches option_type_field (T.bytes (inner self.now)) }
         ensures { result ≡ type_of (byte_of option_type_field (T.bytes (inner self.now))) }
@@ -105,7 +105,7 @@ impl<T: Octets> Ipv6Option<T> {
         Type::from(self.buffer.u8_at(field::TYPE))
     }
 
-    /// The bytes of data that the option counts. Asks 2 bytes.
+    /// The bytes of data that the option counts. Requires at least 2 bytes.
     pub fn data_len(&self) -> u8
         requires { Reaches opt_data_len_field (T.bytes (inner self.now)) }
         ensures { result ≡ byte_of opt_data_len_field (T.bytes (inner self.now)) }
@@ -115,7 +115,7 @@ impl<T: Octets> Ipv6Option<T> {
 }
 
 impl<'a> Ipv6Option<&'a [u8]> {
-    /// The data, for as long as the octets live. Asks the bytes that the option counts.
+    /// The data, for as long as the octets live. Requires the bytes that the option counts.
     #[tactic(auto, using(wirebase::proofs::Pieces::pieces), unfolding(wirebase::specs::Bytes::part))]
     pub fn data(&self) -> &'a [u8]
         requires counted { Reaches opt_data_len_field (view_octets self.now) }
@@ -130,7 +130,7 @@ impl<'a> Ipv6Option<&'a [u8]> {
 }
 
 impl<T: OctetsMut> Ipv6Option<T> {
-    /// Writes the type. Asks 1 byte.
+    /// Writes the type. Requires at least 1 byte.
     pub fn set_option_type(&mut self, value: Type)
         requires { Reaches option_type_field (T.bytes (inner self.old)) }
         ensures writes { Sets T.bytes T.put self.old self.new option_type_field
@@ -140,7 +140,7 @@ impl<T: OctetsMut> Ipv6Option<T> {
         self.buffer.set_u8(field::TYPE, value.into());
     }
 
-    /// Writes the bytes of data that the option counts. Asks 2 bytes.
+    /// Writes the bytes of data that the option counts. Requires at least 2 bytes.
     pub fn set_data_len(&mut self, value: u8)
         requires { Reaches opt_data_len_field (T.bytes (inner self.old)) }
         ensures writes { Sets T.bytes T.put self.old self.new opt_data_len_field (value ∷ []) }
@@ -149,7 +149,7 @@ impl<T: OctetsMut> Ipv6Option<T> {
         self.buffer.set_u8(field::LENGTH, value);
     }
 
-    /// Lends the data for writing; the other octets stay. Asks the bytes that the option counts.
+    /// Lends the data for writing; the other octets stay. Requires the bytes that the option counts.
     pub fn data_mut(&mut self) -> &mut [u8]
         requires counted { Reaches opt_data_len_field (T.bytes (inner self.old)) }
         requires whole { Reaches (option_data_field (T.bytes (inner self.old)))
@@ -299,7 +299,7 @@ impl<'a> Repr<'a> {
         }
     }
 
-    /// Writes the option over the front of the octets; the others stay. Asks the bytes that the option takes, and
+    /// Writes the option over the front of the octets; the others stay. Requires the bytes that the option takes, and
     /// that it holds as much data as it counts.
     pub fn emit<T: OctetsMut>(&self, opt: &mut Ipv6Option<T>)
         requires enough { HasData (value_of self.now) }

@@ -1,4 +1,4 @@
-//! Options of IPv6 extension headers with the headers that carry them, and options of neighbour discovery.
+//! Options of IPv6 extension headers with the headers that carry them, and options of neighbor discovery.
 #![tactic(auto)]
 
 pub mod ipv6ext_header;

@@ -1,4 +1,4 @@
-//! Options of neighbour discovery (RFC 4861 section 4.6).
+//! Options of neighbor discovery (RFC 4861 section 4.6).
 
 ghost use Rattle.std.specs.Prelude.{◌≡◌, ◌+◌, ◌*◌, ◌/◌, ◌-◌, ◌≤◌, ◌↔◌, [], ◌∷◌, length, min, replicate, IsOk, IfOk};
 ghost use Rattle.std.specs.Borrow.{sem, Lends, Array, u8 as byte};
@@ -137,7 +137,7 @@ impl<T: Octets> NdiscOption<T> {
         self.buffer
     }
 
-    /// The type. Asks 1 byte.
+    /// The type. Requires at least 1 byte.
     pub fn option_type(&self) -> Type
         requires { Reaches type_field (T.bytes (inner self.now)) }
         ensures { result ≡ type_of (byte_of type_field (T.bytes (inner self.now))) }
@@ -145,7 +145,7 @@ impl<T: Octets> NdiscOption<T> {
         Type::from(self.buffer.u8_at(field::TYPE))
     }
 
-    /// The units of 8 bytes that the option counts. Asks 2 bytes.
+    /// The units of 8 bytes that the option counts. Requires at least 2 bytes.
     pub fn data_len(&self) -> u8
         requires { Reaches length_field (T.bytes (inner self.now)) }
         ensures { result ≡ units_in (T.bytes (inner self.now)) }
@@ -153,7 +153,7 @@ impl<T: Octets> NdiscOption<T> {
         self.buffer.u8_at(field::LENGTH)
     }
 
-    /// The link-layer address of a source or target: what the option has room for, but no more than 8 bytes. Asks
+    /// The link-layer address of a source or target: what the option has room for, but no more than 8 bytes. Requires
     /// those bytes, and that the option counts one unit or more.
     #[tactic(auto, using(wirebase::proofs::Pieces::pieces))]
     pub fn link_layer_addr(&self) -> RawHardwareAddress
@@ -169,7 +169,7 @@ impl<T: Octets> NdiscOption<T> {
         RawHardwareAddress::from_bytes(self.buffer.field(field::link_layer_addr(len)))
     }
 
-    /// The greatest packet of the link, in bytes. Asks 8 bytes.
+    /// The greatest packet of the link, in bytes. Requires at least 8 bytes.
     pub fn mtu(&self) -> u32
         requires { Reaches mtu_field (T.bytes (inner self.now)) }
         ensures { result ≡ number_of mtu_field (T.bytes (inner self.now)) }
@@ -177,7 +177,7 @@ impl<T: Octets> NdiscOption<T> {
         self.buffer.u32_at(field::MTU)
     }
 
-    /// The bits of a prefix that count. Asks 3 bytes.
+    /// The bits of a prefix that count. Requires at least 3 bytes.
     pub fn prefix_len(&self) -> u8
         requires { Reaches prefix_len_field (T.bytes (inner self.now)) }
         ensures { result ≡ byte_of prefix_len_field (T.bytes (inner self.now)) }
@@ -185,7 +185,7 @@ impl<T: Octets> NdiscOption<T> {
         self.buffer.u8_at(field::PREFIX_LEN)
     }
 
-    /// The flags of a prefix that have a name. Asks 4 bytes.
+    /// The flags of a prefix that have a name. Requires at least 4 bytes.
     #[tactic(auto, unfolding(bitflags::specs::Sets::known_from))]
     pub fn prefix_flags(&self) -> PrefixInfoFlags
         requires { Reaches prefix_flags_field (T.bytes (inner self.now)) }
@@ -194,7 +194,7 @@ impl<T: Octets> NdiscOption<T> {
         PrefixInfoFlags::from_bits_truncate(self.buffer.u8_at(field::PREFIX_FLAGS))
     }
 
-    /// How long a prefix is on the link, in whole seconds. Asks 8 bytes.
+    /// How long a prefix is on the link, in whole seconds. Requires at least 8 bytes.
     pub fn valid_lifetime(&self) -> Duration
         requires { Reaches valid_lifetime_field (T.bytes (inner self.now)) }
         ensures { result ≡ 1000000 * number_of valid_lifetime_field (T.bytes (inner self.now)) }
@@ -202,7 +202,7 @@ impl<T: Octets> NdiscOption<T> {
         Duration::from_secs(self.buffer.u32_at(field::VALID_LIFETIME) as u64)
     }
 
-    /// How long addresses made of a prefix are preferred, in whole seconds. Asks 12 bytes.
+    /// How long addresses made of a prefix are preferred, in whole seconds. Requires at least 12 bytes.
     pub fn preferred_lifetime(&self) -> Duration
         requires { Reaches preferred_lifetime_field (T.bytes (inner self.now)) }
         ensures { result ≡ 1000000 * number_of preferred_lifetime_field (T.bytes (inner self.now)) }
@@ -210,7 +210,7 @@ impl<T: Octets> NdiscOption<T> {
         Duration::from_secs(self.buffer.u32_at(field::PREFERRED_LIFETIME) as u64)
     }
 
-    /// The prefix. Asks 32 bytes.
+    /// The prefix. Requires at least 32 bytes.
     pub fn prefix(&self) -> Ipv6Address
         requires { Reaches prefix_field (T.bytes (inner self.now)) }
         ensures { octets_of result ≡ bytes_of prefix_field (T.bytes (inner self.now)) }
@@ -220,7 +220,7 @@ impl<T: Octets> NdiscOption<T> {
 }
 
 impl<'a> NdiscOption<&'a [u8]> {
-    /// The data, for as long as the octets live. Asks the units that the option counts, one or more.
+    /// The data, for as long as the octets live. Requires the units that the option counts, one or more.
     #[tactic(auto, using(wirebase::proofs::Pieces::pieces), unfolding(wirebase::specs::Bytes::part))]
     pub fn data(&self) -> &'a [u8]
         requires counted { Reaches length_field (view_octets self.now) }
@@ -236,7 +236,7 @@ impl<'a> NdiscOption<&'a [u8]> {
 }
 
 impl<T: OctetsMut> NdiscOption<T> {
-    /// Writes the type. Asks 1 byte.
+    /// Writes the type. Requires at least 1 byte.
     pub fn set_option_type(&mut self, value: Type)
         requires { Reaches type_field (T.bytes (inner self.old)) }
         ensures writes { Sets T.bytes T.put self.old self.new type_field (type_number value ∷ []) }
@@ -245,7 +245,7 @@ impl<T: OctetsMut> NdiscOption<T> {
         self.buffer.set_u8(field::TYPE, value.into());
     }
 
-    /// Writes the units of 8 bytes that the option counts. Asks 2 bytes.
+    /// Writes the units of 8 bytes that the option counts. Requires at least 2 bytes.
     pub fn set_data_len(&mut self, value: u8)
         requires { Reaches length_field (T.bytes (inner self.old)) }
         ensures writes { Sets T.bytes T.put self.old self.new length_field (value ∷ []) }
@@ -254,7 +254,7 @@ impl<T: OctetsMut> NdiscOption<T> {
         self.buffer.set_u8(field::LENGTH, value);
     }
 
-    /// Writes the link-layer address of a source or target. Asks 2 bytes and those of the address.
+    /// Writes the link-layer address of a source or target. Requires at least 2 bytes and those of the address.
     pub fn set_link_layer_addr(&mut self, addr: RawHardwareAddress)
         requires { 2 + length addr ≤ length (T.bytes (inner self.old)) }
         ensures writes { Sets T.bytes T.put self.old self.new
@@ -265,7 +265,7 @@ impl<T: OctetsMut> NdiscOption<T> {
             .set_bytes(field::link_layer_addr(addr.len()), addr.as_bytes());
     }
 
-    /// Writes the greatest packet of the link, in bytes. Asks 8 bytes.
+    /// Writes the greatest packet of the link, in bytes. Requires at least 8 bytes.
     pub fn set_mtu(&mut self, value: u32)
         requires { Reaches mtu_field (T.bytes (inner self.old)) }
         ensures writes { Sets T.bytes T.put self.old self.new mtu_field (big_bytes 4 value) }
@@ -274,7 +274,7 @@ impl<T: OctetsMut> NdiscOption<T> {
         self.buffer.set_u32(field::MTU, value);
     }
 
-    /// Writes the bits of a prefix that count. Asks 3 bytes.
+    /// Writes the bits of a prefix that count. Requires at least 3 bytes.
     pub fn set_prefix_len(&mut self, value: u8)
         requires { Reaches prefix_len_field (T.bytes (inner self.old)) }
         ensures writes { Sets T.bytes T.put self.old self.new prefix_len_field (value ∷ []) }
@@ -283,7 +283,7 @@ impl<T: OctetsMut> NdiscOption<T> {
         self.buffer.set_u8(field::PREFIX_LEN, value);
     }
 
-    /// Writes the flags of a prefix, all their bits. Asks 4 bytes.
+    /// Writes the flags of a prefix, all their bits. Requires at least 4 bytes.
     pub fn set_prefix_flags(&mut self, flags: PrefixInfoFlags)
         requires { Reaches prefix_flags_field (T.bytes (inner self.old)) }
         ensures writes { Sets T.bytes T.put self.old self.new prefix_flags_field
@@ -293,8 +293,8 @@ impl<T: OctetsMut> NdiscOption<T> {
         self.buffer.set_u8(field::PREFIX_FLAGS, flags.bits());
     }
 
-    /// Writes how long a prefix is on the link, in whole seconds; what is past them is left out. Asks 8 bytes, and
-    /// 4,294,967,295 seconds at most.
+    /// Writes how long a prefix is on the link, in whole seconds; what is past them is left out. Requires at least 8
+    /// bytes, and 4,294,967,295 seconds at most.
     pub fn set_valid_lifetime(&mut self, time: Duration)
         requires room { Reaches valid_lifetime_field (T.bytes (inner self.old)) }
         requires fits { time / 1000000 ≤ 4294967295 }
@@ -307,7 +307,7 @@ impl<T: OctetsMut> NdiscOption<T> {
     }
 
     /// Writes how long addresses made of a prefix are preferred, in whole seconds; what is past them is left out.
-    /// Asks 12 bytes, and 4,294,967,295 seconds at most.
+    /// Requires at least 12 bytes, and 4,294,967,295 seconds at most.
     pub fn set_preferred_lifetime(&mut self, time: Duration)
         requires room { Reaches preferred_lifetime_field (T.bytes (inner self.old)) }
         requires fits { time / 1000000 ≤ 4294967295 }
@@ -319,7 +319,7 @@ impl<T: OctetsMut> NdiscOption<T> {
             .set_u32(field::PREFERRED_LIFETIME, time.secs() as u32);
     }
 
-    /// Writes zeros into what is reserved in a prefix. Asks 16 bytes.
+    /// Writes zeros into what is reserved in a prefix. Requires at least 16 bytes.
     pub fn clear_prefix_reserved(&mut self)
         requires { Reaches prefix_reserved_field (T.bytes (inner self.old)) }
         ensures writes { Sets T.bytes T.put self.old self.new prefix_reserved_field
@@ -329,7 +329,7 @@ impl<T: OctetsMut> NdiscOption<T> {
         self.buffer.set_u32(field::PREFIX_RESERVED, 0);
     }
 
-    /// Writes the prefix. Asks 32 bytes.
+    /// Writes the prefix. Requires at least 32 bytes.
     pub fn set_prefix(&mut self, addr: Ipv6Address)
         requires { Reaches prefix_field (T.bytes (inner self.old)) }
         ensures writes { Sets T.bytes T.put self.old self.new prefix_field (octets_of addr) }
@@ -338,7 +338,7 @@ impl<T: OctetsMut> NdiscOption<T> {
         self.buffer.set_bytes(field::PREFIX, &addr.octets());
     }
 
-    /// Writes zeros into what is reserved before a redirected header. Asks 8 bytes.
+    /// Writes zeros into what is reserved before a redirected header. Requires at least 8 bytes.
     pub fn clear_redirected_reserved(&mut self)
         requires { Reaches redirected_reserved_field (T.bytes (inner self.old)) }
         ensures writes { Sets T.bytes T.put self.old self.new redirected_reserved_field
@@ -348,7 +348,7 @@ impl<T: OctetsMut> NdiscOption<T> {
         self.buffer.set_bytes(field::REDIRECTED_RESERVED, &[0; 6]);
     }
 
-    /// Lends the data for writing; the other octets stay. Asks the units that the option counts, one or more.
+    /// Lends the data for writing; the other octets stay. Requires the units that the option counts, one or more.
     pub fn data_mut(&mut self) -> &mut [u8]
         requires counted { Reaches length_field (T.bytes (inner self.old)) }
         requires some { 1 ≤ units_in (T.bytes (inner self.old)) }

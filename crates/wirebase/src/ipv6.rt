@@ -92,7 +92,7 @@ impl<T: Octets> Ipv6Packet<T> {
         self.buffer
     }
 
-    /// The version. Asks 1 byte.
+    /// The version. Requires at least 1 byte.
     pub fn version(&self) -> u8
         requires { Reaches version_field (T.bytes (inner self.now)) }
         ensures { result ≡ version_in (T.bytes (inner self.now)) }
@@ -107,7 +107,7 @@ impl<T: Octets> Ipv6Packet<T> {
         IPV6_HEADER_LEN
     }
 
-    /// The bytes of the payload. Asks 6 bytes.
+    /// The bytes of the payload. Requires at least 6 bytes.
     pub fn payload_len(&self) -> u16
         requires { Reaches payload_len_field (T.bytes (inner self.now)) }
         ensures { result ≡ payload_len_in (T.bytes (inner self.now)) }
@@ -115,7 +115,7 @@ impl<T: Octets> Ipv6Packet<T> {
         self.buffer.u16_at(field::PAYLOAD_LEN)
     }
 
-    /// The protocol of the payload. Asks 7 bytes.
+    /// The protocol of the payload. Requires at least 7 bytes.
     pub fn next_header(&self) -> IpProtocol
         requires { Reaches next_header_field (T.bytes (inner self.now)) }
         ensures { result ≡ protocol_of (byte_of next_header_field (T.bytes (inner self.now))) }
@@ -123,7 +123,7 @@ impl<T: Octets> Ipv6Packet<T> {
         IpProtocol::from(self.buffer.u8_at(field::NEXT_HEADER))
     }
 
-    /// The hops that are left. Asks 8 bytes.
+    /// The hops that are left. Requires at least 8 bytes.
     pub fn hop_limit(&self) -> u8
         requires { Reaches hop_limit_field (T.bytes (inner self.now)) }
         ensures { result ≡ byte_of hop_limit_field (T.bytes (inner self.now)) }
@@ -131,7 +131,7 @@ impl<T: Octets> Ipv6Packet<T> {
         self.buffer.u8_at(field::HOP_LIMIT)
     }
 
-    /// The address of the sender. Asks 24 bytes.
+    /// The address of the sender. Requires at least 24 bytes.
     pub fn src_addr(&self) -> Ipv6Address
         requires { Reaches src_addr_field (T.bytes (inner self.now)) }
         ensures { octets_of result ≡ bytes_of src_addr_field (T.bytes (inner self.now)) }
@@ -139,7 +139,7 @@ impl<T: Octets> Ipv6Packet<T> {
         Ipv6Address::from_octets(self.buffer.field(field::SRC_ADDR).try_into().unwrap())
     }
 
-    /// The address of the receiver. Asks 40 bytes.
+    /// The address of the receiver. Requires at least 40 bytes.
     pub fn dst_addr(&self) -> Ipv6Address
         requires { Reaches dst_addr_field (T.bytes (inner self.now)) }
         ensures { octets_of result ≡ bytes_of dst_addr_field (T.bytes (inner self.now)) }
@@ -149,7 +149,7 @@ impl<T: Octets> Ipv6Packet<T> {
 }
 
 impl<'a> Ipv6Packet<&'a [u8]> {
-    /// The payload, for as long as the octets live. Asks the header and the bytes that it counts.
+    /// The payload, for as long as the octets live. Requires the header and the bytes that it counts.
     #[tactic(auto, unfolding(crate::specs::Bytes::part))]
     pub fn payload(&self) -> &'a [u8]
         requires { BeginsWhole (view_octets self.now) }
@@ -162,7 +162,7 @@ impl<'a> Ipv6Packet<&'a [u8]> {
 }
 
 impl<T: OctetsMut> Ipv6Packet<T> {
-    /// Lends the payload for writing; all else stays. Asks the header and the bytes that it counts.
+    /// Lends the payload for writing; all else stays. Requires the header and the bytes that it counts.
     pub fn payload_mut(&mut self) -> &mut [u8]
         requires { BeginsWhole (T.bytes (inner self.old)) }
         ensures* lends { sem 𝓛 (Lends (the_row T.row) (Array byte 0) self.entry result
@@ -247,7 +247,7 @@ impl Ipv6Repr {
     }
 
     /// Writes the header over the front of the octets; the others stay. It is a header of version 6 with no traffic
-    /// class and no flow label. Asks 40 bytes, and a payload of at most 65,535 bytes.
+    /// class and no flow label. Requires at least 40 bytes, and a payload of at most 65,535 bytes.
     pub fn emit<T: OctetsMut>(&self, packet: &mut Ipv6Packet<T>)
         requires room { Reaches dst_addr_field (T.bytes (inner packet.old)) }
         requires count { self.now.payload_len ≤ 65535 }

@@ -1,4 +1,4 @@
--- What an option of neighbour discovery prints.
+-- What an option of neighbor discovery prints.
 use Rattle.std.specs.Prelude.{ℕ, List, [], ◌++◌, codes, decimal}
 use Rattle.wirebase.specs.declared.ipv6.Ipv6Repr.{Ipv6Repr}
 use Rattle.opt_wire.specs.NdiscOptionTables.{flag_bits}

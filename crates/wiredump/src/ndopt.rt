@@ -1,4 +1,4 @@
-//! Options of neighbour discovery.
+//! Options of neighbor discovery.
 
 #![tactic(auto, using(crate::proofs::Printing::gains_both))]
 

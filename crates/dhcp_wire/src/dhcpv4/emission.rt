@@ -32,7 +32,7 @@ use byteorder::{BigEndian, ByteOrder};
 use wirebase::{ByteWriter, EthernetAddress, Ipv4Address, OctetsMut, Result};
 
 impl Repr<'_> {
-    /// The bytes that the packet takes: header, options and end mark. Asks that they are fewer than 2^64.
+    /// The bytes that the packet takes: header, options and end mark. Requires that they are fewer than 2^64.
     pub fn buffer_len(&self) -> usize
         requires { text_len (value_of self.now) < 2 ^ 64 }
         ensures value { result ≡ text_len (value_of self.now) }
@@ -41,9 +41,10 @@ impl Repr<'_> {
         self.whole_len()
     }
 
-    /// Writes the packet over the front of the octets; the others stay. Asks 240 bytes. Refused where the request list,
-    /// or the data of an additional option, has more than 255 bytes, and where there is no room for all options and the
-    /// end mark; then the header and the options before the first that is refused are written, and no end mark.
+    /// Writes the packet over the front of the octets; the others stay. Requires at least 240 bytes. Refused where the
+    /// request list, or the data of an additional option, has more than 255 bytes, and where there is no room for all
+    /// options and the end mark; then the header and the options before the first that is refused are written, and no
+    /// end mark.
     pub fn emit<T: OctetsMut>(&self, packet: &mut Packet<T>) -> Result<()>
         requires { Reaches magic_field (T.bytes (inner packet.old)) }
         ensures place { inner packet.new ≡ T.put (inner packet.old) (T.bytes (inner packet.new)) }

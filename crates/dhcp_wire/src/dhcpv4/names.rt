@@ -10,7 +10,7 @@ use wirebase::{Error, Result};
 impl<'a> Packet<&'a [u8]> {
     /// The name of a server, for as long as the octets live: the bytes before the first zero. Refused where there is
     /// no zero byte, or nothing before it, or no UTF-8. The field begins at byte 34, as in smoltcp, where RFC 2131
-    /// section 2 has the hardware address's padding: a packet with zeros there is refused. Asks 108 bytes.
+    /// section 2 has the hardware address's padding: a packet with zeros there is refused. Requires at least 108 bytes.
     #[tactic(auto, unfolding(wirebase::specs::Bytes::part))]
     pub fn get_sname(&self) -> Result<&'a str>
         requires { Reaches sname_field (inner self.now).now }
@@ -25,7 +25,7 @@ impl<'a> Packet<&'a [u8]> {
     }
 
     /// The name of a file to start from, for as long as the octets live: the bytes before the first zero. Refused
-    /// where there is no zero byte, or nothing before it, or no UTF-8. Asks 236 bytes.
+    /// where there is no zero byte, or nothing before it, or no UTF-8. Requires at least 236 bytes.
     #[tactic(auto, unfolding(wirebase::specs::Bytes::part))]
     pub fn get_boot_file(&self) -> Result<&'a str>
         requires { Reaches file_field (inner self.now).now }

@@ -128,7 +128,7 @@ impl<T: Octets> Packet<T> {
         self.buffer
     }
 
-    /// Whether the packet is a client's request or a server's reply. Asks 1 byte.
+    /// Whether the packet is a client's request or a server's reply. Requires at least 1 byte.
     pub fn opcode(&self) -> OpCode
         requires { Reaches op_field (T.bytes (inner self.now)) }
         ensures { result ≡ opcode_of (byte_of op_field (T.bytes (inner self.now))) }
@@ -136,7 +136,7 @@ impl<T: Octets> Packet<T> {
         OpCode::from(self.buffer.u8_at(field::OP))
     }
 
-    /// The kind of hardware of the client's network. Asks 2 bytes.
+    /// The kind of hardware of the client's network. Requires at least 2 bytes.
     pub fn hardware_type(&self) -> Hardware
         requires { Reaches htype_field (T.bytes (inner self.now)) }
         ensures { result ≡ hardware_of (byte_of htype_field (T.bytes (inner self.now))) }
@@ -144,7 +144,7 @@ impl<T: Octets> Packet<T> {
         Hardware::from(self.buffer.u8_at(field::HTYPE) as u16)
     }
 
-    /// The bytes of a hardware address. Asks 3 bytes.
+    /// The bytes of a hardware address. Requires at least 3 bytes.
     pub fn hardware_len(&self) -> u8
         requires { Reaches hlen_field (T.bytes (inner self.now)) }
         ensures { result ≡ byte_of hlen_field (T.bytes (inner self.now)) }
@@ -152,7 +152,7 @@ impl<T: Octets> Packet<T> {
         self.buffer.u8_at(field::HLEN)
     }
 
-    /// The number that a client chose for this exchange. Asks 8 bytes.
+    /// The number that a client chose for this exchange. Requires at least 8 bytes.
     pub fn transaction_id(&self) -> u32
         requires { Reaches xid_field (T.bytes (inner self.now)) }
         ensures { result ≡ number_of xid_field (T.bytes (inner self.now)) }
@@ -160,7 +160,7 @@ impl<T: Octets> Packet<T> {
         self.buffer.u32_at(field::XID)
     }
 
-    /// The client's address on its network, of Ethernet. Asks 34 bytes.
+    /// The client's address on its network, of Ethernet. Requires at least 34 bytes.
     pub fn client_hardware_address(&self) -> EthernetAddress
         requires { Reaches chaddr_field (T.bytes (inner self.now)) }
         ensures { ethernet_octets result ≡ bytes_of chaddr_field (T.bytes (inner self.now)) }
@@ -168,7 +168,7 @@ impl<T: Octets> Packet<T> {
         EthernetAddress::from_bytes(self.buffer.field(field::CHADDR))
     }
 
-    /// How many relays the packet has passed. Asks 4 bytes.
+    /// How many relays the packet has passed. Requires at least 4 bytes.
     pub fn hops(&self) -> u8
         requires { Reaches hops_field (T.bytes (inner self.now)) }
         ensures { result ≡ byte_of hops_field (T.bytes (inner self.now)) }
@@ -176,7 +176,7 @@ impl<T: Octets> Packet<T> {
         self.buffer.u8_at(field::HOPS)
     }
 
-    /// The seconds since the client began. Asks 10 bytes.
+    /// The seconds since the client began. Requires at least 10 bytes.
     pub fn secs(&self) -> u16
         requires { Reaches secs_field (T.bytes (inner self.now)) }
         ensures { result ≡ number_of secs_field (T.bytes (inner self.now)) }
@@ -184,7 +184,7 @@ impl<T: Octets> Packet<T> {
         self.buffer.u16_at(field::SECS)
     }
 
-    /// The number before the options; that of DHCP is 0x63825363 (RFC 2131 section 3). Asks 240 bytes.
+    /// The number before the options; that of DHCP is 0x63825363 (RFC 2131 section 3). Requires at least 240 bytes.
     pub fn magic_number(&self) -> u32
         requires { Reaches magic_field (T.bytes (inner self.now)) }
         ensures { result ≡ number_of magic_field (T.bytes (inner self.now)) }
@@ -192,7 +192,7 @@ impl<T: Octets> Packet<T> {
         self.buffer.u32_at(field::MAGIC_NUMBER)
     }
 
-    /// The address that the client has, or 0.0.0.0. Asks 16 bytes.
+    /// The address that the client has, or 0.0.0.0. Requires at least 16 bytes.
     pub fn client_ip(&self) -> Ipv4Address
         requires { Reaches ciaddr_field (T.bytes (inner self.now)) }
         ensures { octets_of result ≡ bytes_of ciaddr_field (T.bytes (inner self.now)) }
@@ -200,7 +200,7 @@ impl<T: Octets> Packet<T> {
         ipv4_address(self.buffer.field(field::CIADDR))
     }
 
-    /// The address that the client is given, or 0.0.0.0. Asks 20 bytes.
+    /// The address that the client is given, or 0.0.0.0. Requires at least 20 bytes.
     pub fn your_ip(&self) -> Ipv4Address
         requires { Reaches yiaddr_field (T.bytes (inner self.now)) }
         ensures { octets_of result ≡ bytes_of yiaddr_field (T.bytes (inner self.now)) }
@@ -208,7 +208,7 @@ impl<T: Octets> Packet<T> {
         ipv4_address(self.buffer.field(field::YIADDR))
     }
 
-    /// The server to start from, or 0.0.0.0. Asks 24 bytes.
+    /// The server to start from, or 0.0.0.0. Requires at least 24 bytes.
     pub fn server_ip(&self) -> Ipv4Address
         requires { Reaches siaddr_field (T.bytes (inner self.now)) }
         ensures { octets_of result ≡ bytes_of siaddr_field (T.bytes (inner self.now)) }
@@ -216,7 +216,7 @@ impl<T: Octets> Packet<T> {
         ipv4_address(self.buffer.field(field::SIADDR))
     }
 
-    /// The relay that the packet came by, or 0.0.0.0. Asks 28 bytes.
+    /// The relay that the packet came by, or 0.0.0.0. Requires at least 28 bytes.
     pub fn relay_agent_ip(&self) -> Ipv4Address
         requires { Reaches giaddr_field (T.bytes (inner self.now)) }
         ensures { octets_of result ≡ bytes_of giaddr_field (T.bytes (inner self.now)) }
@@ -224,7 +224,7 @@ impl<T: Octets> Packet<T> {
         ipv4_address(self.buffer.field(field::GIADDR))
     }
 
-    /// The flags that have a name; the other bits are not looked at. Asks 12 bytes.
+    /// The flags that have a name; the other bits are not looked at. Requires at least 12 bytes.
     #[tactic(auto, unfolding(bitflags::specs::Sets::known_from))]
     pub fn flags(&self) -> Flags
         requires { Reaches flags_field (T.bytes (inner self.now)) }
@@ -238,7 +238,7 @@ impl<T: Octets> Packet<T> {
 impl<'a> Packet<&'a [u8]> {
     ghost use Rattle.dhcp_wire.specs.Dhcpv4Options.{OptionValue, Options};
 
-    /// The options in turn, for as long as the octets live. Asks 240 bytes.
+    /// The options in turn, for as long as the octets live. Requires at least 240 bytes.
     pub fn options(&self) -> OptionsIter<'a>
         requires { Reaches magic_field (inner self.now).now }
         ensures options { Options (options_in (inner self.now).now) result }
@@ -255,7 +255,7 @@ impl<T: OctetsMut> Packet<T> {
     ghost use Rattle.dhcp_wire.specs.Dhcpv4Writer.{settled, free, the_slice};
     ghost use Rattle.dhcp_wire.specs.contracts.dhcpv4.packet.Packet.{the_row};
 
-    /// Writes zeros for the names of a server and of a file to start from. Asks 236 bytes.
+    /// Writes zeros for the names of a server and of a file to start from. Requires at least 236 bytes.
     pub fn set_sname_and_boot_file_to_zero(&mut self)
         requires { Reaches names_field (T.bytes (inner self.old)) }
         ensures writes { Sets T.bytes T.put self.old self.new names_field (replicate 202 0) }
@@ -264,7 +264,7 @@ impl<T: OctetsMut> Packet<T> {
         self.buffer.field_mut(field::SNAME_AND_FILE).fill(0);
     }
 
-    /// Writes whether the packet is a client's request or a server's reply. Asks 1 byte.
+    /// Writes whether the packet is a client's request or a server's reply. Requires at least 1 byte.
     pub fn set_opcode(&mut self, value: OpCode)
         requires { Reaches op_field (T.bytes (inner self.old)) }
         ensures writes { Sets T.bytes T.put self.old self.new op_field (opcode_number value ∷ []) }
@@ -273,7 +273,7 @@ impl<T: OctetsMut> Packet<T> {
         self.buffer.set_u8(field::OP, value.into());
     }
 
-    /// Writes the kind of hardware, whose number has to fit a byte. Asks 2 bytes.
+    /// Writes the kind of hardware, whose number has to fit a byte. Requires at least 2 bytes.
     pub fn set_hardware_type(&mut self, value: Hardware)
         requires room { Reaches htype_field (T.bytes (inner self.old)) }
         requires small { hardware_number value ≤ 255 }
@@ -284,7 +284,7 @@ impl<T: OctetsMut> Packet<T> {
         self.buffer.set_u8(field::HTYPE, u16::from(value) as u8);
     }
 
-    /// Writes the bytes of a hardware address. Asks 3 bytes.
+    /// Writes the bytes of a hardware address. Requires at least 3 bytes.
     pub fn set_hardware_len(&mut self, value: u8)
         requires { Reaches hlen_field (T.bytes (inner self.old)) }
         ensures writes { Sets T.bytes T.put self.old self.new hlen_field (value ∷ []) }
@@ -293,7 +293,7 @@ impl<T: OctetsMut> Packet<T> {
         self.buffer.set_u8(field::HLEN, value);
     }
 
-    /// Writes the number that a client chose for this exchange. Asks 8 bytes.
+    /// Writes the number that a client chose for this exchange. Requires at least 8 bytes.
     pub fn set_transaction_id(&mut self, value: u32)
         requires { Reaches xid_field (T.bytes (inner self.old)) }
         ensures writes { Sets T.bytes T.put self.old self.new xid_field (big_bytes 4 value) }
@@ -302,7 +302,7 @@ impl<T: OctetsMut> Packet<T> {
         self.buffer.set_u32(field::XID, value);
     }
 
-    /// Writes the client's address on its network. Asks 34 bytes.
+    /// Writes the client's address on its network. Requires at least 34 bytes.
     pub fn set_client_hardware_address(&mut self, value: EthernetAddress)
         requires { Reaches chaddr_field (T.bytes (inner self.old)) }
         ensures writes { Sets T.bytes T.put self.old self.new chaddr_field (ethernet_octets value) }
@@ -311,7 +311,7 @@ impl<T: OctetsMut> Packet<T> {
         self.buffer.set_bytes(field::CHADDR, value.as_bytes());
     }
 
-    /// Writes how many relays the packet has passed. Asks 4 bytes.
+    /// Writes how many relays the packet has passed. Requires at least 4 bytes.
     pub fn set_hops(&mut self, value: u8)
         requires { Reaches hops_field (T.bytes (inner self.old)) }
         ensures writes { Sets T.bytes T.put self.old self.new hops_field (value ∷ []) }
@@ -320,7 +320,7 @@ impl<T: OctetsMut> Packet<T> {
         self.buffer.set_u8(field::HOPS, value);
     }
 
-    /// Writes the seconds since the client began. Asks 10 bytes.
+    /// Writes the seconds since the client began. Requires at least 10 bytes.
     pub fn set_secs(&mut self, value: u16)
         requires { Reaches secs_field (T.bytes (inner self.old)) }
         ensures writes { Sets T.bytes T.put self.old self.new secs_field (big_bytes 2 value) }
@@ -329,7 +329,7 @@ impl<T: OctetsMut> Packet<T> {
         self.buffer.set_u16(field::SECS, value);
     }
 
-    /// Writes the number before the options. Asks 240 bytes.
+    /// Writes the number before the options. Requires at least 240 bytes.
     pub fn set_magic_number(&mut self, value: u32)
         requires { Reaches magic_field (T.bytes (inner self.old)) }
         ensures writes { Sets T.bytes T.put self.old self.new magic_field (big_bytes 4 value) }
@@ -338,7 +338,7 @@ impl<T: OctetsMut> Packet<T> {
         self.buffer.set_u32(field::MAGIC_NUMBER, value);
     }
 
-    /// Writes the address that the client has. Asks 16 bytes.
+    /// Writes the address that the client has. Requires at least 16 bytes.
     pub fn set_client_ip(&mut self, value: Ipv4Address)
         requires { Reaches ciaddr_field (T.bytes (inner self.old)) }
         ensures writes { Sets T.bytes T.put self.old self.new ciaddr_field (octets_of value) }
@@ -347,7 +347,7 @@ impl<T: OctetsMut> Packet<T> {
         self.buffer.set_bytes(field::CIADDR, &value.octets());
     }
 
-    /// Writes the address that the client is given. Asks 20 bytes.
+    /// Writes the address that the client is given. Requires at least 20 bytes.
     pub fn set_your_ip(&mut self, value: Ipv4Address)
         requires { Reaches yiaddr_field (T.bytes (inner self.old)) }
         ensures writes { Sets T.bytes T.put self.old self.new yiaddr_field (octets_of value) }
@@ -356,7 +356,7 @@ impl<T: OctetsMut> Packet<T> {
         self.buffer.set_bytes(field::YIADDR, &value.octets());
     }
 
-    /// Writes the server to start from. Asks 24 bytes.
+    /// Writes the server to start from. Requires at least 24 bytes.
     pub fn set_server_ip(&mut self, value: Ipv4Address)
         requires { Reaches siaddr_field (T.bytes (inner self.old)) }
         ensures writes { Sets T.bytes T.put self.old self.new siaddr_field (octets_of value) }
@@ -365,7 +365,7 @@ impl<T: OctetsMut> Packet<T> {
         self.buffer.set_bytes(field::SIADDR, &value.octets());
     }
 
-    /// Writes the relay that the packet came by. Asks 28 bytes.
+    /// Writes the relay that the packet came by. Requires at least 28 bytes.
     pub fn set_relay_agent_ip(&mut self, value: Ipv4Address)
         requires { Reaches giaddr_field (T.bytes (inner self.old)) }
         ensures writes { Sets T.bytes T.put self.old self.new giaddr_field (octets_of value) }
@@ -374,7 +374,7 @@ impl<T: OctetsMut> Packet<T> {
         self.buffer.set_bytes(field::GIADDR, &value.octets());
     }
 
-    /// Writes the flags, with every bit of the value. Asks 12 bytes.
+    /// Writes the flags, with every bit of the value. Requires at least 12 bytes.
     pub fn set_flags(&mut self, value: Flags)
         requires { Reaches flags_field (T.bytes (inner self.old)) }
         ensures writes { Sets T.bytes T.put self.old self.new flags_field
@@ -385,7 +385,7 @@ impl<T: OctetsMut> Packet<T> {
     }
 
     /// A writer over the options: over all octets from 240 on, which are free. What it leaves there the view then
-    /// holds. Asks 240 bytes.
+    /// holds. Requires at least 240 bytes.
     pub fn options_mut(&mut self) -> DhcpOptionWriter<'_>
         requires { Reaches magic_field (T.bytes (inner self.old)) }
         ensures* lends { sem 𝓛 (follows (the_row T.row) (Array byte 0) self.entry.ghost_name

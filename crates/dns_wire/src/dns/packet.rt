@@ -87,7 +87,7 @@ impl<T: Octets> Packet<T> {
         self.buffer
     }
 
-    /// The number by which a response is matched to its query. Asks 2 bytes.
+    /// The number by which a response is matched to its query. Requires at least 2 bytes.
     pub fn transaction_id(&self) -> u16
         requires { Reaches id_field (T.bytes (inner self.now)) }
         ensures { result ≡ number_of id_field (T.bytes (inner self.now)) }
@@ -95,7 +95,7 @@ impl<T: Octets> Packet<T> {
         self.buffer.u16_at(field::ID)
     }
 
-    /// The flags that have a name. Asks 4 bytes.
+    /// The flags that have a name. Requires at least 4 bytes.
     #[tactic(auto, unfolding(bitflags::specs::Sets::known_from))]
     pub fn flags(&self) -> Flags
         requires { Reaches flags_field (T.bytes (inner self.now)) }
@@ -104,7 +104,7 @@ impl<T: Octets> Packet<T> {
         Flags::from_bits_truncate(self.buffer.u16_at(field::FLAGS))
     }
 
-    /// The kind of query. Asks 4 bytes.
+    /// The kind of query. Requires at least 4 bytes.
     pub fn opcode(&self) -> Opcode
         requires { Reaches flags_field (T.bytes (inner self.now)) }
         ensures { result
@@ -114,7 +114,7 @@ impl<T: Octets> Packet<T> {
         Opcode::from((word >> OPCODE_SHIFT & 0xf) as u8)
     }
 
-    /// The outcome of the query. Asks 4 bytes.
+    /// The outcome of the query. Requires at least 4 bytes.
     pub fn rcode(&self) -> Rcode
         requires { Reaches flags_field (T.bytes (inner self.now)) }
         ensures { result
@@ -124,7 +124,7 @@ impl<T: Octets> Packet<T> {
         Rcode::from((word & 0xf) as u8)
     }
 
-    /// How many questions there are. Asks 6 bytes.
+    /// How many questions there are. Requires at least 6 bytes.
     pub fn question_count(&self) -> u16
         requires { Reaches question_count_field (T.bytes (inner self.now)) }
         ensures { result ≡ number_of question_count_field (T.bytes (inner self.now)) }
@@ -132,7 +132,7 @@ impl<T: Octets> Packet<T> {
         self.buffer.u16_at(field::QUESTION_COUNT)
     }
 
-    /// How many records answer. Asks 8 bytes.
+    /// How many records answer. Requires at least 8 bytes.
     pub fn answer_record_count(&self) -> u16
         requires { Reaches answer_count_field (T.bytes (inner self.now)) }
         ensures { result ≡ number_of answer_count_field (T.bytes (inner self.now)) }
@@ -140,7 +140,7 @@ impl<T: Octets> Packet<T> {
         self.buffer.u16_at(field::ANSWER_COUNT)
     }
 
-    /// How many records name an authority. Asks 10 bytes.
+    /// How many records name an authority. Requires at least 10 bytes.
     pub fn authority_record_count(&self) -> u16
         requires { Reaches authority_count_field (T.bytes (inner self.now)) }
         ensures { result ≡ number_of authority_count_field (T.bytes (inner self.now)) }
@@ -148,7 +148,7 @@ impl<T: Octets> Packet<T> {
         self.buffer.u16_at(field::AUTHORITY_COUNT)
     }
 
-    /// How many more records there are. Asks 12 bytes.
+    /// How many more records there are. Requires at least 12 bytes.
     pub fn additional_record_count(&self) -> u16
         requires { Reaches additional_count_field (T.bytes (inner self.now)) }
         ensures { result ≡ number_of additional_count_field (T.bytes (inner self.now)) }
@@ -158,7 +158,7 @@ impl<T: Octets> Packet<T> {
 }
 
 impl<'a> Packet<&'a [u8]> {
-    /// The questions and records, for as long as the octets live. Asks 12 bytes.
+    /// The questions and records, for as long as the octets live. Requires at least 12 bytes.
     pub fn payload(&self) -> &'a [u8]
         requires { Reaches header (inner self.now).now }
         ensures { result.now ≡ payload_in (inner self.now).now }
@@ -168,7 +168,7 @@ impl<'a> Packet<&'a [u8]> {
 
     /// The walk over the name that begins in `bytes`, a part of the message or not, and goes on where its pointers
     /// lead in the message (RFC 1035 section 4.1.4). The first pointer leads to any place of the message, and each
-    /// later one to below the place that the one before it led to. Asks nothing of the message.
+    /// later one to below the place that the one before it led to. Requires nothing of the message.
     pub fn parse_name(&self, bytes: &'a [u8]) -> NameIter<'a>
         ensures { IsWalkOver bytes.entry.now (view_octets self.now) result }
     {
@@ -177,7 +177,7 @@ impl<'a> Packet<&'a [u8]> {
 }
 
 impl<T: OctetsMut> Packet<T> {
-    /// Writes the number by which a response is matched to its query. Asks 2 bytes.
+    /// Writes the number by which a response is matched to its query. Requires at least 2 bytes.
     pub fn set_transaction_id(&mut self, value: u16)
         requires { Reaches id_field (T.bytes (inner self.old)) }
         ensures writes { Sets T.bytes T.put self.old self.new id_field (big_bytes 2 value) }
@@ -186,8 +186,8 @@ impl<T: OctetsMut> Packet<T> {
         self.buffer.set_u16(field::ID, value);
     }
 
-    /// Writes the flags; the kind of query, the outcome and the bit that has no name stay. Asks 4 bytes, and flags
-    /// that have a name.
+    /// Writes the flags; the kind of query, the outcome and the bit that has no name stay. Requires at least 4 bytes,
+    /// and flags that have a name.
     pub fn set_flags(&mut self, value: Flags)
         requires known { IsKnown (flag_bits value) }
         requires room { Reaches flags_field (T.bytes (inner self.old)) }
@@ -201,7 +201,7 @@ impl<T: OctetsMut> Packet<T> {
             .set_u16(field::FLAGS, (word & !FLAG_BITS) | value.bits());
     }
 
-    /// Writes the kind of query; the flags and the outcome stay. Asks 4 bytes, and a number below 16.
+    /// Writes the kind of query; the flags and the outcome stay. Requires at least 4 bytes, and a number below 16.
     pub fn set_opcode(&mut self, value: Opcode)
         requires four_bits { opcode_number value < 16 }
         requires room { Reaches flags_field (T.bytes (inner self.old)) }
@@ -215,7 +215,7 @@ impl<T: OctetsMut> Packet<T> {
         self.buffer.set_u16(field::FLAGS, (word & !OPCODE_BITS) | opcode << OPCODE_SHIFT);
     }
 
-    /// Writes how many questions there are. Asks 6 bytes.
+    /// Writes how many questions there are. Requires at least 6 bytes.
     pub fn set_question_count(&mut self, value: u16)
         requires { Reaches question_count_field (T.bytes (inner self.old)) }
         ensures writes { Sets T.bytes T.put self.old self.new
@@ -225,7 +225,7 @@ impl<T: OctetsMut> Packet<T> {
         self.buffer.set_u16(field::QUESTION_COUNT, value);
     }
 
-    /// Writes how many records answer. Asks 8 bytes.
+    /// Writes how many records answer. Requires at least 8 bytes.
     pub fn set_answer_record_count(&mut self, value: u16)
         requires { Reaches answer_count_field (T.bytes (inner self.old)) }
         ensures writes { Sets T.bytes T.put self.old self.new
@@ -235,7 +235,7 @@ impl<T: OctetsMut> Packet<T> {
         self.buffer.set_u16(field::ANSWER_COUNT, value);
     }
 
-    /// Writes how many records name an authority. Asks 10 bytes.
+    /// Writes how many records name an authority. Requires at least 10 bytes.
     pub fn set_authority_record_count(&mut self, value: u16)
         requires { Reaches authority_count_field (T.bytes (inner self.old)) }
         ensures writes { Sets T.bytes T.put self.old self.new
@@ -245,7 +245,7 @@ impl<T: OctetsMut> Packet<T> {
         self.buffer.set_u16(field::AUTHORITY_COUNT, value);
     }
 
-    /// Writes how many more records there are. Asks 12 bytes.
+    /// Writes how many more records there are. Requires at least 12 bytes.
     pub fn set_additional_record_count(&mut self, value: u16)
         requires { Reaches additional_count_field (T.bytes (inner self.old)) }
         ensures writes { Sets T.bytes T.put self.old self.new
@@ -255,7 +255,7 @@ impl<T: OctetsMut> Packet<T> {
         self.buffer.set_u16(field::ADDITIONAL_COUNT, value);
     }
 
-    /// Lends the questions and records for writing; the header stays. Asks 12 bytes.
+    /// Lends the questions and records for writing; the header stays. Requires at least 12 bytes.
     #[tactic(auto, using(wirebase::proofs::Pieces::pieces))]
     pub fn payload_mut(&mut self) -> &mut [u8]
         requires { Reaches header (T.bytes (inner self.old)) }

@@ -67,7 +67,7 @@ impl<'a> Question<'a> {
         Ok((&after[field::END..], Question { name, type_ }))
     }
 
-    /// The bytes that the question takes: those of its name, and 4. Asks that they fit a `usize`.
+    /// The bytes that the question takes: those of its name, and 4. Requires that they fit a `usize`.
     pub const fn buffer_len(&self) -> usize
         requires { text_len (value_of self.now) < 2 ^ 64 }
         ensures value { result ≡ text_len (value_of self.now) }
@@ -76,7 +76,7 @@ impl<'a> Question<'a> {
         self.name.len() + field::END
     }
 
-    /// Writes the question over the front of the octets; the others stay. Asks as many octets as it takes.
+    /// Writes the question over the front of the octets; the others stay. Requires as many octets as it takes.
     pub fn emit(&self, packet: &mut [u8])
         requires { text_len (value_of self.now) ≤ length packet.old }
         ensures { Emits (value_of self.now) packet.old packet.new }

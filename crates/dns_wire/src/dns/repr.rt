@@ -28,7 +28,7 @@ pub struct Repr<'a> {
 }
 
 impl<'a> Repr<'a> {
-    /// The bytes that the query takes: those of the header, 12, and of the question. Asks that they fit a `usize`.
+    /// The bytes that the query takes: those of the header, 12, and of the question. Requires that they fit a `usize`.
     pub const fn buffer_len(&self) -> usize
         requires { text_len (value_of self.now) < 2 ^ 64 }
         ensures value { result ≡ text_len (value_of self.now) }
@@ -37,7 +37,7 @@ impl<'a> Repr<'a> {
         HEADER_LEN + self.question.buffer_len()
     }
 
-    /// Writes the query over the front of the octets; the others stay. Asks as many octets as it takes, flags that
+    /// Writes the query over the front of the octets; the others stay. Requires as many octets as it takes, flags that
     /// have a name, and a kind of query below 16.
     pub fn emit<T: OctetsMut>(&self, packet: &mut Packet<T>)
         requires { CanEmit (value_of self.now) (T.bytes (inner packet.old)) }

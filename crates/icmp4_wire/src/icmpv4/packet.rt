@@ -72,7 +72,7 @@ impl<T: Octets> Packet<T> {
         self.buffer.octets()
     }
 
-    /// The type. Asks 1 byte.
+    /// The type. Requires at least 1 byte.
     pub fn msg_type(&self) -> Message
         requires { Reaches type_field (T.bytes (inner self.now)) }
         ensures { result ≡ message_of (byte_of type_field (T.bytes (inner self.now))) }
@@ -80,7 +80,7 @@ impl<T: Octets> Packet<T> {
         Message::from(self.buffer.u8_at(field::TYPE))
     }
 
-    /// The code. Asks 2 bytes.
+    /// The code. Requires at least 2 bytes.
     pub fn msg_code(&self) -> u8
         requires { Reaches code_field (T.bytes (inner self.now)) }
         ensures { result ≡ byte_of code_field (T.bytes (inner self.now)) }
@@ -88,7 +88,7 @@ impl<T: Octets> Packet<T> {
         self.buffer.u8_at(field::CODE)
     }
 
-    /// The checksum that the message carries. Asks 4 bytes.
+    /// The checksum that the message carries. Requires at least 4 bytes.
     pub fn checksum(&self) -> u16
         requires { Reaches checksum_field (T.bytes (inner self.now)) }
         ensures { result ≡ number_of checksum_field (T.bytes (inner self.now)) }
@@ -96,7 +96,7 @@ impl<T: Octets> Packet<T> {
         self.buffer.u16_at(field::CHECKSUM)
     }
 
-    /// The identifier of an echo. Asks 6 bytes.
+    /// The identifier of an echo. Requires at least 6 bytes.
     pub fn echo_ident(&self) -> u16
         requires { Reaches ident_field (T.bytes (inner self.now)) }
         ensures { result ≡ number_of ident_field (T.bytes (inner self.now)) }
@@ -104,7 +104,7 @@ impl<T: Octets> Packet<T> {
         self.buffer.u16_at(field::ECHO_IDENT)
     }
 
-    /// The sequence number of an echo. Asks 8 bytes.
+    /// The sequence number of an echo. Requires at least 8 bytes.
     pub fn echo_seq_no(&self) -> u16
         requires { Reaches seq_no_field (T.bytes (inner self.now)) }
         ensures { result ≡ number_of seq_no_field (T.bytes (inner self.now)) }
@@ -112,7 +112,7 @@ impl<T: Octets> Packet<T> {
         self.buffer.u16_at(field::ECHO_SEQNO)
     }
 
-    /// The bytes of the header, 8 for every type. Asks 1 byte.
+    /// The bytes of the header, 8 for every type. Requires at least 1 byte.
     pub fn header_len(&self) -> usize
         requires { Reaches type_field (T.bytes (inner self.now)) }
         ensures { result ≡ 8 }
@@ -129,7 +129,7 @@ impl<T: Octets> Packet<T> {
 }
 
 impl<'a> Packet<&'a [u8]> {
-    /// What stands after the header, for as long as the octets live. Asks 8 bytes.
+    /// What stands after the header, for as long as the octets live. Requires at least 8 bytes.
     pub fn data(&self) -> &'a [u8]
         requires { Reaches header (inner self.now).now }
         ensures { result.now ≡ data_in (inner self.now).now }
@@ -139,7 +139,7 @@ impl<'a> Packet<&'a [u8]> {
 }
 
 impl<T: OctetsMut> Packet<T> {
-    /// Writes the type. Asks 1 byte.
+    /// Writes the type. Requires at least 1 byte.
     pub fn set_msg_type(&mut self, value: Message)
         requires { Reaches type_field (T.bytes (inner self.old)) }
         ensures writes { Sets T.bytes T.put self.old self.new type_field
@@ -149,7 +149,7 @@ impl<T: OctetsMut> Packet<T> {
         self.buffer.set_u8(field::TYPE, value.into());
     }
 
-    /// Writes the code. Asks 2 bytes.
+    /// Writes the code. Requires at least 2 bytes.
     pub fn set_msg_code(&mut self, value: u8)
         requires { Reaches code_field (T.bytes (inner self.old)) }
         ensures writes { Sets T.bytes T.put self.old self.new code_field (value ∷ []) }
@@ -158,7 +158,7 @@ impl<T: OctetsMut> Packet<T> {
         self.buffer.set_u8(field::CODE, value);
     }
 
-    /// Writes the checksum. Asks 4 bytes.
+    /// Writes the checksum. Requires at least 4 bytes.
     pub fn set_checksum(&mut self, value: u16)
         requires { Reaches checksum_field (T.bytes (inner self.old)) }
         ensures writes { Sets T.bytes T.put self.old self.new checksum_field (big_bytes 2 value) }
@@ -167,7 +167,7 @@ impl<T: OctetsMut> Packet<T> {
         self.buffer.set_u16(field::CHECKSUM, value);
     }
 
-    /// Writes the identifier of an echo. Asks 6 bytes.
+    /// Writes the identifier of an echo. Requires at least 6 bytes.
     pub fn set_echo_ident(&mut self, value: u16)
         requires { Reaches ident_field (T.bytes (inner self.old)) }
         ensures writes { Sets T.bytes T.put self.old self.new ident_field (big_bytes 2 value) }
@@ -176,7 +176,7 @@ impl<T: OctetsMut> Packet<T> {
         self.buffer.set_u16(field::ECHO_IDENT, value);
     }
 
-    /// Writes the sequence number of an echo. Asks 8 bytes.
+    /// Writes the sequence number of an echo. Requires at least 8 bytes.
     pub fn set_echo_seq_no(&mut self, value: u16)
         requires { Reaches seq_no_field (T.bytes (inner self.old)) }
         ensures writes { Sets T.bytes T.put self.old self.new seq_no_field (big_bytes 2 value) }
@@ -185,7 +185,7 @@ impl<T: OctetsMut> Packet<T> {
         self.buffer.set_u16(field::ECHO_SEQNO, value);
     }
 
-    /// Writes the checksum of all the octets, in which its field counts as zero (RFC 1071). Asks 4 bytes.
+    /// Writes the checksum of all the octets, in which its field counts as zero (RFC 1071). Requires at least 4 bytes.
     pub fn fill_checksum(&mut self)
         requires { Reaches checksum_field (T.bytes (inner self.old)) }
         ensures sealed { inner self.new ≡ T.put (inner self.old)
@@ -196,7 +196,7 @@ impl<T: OctetsMut> Packet<T> {
         checksum::fill(self.buffer.octets_mut(), field::CHECKSUM, 0);
     }
 
-    /// Lends what stands after the header for writing; the header stays. Asks 8 bytes.
+    /// Lends what stands after the header for writing; the header stays. Requires at least 8 bytes.
     #[tactic(auto, using(wirebase::proofs::Pieces::pieces))]
     pub fn data_mut(&mut self) -> &mut [u8]
         requires { Reaches header (T.bytes (inner self.old)) }

@@ -159,7 +159,7 @@ impl<'a> Repr<'a> {
         })
     }
 
-    /// The bytes that the message takes. Asks that a `usize` holds their number.
+    /// The bytes that the message takes. Requires that a `usize` holds their number.
     #[tactic(auto, using(crate::proofs::Icmpv4Texts::texts))]
     pub fn buffer_len(&self) -> usize
         requires { text_len (value_of self.now) < 2 ^ 64 }
@@ -180,8 +180,8 @@ impl<'a> Repr<'a> {
     }
 
     /// Writes the message over the front of the octets, as far as they go, and then, where the capabilities have it
-    /// computed, the checksum of all of them. Asks 8 bytes or more of an echo; of an error just its length, and that
-    /// the quoted `payload_len` is at most 65,515.
+    /// computed, the checksum of all of them. Requires at least 8 bytes of an echo; of an error just its length, and
+    /// that the quoted `payload_len` is at most 65,515.
     pub fn emit<T: OctetsMut>(&self, packet: &mut Packet<T>, checksum_caps: &ChecksumCapabilities)
         requires { CanEmit (value_of self.now) (T.bytes (inner packet.old)) }
         ensures place { inner packet.new ≡ T.put (inner packet.old) (T.bytes (inner packet.new)) }

@@ -59,7 +59,7 @@ impl<T: Octets> Packet<T> {
         self.buffer
     }
 
-    /// The type. Asks 1 byte.
+    /// The type. Requires at least 1 byte.
     pub fn msg_type(&self) -> Message
         requires { Reaches type_field (T.bytes (inner self.now)) }
         ensures { result ≡ message_of (byte_of type_field (T.bytes (inner self.now))) }
@@ -67,7 +67,7 @@ impl<T: Octets> Packet<T> {
         Message::from(self.buffer.u8_at(field::TYPE))
     }
 
-    /// The code of the longest time to answer a query in (RFC 3376 section 4.1.1). Asks 2 bytes.
+    /// The code of the longest time to answer a query in (RFC 3376 section 4.1.1). Requires at least 2 bytes.
     pub fn max_resp_code(&self) -> u8
         requires { Reaches code_field (T.bytes (inner self.now)) }
         ensures { result ≡ byte_of code_field (T.bytes (inner self.now)) }
@@ -75,7 +75,7 @@ impl<T: Octets> Packet<T> {
         self.buffer.u8_at(field::MAX_RESP_CODE)
     }
 
-    /// The checksum. Asks 4 bytes.
+    /// The checksum. Requires at least 4 bytes.
     pub fn checksum(&self) -> u16
         requires { Reaches checksum_field (T.bytes (inner self.now)) }
         ensures { result ≡ number_of checksum_field (T.bytes (inner self.now)) }
@@ -83,7 +83,7 @@ impl<T: Octets> Packet<T> {
         self.buffer.u16_at(field::CHECKSUM)
     }
 
-    /// The group that the message speaks of. Asks 8 bytes.
+    /// The group that the message speaks of. Requires at least 8 bytes.
     pub fn group_addr(&self) -> Ipv4Address
         requires { Reaches group_field (T.bytes (inner self.now)) }
         ensures { octets_of result ≡ bytes_of group_field (T.bytes (inner self.now)) }
@@ -100,7 +100,7 @@ impl<T: Octets> Packet<T> {
 }
 
 impl<T: OctetsMut> Packet<T> {
-    /// Writes the type. Asks 1 byte.
+    /// Writes the type. Requires at least 1 byte.
     pub fn set_msg_type(&mut self, value: Message)
         requires { Reaches type_field (T.bytes (inner self.old)) }
         ensures writes { Sets T.bytes T.put self.old self.new type_field
@@ -110,7 +110,7 @@ impl<T: OctetsMut> Packet<T> {
         self.buffer.set_u8(field::TYPE, value.into());
     }
 
-    /// Writes the code of the longest time to answer a query in (RFC 3376 section 4.1.1). Asks 2 bytes.
+    /// Writes the code of the longest time to answer a query in (RFC 3376 section 4.1.1). Requires at least 2 bytes.
     pub fn set_max_resp_code(&mut self, value: u8)
         requires { Reaches code_field (T.bytes (inner self.old)) }
         ensures writes { Sets T.bytes T.put self.old self.new code_field (value ∷ []) }
@@ -119,7 +119,7 @@ impl<T: OctetsMut> Packet<T> {
         self.buffer.set_u8(field::MAX_RESP_CODE, value);
     }
 
-    /// Writes the checksum. Asks 4 bytes.
+    /// Writes the checksum. Requires at least 4 bytes.
     pub fn set_checksum(&mut self, value: u16)
         requires { Reaches checksum_field (T.bytes (inner self.old)) }
         ensures writes { Sets T.bytes T.put self.old self.new checksum_field (big_bytes 2 value) }
@@ -128,7 +128,7 @@ impl<T: OctetsMut> Packet<T> {
         self.buffer.set_u16(field::CHECKSUM, value);
     }
 
-    /// Writes the group that the message speaks of. Asks 8 bytes.
+    /// Writes the group that the message speaks of. Requires at least 8 bytes.
     pub fn set_group_address(&mut self, value: Ipv4Address)
         requires { Reaches group_field (T.bytes (inner self.old)) }
         ensures writes { Sets T.bytes T.put self.old self.new group_field (octets_of value) }
@@ -137,7 +137,7 @@ impl<T: OctetsMut> Packet<T> {
         self.buffer.set_bytes(field::GROUP_ADDRESS, &value.octets());
     }
 
-    /// Writes the checksum of all the octets, in which its field counts as zero (RFC 1071). Asks 4 bytes.
+    /// Writes the checksum of all the octets, in which its field counts as zero (RFC 1071). Requires at least 4 bytes.
     pub fn fill_checksum(&mut self)
         requires { Reaches checksum_field (T.bytes (inner self.old)) }
         ensures sealed { inner self.new ≡ T.put (inner self.old)

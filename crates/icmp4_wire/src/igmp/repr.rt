@@ -99,8 +99,8 @@ impl Repr {
         field::GROUP_ADDRESS.end
     }
 
-    /// Writes the message over the front of the octets, with the checksum of all of them; the others stay. Asks 8
-    /// bytes.
+    /// Writes the message over the front of the octets, with the checksum of all of them; the others stay. Requires at
+    /// least 8 bytes.
     pub fn emit<T: OctetsMut>(&self, packet: &mut Packet<T>)
         requires { Reaches group_field (T.bytes (inner packet.old)) }
         ensures place { inner packet.new ≡ T.put (inner packet.old) (T.bytes (inner packet.new)) }

@@ -70,7 +70,7 @@ impl<T: Octets> Packet<T> {
         self.buffer.octets()
     }
 
-    /// The type. Asks 1 byte.
+    /// The type. Requires at least 1 byte.
     pub fn msg_type(&self) -> Message
         requires { Reaches type_field (T.bytes (inner self.now)) }
         ensures { result ≡ message_in (T.bytes (inner self.now)) }
@@ -78,7 +78,7 @@ impl<T: Octets> Packet<T> {
         Message::from(self.buffer.u8_at(field::TYPE))
     }
 
-    /// The code. Asks 2 bytes.
+    /// The code. Requires at least 2 bytes.
     pub fn msg_code(&self) -> u8
         requires { Reaches code_field (T.bytes (inner self.now)) }
         ensures { result ≡ byte_of code_field (T.bytes (inner self.now)) }
@@ -86,7 +86,7 @@ impl<T: Octets> Packet<T> {
         self.buffer.u8_at(field::CODE)
     }
 
-    /// The checksum that the message carries. Asks 4 bytes.
+    /// The checksum that the message carries. Requires at least 4 bytes.
     pub fn checksum(&self) -> u16
         requires { Reaches checksum_field (T.bytes (inner self.now)) }
         ensures { result ≡ number_of checksum_field (T.bytes (inner self.now)) }
@@ -94,7 +94,7 @@ impl<T: Octets> Packet<T> {
         self.buffer.u16_at(field::CHECKSUM)
     }
 
-    /// The identifier of an echo. Asks 6 bytes.
+    /// The identifier of an echo. Requires at least 6 bytes.
     pub fn echo_ident(&self) -> u16
         requires { Reaches ident_field (T.bytes (inner self.now)) }
         ensures { result ≡ number_of ident_field (T.bytes (inner self.now)) }
@@ -102,7 +102,7 @@ impl<T: Octets> Packet<T> {
         self.buffer.u16_at(field::ECHO_IDENT)
     }
 
-    /// The sequence number of an echo. Asks 8 bytes.
+    /// The sequence number of an echo. Requires at least 8 bytes.
     pub fn echo_seq_no(&self) -> u16
         requires { Reaches seq_no_field (T.bytes (inner self.now)) }
         ensures { result ≡ number_of seq_no_field (T.bytes (inner self.now)) }
@@ -111,7 +111,7 @@ impl<T: Octets> Packet<T> {
     }
 
     /// The bytes of the largest packet that the next link can carry, of a packet that is too big (RFC 4443 section
-    /// 3.2). Asks 8 bytes.
+    /// 3.2). Requires at least 8 bytes.
     pub fn pkt_too_big_mtu(&self) -> u32
         requires { Reaches word_field (T.bytes (inner self.now)) }
         ensures { result ≡ number_of word_field (T.bytes (inner self.now)) }
@@ -119,8 +119,8 @@ impl<T: Octets> Packet<T> {
         self.buffer.u32_at(field::MTU)
     }
 
-    /// The place of a parameter problem in the quoted packet, counted from its first byte (RFC 4443 section 3.4). Asks
-    /// 8 bytes.
+    /// The place of a parameter problem in the quoted packet, counted from its first byte (RFC 4443 section 3.4).
+    /// Requires at least 8 bytes.
     pub fn param_problem_ptr(&self) -> u32
         requires { Reaches word_field (T.bytes (inner self.now)) }
         ensures { result ≡ number_of word_field (T.bytes (inner self.now)) }
@@ -128,7 +128,7 @@ impl<T: Octets> Packet<T> {
         self.buffer.u32_at(field::POINTER)
     }
 
-    /// The bytes of the header, by the type; 4 of a type that is not read here. Asks 1 byte.
+    /// The bytes of the header, by the type; 4 of a type that is not read here. Requires at least 1 byte.
     pub fn header_len(&self) -> usize
         requires { Reaches type_field (T.bytes (inner self.now)) }
         ensures { result ≡ header_len_in (T.bytes (inner self.now)) }
@@ -161,7 +161,7 @@ impl<T: Octets> Packet<T> {
 }
 
 impl<'a> Packet<&'a [u8]> {
-    /// What stands after the header, for as long as the octets live. Asks the header of the type.
+    /// What stands after the header, for as long as the octets live. Requires the header of the type.
     pub fn payload(&self) -> &'a [u8]
         requires kind { Reaches type_field (view_octets self.now) }
         requires whole { header_len_in (view_octets self.now) ≤ length (view_octets self.now) }
@@ -172,7 +172,7 @@ impl<'a> Packet<&'a [u8]> {
 }
 
 impl<T: OctetsMut> Packet<T> {
-    /// Writes the type. Asks 1 byte.
+    /// Writes the type. Requires at least 1 byte.
     pub fn set_msg_type(&mut self, value: Message)
         requires { Reaches type_field (T.bytes (inner self.old)) }
         ensures writes { Sets T.bytes T.put self.old self.new type_field
@@ -182,7 +182,7 @@ impl<T: OctetsMut> Packet<T> {
         self.buffer.set_u8(field::TYPE, value.into());
     }
 
-    /// Writes the code. Asks 2 bytes.
+    /// Writes the code. Requires at least 2 bytes.
     pub fn set_msg_code(&mut self, value: u8)
         requires { Reaches code_field (T.bytes (inner self.old)) }
         ensures writes { Sets T.bytes T.put self.old self.new code_field (value ∷ []) }
@@ -193,7 +193,7 @@ impl<T: OctetsMut> Packet<T> {
 
     /// Writes zeros where a message of the type that is there has something reserved: of router and neighbor
     /// solicitations, neighbor advertisements and redirects the word behind the checksum, of a query for listeners two
-    /// bytes and the upper half of the byte with the flag, of a report two bytes. Asks one of these types, and the
+    /// bytes and the upper half of the byte with the flag, of a report two bytes. Requires one of these types, and the
     /// bytes up to what is reserved: 8, 25 of a query, 6 of a report.
     pub fn clear_reserved(&mut self)
         requires kind { Reaches type_field (T.bytes (inner self.old)) }
@@ -214,7 +214,7 @@ impl<T: OctetsMut> Packet<T> {
         }
     }
 
-    /// Writes the checksum. Asks 4 bytes.
+    /// Writes the checksum. Requires at least 4 bytes.
     pub fn set_checksum(&mut self, value: u16)
         requires { Reaches checksum_field (T.bytes (inner self.old)) }
         ensures writes { Sets T.bytes T.put self.old self.new checksum_field (big_bytes 2 value) }
@@ -223,7 +223,7 @@ impl<T: OctetsMut> Packet<T> {
         self.buffer.set_u16(field::CHECKSUM, value);
     }
 
-    /// Writes the identifier of an echo. Asks 6 bytes.
+    /// Writes the identifier of an echo. Requires at least 6 bytes.
     pub fn set_echo_ident(&mut self, value: u16)
         requires { Reaches ident_field (T.bytes (inner self.old)) }
         ensures writes { Sets T.bytes T.put self.old self.new ident_field (big_bytes 2 value) }
@@ -232,7 +232,7 @@ impl<T: OctetsMut> Packet<T> {
         self.buffer.set_u16(field::ECHO_IDENT, value);
     }
 
-    /// Writes the sequence number of an echo. Asks 8 bytes.
+    /// Writes the sequence number of an echo. Requires at least 8 bytes.
     pub fn set_echo_seq_no(&mut self, value: u16)
         requires { Reaches seq_no_field (T.bytes (inner self.old)) }
         ensures writes { Sets T.bytes T.put self.old self.new seq_no_field (big_bytes 2 value) }
@@ -241,7 +241,8 @@ impl<T: OctetsMut> Packet<T> {
         self.buffer.set_u16(field::ECHO_SEQNO, value);
     }
 
-    /// Writes the bytes of the largest packet that the next link can carry (RFC 4443 section 3.2). Asks 8 bytes.
+    /// Writes the bytes of the largest packet that the next link can carry (RFC 4443 section 3.2). Requires at least 8
+    /// bytes.
     pub fn set_pkt_too_big_mtu(&mut self, value: u32)
         requires { Reaches word_field (T.bytes (inner self.old)) }
         ensures writes { Sets T.bytes T.put self.old self.new word_field (big_bytes 4 value) }
@@ -250,7 +251,7 @@ impl<T: OctetsMut> Packet<T> {
         self.buffer.set_u32(field::MTU, value);
     }
 
-    /// Writes the place of a parameter problem in the quoted packet (RFC 4443 section 3.4). Asks 8 bytes.
+    /// Writes the place of a parameter problem in the quoted packet (RFC 4443 section 3.4). Requires at least 8 bytes.
     pub fn set_param_problem_ptr(&mut self, value: u32)
         requires { Reaches word_field (T.bytes (inner self.old)) }
         ensures writes { Sets T.bytes T.put self.old self.new word_field (big_bytes 4 value) }
@@ -260,7 +261,7 @@ impl<T: OctetsMut> Packet<T> {
     }
 
     /// Writes the checksum of all the octets as a message from `src_addr` to `dst_addr`, in which its field counts as
-    /// zero (RFC 4443 section 2.3). Asks 4 bytes.
+    /// zero (RFC 4443 section 2.3). Requires at least 4 bytes.
     pub fn fill_checksum(&mut self, src_addr: &Ipv6Address, dst_addr: &Ipv6Address)
         requires { Reaches checksum_field (T.bytes (inner self.old)) }
         ensures sealed { inner self.new ≡ T.put (inner self.old)
@@ -273,7 +274,7 @@ impl<T: OctetsMut> Packet<T> {
         fill(self.buffer.octets_mut(), src_addr, dst_addr);
     }
 
-    /// Lends what stands after the header for writing; the header stays. Asks the header of the type.
+    /// Lends what stands after the header for writing; the header stays. Requires the header of the type.
     #[tactic(auto, using(wirebase::proofs::Pieces::pieces))]
     pub fn payload_mut(&mut self) -> &mut [u8]
         requires kind { Reaches type_field (T.bytes (inner self.old)) }
@@ -318,7 +319,7 @@ impl<T: Octets> Eq for Packet<T> {
     ghost laws = { Prim.search (comparing, rules) };
 }
 
-/// Writes the checksum of a message from `src_addr` to `dst_addr` that is all the octets. Asks 4 bytes.
+/// Writes the checksum of a message from `src_addr` to `dst_addr` that is all the octets. Requires at least 4 bytes.
 #[tactic(auto, using(wirebase::proofs::PseudoSeals::pseudo_seals, crate::proofs::Icmpv6Seals::lengths))]
 pub(crate) fn fill(octets: &mut [u8], src_addr: &Ipv6Address, dst_addr: &Ipv6Address)
     requires { Reaches checksum_field octets.old }

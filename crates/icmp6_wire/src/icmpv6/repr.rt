@@ -151,7 +151,7 @@ impl<'a> Repr<'a> {
     }
 
     /// The bytes that the message takes, of an error at most 1,240; of a report by its records those before them, 8.
-    /// Asks that a `usize` holds their number.
+    /// Requires that a `usize` holds their number.
     pub fn buffer_len(&self) -> usize
         requires { told_len (value_of self.now) < 2 ^ 64 }
         ensures value { result ≡ told_len (value_of self.now) }
@@ -163,7 +163,8 @@ impl<'a> Repr<'a> {
         }
     }
 
-    /// The bytes that the packet of the message has, of an error at most 1,240. Asks that a `usize` holds their number.
+    /// The bytes that the packet of the message has, of an error at most 1,240. Requires that a `usize` holds their
+    /// number.
     #[tactic(auto, using(crate::proofs::Icmpv6Texts::texts))]
     pub fn packet_len(&self) -> usize
         requires { text_len (value_of self.now) < 2 ^ 64 }
@@ -186,8 +187,8 @@ impl<'a> Repr<'a> {
     }
 
     /// Writes the message over the front of the octets, as far as they go, and then, where the capabilities have it
-    /// computed, the checksum of all of them as a message from `src_addr` to `dst_addr`. Asks 8 bytes or more of an
-    /// echo; of an error its length or more, and that the quoted `payload_len` is at most 65,535; of a message of
+    /// computed, the checksum of all of them as a message from `src_addr` to `dst_addr`. Requires at least 8 bytes of
+    /// an echo; of an error its length or more, and that the quoted `payload_len` is at most 65,535; of a message of
     /// multicast listener discovery what `mld::Repr::emit` asks, and of neighbor discovery what `ndisc::Repr::emit`
     /// asks.
     pub fn emit<T: OctetsMut>(

@@ -16,7 +16,7 @@ use wirebase::{Ipv6Address, Octets, OctetsMut};
 const S_FLAG: u8 = 0x08;
 
 impl<T: Octets> Packet<T> {
-    /// The code of the longest time to answer a query in (RFC 3810 section 5.1.3). Asks 6 bytes.
+    /// The code of the longest time to answer a query in (RFC 3810 section 5.1.3). Requires at least 6 bytes.
     pub fn max_resp_code(&self) -> u16
         requires { Reaches max_resp_code_field (T.bytes (inner self.now)) }
         ensures { result ≡ number_of max_resp_code_field (T.bytes (inner self.now)) }
@@ -24,7 +24,7 @@ impl<T: Octets> Packet<T> {
         self.buffer.u16_at(field::MAX_RESP_CODE)
     }
 
-    /// The group that a query asks for, or `::` for all (RFC 3810 section 5.1.5). Asks 24 bytes.
+    /// The group that a query asks for, or `::` for all (RFC 3810 section 5.1.5). Requires at least 24 bytes.
     pub fn mcast_addr(&self) -> Ipv6Address
         requires { Reaches mcast_addr_field (T.bytes (inner self.now)) }
         ensures { octets_of result ≡ bytes_of mcast_addr_field (T.bytes (inner self.now)) }
@@ -38,7 +38,7 @@ impl<T: Octets> Packet<T> {
     }
 
     /// The flag S of a query: whether routers that hear it are to leave their timers as they are (RFC 3810 section
-    /// 5.1.7). Asks 25 bytes.
+    /// 5.1.7). Requires at least 25 bytes.
     pub fn s_flag(&self) -> bool
         requires { Reaches sqrv_field (T.bytes (inner self.now)) }
         ensures { IsTrue result ↔ (s_flag_in (T.bytes (inner self.now)) ≡ 1) }
@@ -46,7 +46,7 @@ impl<T: Octets> Packet<T> {
         self.buffer.u8_at(field::SQRV) / S_FLAG % 2 == 1
     }
 
-    /// The querier's robustness variable, 0 to 7 (RFC 3810 section 5.1.8). Asks 25 bytes.
+    /// The querier's robustness variable, 0 to 7 (RFC 3810 section 5.1.8). Requires at least 25 bytes.
     pub fn qrv(&self) -> u8
         requires { Reaches sqrv_field (T.bytes (inner self.now)) }
         ensures { result ≡ qrv_in (T.bytes (inner self.now)) }
@@ -54,7 +54,7 @@ impl<T: Octets> Packet<T> {
         self.buffer.u8_at(field::SQRV) % S_FLAG
     }
 
-    /// The code of the querier's interval (RFC 3810 section 5.1.9). Asks 26 bytes.
+    /// The code of the querier's interval (RFC 3810 section 5.1.9). Requires at least 26 bytes.
     pub fn qqic(&self) -> u8
         requires { Reaches qqic_field (T.bytes (inner self.now)) }
         ensures { result ≡ byte_of qqic_field (T.bytes (inner self.now)) }
@@ -62,7 +62,7 @@ impl<T: Octets> Packet<T> {
         self.buffer.u8_at(field::QQIC)
     }
 
-    /// The number of sources in a query (RFC 3810 section 5.1.10). Asks 28 bytes.
+    /// The number of sources in a query (RFC 3810 section 5.1.10). Requires at least 28 bytes.
     pub fn num_srcs(&self) -> u16
         requires { Reaches num_srcs_field (T.bytes (inner self.now)) }
         ensures { result ≡ number_of num_srcs_field (T.bytes (inner self.now)) }
@@ -70,7 +70,7 @@ impl<T: Octets> Packet<T> {
         self.buffer.u16_at(field::QUERY_NUM_SRCS)
     }
 
-    /// The number of records in a report (RFC 3810 section 5.2.3). Asks 8 bytes.
+    /// The number of records in a report (RFC 3810 section 5.2.3). Requires at least 8 bytes.
     pub fn nr_mcast_addr_rcrds(&self) -> u16
         requires { Reaches nr_mcast_addr_rcrds_field (T.bytes (inner self.now)) }
         ensures { result ≡ number_of nr_mcast_addr_rcrds_field (T.bytes (inner self.now)) }
@@ -80,7 +80,7 @@ impl<T: Octets> Packet<T> {
 }
 
 impl<T: OctetsMut> Packet<T> {
-    /// Writes the code of the longest time to answer a query in. Asks 6 bytes.
+    /// Writes the code of the longest time to answer a query in. Requires at least 6 bytes.
     pub fn set_max_resp_code(&mut self, value: u16)
         requires { Reaches max_resp_code_field (T.bytes (inner self.old)) }
         ensures writes { Sets T.bytes T.put self.old self.new max_resp_code_field
@@ -90,7 +90,7 @@ impl<T: OctetsMut> Packet<T> {
         self.buffer.set_u16(field::MAX_RESP_CODE, value);
     }
 
-    /// Writes the group that a query asks for. Asks 24 bytes.
+    /// Writes the group that a query asks for. Requires at least 24 bytes.
     pub fn set_mcast_addr(&mut self, value: Ipv6Address)
         requires { Reaches mcast_addr_field (T.bytes (inner self.old)) }
         ensures writes { Sets T.bytes T.put self.old self.new mcast_addr_field (octets_of value) }
@@ -100,7 +100,7 @@ impl<T: OctetsMut> Packet<T> {
             .set_bytes(field::QUERY_MCAST_ADDR, &value.octets());
     }
 
-    /// Sets the flag S, and writes zeros into the reserved bits beside it. Asks 25 bytes.
+    /// Sets the flag S, and writes zeros into the reserved bits beside it. Requires at least 25 bytes.
     pub fn set_s_flag(&mut self)
         requires { Reaches sqrv_field (T.bytes (inner self.old)) }
         ensures writes { Sets T.bytes T.put self.old self.new sqrv_field
@@ -111,7 +111,7 @@ impl<T: OctetsMut> Packet<T> {
         self.buffer.set_u8(field::SQRV, S_FLAG + qrv);
     }
 
-    /// Clears the flag S, and the reserved bits beside it. Asks 25 bytes.
+    /// Clears the flag S, and the reserved bits beside it. Requires at least 25 bytes.
     pub fn clear_s_flag(&mut self)
         requires { Reaches sqrv_field (T.bytes (inner self.old)) }
         ensures writes { Sets T.bytes T.put self.old self.new sqrv_field
@@ -122,8 +122,8 @@ impl<T: OctetsMut> Packet<T> {
         self.buffer.set_u8(field::SQRV, qrv);
     }
 
-    /// Writes the querier's robustness variable, and zeros into the reserved bits; the flag stays. Asks 25 bytes, and a
-    /// value below 8.
+    /// Writes the querier's robustness variable, and zeros into the reserved bits; the flag stays. Requires at least 25
+    /// bytes, and a value below 8.
     pub fn set_qrv(&mut self, value: u8)
         requires small { value < 8 }
         requires room { Reaches sqrv_field (T.bytes (inner self.old)) }
@@ -135,7 +135,7 @@ impl<T: OctetsMut> Packet<T> {
         self.buffer.set_u8(field::SQRV, S_FLAG * flag + value);
     }
 
-    /// Writes the code of the querier's interval. Asks 26 bytes.
+    /// Writes the code of the querier's interval. Requires at least 26 bytes.
     pub fn set_qqic(&mut self, value: u8)
         requires { Reaches qqic_field (T.bytes (inner self.old)) }
         ensures writes { Sets T.bytes T.put self.old self.new qqic_field (value ∷ []) }
@@ -144,7 +144,7 @@ impl<T: OctetsMut> Packet<T> {
         self.buffer.set_u8(field::QQIC, value);
     }
 
-    /// Writes the number of sources in a query. Asks 28 bytes.
+    /// Writes the number of sources in a query. Requires at least 28 bytes.
     pub fn set_num_srcs(&mut self, value: u16)
         requires { Reaches num_srcs_field (T.bytes (inner self.old)) }
         ensures writes { Sets T.bytes T.put self.old self.new num_srcs_field (big_bytes 2 value) }
@@ -153,7 +153,7 @@ impl<T: OctetsMut> Packet<T> {
         self.buffer.set_u16(field::QUERY_NUM_SRCS, value);
     }
 
-    /// Writes the number of records in a report. Asks 8 bytes.
+    /// Writes the number of records in a report. Requires at least 8 bytes.
     pub fn set_nr_mcast_addr_rcrds(&mut self, value: u16)
         requires { Reaches nr_mcast_addr_rcrds_field (T.bytes (inner self.old)) }
         ensures writes { Sets T.bytes T.put self.old self.new nr_mcast_addr_rcrds_field

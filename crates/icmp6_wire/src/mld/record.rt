@@ -61,7 +61,7 @@ impl<T: Octets> AddressRecord<T> {
         self.buffer
     }
 
-    /// The type. Asks 1 byte.
+    /// The type. Requires at least 1 byte.
     pub fn record_type(&self) -> RecordType
         requires { Reaches record_type_field (T.bytes (inner self.now)) }
         ensures { result ≡ record_type_of (byte_of record_type_field (T.bytes (inner self.now))) }
@@ -69,7 +69,7 @@ impl<T: Octets> AddressRecord<T> {
         RecordType::from(self.buffer.u8_at(field::RECORD_TYPE))
     }
 
-    /// The words of 4 bytes that the auxiliary data has. Asks 2 bytes.
+    /// The words of 4 bytes that the auxiliary data has. Requires at least 2 bytes.
     pub fn aux_data_len(&self) -> u8
         requires { Reaches aux_data_len_field (T.bytes (inner self.now)) }
         ensures { result ≡ byte_of aux_data_len_field (T.bytes (inner self.now)) }
@@ -77,7 +77,7 @@ impl<T: Octets> AddressRecord<T> {
         self.buffer.u8_at(field::AUX_DATA_LEN)
     }
 
-    /// The number of sources. Asks 4 bytes.
+    /// The number of sources. Requires at least 4 bytes.
     pub fn num_srcs(&self) -> u16
         requires { Reaches num_srcs_field (T.bytes (inner self.now)) }
         ensures { result ≡ number_of num_srcs_field (T.bytes (inner self.now)) }
@@ -85,7 +85,7 @@ impl<T: Octets> AddressRecord<T> {
         self.buffer.u16_at(field::RECORD_NUM_SRCS)
     }
 
-    /// The group. Asks 20 bytes.
+    /// The group. Requires at least 20 bytes.
     pub fn mcast_addr(&self) -> Ipv6Address
         requires { Reaches mcast_addr_field (T.bytes (inner self.now)) }
         ensures { octets_of result ≡ bytes_of mcast_addr_field (T.bytes (inner self.now)) }
@@ -100,7 +100,8 @@ impl<T: Octets> AddressRecord<T> {
 }
 
 impl<'a> AddressRecord<&'a [u8]> {
-    /// What stands after the fields, sources and auxiliary data, for as long as the octets live. Asks 20 bytes.
+    /// What stands after the fields, sources and auxiliary data, for as long as the octets live. Requires at least 20
+    /// bytes.
     pub fn payload(&self) -> &'a [u8]
         requires { Reaches mcast_addr_field (view_octets self.now) }
         ensures { result.now ≡ payload_in (view_octets self.now) }
@@ -110,7 +111,7 @@ impl<'a> AddressRecord<&'a [u8]> {
 }
 
 impl<T: OctetsMut> AddressRecord<T> {
-    /// Writes the type. Asks 1 byte.
+    /// Writes the type. Requires at least 1 byte.
     pub fn set_record_type(&mut self, value: RecordType)
         requires { Reaches record_type_field (T.bytes (inner self.old)) }
         ensures writes { Sets T.bytes T.put self.old self.new record_type_field
@@ -120,7 +121,7 @@ impl<T: OctetsMut> AddressRecord<T> {
         self.buffer.set_u8(field::RECORD_TYPE, value.into());
     }
 
-    /// Writes the words of 4 bytes that the auxiliary data has. Asks 2 bytes.
+    /// Writes the words of 4 bytes that the auxiliary data has. Requires at least 2 bytes.
     pub fn set_aux_data_len(&mut self, value: u8)
         requires { Reaches aux_data_len_field (T.bytes (inner self.old)) }
         ensures writes { Sets T.bytes T.put self.old self.new aux_data_len_field (value ∷ []) }
@@ -129,7 +130,7 @@ impl<T: OctetsMut> AddressRecord<T> {
         self.buffer.set_u8(field::AUX_DATA_LEN, value);
     }
 
-    /// Writes the number of sources. Asks 4 bytes.
+    /// Writes the number of sources. Requires at least 4 bytes.
     pub fn set_num_srcs(&mut self, value: u16)
         requires { Reaches num_srcs_field (T.bytes (inner self.old)) }
         ensures writes { Sets T.bytes T.put self.old self.new num_srcs_field (big_bytes 2 value) }
@@ -138,7 +139,7 @@ impl<T: OctetsMut> AddressRecord<T> {
         self.buffer.set_u16(field::RECORD_NUM_SRCS, value);
     }
 
-    /// Writes the group. Asks 20 bytes, and a multicast address.
+    /// Writes the group. Requires at least 20 bytes, and a multicast address.
     pub fn set_mcast_addr(&mut self, value: Ipv6Address)
         requires room { Reaches mcast_addr_field (T.bytes (inner self.old)) }
         requires group { IsMulticast value }
@@ -149,7 +150,7 @@ impl<T: OctetsMut> AddressRecord<T> {
             .set_bytes(field::RECORD_MCAST_ADDR, &value.octets());
     }
 
-    /// Lends what stands after the fields for writing; the fields stay. Asks 20 bytes.
+    /// Lends what stands after the fields for writing; the fields stay. Requires at least 20 bytes.
     #[tactic(auto, using(wirebase::proofs::Pieces::pieces))]
     pub fn payload_mut(&mut self) -> &mut [u8]
         requires { Reaches mcast_addr_field (T.bytes (inner self.old)) }
@@ -257,8 +258,8 @@ impl<'a> AddressRecordRepr<'a> {
         field::RECORD_MCAST_ADDR.end
     }
 
-    /// Writes the record over the front of the octets, without what stands after its fields; the others stay. Asks 20
-    /// bytes, and a multicast address.
+    /// Writes the record over the front of the octets, without what stands after its fields; the others stay. Requires
+    /// at least 20 bytes, and a multicast address.
     pub fn emit<T: OctetsMut>(&self, view: &mut AddressRecord<T>)
         requires room { Reaches mcast_addr_field (T.bytes (inner view.old)) }
         requires group { IsMulticast self.now.mcast_addr }

@@ -80,7 +80,7 @@ impl<'a> Repr<'a> {
         }
     }
 
-    /// The bytes that the message takes; of a list of records those before it, 8. Asks that a `usize` holds their
+    /// The bytes that the message takes; of a list of records those before it, 8. Requires that a `usize` holds their
     /// number.
     pub fn buffer_len(&self) -> usize
         requires { told_len (value_of self.now) < 2 ^ 64 }
@@ -92,7 +92,8 @@ impl<'a> Repr<'a> {
         }
     }
 
-    /// The bytes that the packet of the message has, a list of records counted. Asks that a `usize` holds their number.
+    /// The bytes that the packet of the message has, a list of records counted. Requires that a `usize` holds their
+    /// number.
     #[tactic(auto, using(crate::proofs::MldTexts::counts))]
     pub fn packet_len(&self) -> usize
         requires { text_len (value_of self.now) < 2 ^ 64 }
@@ -108,8 +109,8 @@ impl<'a> Repr<'a> {
         }
     }
 
-    /// Writes the message, with the checksum zero. Asks octets of just its length, a robustness variable below 8, and
-    /// of records that they are of groups and at most 65,535.
+    /// Writes the message, with the checksum zero. Requires octets of just its length, a robustness variable below 8,
+    /// and of records that they are of groups and at most 65,535.
     pub fn emit<T: OctetsMut>(&self, packet: &mut Packet<T>)
         requires { CanEmit (value_of self.now) (T.bytes (inner packet.old)) }
         ensures place { inner packet.new ≡ T.put (inner packet.old) (T.bytes (inner packet.new)) }

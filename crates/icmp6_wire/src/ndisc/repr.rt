@@ -148,7 +148,7 @@ impl<'a> Repr<'a> {
         }
     }
 
-    /// The bytes that the message takes: whole units behind its header. Asks that a `usize` holds their number.
+    /// The bytes that the message takes: whole units behind its header. Requires that a `usize` holds their number.
     #[tactic(auto, using(crate::proofs::NdiscTexts::texts))]
     pub fn buffer_len(&self) -> usize
         requires { text_len (value_of self.now) < 2 ^ 64 }
@@ -195,9 +195,9 @@ impl<'a> Repr<'a> {
     }
 
     /// Writes the message over the front of the octets, with the checksum zero; the others stay. Times are cut to their
-    /// whole units. Asks the bytes that the message takes; a lifetime of at most 65,535 seconds, and times of at most
-    /// 4,294,967,295 milliseconds; of a prefix lifetimes of at most 4,294,967,295 seconds; and of a redirected packet
-    /// that it counts its data as its payload, at most 1,992 bytes.
+    /// whole units. Requires the bytes that the message takes; a lifetime of at most 65,535 seconds, and times of at
+    /// most 4,294,967,295 milliseconds; of a prefix lifetimes of at most 4,294,967,295 seconds; and of a redirected
+    /// packet that it counts its data as its payload, at most 1,992 bytes.
     pub fn emit<T: OctetsMut>(&self, packet: &mut Packet<T>)
         requires sound { CanEmit (value_of self.now) }
         requires room { text_len (value_of self.now) ≤ length (T.bytes (inner packet.old)) }

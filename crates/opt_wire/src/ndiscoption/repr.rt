@@ -1,4 +1,4 @@
-//! The values of options of neighbour discovery (RFC 4861 section 4.6).
+//! The values of options of neighbor discovery (RFC 4861 section 4.6).
 
 ghost use Rattle.std.specs.Prelude.{◌≡◌, ◌+◌, ◌*◌, ◌≤◌, ◌<◌, ◌^◌, ◌↔◌, [], ◌∷◌, ℕ, List, length, IsTrue, IfOk, IsErr};
 ghost use Rattle.std.specs.Prelude.{IsOkAnd, Some};
@@ -134,7 +134,7 @@ impl<'a> Repr<'a> {
         }
     }
 
-    /// The bytes that the option takes, by the units that it counts: whole units. Asks that a `usize` holds their
+    /// The bytes that the option takes, by the units that it counts: whole units. Requires that a `usize` holds their
     /// number.
     #[tactic(auto, using(crate::proofs::NdiscOptionTexts::texts))]
     pub fn buffer_len(&self) -> usize
@@ -154,10 +154,10 @@ impl<'a> Repr<'a> {
         }
     }
 
-    /// Writes the option over the front of the octets, its reserved bytes and its padding zero; the others stay. Asks
-    /// the bytes that the option takes; times of 4,294,967,295 seconds at most; that a redirected header counts its
-    /// data as the payload, 1,992 bytes at most; and that the data of an unknown option, which counts one unit or
-    /// more, fills those units.
+    /// Writes the option over the front of the octets, its reserved bytes and its padding zero; the others stay.
+    /// Requires the bytes that the option takes; times of 4,294,967,295 seconds at most; that a redirected header
+    /// counts its data as the payload, 1,992 bytes at most; and that the data of an unknown option, which counts one
+    /// unit or more, fills those units.
     pub fn emit<T: OctetsMut>(&self, opt: &mut NdiscOption<T>)
         requires sound { CanEmit (value_of self.now) }
         requires room { text_len (value_of self.now) ≤ length (T.bytes (inner opt.old)) }

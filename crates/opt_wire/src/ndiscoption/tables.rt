@@ -1,4 +1,4 @@
-//! The types of neighbour discovery options, and the flags of a prefix (RFC 4861 section 4.6).
+//! The types of neighbor discovery options, and the flags of a prefix (RFC 4861 section 4.6).
 
 ghost use Rattle.std.specs.Prelude.{⊤, ◌≡◌, Some};
 ghost use Rattle.std.specs.Int.RustNames.{bit_and, bit_or, bit_xor};

@@ -199,7 +199,7 @@ fn write_icmpv6(packet: &[u8], room: &mut [u8]) -> u64 {
     }
 }
 
-// Reads an option of neighbour discovery.
+// Reads an option of neighbor discovery.
 fn read_ndisc_option(packet: &[u8]) -> u64 {
     match ndiscoption::Repr::parse(&ndiscoption::NdiscOption::new_unchecked(packet)) {
         Ok(ndiscoption::Repr::Mtu(mtu)) => mtu as u64,
@@ -207,7 +207,7 @@ fn read_ndisc_option(packet: &[u8]) -> u64 {
     }
 }
 
-// Reads an option of neighbour discovery, and writes it again.
+// Reads an option of neighbor discovery, and writes it again.
 fn write_ndisc_option(packet: &[u8], room: &mut [u8]) -> u64 {
     match ndiscoption::Repr::parse(&ndiscoption::NdiscOption::new_unchecked(packet)) {
         Ok(ndiscoption::Repr::Mtu(mtu)) => {

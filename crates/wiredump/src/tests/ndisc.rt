@@ -1,4 +1,4 @@
-//! Messages of neighbour discovery, inside ICMPv6.
+//! Messages of neighbor discovery, inside ICMPv6.
 
 use super::check;
 use super::icmp6::BETWEEN;

@@ -1,4 +1,4 @@
-//! Options of IPv6 and of neighbour discovery.
+//! Options of IPv6 and of neighbor discovery.
 
 use super::check_changed;
 

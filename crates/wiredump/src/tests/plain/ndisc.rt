@@ -1,4 +1,4 @@
-//! Messages of neighbour discovery (RFC 4861 sections 4.1 to 4.5).
+//! Messages of neighbor discovery (RFC 4861 sections 4.1 to 4.5).
 
 use super::options::{block, is_option, show_prefix, show_redirected};
 use super::text::{be16, behind, field, fields, line, none, number, octet, octets, part, seconds};

@@ -1,4 +1,4 @@
-//! Options of IPv6 (RFC 8200 section 4.2) and of neighbour discovery (RFC 4861 section 4.6).
+//! Options of IPv6 (RFC 8200 section 4.2) and of neighbor discovery (RFC 4861 section 4.6).
 
 use super::icmp6::show_quoted_header;
 use super::text::{

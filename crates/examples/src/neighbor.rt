@@ -9,9 +9,9 @@ ghost use Rattle.control_wire.specs.Ipv6Address.{octets_of as octets_in};
 ghost use Rattle.control_wire.specs.Icmpv6.{value_of, ndisc as neighbor_message};
 ghost use Rattle.control_wire.specs.Ndisc.{neighbor_advert, value_of as content_of};
 ghost use Rattle.control_wire.specs.NdiscTables.{neighbor_bits};
-ghost use Rattle.examples.specs.Neighbour.{Solicits, IsAnswer, TellsLinkAddress, TellsRouter};
-ghost use Rattle.examples.specs.Neighbour.{LinkAddressIn, RouterIn};
-ghost use Rattle.examples.specs.declared.neighbour.RouterInformation.{RouterInformation as RouterInfoValue};
+ghost use Rattle.examples.specs.Neighbor.{Solicits, IsAnswer, TellsLinkAddress, TellsRouter};
+ghost use Rattle.examples.specs.Neighbor.{LinkAddressIn, RouterIn};
+ghost use Rattle.examples.specs.declared.neighbor.RouterInformation.{RouterInformation as RouterInfoValue};
 
 use control_wire::icmpv6::{Packet, Repr};
 use control_wire::ndisc::{self, NeighborFlags};

@@ -1,8 +1,8 @@
 use Rattle.std.proofs.Common.{ap, sym, subst, ◌∙◌}
 use Rattle.control_wire.specs.Icmpv6.{ndisc, value_of}
-use Rattle.examples.specs.Neighbour.{RouterIn}
-use Rattle.examples.proofs.Neighbours.{content_in}
-use Rattle.examples.proofs.neighbour.router.Goals as goal
+use Rattle.examples.specs.Neighbor.{RouterIn}
+use Rattle.examples.proofs.Neighbors.{content_in}
+use Rattle.examples.proofs.neighbor.router.Goals as goal
 
 pub returns-in_default-clause-all : goal.returns-in_default-clause-all
 returns-in_default-clause-all c = λ router tells.

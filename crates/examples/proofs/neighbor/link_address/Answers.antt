@@ -1,8 +1,8 @@
 use Rattle.std.proofs.Common.{ap, sym, subst, ◌∙◌}
 use Rattle.control_wire.specs.Icmpv6.{ndisc, value_of}
-use Rattle.examples.specs.Neighbour.{LinkAddressIn}
-use Rattle.examples.proofs.Neighbours.{content_in}
-use Rattle.examples.proofs.neighbour.link_address.Goals as goal
+use Rattle.examples.specs.Neighbor.{LinkAddressIn}
+use Rattle.examples.proofs.Neighbors.{content_in}
+use Rattle.examples.proofs.neighbor.link_address.Goals as goal
 
 pub returns-in_default-clause-all : goal.returns-in_default-clause-all
 returns-in_default-clause-all c = λ address tells.

@@ -9,7 +9,7 @@ use Rattle.control_wire.specs.Icmpv6.{ndisc, packet_text}
 use Rattle.control_wire.specs.Ndisc.{NdiscValue, router_advert, neighbor_solicit, neighbor_advert}
 use Rattle.control_wire.specs.NdiscTables.{neighbor_bits}
 use Rattle.examples.specs.Ping.{IsGoodMessageV6}
-use Rattle.examples.specs.declared.neighbour.RouterInformation.{RouterInformation}
+use Rattle.examples.specs.declared.neighbor.RouterInformation.{RouterInformation}
 
 -- a message of neighbor discovery with a good checksum, between addresses
 abbrev pub IsGoodMessage : Ipv6Address → Ipv6Address → List ℕ → NdiscValue → Type 0

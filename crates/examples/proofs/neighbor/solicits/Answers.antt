@@ -1,6 +1,6 @@
 use Rattle.control_wire.specs.Icmpv6.{ndisc}
 use Rattle.control_wire.specs.Ndisc.{neighbor_solicit}
-use Rattle.examples.proofs.neighbour.solicits.Goals as goal
+use Rattle.examples.proofs.neighbor.solicits.Goals as goal
 
 pub returns-in_default : goal.returns-in_default
 returns-in_default c = (
