@@ -1,16 +1,16 @@
 -- One part of a name at the front of a text, in the words of the code that finds it.
-use Rattle.std.specs.Prelude.{◌≡◌, ℕ, ◌+◌, List, ◌++◌, length}
+use Rattle.std.specs.Prelude.{◌≡◌, ℕ, ◌+◌, List, ◌++◌, length, drop}
 use Rattle.dns_wire.specs.DnsName.{Stop, IsPart, IsOnePart}
 use Rattle.dns_wire.specs.declared.dns.part.Front.{Front as FrontOf}
 use Rattle.dns_wire.specs.declared.dns.part.Front.TheVariants.{Label, Pointer, End, Torn}
 use Rattle.dns_wire.specs.DnsNameAhead.{Front, whole, pointer, stop, torn}
 
--- what stands at the front of a text, without where it lies in memory
-abbrev pub shown : FrontOf → Front
-shown (Label bytes rest) = whole bytes.now rest.now
-shown (Pointer target) = pointer target
-shown End = stop
-shown Torn = torn
+-- what stands at the front of a text, without where it lies in memory; behind a label, the rest of the text
+abbrev pub shown : List ℕ → FrontOf → Front
+shown text (Label bytes) = whole bytes.now (drop (1 + length bytes.now) text)
+shown text (Pointer target) = pointer target
+shown text End = stop
+shown text Torn = torn
 
 -- a text is one part of a name, and then a rest
 pub record IsSplit (text name rest : List ℕ) : Type 0 where

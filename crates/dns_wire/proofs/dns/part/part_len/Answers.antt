@@ -1,6 +1,6 @@
 use Rattle.std.proofs.Common.{◌≡◌, ◌∙◌, ◌+◌, ℕ, Ok, length, drop, sym, ap, subst, arith}
 use Rattle.std.proofs.lemmas.List.{take_rest}
-use Rattle.dns_wire.specs.DnsNameAhead.{front_of}
+use Rattle.dns_wire.specs.DnsNameAhead.{front_of, whole}
 use Rattle.dns_wire.specs.DnsPart.{BeginsWithPart}
 use Rattle.dns_wire.proofs.DnsPartLen.{label_more, label_fewer, behind_label, pointer_len, pointer_one, end_len}
 use Rattle.dns_wire.proofs.DnsPartLen.{end_one, torn_none}
@@ -11,22 +11,21 @@ loop-label-preserved c =
     let text = c.args.text.now in
     let len = c.loop-label.len in
     let b = c.in-Label.label.now in
-    let r = c.in-Label.field-1.now in
-    let at = behind_label text b r len c.loop-label.invariant.inside
-    (c.in-Label.ensures ∙ ap front_of (take_rest c.args.text.now c.loop-label.len)) in
+    let r = drop (1 + length b) (drop len text) in
+    let front : whole b r ≡ front_of (drop len text) =
+    subst (λ t. whole b (drop (1 + length b) t) ≡ front_of t) (take_rest text len) c.in-Label.ensures in
+    let at = behind_label text b r len c.loop-label.invariant.inside front in
     record {
       inside = at.1;
       more = λ k begins.
-          let here = label_more (drop len text) b r
-          (c.in-Label.ensures ∙ ap front_of (take_rest c.args.text.now c.loop-label.len)) k
+          let here = label_more (drop len text) b r front k
           (subst (λ t. BeginsWithPart t k) (sym at.0) begins) in
           let e : len + ((1 + length b) + k) ≡ (len + (1 + length b)) + k = omega arith in
           subst (λ n. BeginsWithPart text n) e (c.loop-label.invariant.more ((1 + length b) + k) here);
       fewer = λ m begins.
           let here = c.loop-label.invariant.fewer m begins in
           let there =
-          label_fewer (drop len text) b r
-          (c.in-Label.ensures ∙ ap front_of (take_rest c.args.text.now c.loop-label.len)) here.more here.begins in
+          label_fewer (drop len text) b r front here.more here.begins in
           record {
             more = there.more;
             is = omega (arith, here.is, there.is);

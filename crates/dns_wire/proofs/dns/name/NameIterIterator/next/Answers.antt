@@ -1,4 +1,4 @@
-use Rattle.std.proofs.Common.{◌≡◌, ◌∙◌, ℕ, ◌+◌, ◌<◌, ◌≤◌, List, ◌∷◌, Some, Ok, Err, refl, sym, ap, arith, take, drop}
+use Rattle.std.proofs.Common.{◌≡◌, ◌∙◌, ℕ, ◌+◌, ◌<◌, ◌≤◌, List, ◌∷◌, Some, Ok, Err, refl, sym, ap, subst, arith, take, drop}
 use Rattle.std.proofs.Common.{length, slice_range, false}
 use Rattle.std.proofs.lemmas.List.{take-take, length-take-le}
 use Rattle.dns_wire.specs.DnsNameWalk.{Coming, label, at_end, at_fault}
@@ -34,9 +34,10 @@ at_label c =
     let text = slice_range from it.place it.end in
     let reach = take it.open_len it.message.now in
     let b = c.in-Label.label.now in
-    let r = c.in-Label.field-1.now in
+    let r = drop (1 + length b) text in
     let front : whole b r ≡ front_of text =
-    c.in-Label.ensures ∙ ap (λ s. front_of (slice_range s it.place it.end)) c.source-read.ensures in
+    subst (λ s. whole b (drop (1 + length b) (slice_range s it.place it.end)) ≡ front_of (slice_range s it.place it.end))
+    c.source-read.ensures c.in-Label.ensures in
     let l = range_label from b r it.place it.end c.loop-label.invariant.places.0 c.loop-label.invariant.places.1 front
     in
     let first = ahead_label it.steps text reach b r c.args.self.now.ahead front c.loop-label.invariant.same in
