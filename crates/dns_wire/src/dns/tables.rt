@@ -1,11 +1,11 @@
 //! The numbers of DNS messages: kinds of query, outcomes, types of record, and flags.
 
-ghost use Rattle.std.specs.Prelude.{⊤, ◌≡◌};
+ghost use Rattle.std.specs.Prelude.{⊤, ◌≡◌, map};
 ghost use Rattle.std.specs.Int.RustNames.{bit_and, bit_or, bit_xor};
 ghost use Rattle.bitflags.specs.Sets.{without};
 ghost use Rattle.wirebase.specs.Numbered.{IsProper, IsTable};
 ghost use Rattle.dns_wire.specs.DnsTables.{opcode_number, opcode_rows, opcode_of, rcode_number, rcode_rows, rcode_of};
-ghost use Rattle.dns_wire.specs.DnsTables.{type_number, type_rows, type_of, flag_rows};
+ghost use Rattle.dns_wire.specs.DnsTables.{type_number, type_rows, type_of, flag_rows, flag_bits};
 
 use bitflags::Flag;
 use std::ops::{BitAnd, BitOr, BitXor, Not, Sub};
@@ -266,7 +266,13 @@ impl bitflags::Flags for Flags {
 
     ghost set_of = { λ flags. flags.0 };
 
-    fn flags<'a>() -> &'a [Flag<Flags>] {
+    fn flags<'a>() -> &'a [Flag<Flags>]
+        ensures table { map (λ flag. (flag.name.now, flag_bits flag.value)) result.now ≡ flag_rows }
+        ensures constants { (Flags.RESPONSE.0 ≡ 0x8000) × (Flags.AUTHORITATIVE.0 ≡ 0x0400)
+            × (Flags.TRUNCATED.0 ≡ 0x0200) × (Flags.RECURSION_DESIRED.0 ≡ 0x0100)
+            × (Flags.RECURSION_AVAILABLE.0 ≡ 0x0080) × (Flags.AUTHENTIC_DATA.0 ≡ 0x0020)
+            × (Flags.CHECK_DISABLED.0 ≡ 0x0010) }
+    {
         Flags::NAMED
     }
 
