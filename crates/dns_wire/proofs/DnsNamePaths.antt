@@ -133,26 +133,40 @@ break_longest (f ∷ fs) (l ∷ ls) text reach b h =
     let more = break_longest fs ls k.0 reach (subst (λ r. Breaks r reach fs) e.1 a.2) k.3 in
     omega arith
 
--- no falling path is longer than a route to a break
-pub break_route_longest : (others targets : List ℕ) (other_parts parts : List (List (List ℕ))) (above : ℕ)
-    (text message : List ℕ) → above ≤ length message → Route Breaks text (take above message) targets parts
-    → IsFalling above others → HaveParts (text ∷ windows message above others) (map goes_on others) other_parts
+-- where a text closes so, it has no part that goes on at an open byte
+abbrev pub Stays : (List ℕ → List ℕ → List (List ℕ) → Type 0) → Type 0
+Stays C = (text reach : List ℕ) (final labels : List (List ℕ)) (q : ℕ) → C text reach final
+    → IsPart text labels (goes_on q) → q < length reach → ⊥
+
+pub break_stays : Stays Breaks
+break_stays text reach final labels q c h l =
+    let k = break_part final labels text reach (goes_on q) c h in
+    let e : q ≡ k.0 = cc in
+    absurd (omega (arith, k.2, l, e))
+
+pub end_stays : Stays Ends
+end_stays text reach final labels q c h l = let one = part_one labels final text (goes_on q) ends h c in cc
+
+-- no falling path is longer than a route to such a close
+pub route_longest : (C : List ℕ → List ℕ → List (List ℕ) → Type 0) → Stays C → (others targets : List ℕ)
+    (other_parts parts : List (List (List ℕ))) (above : ℕ) (text message : List ℕ) → above ≤ length message
+    → Route C text (take above message) targets parts → IsFalling above others
+    → HaveParts (text ∷ windows message above others) (map goes_on others) other_parts
     → length others ≤ length targets
-break_route_longest [] targets other_parts parts above text message b r f h = omega arith
-break_route_longest (q ∷ qs) targets [] parts above text message b r f h = absurd h
-break_route_longest (q ∷ qs) [] (labels ∷ more) parts above text message b r f h =
-    let k = break_part r.0 labels text (take above message) (goes_on q) r.2 h.0 in
-    absurd (let e : q ≡ k.0 = cc in omega (arith, length-take-le above message b, k.2, f.0, e))
-break_route_longest (q ∷ qs) (p ∷ ps) (labels ∷ more) [] above text message b r f h = absurd r
-break_route_longest (q ∷ qs) (p ∷ ps) (labels ∷ more) (first ∷ rest) above text message b r f h =
+route_longest C stays [] targets other_parts parts above text message b r f h = omega arith
+route_longest C stays (q ∷ qs) targets [] parts above text message b r f h = absurd h
+route_longest C stays (q ∷ qs) [] (labels ∷ more) parts above text message b r f h =
+    absurd (stays text (take above message) r.0 labels q r.2 h.0 (omega (arith, length-take-le above message b, f.0)))
+route_longest C stays (q ∷ qs) (p ∷ ps) (labels ∷ more) [] above text message b r f h = absurd r
+route_longest C stays (q ∷ qs) (p ∷ ps) (labels ∷ more) (first ∷ rest) above text message b r f h =
     let one = part_one labels first text (goes_on q) (goes_on p) h.0 r.1 in
     let e : p ≡ q = cc in
-    let at : Route Breaks (slice_range message q above) (take q message) ps rest =
-    subst (λ t. Route Breaks t (take q message) ps rest) (window_is message q above f.0)
-    (subst (λ r. Route Breaks (drop q (take above message)) r ps rest) (take-take q above message (omega (arith, f.0)))
-    (subst (λ n. Route Breaks (drop n (take above message)) (take n (take above message)) ps rest) e r.2)) in
-    let k = break_route_longest qs ps more rest q (slice_range message q above) message
-    (omega (arith, f.0)) at f.1 h.1 in
+    let at : Route C (slice_range message q above) (take q message) ps rest =
+    subst (λ t. Route C t (take q message) ps rest) (window_is message q above f.0)
+    (subst (λ r. Route C (drop q (take above message)) r ps rest) (take-take q above message (omega (arith, f.0)))
+    (subst (λ n. Route C (drop n (take above message)) (take n (take above message)) ps rest) e r.2)) in
+    let k = route_longest C stays qs ps more rest q (slice_range message q above) message (omega (arith, f.0)) at
+    f.1 h.1 in
     omega arith
 
 -- a route to an end is no route to a break
@@ -205,24 +219,3 @@ follows_one message text labels others (there first more place k l f e) (there f
     let rest = follows_one message (drop place message) more more' f
     (subst (λ n. Follows message (drop n message) more') same f') in
     cc
-
--- no falling path is longer than a route to an end
-pub end_route_longest : (others targets : List ℕ) (other_parts parts : List (List (List ℕ))) (above : ℕ)
-    (text message : List ℕ) → above ≤ length message → Route Ends text (take above message) targets parts
-    → IsFalling above others → HaveParts (text ∷ windows message above others) (map goes_on others) other_parts
-    → length others ≤ length targets
-end_route_longest [] targets other_parts parts above text message b r f h = omega arith
-end_route_longest (q ∷ qs) targets [] parts above text message b r f h = absurd h
-end_route_longest (q ∷ qs) [] (labels ∷ more) parts above text message b r f h =
-    let one = part_one labels r.0 text (goes_on q) ends h.0 r.2 in
-    cc
-end_route_longest (q ∷ qs) (p ∷ ps) (labels ∷ more) [] above text message b r f h = absurd r
-end_route_longest (q ∷ qs) (p ∷ ps) (labels ∷ more) (first ∷ rest) above text message b r f h =
-    let one = part_one labels first text (goes_on q) (goes_on p) h.0 r.1 in
-    let e : p ≡ q = cc in
-    let at : Route Ends (slice_range message q above) (take q message) ps rest =
-    subst (λ t. Route Ends t (take q message) ps rest) (window_is message q above f.0)
-    (subst (λ r. Route Ends (drop q (take above message)) r ps rest) (take-take q above message (omega (arith, f.0)))
-    (subst (λ n. Route Ends (drop n (take above message)) (take n (take above message)) ps rest) e r.2)) in
-    let k = end_route_longest qs ps more rest q (slice_range message q above) message (omega (arith, f.0)) at f.1 h.1 in
-    omega arith

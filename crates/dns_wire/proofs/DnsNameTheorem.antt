@@ -14,8 +14,8 @@ use Rattle.dns_wire.proofs.DnsNameTurns.{whole_parts, Whole-front, Whole-length,
 use Rattle.dns_wire.proofs.DnsNameTurns.{parts_length}
 use Rattle.dns_wire.proofs.DnsNameParts.{part_one, label_front, after_first_label}
 use Rattle.dns_wire.proofs.DnsNameRoutes.{Breaks, Ends, Route, found, route_ahead, ends_ahead, breaks_ahead}
-use Rattle.dns_wire.proofs.DnsNamePaths.{complete_route, opened, break_part, break_longest, break_route_longest}
-use Rattle.dns_wire.proofs.DnsNamePaths.{end_route_longest, route_follows, follows_one}
+use Rattle.dns_wire.proofs.DnsNamePaths.{complete_route, opened, break_part, break_longest, break_stays}
+use Rattle.dns_wire.proofs.DnsNamePaths.{end_stays, route_longest, route_follows, follows_one}
 
 -- the whole message is open at first
 whole_open : (C : List ℕ → List ℕ → List (List ℕ) → Type 0) (text message targets : List ℕ)
@@ -85,7 +85,7 @@ route_broken text message targets parts r =
       o.final,
       record {
         path = record { falls = o.falls; parts_lead = o.leads };
-        longest = λ others other_parts path. break_route_longest others targets other_parts parts
+        longest = λ others other_parts path. route_longest Breaks break_stays others targets other_parts parts
             (length message) text message (omega arith) at path.falls path.parts_lead;
         no_end = λ labels h. let k = break_part o.final labels _ o.reach ends o.closes h in cc;
         whole_front = record { rest = o.closes.rest; each = o.closes.each; whole = o.closes.is };
@@ -177,7 +177,7 @@ gives_broken text message targets parts front path =
           (open_whole Ends text message r.0 r.1 r.2) in
           let not_longer = path.longest r.0 o.firsts (record { falls = o.falls; parts_lead = o.leads }) in
           let not_shorter : length targets ≤ length r.0 =
-          end_route_longest targets r.0 parts r.1 (length message) text message (omega arith)
+          route_longest Ends end_stays targets r.0 parts r.1 (length message) text message (omega arith)
           (open_whole Ends text message r.0 r.1 r.2) path.path.falls path.path.parts_lead in
           let one = path_one r.0 targets o.firsts parts (length message) text message o.leads path.path.parts_lead
           (omega arith) in
