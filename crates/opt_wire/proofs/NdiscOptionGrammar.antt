@@ -3,11 +3,11 @@ use Rattle.std.proofs.Common.{◌≡◌, ◌≢◌, ℕ, List, refl, sym, ap, �
 use Rattle.std.specs.Prelude.{Result, Ok, Err}
 use Rattle.std.specs.Result.{IfOk, IsOkAnd, IsErr}
 use Rattle.wirebase.specs.Bytes.{byte_of, bytes_of}
-use Rattle.wirebase.specs.Duration.{micros_of, of_micros}
 use Rattle.wirebase.specs.Ipv6.{IsPacket}
 use Rattle.wirebase.specs.declared.duration.Duration.{Duration}
 use Rattle.wirebase.specs.declared.ipv6.address.Ipv6Address.{Ipv6Address}
 use Rattle.wirebase.specs.declared.ipv6.Ipv6Repr.{Ipv6Repr}
+use Rattle.wirebase.proofs.Durations.{same_duration}
 use Rattle.wirebase.proofs.Numbered.{number-case_in}
 use Rattle.wirebase.proofs.Ipv6Header.{same_address, one_header}
 use Rattle.opt_wire.specs.NdiscOption.{type_field, units_in, redirected_field}
@@ -27,10 +27,6 @@ flags_of bits = record { 0 = bits }
 same_flags : (f g : PrefixInfoFlags) → f.0 ≡ g.0 → f ≡ g
 unfolding flags_of
 same_flags f g e = ap flags_of e
-
--- durations are their microseconds
-pub same_duration : (d e : Duration) → micros_of d ≡ micros_of e → d ≡ e
-same_duration d e same = ap of_micros same
 
 prefix_at : ℕ → PrefixInfoFlags → Duration → Duration → Ipv6Address → PrefixInformation
 prefix_at len flags valid preferred address =

@@ -6,7 +6,7 @@ use Rattle.byteorder.specs.Endian.{big_bytes}
 use Rattle.byteorder.specs.Numbers.{big_number-reads_back}
 use Rattle.wirebase.specs.Bytes.{part, over, bytes_of}
 use Rattle.wirebase.specs.ByteWriter.{be8, be16, be32, fields}
-use Rattle.wirebase.specs.Duration.{seconds_of}
+use Rattle.wirebase.specs.Duration.{seconds_of, whole_seconds}
 use Rattle.wirebase.specs.Ip.{protocol_number, protocol_rows}
 use Rattle.wirebase.specs.Ipv6.{IsPacket, payload_field, payload_len_in, header_fields, header_text}
 use Rattle.wirebase.specs.Ipv6Address.{octets_of}
@@ -19,7 +19,7 @@ use Rattle.wirebase.proofs.Pieces.{over-fits}
 use Rattle.opt_wire.specs.NdiscOption.{redirected_field, BeginsWithBlock}
 use Rattle.opt_wire.specs.NdiscOptionTables.{flag_bits}
 use Rattle.opt_wire.specs.NdiscOptionRepr.{OptionValue, source, target, prefix_, redirected, mtu, unknown}
-use Rattle.opt_wire.specs.NdiscOptionRepr.{whole, units, padding, filled, IsLinkAddr, BeginsWith, IsCanonicalPrefix}
+use Rattle.opt_wire.specs.NdiscOptionRepr.{units, padding, filled, IsLinkAddr, BeginsWith, IsCanonicalPrefix}
 use Rattle.opt_wire.specs.NdiscOptionRepr.{IsCanonicalRedirected, IsCanonical, IsUnnamed, text, norm}
 use Rattle.opt_wire.specs.declared.ndiscoption.repr.PrefixInformation.{PrefixInformation}
 use Rattle.opt_wire.proofs.NdiscOptionTexts.{link_text, prefix_text, redirected_text, mtu_text, unknown_text}
@@ -96,7 +96,10 @@ link_same t (a ∷ b ∷ c ∷ d ∷ e ∷ f ∷ g ∷ h ∷ i ∷ more) fits = 
 -- ---- prefixes
 
 abbrev prefix_of : PrefixInformation → PrefixInformation
-prefix_of p = record p { valid_lifetime = whole p.valid_lifetime; preferred_lifetime = whole p.preferred_lifetime }
+prefix_of p = record p {
+  valid_lifetime = whole_seconds p.valid_lifetime;
+  preferred_lifetime = whole_seconds p.preferred_lifetime;
+}
 
 prefix_read : (p : PrefixInformation) (rest : List ℕ) → IsCanonicalPrefix p
     → BeginsWith

@@ -4,7 +4,7 @@ use Rattle.std.specs.Prelude.{◌≡◌, ◌≢◌, ℕ, ◌+◌, ◌-◌, ◌*�
 use Rattle.std.specs.Prelude.{◌++◌, codes, decimal, length, replicate}
 use Rattle.wirebase.specs.Bytes.{bytes_of, byte_of, number_of, over}
 use Rattle.wirebase.specs.ByteWriter.{be8, be16, be32, fields}
-use Rattle.wirebase.specs.Duration.{micros_of, of_micros, seconds_of}
+use Rattle.wirebase.specs.Duration.{micros_of, seconds_of, whole_seconds}
 use Rattle.wirebase.specs.Ethernet.{hex_colons}
 use Rattle.wirebase.specs.Format.{Format, RoundTrips}
 use Rattle.wirebase.specs.HardwareAddress.{raw_bytes}
@@ -194,16 +194,16 @@ IsCanonical (unknown t n d) = IsUnnamed t × (t < 256) × (1 ≤ n) × (n < 256)
 abbrev pub filled : List ℕ → List ℕ
 filled address = address ++ replicate ((if nat_lt 6 (length address) then 8 else 6) - length address) 0
 
--- a time in whole seconds
-abbrev pub whole : Duration → Duration
-whole time = of_micros (1000000 * seconds_of time)
-
 -- the normal form: link-layer addresses filled with zeros, and times in whole seconds
 abbrev pub norm : OptionValue → OptionValue
 norm (source address) = source (filled address)
 norm (target address) = target (filled address)
 norm (prefix_ p) =
-    prefix_ (record p { valid_lifetime = whole p.valid_lifetime; preferred_lifetime = whole p.preferred_lifetime })
+    prefix_
+    (record p {
+      valid_lifetime = whole_seconds p.valid_lifetime;
+      preferred_lifetime = whole_seconds p.preferred_lifetime;
+    })
 norm v = v
 
 -- the format; no value is an exception, and what is read is its own normal form
