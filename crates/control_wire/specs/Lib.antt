@@ -9,7 +9,7 @@ pub use Rattle.wirebase.specs.Checksum
 pub use Rattle.wirebase.specs.Display
 pub use Rattle.wirebase.specs.Duration
 pub use Rattle.wirebase.specs.Ethernet
-pub use Rattle.wirebase.specs.EthernetModel
+pub use Rattle.wirebase.specs.HardwareAddress
 pub use Rattle.wirebase.specs.Format
 pub use Rattle.wirebase.specs.Hardware
 pub use Rattle.wirebase.specs.Icmp

@@ -9,6 +9,7 @@ use Rattle.wirebase.specs.Bytes.{Reaches, byte_of, bytes_of, number_of}
 use Rattle.wirebase.specs.ByteWriter.{be8, be16, be32, fields}
 use Rattle.wirebase.specs.Ethernet.{Ethernet}
 use Rattle.wirebase.specs.Ethernet.{octets_of as ethernet_octets}
+use Rattle.wirebase.specs.HardwareAddress.{ethernet_of}
 use Rattle.wirebase.specs.Ipv4.{octets_of}
 use Rattle.wirebase.specs.LastOf.{last_of}
 use Rattle.wirebase.specs.declared.ipv4.Ipv4Address.{Ipv4Address}
@@ -50,7 +51,7 @@ value_of r = record {
   message_type = r.message_type;
   transaction_id = r.transaction_id;
   secs = r.secs;
-  client_hardware_address = r.client_hardware_address;
+  client_hardware_address = ethernet_of r.client_hardware_address;
   client_ip = r.client_ip;
   your_ip = r.your_ip;
   server_ip = r.server_ip;
@@ -59,7 +60,7 @@ value_of r = record {
   relay_agent_ip = r.relay_agent_ip;
   broadcast = r.broadcast;
   requested_ip = r.requested_ip;
-  client_identifier = r.client_identifier;
+  client_identifier = option_map ethernet_of r.client_identifier;
   server_identifier = r.server_identifier;
   parameter_request_list = option_map (λ l. l.now) r.parameter_request_list;
   dns_servers = option_map (λ l. l.items) r.dns_servers;

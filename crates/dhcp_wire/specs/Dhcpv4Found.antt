@@ -4,6 +4,7 @@ use Rattle.std.specs.Option.{option_map, option_or}
 use Rattle.std.specs.Prelude.{flat_map}
 use Rattle.wirebase.specs.Bytes.{bytes_of, number_of}
 use Rattle.wirebase.specs.Ethernet.{octets_of as ethernet_octets}
+use Rattle.wirebase.specs.HardwareAddress.{ethernet_of}
 use Rattle.wirebase.specs.Ipv4.{octets_of}
 use Rattle.dhcp_wire.specs.declared.dhcpv4.found.Found.{Found}
 use Rattle.dhcp_wire.specs.declared.dhcpv4.tables.MessageType.{MessageType}
@@ -31,7 +32,7 @@ abbrev pub kept_of : Found → Kept
 kept_of found = record {
   message_type = found.message_type;
   requested_ip = option_map octets_of found.requested_ip;
-  client_identifier = option_map ethernet_octets found.client_identifier;
+  client_identifier = option_map ethernet_octets (option_map ethernet_of found.client_identifier);
   server_identifier = option_map octets_of found.server_identifier;
   router = option_map octets_of found.router;
   subnet_mask = option_map octets_of found.subnet_mask;

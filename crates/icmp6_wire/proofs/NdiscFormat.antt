@@ -8,11 +8,15 @@ use Rattle.std.specs.Option.{option_map, option_or}
 use Rattle.std.proofs.lemmas.Nat.{and_assoc}
 use Rattle.wirebase.specs.Bytes.{IsBytes, over, byte_of, number_of}
 use Rattle.wirebase.specs.ByteWriter.{be8, be16, be32, fields}
+use Rattle.wirebase.specs.Duration.{micros_of, millis_of, seconds_of, whole_millis, whole_seconds}
 use Rattle.wirebase.specs.Format.{SameText}
 use Rattle.wirebase.specs.Icmp.{type_field}
 use Rattle.wirebase.specs.Ipv6Address.{octets_of}
+use Rattle.wirebase.specs.declared.duration.Duration.{Duration}
 use Rattle.wirebase.specs.declared.ipv6.Ipv6Repr.{Ipv6Repr}
 use Rattle.wirebase.proofs.ByteParts.{IsBytes-drop, IsBytes-front, IsBytes-rest, number_of-small}
+use Rattle.wirebase.proofs.Durations.{same_duration, millis-times, seconds-times}
+use Rattle.wirebase.proofs.Durations.{whole_millis-read, whole_seconds-read}
 use Rattle.wirebase.proofs.Format.{IsFormat, round_trips, same_text}
 use Rattle.wirebase.proofs.Ipv6Header.{same_address}
 use Rattle.wirebase.proofs.Pieces.{over-exact}
@@ -26,13 +30,13 @@ use Rattle.icmp6_wire.specs.Icmpv6Packet.{header_len_in, payload_in}
 use Rattle.icmp6_wire.specs.NdiscBlocks.{AreBlocks, ends, goes_on, skips, source_in, target_in, mtu_in}
 use Rattle.icmp6_wire.specs.NdiscBlocks.{prefix_in, redirected_in}
 use Rattle.icmp6_wire.specs.NdiscPacket.{router_flags_field, neighbor_flags_field, router_lifetime_field}
-use Rattle.icmp6_wire.specs.NdiscPacket.{reachable_time_field, retrans_time_field, seconds, millis}
+use Rattle.icmp6_wire.specs.NdiscPacket.{reachable_time_field, retrans_time_field}
 use Rattle.icmp6_wire.specs.NdiscTables.{router_bits, neighbor_bits, known_router, known_neighbor}
 use Rattle.icmp6_wire.specs.Ndisc.{NdiscValue, router_solicit, router_advert, neighbor_solicit, neighbor_advert}
 use Rattle.icmp6_wire.specs.Ndisc.{redirect}
 use Rattle.icmp6_wire.specs.Ndisc.{sources, targets, mtus, prefixes, packets, option_text, text, text_len}
 use Rattle.icmp6_wire.specs.Ndisc.{IfThere, IsContent, IsMessage, IsCanonicalHeader, IsCanonical}
-use Rattle.icmp6_wire.specs.Ndisc.{whole_seconds, whole_millis, whole_prefix, norm, format, Emits}
+use Rattle.icmp6_wire.specs.Ndisc.{whole_prefix, norm, format, Emits}
 use Rattle.icmp6_wire.specs.declared.ndisc.flags.NeighborFlags.{NeighborFlags}
 use Rattle.icmp6_wire.specs.declared.ndisc.flags.RouterFlags.{RouterFlags}
 use Rattle.icmp6_wire.proofs.NdiscReading.{kind_of, message_text}
@@ -70,9 +74,9 @@ same_content bytes os (router_advert hops flags lifetime reachable retrans l m p
     (router_advert others marks time reaches waits k n q) a b same =
     let one = a.0.hops_ ∙ sym b.0.hops_ in
     let two = same_router_flags flags marks (a.0.flags_ ∙ sym b.0.flags_) in
-    let three = a.0.lifetime_ ∙ sym b.0.lifetime_ in
-    let four = a.0.reachable_ ∙ sym b.0.reachable_ in
-    let five = a.0.retrans_ ∙ sym b.0.retrans_ in
+    let three = same_duration lifetime time (a.0.lifetime_ ∙ sym b.0.lifetime_) in
+    let four = same_duration reachable reaches (a.0.reachable_ ∙ sym b.0.reachable_) in
+    let five = same_duration retrans waits (a.0.retrans_ ∙ sym b.0.retrans_) in
     let six = a.1 ∙ sym b.1 in
     let seven = a.2 ∙ sym b.2 in
     let eight = a.3 ∙ sym b.3 in
@@ -207,11 +211,11 @@ known-router bits = and_assoc 0xc0 bits 0xc0
 known-neighbor : (bits : ℕ) → known_neighbor (known_neighbor bits) ≡ known_neighbor bits
 known-neighbor bits = and_assoc 0xe0 bits 0xe0
 
-few_seconds : (micros n : ℕ) → micros ≡ 1000000 * n → n < 2 ^ 16 → seconds micros ≤ 65535
-few_seconds micros n e small = omega (arith, e, small)
+few_seconds : (time : Duration) (n : ℕ) → micros_of time ≡ 1000000 * n → n < 2 ^ 16 → seconds_of time ≤ 65535
+few_seconds time n e small = omega (arith, e, small)
 
-few_millis : (micros n : ℕ) → micros ≡ 1000 * n → n < 2 ^ 32 → millis micros ≤ 4294967295
-few_millis micros n e small = omega (arith, e, small)
+few_millis : (time : Duration) (n : ℕ) → micros_of time ≡ 1000 * n → n < 2 ^ 32 → millis_of time ≤ 4294967295
+few_millis time n e small = omega (arith, e, small)
 
 canonical_header : (bytes : List ℕ) (os : List OptionValue) (v : NdiscValue) → IsBytes bytes → IsContent bytes os v
     → IsCanonicalHeader v
@@ -269,26 +273,13 @@ unfolding IsGood
 kept_prefix None g = refl
 kept_prefix (Some p) g = ap prefix_in g.1
 
-seconds-times : (n : ℕ) → seconds (1000000 * n) ≡ n
-seconds-times n = omega arith
-
-millis-times : (n : ℕ) → millis (1000 * n) ≡ n
-millis-times n = omega arith
-
-kept_seconds : (micros n : ℕ) → micros ≡ 1000000 * n → whole_seconds micros ≡ micros
-kept_seconds micros n e =
-    ap whole_seconds e ∙ ap (λ (k : ℕ). 1000000 * k) (seconds-times n) ∙ sym e
-
-kept_millis : (micros n : ℕ) → micros ≡ 1000 * n → whole_millis micros ≡ micros
-kept_millis micros n e = ap whole_millis e ∙ ap (λ (k : ℕ). 1000 * k) (millis-times n) ∙ sym e
-
 norm-content : (bytes : List ℕ) (os : List OptionValue) (v : NdiscValue) → IsContent bytes os v → AreGood v → norm v ≡ v
 unfolding AreGood
 norm-content bytes os (router_solicit l) a g = ap router_solicit (kept_source l g)
 norm-content bytes os (router_advert hops flags lifetime reachable retrans l m p) a g =
-    let one = kept_seconds lifetime (number_of router_lifetime_field bytes) a.0.lifetime_ in
-    let two = kept_millis reachable (number_of reachable_time_field bytes) a.0.reachable_ in
-    let three = kept_millis retrans (number_of retrans_time_field bytes) a.0.retrans_ in
+    let one = whole_seconds-read lifetime (number_of router_lifetime_field bytes) a.0.lifetime_ in
+    let two = whole_millis-read reachable (number_of reachable_time_field bytes) a.0.reachable_ in
+    let three = whole_millis-read retrans (number_of retrans_time_field bytes) a.0.retrans_ in
     let four = kept_source l g.0 in
     let five = kept_prefix p g.2 in
     cc
@@ -323,9 +314,9 @@ norm-canonical (router_advert hops flags lifetime reachable retrans l m p) c = (
     c.0.0,
     c.0.1,
     (
-      omega (arith, seconds-times (seconds lifetime), c.0.2.0),
-      omega (arith, millis-times (millis reachable), c.0.2.1),
-      omega (arith, millis-times (millis retrans), c.0.2.2),
+      omega (arith, seconds-times (seconds_of lifetime), c.0.2.0),
+      omega (arith, millis-times (millis_of reachable), c.0.2.1),
+      omega (arith, millis-times (millis_of retrans), c.0.2.2),
     ),
   ),
   (norm_source l c.1.0, (c.1.1.0, (norm_prefix p c.1.1.1.0, tt))),
@@ -347,11 +338,11 @@ pub norm-norm : (v : NdiscValue) → norm (norm v) ≡ norm v
 norm-norm (router_solicit l) = ap router_solicit (filled-filled l)
 norm-norm (router_advert hops flags lifetime reachable retrans l m p) =
     let one : whole_seconds (whole_seconds lifetime) ≡ whole_seconds lifetime =
-    kept_seconds (whole_seconds lifetime) (seconds lifetime) refl in
+    whole_seconds-read (whole_seconds lifetime) (seconds_of lifetime) refl in
     let two : whole_millis (whole_millis reachable) ≡ whole_millis reachable =
-    kept_millis (whole_millis reachable) (millis reachable) refl in
+    whole_millis-read (whole_millis reachable) (millis_of reachable) refl in
     let three : whole_millis (whole_millis retrans) ≡ whole_millis retrans =
-    kept_millis (whole_millis retrans) (millis retrans) refl in
+    whole_millis-read (whole_millis retrans) (millis_of retrans) refl in
     let four = filled-filled l in
     let five = prefix-prefix p in
     cc
@@ -387,18 +378,18 @@ norm-text (router_advert hops flags lifetime reachable retrans l m p) c =
     let middle : List ℕ = option_text (mtus m) in
     let second : List ℕ = option_text (prefixes p) in
     let first : List ℕ = option_text (sources l) in
-    ap (λ (n : ℕ). router_text hops bits n (millis (whole_millis reachable)) (millis (whole_millis retrans))
+    ap (λ (n : ℕ). router_text hops bits n (millis_of (whole_millis reachable)) (millis_of (whole_millis retrans))
     (option_text (sources (option_map filled l))) middle (option_text (prefixes (option_map whole_prefix p))))
-    (seconds-times (seconds lifetime))
-    ∙ ap (λ (n : ℕ). router_text hops bits (seconds lifetime) n (millis (whole_millis retrans))
+    (seconds-times (seconds_of lifetime))
+    ∙ ap (λ (n : ℕ). router_text hops bits (seconds_of lifetime) n (millis_of (whole_millis retrans))
     (option_text (sources (option_map filled l))) middle (option_text (prefixes (option_map whole_prefix p))))
-    (millis-times (millis reachable))
-    ∙ ap (λ (n : ℕ). router_text hops bits (seconds lifetime) (millis reachable) n
+    (millis-times (millis_of reachable))
+    ∙ ap (λ (n : ℕ). router_text hops bits (seconds_of lifetime) (millis_of reachable) n
     (option_text (sources (option_map filled l))) middle (option_text (prefixes (option_map whole_prefix p))))
-    (millis-times (millis retrans))
-    ∙ ap (λ (o : List ℕ). router_text hops bits (seconds lifetime) (millis reachable) (millis retrans) o middle
+    (millis-times (millis_of retrans))
+    ∙ ap (λ (o : List ℕ). router_text hops bits (seconds_of lifetime) (millis_of reachable) (millis_of retrans) o middle
     (option_text (prefixes (option_map whole_prefix p)))) (source-text l c.1.0)
-    ∙ ap (λ (o : List ℕ). router_text hops bits (seconds lifetime) (millis reachable) (millis retrans) first middle o)
+    ∙ ap (λ (o : List ℕ). router_text hops bits (seconds_of lifetime) (millis_of reachable) (millis_of retrans) first middle o)
     (prefix-text p c.1.1.1.0)
 norm-text (neighbor_solicit t l) c =
     ap (λ (o : List ℕ). fields (be8 0x87 ∷ be8 0 ∷ be16 0 ∷ be32 0 ∷ octets_of t ∷ o ∷ [])) (source-text l c.1.0)

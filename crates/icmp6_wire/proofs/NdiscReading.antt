@@ -8,6 +8,7 @@ use Rattle.byteorder.specs.Endian.{big_bytes}
 use Rattle.byteorder.specs.Numbers.{big_number-reads_back}
 use Rattle.wirebase.specs.Bytes.{part}
 use Rattle.wirebase.specs.ByteWriter.{be8, be16, be32, fields}
+use Rattle.wirebase.specs.Duration.{millis_of, seconds_of}
 use Rattle.wirebase.specs.Ipv6Address.{octets_of}
 use Rattle.wirebase.specs.declared.ipv6.Ipv6Repr.{Ipv6Repr}
 use Rattle.opt_wire.specs.NdiscOption.{units_in}
@@ -21,7 +22,6 @@ use Rattle.opt_wire.proofs.NdiscOptionTexts.{length-text as length-option}
 use Rattle.wirebase.specs.LastOf.{last_of}
 use Rattle.icmp6_wire.specs.NdiscBlocks.{IsBlock, AreBlocks, ends, goes_on, source_in, target_in, mtu_in}
 use Rattle.icmp6_wire.specs.NdiscBlocks.{prefix_in, redirected_in}
-use Rattle.icmp6_wire.specs.NdiscPacket.{seconds, millis}
 use Rattle.icmp6_wire.specs.NdiscTables.{router_bits, neighbor_bits}
 use Rattle.icmp6_wire.specs.Ndisc.{NdiscValue, router_solicit, router_advert, neighbor_solicit, neighbor_advert}
 use Rattle.icmp6_wire.specs.Ndisc.{redirect}
@@ -41,8 +41,8 @@ text_units (mtu n) = omega (arith, ap units_in (mtu_text n))
 text_units (unknown t n d) = omega (arith, ap units_in (unknown_text t n d))
 
 pub can_emit : (v : OptionValue) → option.IsCanonical v → option.CanEmit v
-can_emit (source address) c = c
-can_emit (target address) c = c
+can_emit (source address) c = tt
+can_emit (target address) c = tt
 can_emit (prefix_ p) c = (c.valid, c.preferred)
 can_emit (redirected h d) c = (c.payload, c.small)
 can_emit (mtu n) c = tt
@@ -131,9 +131,9 @@ pub body : NdiscValue → List ℕ
 body (router_solicit l) = 0 ∷ 0 ∷ 0 ∷ 0 ∷ tail (router_solicit l)
 body (router_advert hops flags lifetime reachable retrans l m p) =
     hops ∷ router_bits flags
-    ∷ (big_bytes 2 (seconds lifetime)
-    ++ (big_bytes 4 (millis reachable)
-    ++ (big_bytes 4 (millis retrans) ++ tail (router_advert hops flags lifetime reachable retrans l m p))))
+    ∷ (big_bytes 2 (seconds_of lifetime)
+    ++ (big_bytes 4 (millis_of reachable)
+    ++ (big_bytes 4 (millis_of retrans) ++ tail (router_advert hops flags lifetime reachable retrans l m p))))
 body (neighbor_solicit t l) = 0 ∷ 0 ∷ 0 ∷ 0 ∷ (octets_of t ++ tail (neighbor_solicit t l))
 body (neighbor_advert flags t l) = neighbor_bits flags ∷ 0 ∷ 0 ∷ 0 ∷ (octets_of t ++ tail (neighbor_advert flags t l))
 body (redirect t d l r) = 0 ∷ 0 ∷ 0 ∷ 0 ∷ (octets_of t ++ (octets_of d ++ tail (redirect t d l r)))
@@ -178,11 +178,11 @@ message_at first second (router_advert hops flags lifetime reachable retrans l m
           flags_ = sym c.0.1;
           lifetime_ =
               ap (λ (n : ℕ). 1000000 * n)
-              (sym (big_number-reads_back 2 (seconds lifetime) [] (omega (arith, c.0.2.0))));
+              (sym (big_number-reads_back 2 (seconds_of lifetime) [] (omega (arith, c.0.2.0))));
           reachable_ =
-              ap (λ (n : ℕ). 1000 * n) (sym (big_number-reads_back 4 (millis reachable) [] (omega (arith, c.0.2.1))));
+              ap (λ (n : ℕ). 1000 * n) (sym (big_number-reads_back 4 (millis_of reachable) [] (omega (arith, c.0.2.1))));
           retrans_ =
-              ap (λ (n : ℕ). 1000 * n) (sym (big_number-reads_back 4 (millis retrans) [] (omega (arith, c.0.2.2))));
+              ap (λ (n : ℕ). 1000 * n) (sym (big_number-reads_back 4 (millis_of retrans) [] (omega (arith, c.0.2.2))));
         },
         last.link,
         last.mtu_,

@@ -3,9 +3,11 @@ use Rattle.std.specs.Prelude.{◌≡◌, ℕ, ◌+◌, ◌*◌, ◌<◌, ◌≤�
 use Rattle.std.specs.Option.{option_map}
 use Rattle.wirebase.specs.Bytes.{byte_of, bytes_of, number_of, over}
 use Rattle.wirebase.specs.ByteWriter.{be8, be16, be32, fields}
+use Rattle.wirebase.specs.Duration.{micros_of, millis_of, seconds_of, whole_millis, whole_seconds}
 use Rattle.wirebase.specs.Format.{Format, RoundTrips}
 use Rattle.wirebase.specs.Icmp.{type_field}
 use Rattle.wirebase.specs.Ipv6Address.{octets_of}
+use Rattle.wirebase.specs.declared.duration.Duration.{Duration}
 use Rattle.wirebase.specs.declared.ipv6.address.Ipv6Address.{Ipv6Address}
 use Rattle.wirebase.specs.declared.ipv6.Ipv6Repr.{Ipv6Repr}
 use Rattle.opt_wire.specs.NdiscOptionRepr as option
@@ -14,10 +16,10 @@ use Rattle.opt_wire.specs.declared.ndiscoption.repr.PrefixInformation.{PrefixInf
 use Rattle.icmp6_wire.specs.Icmpv6Packet.{BeginsWhole, payload_in}
 use Rattle.wirebase.specs.LastOf.{last_of}
 use Rattle.icmp6_wire.specs.NdiscBlocks.{AreBlocks, source_in, target_in, mtu_in, prefix_in, redirected_in}
-use Rattle.icmp6_wire.specs.NdiscFound.{packet_of}
+use Rattle.icmp6_wire.specs.NdiscFound.{packet_of, link_of}
 use Rattle.icmp6_wire.specs.NdiscPacket.{hop_limit_field, router_flags_field, router_lifetime_field}
 use Rattle.icmp6_wire.specs.NdiscPacket.{reachable_time_field, retrans_time_field, neighbor_flags_field}
-use Rattle.icmp6_wire.specs.NdiscPacket.{target_addr_field, dest_addr_field, seconds, millis}
+use Rattle.icmp6_wire.specs.NdiscPacket.{target_addr_field, dest_addr_field}
 use Rattle.icmp6_wire.specs.NdiscTables.{router_bits, neighbor_bits, known_router, known_neighbor}
 use Rattle.icmp6_wire.specs.declared.ndisc.flags.NeighborFlags.{NeighborFlags}
 use Rattle.icmp6_wire.specs.declared.ndisc.flags.RouterFlags.{RouterFlags}
@@ -31,18 +33,19 @@ use Rattle.icmp6_wire.specs.declared.ndisc.repr.Repr.TheVariants as repr
 -- that is redirected, by its header and its payload.
 pub data NdiscValue : Type 0 where
   router_solicit : Option (List ℕ) → NdiscValue
-  router_advert : ℕ → RouterFlags → ℕ → ℕ → ℕ → Option (List ℕ) → Option ℕ → Option PrefixInformation → NdiscValue
+  router_advert : ℕ → RouterFlags → Duration → Duration → Duration → Option (List ℕ) → Option ℕ
+      → Option PrefixInformation → NdiscValue
   neighbor_solicit : Ipv6Address → Option (List ℕ) → NdiscValue
   neighbor_advert : NeighborFlags → Ipv6Address → Option (List ℕ) → NdiscValue
   redirect : Ipv6Address → Ipv6Address → Option (List ℕ) → Option (Ipv6Repr × List ℕ) → NdiscValue
 
 abbrev pub value_of : Repr → NdiscValue
-value_of (repr.RouterSolicit l) = router_solicit l
+value_of (repr.RouterSolicit l) = router_solicit (link_of l)
 value_of (repr.RouterAdvert hops flags lifetime reachable retrans l m p) =
-    router_advert hops flags lifetime reachable retrans l m p
-value_of (repr.NeighborSolicit t l) = neighbor_solicit t l
-value_of (repr.NeighborAdvert flags t l) = neighbor_advert flags t l
-value_of (repr.Redirect t d l r) = redirect t d l (option_map packet_of r)
+    router_advert hops flags lifetime reachable retrans (link_of l) m p
+value_of (repr.NeighborSolicit t l) = neighbor_solicit t (link_of l)
+value_of (repr.NeighborAdvert flags t l) = neighbor_advert flags t (link_of l)
+value_of (repr.Redirect t d l r) = redirect t d (link_of l) (option_map packet_of r)
 
 -- ---- the text
 
@@ -92,9 +95,9 @@ abbrev pub header_fields : NdiscValue → List (List ℕ) → List (List ℕ)
 header_fields (router_solicit l) behind = be8 0x85 ∷ be8 0 ∷ be16 0 ∷ be32 0 ∷ behind
 header_fields (router_advert hops flags lifetime reachable retrans l m p) behind =
     be8 0x86 ∷ be8 0 ∷ be16 0
-    ∷ be8 hops ∷ be8 (router_bits flags) ∷ be16 (seconds lifetime)
-    ∷ be32 (millis reachable)
-    ∷ be32 (millis retrans)
+    ∷ be8 hops ∷ be8 (router_bits flags) ∷ be16 (seconds_of lifetime)
+    ∷ be32 (millis_of reachable)
+    ∷ be32 (millis_of retrans)
     ∷ behind
 header_fields (neighbor_solicit t l) behind = be8 0x87 ∷ be8 0 ∷ be16 0 ∷ be32 0 ∷ octets_of t ∷ behind
 header_fields (neighbor_advert flags t l) behind =
@@ -131,7 +134,7 @@ Each P (o ∷ os) = IfThere P o × Each P os
 -- times whose whole seconds or milliseconds fit their fields
 abbrev pub HaveTimes : NdiscValue → Type 0
 HaveTimes (router_advert hops flags lifetime reachable retrans l m p) =
-    (seconds lifetime ≤ 65535) × (millis reachable ≤ 4294967295) × (millis retrans ≤ 4294967295)
+    (seconds_of lifetime ≤ 65535) × (millis_of reachable ≤ 4294967295) × (millis_of retrans ≤ 4294967295)
 HaveTimes v = Unit {0}
 
 -- what is asked of a value that is written: times that fit, and options that can be written
@@ -140,14 +143,14 @@ CanEmit v = HaveTimes v × Each option.CanEmit (options_of v)
 
 -- ---- the grammar
 
-pub record IsRouterAdvert (bytes : List ℕ) (hops : ℕ) (flags : RouterFlags) (lifetime reachable retrans : ℕ)
+pub record IsRouterAdvert (bytes : List ℕ) (hops : ℕ) (flags : RouterFlags) (lifetime reachable retrans : Duration)
     : Type 0 where
   pub kind : byte_of type_field bytes ≡ 0x86
   pub hops_ : hops ≡ byte_of hop_limit_field bytes
   pub flags_ : router_bits flags ≡ known_router (byte_of router_flags_field bytes)
-  pub lifetime_ : lifetime ≡ 1000000 * number_of router_lifetime_field bytes
-  pub reachable_ : reachable ≡ 1000 * number_of reachable_time_field bytes
-  pub retrans_ : retrans ≡ 1000 * number_of retrans_time_field bytes
+  pub lifetime_ : micros_of lifetime ≡ 1000000 * number_of router_lifetime_field bytes
+  pub reachable_ : micros_of reachable ≡ 1000 * number_of reachable_time_field bytes
+  pub retrans_ : micros_of retrans ≡ 1000 * number_of retrans_time_field bytes
 
 -- the message of these fixed fields, whose other fields are what the last option of their kind says
 abbrev pub IsContent : List ℕ → List OptionValue → NdiscValue → Type 0
@@ -189,16 +192,13 @@ IsCanonicalHeader v = Unit {0}
 abbrev pub IsCanonical : NdiscValue → Type 0
 IsCanonical v = IsCanonicalHeader v × Each option.IsCanonical (options_of v)
 
--- times in whole units
-abbrev pub whole_seconds : ℕ → ℕ
-whole_seconds micros = 1000000 * seconds micros
-
-abbrev pub whole_millis : ℕ → ℕ
-whole_millis micros = 1000 * millis micros
-
+-- its times in whole seconds
 abbrev pub whole_prefix : PrefixInformation → PrefixInformation
 whole_prefix p =
-    record p { valid_lifetime = option.whole p.valid_lifetime; preferred_lifetime = option.whole p.preferred_lifetime }
+    record p {
+      valid_lifetime = whole_seconds p.valid_lifetime;
+      preferred_lifetime = whole_seconds p.preferred_lifetime;
+    }
 
 -- the normal form: times in whole units, and each option in its own normal form
 abbrev pub norm : NdiscValue → NdiscValue

@@ -1,7 +1,9 @@
 -- What a pass over the options of a message keeps: of each kind what the last option says.
 use Rattle.std.specs.Prelude.{◌≡◌, ℕ, List, Option, None}
 use Rattle.std.specs.Option.{option_map, option_or}
+use Rattle.wirebase.specs.HardwareAddress.{raw_bytes}
 use Rattle.wirebase.specs.LastOf.{keep_all}
+use Rattle.wirebase.specs.declared.ethernet.RawHardwareAddress.{RawHardwareAddress}
 use Rattle.wirebase.specs.declared.ipv6.Ipv6Repr.{Ipv6Repr}
 use Rattle.opt_wire.specs.NdiscOptionRepr.{OptionValue, BeginsWith}
 use Rattle.opt_wire.specs.declared.ndiscoption.repr.PrefixInformation.{PrefixInformation}
@@ -20,10 +22,14 @@ pub record Kept : Type 0 where
 abbrev pub packet_of : RedirectedHeader → Ipv6Repr × List ℕ
 packet_of r = (r.header, r.«data».now)
 
+-- the bytes of a link-layer address that is there
+abbrev pub link_of : Option RawHardwareAddress → Option (List ℕ)
+link_of address = option_map raw_bytes address
+
 abbrev pub kept_of : Found → Kept
 kept_of found = record {
-  source = found.source;
-  target = found.target;
+  source = link_of found.source;
+  target = link_of found.target;
   mtu = found.mtu;
   prefix_info = found.prefix_info;
   redirected_hdr = option_map packet_of found.redirected_hdr;

@@ -17,7 +17,6 @@
 -- +---------------------------------------------------------------+
 -- |        destination address of a redirect, 16 bytes            |
 -- +---------------------------------------------------------------+
-use Rattle.std.specs.Prelude.{ℕ, ◌/◌}
 use Rattle.wirebase.specs.Bytes.{Field, field}
 
 abbrev pub hop_limit_field : Field
@@ -43,10 +42,3 @@ target_addr_field = field 8 24
 
 abbrev pub dest_addr_field : Field
 dest_addr_field = field 24 40
-
--- times are held in microseconds and sent in whole seconds or milliseconds
-abbrev pub seconds : ℕ → ℕ
-seconds micros = micros / 1000000
-
-abbrev pub millis : ℕ → ℕ
-millis micros = micros / 1000

@@ -3,11 +3,12 @@
 ghost use Rattle.std.specs.Prelude.{◌≡◌, ◌*◌, ◌≤◌, [], ◌∷◌};
 ghost use Rattle.byteorder.specs.Endian.{big_bytes};
 ghost use Rattle.wirebase.specs.Bytes.{Reaches, bytes_of, byte_of, number_of};
+ghost use Rattle.wirebase.specs.Duration.{micros_of, millis_of, seconds_of};
 ghost use Rattle.wirebase.specs.Ipv6Address.{octets_of};
 ghost use Rattle.icmp6_wire.specs.Icmpv6Packet.{inner, Sets, KeepsLen};
 ghost use Rattle.icmp6_wire.specs.NdiscPacket.{hop_limit_field, router_flags_field, router_lifetime_field};
 ghost use Rattle.icmp6_wire.specs.NdiscPacket.{reachable_time_field, retrans_time_field, neighbor_flags_field};
-ghost use Rattle.icmp6_wire.specs.NdiscPacket.{target_addr_field, dest_addr_field, seconds, millis};
+ghost use Rattle.icmp6_wire.specs.NdiscPacket.{target_addr_field, dest_addr_field};
 ghost use Rattle.icmp6_wire.specs.NdiscTables.{router_bits, neighbor_bits, known_router, known_neighbor};
 
 use crate::icmpv6::Packet;
@@ -68,7 +69,7 @@ impl<T: Octets> Packet<T> {
     /// How long the sender of a router advertisement is a default router, in whole seconds. Requires at least 8 bytes.
     pub fn router_lifetime(&self) -> Duration
         requires { Reaches router_lifetime_field (T.bytes (inner self.now)) }
-        ensures { result ≡ 1000000 * number_of router_lifetime_field (T.bytes (inner self.now)) }
+        ensures { micros_of result ≡ 1000000 * number_of router_lifetime_field (T.bytes (inner self.now)) }
     {
         Duration::from_secs(self.buffer.u16_at(field::ROUTER_LIFETIME) as u64)
     }
@@ -77,7 +78,7 @@ impl<T: Octets> Packet<T> {
     /// bytes.
     pub fn reachable_time(&self) -> Duration
         requires { Reaches reachable_time_field (T.bytes (inner self.now)) }
-        ensures { result ≡ 1000 * number_of reachable_time_field (T.bytes (inner self.now)) }
+        ensures { micros_of result ≡ 1000 * number_of reachable_time_field (T.bytes (inner self.now)) }
     {
         Duration::from_millis(self.buffer.u32_at(field::REACHABLE_TIME) as u64)
     }
@@ -85,7 +86,7 @@ impl<T: Octets> Packet<T> {
     /// The time between solicitations, in whole milliseconds; 0 where it is not told. Requires at least 16 bytes.
     pub fn retrans_time(&self) -> Duration
         requires { Reaches retrans_time_field (T.bytes (inner self.now)) }
-        ensures { result ≡ 1000 * number_of retrans_time_field (T.bytes (inner self.now)) }
+        ensures { micros_of result ≡ 1000 * number_of retrans_time_field (T.bytes (inner self.now)) }
     {
         Duration::from_millis(self.buffer.u32_at(field::RETRANS_TIME) as u64)
     }
@@ -141,9 +142,9 @@ impl<T: OctetsMut> Packet<T> {
     /// least 8 bytes, and 65,535 seconds at most.
     pub fn set_router_lifetime(&mut self, value: Duration)
         requires room { Reaches router_lifetime_field (T.bytes (inner self.old)) }
-        requires fits { seconds value ≤ 65535 }
+        requires fits { seconds_of value ≤ 65535 }
         ensures writes { Sets T.bytes T.put self.old self.new router_lifetime_field
-            (big_bytes 2 (seconds value)) }
+            (big_bytes 2 (seconds_of value)) }
         ensures len { KeepsLen T.bytes self.old self.new }
     {
         self.buffer
@@ -154,9 +155,9 @@ impl<T: OctetsMut> Packet<T> {
     /// at least 12 bytes, and 4,294,967,295 milliseconds at most.
     pub fn set_reachable_time(&mut self, value: Duration)
         requires room { Reaches reachable_time_field (T.bytes (inner self.old)) }
-        requires fits { millis value ≤ 4294967295 }
+        requires fits { millis_of value ≤ 4294967295 }
         ensures writes { Sets T.bytes T.put self.old self.new reachable_time_field
-            (big_bytes 4 (millis value)) }
+            (big_bytes 4 (millis_of value)) }
         ensures len { KeepsLen T.bytes self.old self.new }
     {
         self.buffer
@@ -167,9 +168,9 @@ impl<T: OctetsMut> Packet<T> {
     /// 16 bytes, and 4,294,967,295 milliseconds at most.
     pub fn set_retrans_time(&mut self, value: Duration)
         requires room { Reaches retrans_time_field (T.bytes (inner self.old)) }
-        requires fits { millis value ≤ 4294967295 }
+        requires fits { millis_of value ≤ 4294967295 }
         ensures writes { Sets T.bytes T.put self.old self.new retrans_time_field
-            (big_bytes 4 (millis value)) }
+            (big_bytes 4 (millis_of value)) }
         ensures len { KeepsLen T.bytes self.old self.new }
     {
         self.buffer

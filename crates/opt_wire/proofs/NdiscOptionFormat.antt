@@ -9,18 +9,21 @@ use Rattle.std.proofs.lemmas.Nat.{and_assoc}
 use Rattle.byteorder.specs.Endian.{big_number}
 use Rattle.wirebase.specs.Bytes.{IsBytes, part, over, byte_of, bytes_of}
 use Rattle.wirebase.specs.ByteWriter.{be8, be32, fields}
+use Rattle.wirebase.specs.Duration.{micros_of, seconds_of, whole_seconds}
 use Rattle.wirebase.specs.Format.{SameText}
 use Rattle.wirebase.specs.Ipv6.{next_header_field, payload_len_in}
 use Rattle.wirebase.specs.Ipv6Address.{octets_of}
+use Rattle.wirebase.specs.declared.duration.Duration.{Duration}
 use Rattle.wirebase.specs.declared.ipv6.Ipv6Repr.{Ipv6Repr}
 use Rattle.wirebase.proofs.ByteParts.{IsBytes-drop}
+use Rattle.wirebase.proofs.Durations.{seconds-times, whole_seconds-read}
 use Rattle.wirebase.proofs.Format.{IsFormat, round_trips, same_text}
 use Rattle.wirebase.proofs.IpProtocols.{protocol-read}
 use Rattle.wirebase.proofs.Pieces.{length-part, over-exact}
 use Rattle.opt_wire.specs.NdiscOption.{prefix_flags_field, units_in, redirected_field, BeginsWithBlock}
 use Rattle.opt_wire.specs.NdiscOptionTables.{flag_bits, known, known_bits}
-use Rattle.opt_wire.specs.NdiscOptionRepr.{OptionValue, source, target, prefix_, redirected, mtu, unknown, seconds}
-use Rattle.opt_wire.specs.NdiscOptionRepr.{whole, filled, HasSeconds, IsLinkAddr, IsRedirected, IsReading, BeginsWith}
+use Rattle.opt_wire.specs.NdiscOptionRepr.{OptionValue, source, target, prefix_, redirected, mtu, unknown}
+use Rattle.opt_wire.specs.NdiscOptionRepr.{filled, HasSeconds, IsLinkAddr, IsRedirected, IsReading, BeginsWith}
 use Rattle.opt_wire.specs.NdiscOptionRepr.{IsCanonicalRedirected, IsCanonical, text, text_len, CanEmit, norm, format}
 use Rattle.opt_wire.specs.NdiscOptionRepr.{Emits}
 use Rattle.opt_wire.specs.declared.ndiscoption.repr.PrefixInformation.{PrefixInformation}
@@ -33,14 +36,8 @@ use Rattle.opt_wire.proofs.NdiscOptionTexts.{link_text, length-text}
 known-known : (bits : ℕ) → known (known bits) ≡ known bits
 known-known bits = and_assoc known_bits bits known_bits
 
-seconds-times : (n : ℕ) → seconds (1000000 * n) ≡ n
-seconds-times n = omega arith
-
-whole-times : (n : ℕ) → whole (1000000 * n) ≡ 1000000 * n
-whole-times n = ap (λ (k : ℕ). 1000000 * k) (seconds-times n)
-
-few_seconds : (micros n : ℕ) → micros ≡ 1000000 * n → n < 2 ^ 32 → HasSeconds micros
-few_seconds micros n e small = omega (arith, e, small)
+few_seconds : (time : Duration) (n : ℕ) → micros_of time ≡ 1000000 * n → n < 2 ^ 32 → HasSeconds time
+few_seconds time n e small = omega (arith, e, small)
 
 IsBytes-part : (i j : ℕ) (bytes : List ℕ) → IsBytes bytes → IsBytes (part bytes i j)
 unfolding part
@@ -201,17 +198,17 @@ reading-canonical bytes (unknown t n d) are block r =
 
 -- ---- the normal form
 
-abbrev timed : PrefixInformation → ℕ → ℕ → OptionValue
+abbrev timed : PrefixInformation → Duration → Duration → OptionValue
 timed p valid preferred = prefix_ (record p { valid_lifetime = valid; preferred_lifetime = preferred })
 
 norm-read : (bytes : List ℕ) (v : OptionValue) → BeginsWithBlock bytes → IsReading bytes v → norm v ≡ v
 norm-read bytes (source address) block r = ap source (link-full address (length-link 1 bytes address block r))
 norm-read bytes (target address) block r = ap target (link-full address (length-link 2 bytes address block r))
 norm-read bytes (prefix_ p) block r =
-    let valid : whole p.valid_lifetime ≡ p.valid_lifetime = ap whole r.valid ∙ whole-times _ ∙ sym r.valid in
-    let preferred : whole p.preferred_lifetime ≡ p.preferred_lifetime =
-    ap whole r.preferred ∙ whole-times _ ∙ sym r.preferred in
-    ap (λ (n : ℕ). timed p n (whole p.preferred_lifetime)) valid ∙ ap (λ (n : ℕ). timed p p.valid_lifetime n) preferred
+    let valid = whole_seconds-read p.valid_lifetime _ r.valid in
+    let preferred = whole_seconds-read p.preferred_lifetime _ r.preferred in
+    ap (λ (t : Duration). timed p t (whole_seconds p.preferred_lifetime)) valid
+    ∙ ap (λ (t : Duration). timed p p.valid_lifetime t) preferred
 norm-read bytes (redirected h d) block r = refl
 norm-read bytes (mtu n) block r = refl
 norm-read bytes (unknown t n d) block r = refl
@@ -222,8 +219,8 @@ norm-canonical (target address) c = filled-small address c
 norm-canonical (prefix_ p) c = record {
   len = c.len;
   flags = c.flags;
-  valid = omega (arith, seconds-times (seconds p.valid_lifetime), c.valid);
-  preferred = omega (arith, seconds-times (seconds p.preferred_lifetime), c.preferred);
+  valid = omega (arith, seconds-times (seconds_of p.valid_lifetime), c.valid);
+  preferred = omega (arith, seconds-times (seconds_of p.preferred_lifetime), c.preferred);
 }
 norm-canonical (redirected h d) c = c
 norm-canonical (mtu n) c = c
@@ -233,8 +230,8 @@ norm-norm : (v : OptionValue) → norm (norm v) ≡ norm v
 norm-norm (source address) = ap source (filled-whole (filled address) (length-filled address))
 norm-norm (target address) = ap target (filled-whole (filled address) (length-filled address))
 norm-norm (prefix_ p) =
-    ap (λ (n : ℕ). timed p n (whole (whole p.preferred_lifetime))) (whole-times (seconds p.valid_lifetime))
-    ∙ ap (λ (n : ℕ). timed p (whole p.valid_lifetime) n) (whole-times (seconds p.preferred_lifetime))
+    ap (λ (t : Duration). timed p t (whole_seconds (whole_seconds p.preferred_lifetime))) (whole_seconds-read (whole_seconds p.valid_lifetime) (seconds_of p.valid_lifetime) refl)
+    ∙ ap (λ (t : Duration). timed p (whole_seconds p.valid_lifetime) t) (whole_seconds-read (whole_seconds p.preferred_lifetime) (seconds_of p.preferred_lifetime) refl)
 norm-norm (redirected h d) = refl
 norm-norm (mtu n) = refl
 norm-norm (unknown t n d) = refl
@@ -248,8 +245,8 @@ norm-text : (v : OptionValue) → IsCanonical v → text (norm v) ≡ text v
 norm-text (source address) c = link_text 1 (filled address) ∙ link_same 1 address c ∙ sym (link_text 1 address)
 norm-text (target address) c = link_text 2 (filled address) ∙ link_same 2 address c ∙ sym (link_text 2 address)
 norm-text (prefix_ p) c =
-    ap (λ (n : ℕ). timed_text p n (seconds (whole p.preferred_lifetime))) (seconds-times (seconds p.valid_lifetime))
-    ∙ ap (λ (n : ℕ). timed_text p (seconds p.valid_lifetime) n) (seconds-times (seconds p.preferred_lifetime))
+    ap (λ (n : ℕ). timed_text p n (seconds_of (whole_seconds p.preferred_lifetime))) (seconds-times (seconds_of p.valid_lifetime))
+    ∙ ap (λ (n : ℕ). timed_text p (seconds_of p.valid_lifetime) n) (seconds-times (seconds_of p.preferred_lifetime))
 norm-text (redirected h d) c = refl
 norm-text (mtu n) c = refl
 norm-text (unknown t n d) c = refl

@@ -4,8 +4,10 @@ use Rattle.std.specs.Prelude.{Result, Ok, Err}
 use Rattle.std.specs.Result.{IfOk, IsOkAnd, IsErr}
 use Rattle.wirebase.specs.Bytes.{byte_of, bytes_of}
 use Rattle.wirebase.specs.Ipv6.{IsPacket}
+use Rattle.wirebase.specs.declared.duration.Duration.{Duration}
 use Rattle.wirebase.specs.declared.ipv6.address.Ipv6Address.{Ipv6Address}
 use Rattle.wirebase.specs.declared.ipv6.Ipv6Repr.{Ipv6Repr}
+use Rattle.wirebase.proofs.Durations.{same_duration}
 use Rattle.wirebase.proofs.Numbered.{number-case_in}
 use Rattle.wirebase.proofs.Ipv6Header.{same_address, one_header}
 use Rattle.opt_wire.specs.NdiscOption.{type_field, units_in, redirected_field}
@@ -26,7 +28,7 @@ same_flags : (f g : PrefixInfoFlags) → f.0 ≡ g.0 → f ≡ g
 unfolding flags_of
 same_flags f g e = ap flags_of e
 
-prefix_at : ℕ → PrefixInfoFlags → ℕ → ℕ → Ipv6Address → PrefixInformation
+prefix_at : ℕ → PrefixInfoFlags → Duration → Duration → Ipv6Address → PrefixInformation
 prefix_at len flags valid preferred address =
     record { prefix_len = len; flags = flags; valid_lifetime = valid; preferred_lifetime = preferred; prefix = address }
 
@@ -35,8 +37,9 @@ unfolding prefix_at
 one_prefix bytes p q a b =
     let len = a.len ∙ sym b.len in
     let flags = same_flags p.flags q.flags (a.flags ∙ sym b.flags) in
-    let valid = a.valid ∙ sym b.valid in
-    let preferred = a.preferred ∙ sym b.preferred in
+    let valid = same_duration p.valid_lifetime q.valid_lifetime (a.valid ∙ sym b.valid) in
+    let preferred =
+    same_duration p.preferred_lifetime q.preferred_lifetime (a.preferred ∙ sym b.preferred) in
     let address = same_address p.prefix q.prefix (a.octets ∙ sym b.octets) in
     let made : prefix_at p.prefix_len p.flags p.valid_lifetime p.preferred_lifetime p.prefix
     ≡ prefix_at q.prefix_len q.flags q.valid_lifetime q.preferred_lifetime q.prefix = cc in

@@ -6,6 +6,7 @@ use Rattle.byteorder.specs.Endian.{big_bytes}
 use Rattle.byteorder.specs.Numbers.{big_number-reads_back}
 use Rattle.wirebase.specs.Bytes.{part, over, bytes_of}
 use Rattle.wirebase.specs.ByteWriter.{be8, be16, be32, fields}
+use Rattle.wirebase.specs.Duration.{seconds_of, whole_seconds}
 use Rattle.wirebase.specs.Ip.{protocol_number, protocol_rows}
 use Rattle.wirebase.specs.Ipv6.{IsPacket, payload_field, payload_len_in, header_fields, header_text}
 use Rattle.wirebase.specs.Ipv6Address.{octets_of}
@@ -17,8 +18,8 @@ use Rattle.wirebase.proofs.Ipv6Header.{length-header_text}
 use Rattle.wirebase.proofs.Pieces.{over-fits}
 use Rattle.opt_wire.specs.NdiscOption.{redirected_field, BeginsWithBlock}
 use Rattle.opt_wire.specs.NdiscOptionTables.{flag_bits}
-use Rattle.opt_wire.specs.NdiscOptionRepr.{OptionValue, source, target, prefix_, redirected, mtu, unknown, seconds}
-use Rattle.opt_wire.specs.NdiscOptionRepr.{whole, units, padding, filled, IsLinkAddr, BeginsWith, IsCanonicalPrefix}
+use Rattle.opt_wire.specs.NdiscOptionRepr.{OptionValue, source, target, prefix_, redirected, mtu, unknown}
+use Rattle.opt_wire.specs.NdiscOptionRepr.{units, padding, filled, IsLinkAddr, BeginsWith, IsCanonicalPrefix}
 use Rattle.opt_wire.specs.NdiscOptionRepr.{IsCanonicalRedirected, IsCanonical, IsUnnamed, text, norm}
 use Rattle.opt_wire.specs.declared.ndiscoption.repr.PrefixInformation.{PrefixInformation}
 use Rattle.opt_wire.proofs.NdiscOptionTexts.{link_text, prefix_text, redirected_text, mtu_text, unknown_text}
@@ -95,13 +96,16 @@ link_same t (a ∷ b ∷ c ∷ d ∷ e ∷ f ∷ g ∷ h ∷ i ∷ more) fits = 
 -- ---- prefixes
 
 abbrev prefix_of : PrefixInformation → PrefixInformation
-prefix_of p = record p { valid_lifetime = whole p.valid_lifetime; preferred_lifetime = whole p.preferred_lifetime }
+prefix_of p = record p {
+  valid_lifetime = whole_seconds p.valid_lifetime;
+  preferred_lifetime = whole_seconds p.preferred_lifetime;
+}
 
 prefix_read : (p : PrefixInformation) (rest : List ℕ) → IsCanonicalPrefix p
     → BeginsWith
     (3 ∷ 4 ∷ p.prefix_len ∷ flag_bits p.flags
-    ∷ (big_bytes 4 (seconds p.valid_lifetime)
-    ++ (big_bytes 4 (seconds p.preferred_lifetime) ++ (0 ∷ 0 ∷ 0 ∷ 0 ∷ (octets_of p.prefix ++ rest)))))
+    ∷ (big_bytes 4 (seconds_of p.valid_lifetime)
+    ++ (big_bytes 4 (seconds_of p.preferred_lifetime) ++ (0 ∷ 0 ∷ 0 ∷ 0 ∷ (octets_of p.prefix ++ rest)))))
     (prefix_ (prefix_of p))
 unfolding part
 prefix_read p rest c =
@@ -123,10 +127,10 @@ prefix_read p rest c =
         len = refl;
         flags = sym c.flags;
         valid = ap (λ (n : ℕ). 1000000 * n)
-            (sym (big_number-reads_back 4 (seconds p.valid_lifetime) [] (omega (arith, c.valid))));
+            (sym (big_number-reads_back 4 (seconds_of p.valid_lifetime) [] (omega (arith, c.valid))));
         preferred =
             ap (λ (n : ℕ). 1000000 * n)
-            (sym (big_number-reads_back 4 (seconds p.preferred_lifetime) [] (omega (arith, c.preferred))));
+            (sym (big_number-reads_back 4 (seconds_of p.preferred_lifetime) [] (omega (arith, c.preferred))));
         octets = sym (take_at (octets_of p.prefix) rest 16 p.prefix.whole);
       };
     }

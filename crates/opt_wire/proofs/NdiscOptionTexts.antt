@@ -3,12 +3,13 @@ use Rattle.std.proofs.Common.{◌≡◌, ℕ, ◌+◌, ◌-◌, ◌*◌, List, �
 use Rattle.std.proofs.lemmas.List.{append-nil, length-replicate}
 use Rattle.byteorder.specs.Endian.{big_bytes}
 use Rattle.wirebase.specs.ByteWriter.{be8, be16, be32, fields}
+use Rattle.wirebase.specs.Duration.{seconds_of}
 use Rattle.wirebase.specs.Ipv6.{header_text}
 use Rattle.wirebase.specs.Ipv6Address.{octets_of}
 use Rattle.wirebase.specs.declared.ipv6.Ipv6Repr.{Ipv6Repr}
 use Rattle.wirebase.proofs.Ipv6Header.{length-header_text}
 use Rattle.opt_wire.specs.NdiscOptionTables.{flag_bits}
-use Rattle.opt_wire.specs.NdiscOptionRepr.{OptionValue, source, target, prefix_, redirected, mtu, unknown, seconds}
+use Rattle.opt_wire.specs.NdiscOptionRepr.{OptionValue, source, target, prefix_, redirected, mtu, unknown}
 use Rattle.opt_wire.specs.NdiscOptionRepr.{units, padding, link_fields, prefix_fields, redirected_fields, mtu_fields}
 use Rattle.opt_wire.specs.NdiscOptionRepr.{unknown_fields, text, text_len, CanEmit}
 use Rattle.opt_wire.specs.declared.ndiscoption.repr.PrefixInformation.{PrefixInformation}
@@ -21,8 +22,8 @@ unfolding fields be8
 link_text t address = simp append-nil
 
 pub prefix_text : (p : PrefixInformation) → fields (prefix_fields p) ≡ 3 ∷ 4 ∷ p.prefix_len ∷ flag_bits p.flags
-    ∷ (big_bytes 4 (seconds p.valid_lifetime)
-    ++ (big_bytes 4 (seconds p.preferred_lifetime) ++ (0 ∷ 0 ∷ 0 ∷ 0 ∷ octets_of p.prefix)))
+    ∷ (big_bytes 4 (seconds_of p.valid_lifetime)
+    ++ (big_bytes 4 (seconds_of p.preferred_lifetime) ++ (0 ∷ 0 ∷ 0 ∷ 0 ∷ octets_of p.prefix)))
 unfolding fields be8 be32
 prefix_text p = simp append-nil
 

@@ -4,12 +4,15 @@ use Rattle.std.specs.Prelude.{◌≡◌, ◌≢◌, ℕ, ◌+◌, ◌-◌, ◌*�
 use Rattle.std.specs.Prelude.{◌++◌, codes, decimal, length, replicate}
 use Rattle.wirebase.specs.Bytes.{bytes_of, byte_of, number_of, over}
 use Rattle.wirebase.specs.ByteWriter.{be8, be16, be32, fields}
+use Rattle.wirebase.specs.Duration.{micros_of, seconds_of, whole_seconds}
 use Rattle.wirebase.specs.Ethernet.{hex_colons}
 use Rattle.wirebase.specs.Format.{Format, RoundTrips}
+use Rattle.wirebase.specs.HardwareAddress.{raw_bytes}
 use Rattle.wirebase.specs.Ip.{protocol_number, protocol_rows}
 use Rattle.wirebase.specs.Ipv6.{IsPacket, payload_field, header_text, header_display}
 use Rattle.wirebase.specs.Ipv6Address.{octets_of, address_text, IsLinkLocal}
 use Rattle.wirebase.specs.Numbered.{IsProper}
+use Rattle.wirebase.specs.declared.duration.Duration.{Duration}
 use Rattle.wirebase.specs.declared.ip.IpProtocol.TheVariants as protocol
 use Rattle.wirebase.specs.declared.ipv6.Ipv6Repr.{Ipv6Repr}
 use Rattle.opt_wire.specs.NdiscOption.{type_field, prefix_len_field, prefix_flags_field, valid_lifetime_field}
@@ -31,22 +34,18 @@ pub data OptionValue : Type 0 where
   unknown : ℕ → ℕ → List ℕ → OptionValue
 
 abbrev pub value_of : Repr → OptionValue
-value_of (repr.SourceLinkLayerAddr address) = source address
-value_of (repr.TargetLinkLayerAddr address) = target address
+value_of (repr.SourceLinkLayerAddr address) = source (raw_bytes address)
+value_of (repr.TargetLinkLayerAddr address) = target (raw_bytes address)
 value_of (repr.PrefixInformation p) = prefix_ p
 value_of (repr.RedirectedHeader r) = redirected r.header r.«data».now
 value_of (repr.Mtu n) = mtu n
 value_of (repr.Unknown t n d) = unknown t n d.now
 
--- times are held in microseconds and sent in whole seconds
-abbrev pub seconds : ℕ → ℕ
-seconds micros = micros / 1000000
-
 -- the prefix may be used to make addresses of (RFC 4862 section 5.5.3, a to c)
 pub record IsValidPrefix (p : PrefixInformation) : Type 0 where
   pub autonomous : HasAddrconf p.flags
   pub global : IsLinkLocal p.prefix → ⊥
-  pub order : p.preferred_lifetime ≤ p.valid_lifetime
+  pub order : micros_of p.preferred_lifetime ≤ micros_of p.valid_lifetime
 
 -- ---- texts
 
@@ -63,8 +62,8 @@ link_fields t address = be8 t ∷ be8 (units (2 + length address)) ∷ address �
 abbrev pub prefix_fields : PrefixInformation → List (List ℕ)
 prefix_fields p =
     be8 3 ∷ be8 4 ∷ be8 p.prefix_len ∷ be8 (flag_bits p.flags)
-    ∷ be32 (seconds p.valid_lifetime)
-    ∷ be32 (seconds p.preferred_lifetime)
+    ∷ be32 (seconds_of p.valid_lifetime)
+    ∷ be32 (seconds_of p.preferred_lifetime)
     ∷ be32 0
     ∷ octets_of p.prefix ∷ []
 
@@ -98,15 +97,15 @@ text_len (redirected h d) = 8 * units (48 + length d)
 text_len (mtu n) = 8
 text_len (unknown t n d) = 8 * n
 
--- a time whose whole seconds fit their field
-abbrev pub HasSeconds : ℕ → Type 0
-HasSeconds micros = seconds micros ≤ 4294967295
+-- a time whose whole seconds, as it is sent, fit their field
+abbrev pub HasSeconds : Duration → Type 0
+HasSeconds time = seconds_of time ≤ 4294967295
 
 -- What is asked of a value that is written: seconds that fit, a redirected header that counts the data behind it as its
 -- payload and as much of it as an option can hold, and data that fills the units that an unknown option counts.
 abbrev pub CanEmit : OptionValue → Type 0
-CanEmit (source address) = length address ≤ 8
-CanEmit (target address) = length address ≤ 8
+CanEmit (source address) = Unit {0}
+CanEmit (target address) = Unit {0}
 CanEmit (prefix_ p) = HasSeconds p.valid_lifetime × HasSeconds p.preferred_lifetime
 CanEmit (redirected h d) = (h.payload_len ≡ length d) × (length d ≤ 1992)
 CanEmit (mtu n) = Unit {0}
@@ -125,8 +124,8 @@ pub record IsPrefix (bytes : List ℕ) (p : PrefixInformation) : Type 0 where
   pub count : units_in bytes ≡ 4
   pub len : p.prefix_len ≡ byte_of prefix_len_field bytes
   pub flags : flag_bits p.flags ≡ known (byte_of prefix_flags_field bytes)
-  pub valid : p.valid_lifetime ≡ 1000000 * number_of valid_lifetime_field bytes
-  pub preferred : p.preferred_lifetime ≡ 1000000 * number_of preferred_lifetime_field bytes
+  pub valid : micros_of p.valid_lifetime ≡ 1000000 * number_of valid_lifetime_field bytes
+  pub preferred : micros_of p.preferred_lifetime ≡ 1000000 * number_of preferred_lifetime_field bytes
   pub octets : octets_of p.prefix ≡ bytes_of prefix_field bytes
 
 -- a redirected packet: from byte 8 on stands an IPv6 packet that is whole
@@ -195,16 +194,16 @@ IsCanonical (unknown t n d) = IsUnnamed t × (t < 256) × (1 ≤ n) × (n < 256)
 abbrev pub filled : List ℕ → List ℕ
 filled address = address ++ replicate ((if nat_lt 6 (length address) then 8 else 6) - length address) 0
 
--- a time in whole seconds
-abbrev pub whole : ℕ → ℕ
-whole micros = 1000000 * seconds micros
-
 -- the normal form: link-layer addresses filled with zeros, and times in whole seconds
 abbrev pub norm : OptionValue → OptionValue
 norm (source address) = source (filled address)
 norm (target address) = target (filled address)
 norm (prefix_ p) =
-    prefix_ (record p { valid_lifetime = whole p.valid_lifetime; preferred_lifetime = whole p.preferred_lifetime })
+    prefix_
+    (record p {
+      valid_lifetime = whole_seconds p.valid_lifetime;
+      preferred_lifetime = whole_seconds p.preferred_lifetime;
+    })
 norm v = v
 
 -- the format; no value is an exception, and what is read is its own normal form

@@ -1,9 +1,11 @@
 //! Options of neighbor discovery (RFC 4861 section 4.6).
 
-ghost use Rattle.std.specs.Prelude.{◌≡◌, ◌+◌, ◌*◌, ◌/◌, ◌-◌, ◌≤◌, ◌↔◌, [], ◌∷◌, length, min, replicate, IsOk, IfOk};
+ghost use Rattle.std.specs.Prelude.{◌≡◌, ◌+◌, ◌*◌, ◌-◌, ◌≤◌, ◌↔◌, [], ◌∷◌, length, min, replicate, IsOk, IfOk};
 ghost use Rattle.std.specs.Borrow.{sem, Lends, Array, u8 as byte};
 ghost use Rattle.byteorder.specs.Endian.{big_bytes};
 ghost use Rattle.wirebase.specs.Bytes.{Reaches, field as bytes_field, bytes_of, byte_of, number_of, with_field};
+ghost use Rattle.wirebase.specs.Duration.{micros_of, seconds_of};
+ghost use Rattle.wirebase.specs.HardwareAddress.{raw_bytes};
 ghost use Rattle.wirebase.specs.Ipv6Address.{octets_of};
 ghost use Rattle.opt_wire.specs.NdiscOption.{inner, with_inner, Sets, KeepsLen, type_field, length_field, units_in};
 ghost use Rattle.opt_wire.specs.NdiscOption.{data_field, link_addr_field, mtu_field, prefix_len_field};
@@ -161,7 +163,7 @@ impl<T: Octets> NdiscOption<T> {
         requires some { 1 ≤ units_in (T.bytes (inner self.now)) }
         requires whole { Reaches (link_addr_field (T.bytes (inner self.now)))
             (T.bytes (inner self.now)) }
-        ensures { result ≡ bytes_of (link_addr_field (T.bytes (inner self.now)))
+        ensures { raw_bytes result ≡ bytes_of (link_addr_field (T.bytes (inner self.now)))
             (T.bytes (inner self.now)) }
     {
         let room = field::UNIT * self.data_len() as usize - field::LENGTH.end;
@@ -197,7 +199,7 @@ impl<T: Octets> NdiscOption<T> {
     /// How long a prefix is on the link, in whole seconds. Requires at least 8 bytes.
     pub fn valid_lifetime(&self) -> Duration
         requires { Reaches valid_lifetime_field (T.bytes (inner self.now)) }
-        ensures { result ≡ 1000000 * number_of valid_lifetime_field (T.bytes (inner self.now)) }
+        ensures { micros_of result ≡ 1000000 * number_of valid_lifetime_field (T.bytes (inner self.now)) }
     {
         Duration::from_secs(self.buffer.u32_at(field::VALID_LIFETIME) as u64)
     }
@@ -205,7 +207,7 @@ impl<T: Octets> NdiscOption<T> {
     /// How long addresses made of a prefix are preferred, in whole seconds. Requires at least 12 bytes.
     pub fn preferred_lifetime(&self) -> Duration
         requires { Reaches preferred_lifetime_field (T.bytes (inner self.now)) }
-        ensures { result ≡ 1000000 * number_of preferred_lifetime_field (T.bytes (inner self.now)) }
+        ensures { micros_of result ≡ 1000000 * number_of preferred_lifetime_field (T.bytes (inner self.now)) }
     {
         Duration::from_secs(self.buffer.u32_at(field::PREFERRED_LIFETIME) as u64)
     }
@@ -256,9 +258,9 @@ impl<T: OctetsMut> NdiscOption<T> {
 
     /// Writes the link-layer address of a source or target. Requires at least 2 bytes and those of the address.
     pub fn set_link_layer_addr(&mut self, addr: RawHardwareAddress)
-        requires { 2 + length addr ≤ length (T.bytes (inner self.old)) }
+        requires { 2 + length (raw_bytes addr) ≤ length (T.bytes (inner self.old)) }
         ensures writes { Sets T.bytes T.put self.old self.new
-            (bytes_field 2 (2 + length addr)) addr }
+            (bytes_field 2 (2 + length (raw_bytes addr))) (raw_bytes addr) }
         ensures len { KeepsLen T.bytes self.old self.new }
     {
         self.buffer
@@ -297,9 +299,9 @@ impl<T: OctetsMut> NdiscOption<T> {
     /// bytes, and 4,294,967,295 seconds at most.
     pub fn set_valid_lifetime(&mut self, time: Duration)
         requires room { Reaches valid_lifetime_field (T.bytes (inner self.old)) }
-        requires fits { time / 1000000 ≤ 4294967295 }
+        requires fits { seconds_of time ≤ 4294967295 }
         ensures writes { Sets T.bytes T.put self.old self.new valid_lifetime_field
-            (big_bytes 4 (time / 1000000)) }
+            (big_bytes 4 (seconds_of time)) }
         ensures len { KeepsLen T.bytes self.old self.new }
     {
         self.buffer
@@ -310,9 +312,9 @@ impl<T: OctetsMut> NdiscOption<T> {
     /// Requires at least 12 bytes, and 4,294,967,295 seconds at most.
     pub fn set_preferred_lifetime(&mut self, time: Duration)
         requires room { Reaches preferred_lifetime_field (T.bytes (inner self.old)) }
-        requires fits { time / 1000000 ≤ 4294967295 }
+        requires fits { seconds_of time ≤ 4294967295 }
         ensures writes { Sets T.bytes T.put self.old self.new preferred_lifetime_field
-            (big_bytes 4 (time / 1000000)) }
+            (big_bytes 4 (seconds_of time)) }
         ensures len { KeepsLen T.bytes self.old self.new }
     {
         self.buffer

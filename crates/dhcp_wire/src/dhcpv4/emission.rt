@@ -7,6 +7,7 @@ ghost use Rattle.wirebase.specs.Bytes.{Reaches, over};
 ghost use Rattle.wirebase.specs.ByteWriter.{Puts, be8, be16, be32, free as free_bytes, the_slice as the_bytes};
 ghost use Rattle.wirebase.specs.Format.{SameText};
 ghost use Rattle.wirebase.specs.Ethernet.{octets_of as ethernet_octets};
+ghost use Rattle.wirebase.specs.HardwareAddress.{ethernet_of};
 ghost use Rattle.wirebase.specs.Ipv4.{octets_of};
 ghost use Rattle.dhcp_wire.specs.Dhcpv4.{value_of, slot, slots_of, options_of, header_fields, header_text, text};
 ghost use Rattle.dhcp_wire.specs.Dhcpv4Emission.{WritesOptions, progress, step, step_slot, steps, step_all};
@@ -344,7 +345,7 @@ fn put_identifier(
     address: Option<EthernetAddress>,
 ) -> Result<()>
     ensures step { progress w.new result ≡ step_slot (progress w.old so_far)
-        (slot kind (option_map (λ a. 1 ∷ ethernet_octets a) address)) }
+        (slot kind (option_map (λ a. 1 ∷ ethernet_octets a) (option_map ethernet_of address))) }
     ensures same_slice { the_slice w.new ≡ the_slice w.old }
 {
     match address {

@@ -5,6 +5,7 @@ ghost use Rattle.std.specs.Prelude.{OnErr};
 ghost use Rattle.std.specs.Option.{option_map};
 ghost use Rattle.wirebase.specs.Bytes.{Reaches, byte_of};
 ghost use Rattle.wirebase.specs.Ethernet.{octets_of as ethernet_octets};
+ghost use Rattle.wirebase.specs.HardwareAddress.{ethernet_of};
 ghost use Rattle.wirebase.specs.Ipv4.{octets_of};
 ghost use Rattle.wirebase.specs.LastOf.{keep_all};
 ghost use Rattle.dhcp_wire.specs.Dhcpv4.{of_len, number_in, identifier_in, whole_addresses, type_in, IsOfEthernet};
@@ -154,7 +155,7 @@ fn address(data: &[u8]) -> Option<Ipv4Address>
 
 // An address of Ethernet behind the number of its hardware; none of other data.
 fn identifier(data: &[u8]) -> Option<EthernetAddress>
-    ensures { option_map ethernet_octets result ≡ identifier_in data.now }
+    ensures { option_map ethernet_octets (option_map ethernet_of result) ≡ identifier_in data.now }
 {
     if data.len() != IDENTIFIER_LEN {
         return None;

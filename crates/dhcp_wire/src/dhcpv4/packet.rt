@@ -6,6 +6,7 @@ ghost use Rattle.std.specs.Int.RustNames.{bit_and};
 ghost use Rattle.byteorder.specs.Endian.{big_bytes};
 ghost use Rattle.wirebase.specs.Bytes.{Reaches, byte_of, bytes_of, number_of, splice};
 ghost use Rattle.wirebase.specs.Ethernet.{octets_of as ethernet_octets};
+ghost use Rattle.wirebase.specs.HardwareAddress.{ethernet_of};
 ghost use Rattle.wirebase.specs.Hardware.{hardware_number, hardware_of};
 ghost use Rattle.wirebase.specs.Ipv4.{octets_of};
 ghost use Rattle.dhcp_wire.specs.Dhcpv4Packet.{inner, with_inner, Sets, KeepsLen, op_field, htype_field, hlen_field};
@@ -163,7 +164,7 @@ impl<T: Octets> Packet<T> {
     /// The client's address on its network, of Ethernet. Requires at least 34 bytes.
     pub fn client_hardware_address(&self) -> EthernetAddress
         requires { Reaches chaddr_field (T.bytes (inner self.now)) }
-        ensures { ethernet_octets result ≡ bytes_of chaddr_field (T.bytes (inner self.now)) }
+        ensures { ethernet_octets (ethernet_of result) ≡ bytes_of chaddr_field (T.bytes (inner self.now)) }
     {
         EthernetAddress::from_bytes(self.buffer.field(field::CHADDR))
     }
@@ -305,7 +306,8 @@ impl<T: OctetsMut> Packet<T> {
     /// Writes the client's address on its network. Requires at least 34 bytes.
     pub fn set_client_hardware_address(&mut self, value: EthernetAddress)
         requires { Reaches chaddr_field (T.bytes (inner self.old)) }
-        ensures writes { Sets T.bytes T.put self.old self.new chaddr_field (ethernet_octets value) }
+        ensures writes { Sets T.bytes T.put self.old self.new chaddr_field
+            (ethernet_octets (ethernet_of value)) }
         ensures len { KeepsLen T.bytes self.old self.new }
     {
         self.buffer.set_bytes(field::CHADDR, value.as_bytes());

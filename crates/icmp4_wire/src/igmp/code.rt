@@ -1,7 +1,8 @@
 //! The codes of times (RFC 3376 section 4.1.1).
 
 ghost use Rattle.std.specs.Prelude.{◌≡◌, ◌*◌, ◌<◌, ℕ};
-ghost use Rattle.icmp4_wire.specs.IgmpCode.{code_millis, IsGreatestCode, greatest_code};
+ghost use Rattle.wirebase.specs.Duration.{micros_of};
+ghost use Rattle.icmp4_wire.specs.IgmpCode.{code_millis, IsGreatestCode, code_of};
 
 use wirebase::Duration;
 
@@ -14,7 +15,7 @@ const LONGEST: u64 = 31_744;
 // The time that a code stands for (RFC 3376 section 4.1.1).
 #[tactic(auto, using(crate::proofs::IgmpCode::reading))]
 pub(super) fn duration_of_code(code: u8) -> Duration
-    ensures value { result ≡ 1000 * code_millis code }
+    ensures value { micros_of result ≡ 1000 * code_millis code }
     ensures rises { (a b : ℕ) → a < b → b < 256 → code_millis a < code_millis b }
 {
     let tenths = if code < FLOATING {
@@ -29,9 +30,10 @@ pub(super) fn duration_of_code(code: u8) -> Duration
 
 // The code of the longest time that is within this one (RFC 3376 section 4.1.1).
 pub(super) fn code_of_duration(duration: Duration) -> u8
-    ensures value { result ≡ greatest_code duration }
-    ensures greatest { IsGreatestCode duration result }
-    ensures back { (code : ℕ) → code < 256 → duration ≡ 1000 * code_millis code → result ≡ code }
+    ensures value { result ≡ code_of duration }
+    ensures greatest { IsGreatestCode (micros_of duration) result }
+    ensures back { (code : ℕ) → code < 256 → micros_of duration ≡ 1000 * code_millis code
+        → result ≡ code }
 {
     let tenths = (duration.total_millis() / 100).min(LONGEST) as u16;
     if tenths < FLOATING as u16 {

@@ -7,7 +7,7 @@ ghost use Rattle.opt_wire.specs.NdiscOptionRepr.{value_of as option_value, text 
 ghost use Rattle.opt_wire.specs.NdiscOptionRepr.{text_len as len_of_option, CanEmit as CanEmitOption};
 ghost use Rattle.icmp6_wire.specs.Ndisc.{sources, targets, mtus, prefixes, packets};
 ghost use Rattle.icmp6_wire.specs.Ndisc.{option_text, option_len, IfThere};
-ghost use Rattle.icmp6_wire.specs.NdiscFound.{packet_of};
+ghost use Rattle.icmp6_wire.specs.NdiscFound.{link_of, packet_of};
 
 use opt_wire::ndiscoption;
 use opt_wire::ndiscoption::{PrefixInformation, RedirectedHeader};
@@ -15,7 +15,7 @@ use wirebase::{ByteWriter, RawHardwareAddress};
 
 // The option of a link-layer address of the sender.
 fn source_option<'a>(lladdr: &Option<RawHardwareAddress>) -> Option<ndiscoption::Repr<'a>>
-    ensures { option_map option_value result ≡ sources lladdr.now }
+    ensures { option_map option_value result ≡ sources (link_of lladdr.now) }
 {
     match lladdr {
         Some(addr) => Some(ndiscoption::Repr::SourceLinkLayerAddr(*addr)),
@@ -25,7 +25,7 @@ fn source_option<'a>(lladdr: &Option<RawHardwareAddress>) -> Option<ndiscoption:
 
 // The option of a link-layer address of the target.
 fn target_option<'a>(lladdr: &Option<RawHardwareAddress>) -> Option<ndiscoption::Repr<'a>>
-    ensures { option_map option_value result ≡ targets lladdr.now }
+    ensures { option_map option_value result ≡ targets (link_of lladdr.now) }
 {
     match lladdr {
         Some(addr) => Some(ndiscoption::Repr::TargetLinkLayerAddr(*addr)),
@@ -80,16 +80,16 @@ pub(super) fn option_len(option: &Option<ndiscoption::Repr<'_>>) -> usize
 
 // The bytes of the option of a link-layer address of the sender.
 pub(super) fn source_len(lladdr: &Option<RawHardwareAddress>) -> usize
-    requires { option_len (sources lladdr.now) < 2 ^ 64 }
-    ensures { result ≡ option_len (sources lladdr.now) }
+    requires { option_len (sources (link_of lladdr.now)) < 2 ^ 64 }
+    ensures { result ≡ option_len (sources (link_of lladdr.now)) }
 {
     option_len(&source_option(lladdr))
 }
 
 // The bytes of the option of a link-layer address of the target.
 pub(super) fn target_len(lladdr: &Option<RawHardwareAddress>) -> usize
-    requires { option_len (targets lladdr.now) < 2 ^ 64 }
-    ensures { result ≡ option_len (targets lladdr.now) }
+    requires { option_len (targets (link_of lladdr.now)) < 2 ^ 64 }
+    ensures { result ≡ option_len (targets (link_of lladdr.now)) }
 {
     option_len(&target_option(lladdr))
 }
@@ -112,11 +112,11 @@ pub(super) fn put_option(w: &mut ByteWriter<'_>, option: &Option<ndiscoption::Re
 
 // Writes the option of a link-layer address of the sender.
 pub(super) fn put_source(w: &mut ByteWriter<'_>, lladdr: &Option<RawHardwareAddress>)
-    requires sound { IfThere CanEmitOption (sources lladdr.now) }
-    requires small { option_len (sources lladdr.now) < 2 ^ 64 }
-    requires room { option_len (sources lladdr.now) ≤ length (free w.old) }
-    ensures puts { Puts w.old w.new (option_text (sources lladdr.now) ∷ []) }
-    ensures room { length (free w.old) ≡ option_len (sources lladdr.now) + length (free w.new) }
+    requires sound { IfThere CanEmitOption (sources (link_of lladdr.now)) }
+    requires small { option_len (sources (link_of lladdr.now)) < 2 ^ 64 }
+    requires room { option_len (sources (link_of lladdr.now)) ≤ length (free w.old) }
+    ensures puts { Puts w.old w.new (option_text (sources (link_of lladdr.now)) ∷ []) }
+    ensures room { length (free w.old) ≡ option_len (sources (link_of lladdr.now)) + length (free w.new) }
     ensures same_slice { the_slice w.new ≡ the_slice w.old }
 {
     put_option(w, &source_option(lladdr));
@@ -124,11 +124,11 @@ pub(super) fn put_source(w: &mut ByteWriter<'_>, lladdr: &Option<RawHardwareAddr
 
 // Writes the option of a link-layer address of the target.
 pub(super) fn put_target(w: &mut ByteWriter<'_>, lladdr: &Option<RawHardwareAddress>)
-    requires sound { IfThere CanEmitOption (targets lladdr.now) }
-    requires small { option_len (targets lladdr.now) < 2 ^ 64 }
-    requires room { option_len (targets lladdr.now) ≤ length (free w.old) }
-    ensures puts { Puts w.old w.new (option_text (targets lladdr.now) ∷ []) }
-    ensures room { length (free w.old) ≡ option_len (targets lladdr.now) + length (free w.new) }
+    requires sound { IfThere CanEmitOption (targets (link_of lladdr.now)) }
+    requires small { option_len (targets (link_of lladdr.now)) < 2 ^ 64 }
+    requires room { option_len (targets (link_of lladdr.now)) ≤ length (free w.old) }
+    ensures puts { Puts w.old w.new (option_text (targets (link_of lladdr.now)) ∷ []) }
+    ensures room { length (free w.old) ≡ option_len (targets (link_of lladdr.now)) + length (free w.new) }
     ensures same_slice { the_slice w.new ≡ the_slice w.old }
 {
     put_option(w, &target_option(lladdr));

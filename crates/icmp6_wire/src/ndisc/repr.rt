@@ -3,6 +3,7 @@
 ghost use Rattle.std.specs.Prelude.{◌≡◌, ◌+◌, ◌<◌, ◌≤◌, ◌^◌, [], ◌∷◌, length, IfOk, IsOk, IsOkAnd};
 ghost use Rattle.std.specs.Option.{option_map};
 ghost use Rattle.wirebase.specs.ByteWriter.{free, Puts, the_slice, be8, be16, be32};
+ghost use Rattle.wirebase.specs.Duration.{millis_of, seconds_of};
 ghost use Rattle.wirebase.specs.Format.{Rewrites, SameText};
 ghost use Rattle.opt_wire.specs.NdiscOptionRepr.{CanEmit as CanEmitOption};
 ghost use Rattle.wirebase.specs.Bytes.{byte_of};
@@ -12,9 +13,8 @@ ghost use Rattle.icmp6_wire.specs.Ndisc.{NdiscValue, value_of, sources, targets,
 ghost use Rattle.icmp6_wire.specs.Ndisc.{options_of, option_lens, option_texts, header_len, header_fields, Each};
 ghost use Rattle.icmp6_wire.specs.Ndisc.{HaveTimes, message_fields, text};
 ghost use Rattle.icmp6_wire.specs.Ndisc.{text_len, CanEmit, IsMessage, format, Emits};
-ghost use Rattle.icmp6_wire.specs.NdiscFound.{packet_of, kept_of, Says};
+ghost use Rattle.icmp6_wire.specs.NdiscFound.{link_of, packet_of, kept_of, Says};
 ghost use Rattle.icmp6_wire.specs.Icmpv6Tables.{message_number};
-ghost use Rattle.icmp6_wire.specs.NdiscPacket.{seconds, millis};
 ghost use Rattle.icmp6_wire.specs.NdiscTables.{router_bits, neighbor_bits};
 
 use super::field;
@@ -332,10 +332,10 @@ fn router_options_len(
     mtu: &Option<u32>,
     prefix_info: &Option<PrefixInformation>,
 ) -> usize
-    requires { option_lens (sources lladdr.now ∷ mtus mtu.now ∷ prefixes prefix_info.now ∷ [])
+    requires { option_lens (sources (link_of lladdr.now) ∷ mtus mtu.now ∷ prefixes prefix_info.now ∷ [])
         < 2 ^ 64 }
     ensures { result
-        ≡ option_lens (sources lladdr.now ∷ mtus mtu.now ∷ prefixes prefix_info.now ∷ []) }
+        ≡ option_lens (sources (link_of lladdr.now) ∷ mtus mtu.now ∷ prefixes prefix_info.now ∷ []) }
 {
     source_len(lladdr) + option_len(&mtu_option(mtu)) + option_len(&prefix_option(prefix_info))
 }
@@ -345,10 +345,10 @@ fn redirect_options_len(
     lladdr: &Option<RawHardwareAddress>,
     header: &Option<RedirectedHeader<'_>>,
 ) -> usize
-    requires { option_lens (targets lladdr.now ∷ packets (option_map packet_of header.now) ∷ [])
+    requires { option_lens (targets (link_of lladdr.now) ∷ packets (option_map packet_of header.now) ∷ [])
         < 2 ^ 64 }
     ensures { result
-        ≡ option_lens (targets lladdr.now ∷ packets (option_map packet_of header.now) ∷ []) }
+        ≡ option_lens (targets (link_of lladdr.now) ∷ packets (option_map packet_of header.now) ∷ []) }
 {
     target_len(lladdr) + option_len(&redirected_option(header))
 }
@@ -374,11 +374,11 @@ fn put_router_options(
     prefix_info: &Option<PrefixInformation>,
 )
     requires sound { Each CanEmitOption
-        (sources lladdr.now ∷ mtus mtu.now ∷ prefixes prefix_info.now ∷ []) }
-    requires room { option_lens (sources lladdr.now ∷ mtus mtu.now ∷ prefixes prefix_info.now ∷ [])
+        (sources (link_of lladdr.now) ∷ mtus mtu.now ∷ prefixes prefix_info.now ∷ []) }
+    requires room { option_lens (sources (link_of lladdr.now) ∷ mtus mtu.now ∷ prefixes prefix_info.now ∷ [])
         ≤ length (free w.old) }
     ensures puts { Puts w.old w.new
-        (option_texts (sources lladdr.now ∷ mtus mtu.now ∷ prefixes prefix_info.now ∷ [])) }
+        (option_texts (sources (link_of lladdr.now) ∷ mtus mtu.now ∷ prefixes prefix_info.now ∷ [])) }
     ensures same_slice { the_slice w.new ≡ the_slice w.old }
 {
     put_source(w, lladdr);
@@ -393,12 +393,12 @@ fn put_redirect_options(
     header: &Option<RedirectedHeader<'_>>,
 )
     requires sound { Each CanEmitOption
-        (targets lladdr.now ∷ packets (option_map packet_of header.now) ∷ []) }
+        (targets (link_of lladdr.now) ∷ packets (option_map packet_of header.now) ∷ []) }
     requires room { option_lens
-        (targets lladdr.now ∷ packets (option_map packet_of header.now) ∷ [])
+        (targets (link_of lladdr.now) ∷ packets (option_map packet_of header.now) ∷ [])
         ≤ length (free w.old) }
     ensures puts { Puts w.old w.new
-        (option_texts (targets lladdr.now ∷ packets (option_map packet_of header.now) ∷ [])) }
+        (option_texts (targets (link_of lladdr.now) ∷ packets (option_map packet_of header.now) ∷ [])) }
     ensures same_slice { the_slice w.new ≡ the_slice w.old }
 {
     put_target(w, lladdr);
@@ -433,11 +433,11 @@ fn put_reserved(w: &mut ByteWriter<'_>, kind: Message)
 // Writes the times of a router advertisement, in whole seconds and twice in whole milliseconds.
 fn put_times(w: &mut ByteWriter<'_>, lifetime: &Duration, reachable: &Duration, retrans: &Duration)
     requires room { 10 ≤ length (free w.old) }
-    requires lifetime { seconds lifetime.now ≤ 65535 }
-    requires reachable { millis reachable.now ≤ 4294967295 }
-    requires retrans { millis retrans.now ≤ 4294967295 }
-    ensures puts { Puts w.old w.new (be16 (seconds lifetime.now)
-        ∷ be32 (millis reachable.now) ∷ be32 (millis retrans.now) ∷ []) }
+    requires lifetime { seconds_of lifetime.now ≤ 65535 }
+    requires reachable { millis_of reachable.now ≤ 4294967295 }
+    requires retrans { millis_of retrans.now ≤ 4294967295 }
+    ensures puts { Puts w.old w.new (be16 (seconds_of lifetime.now)
+        ∷ be32 (millis_of reachable.now) ∷ be32 (millis_of retrans.now) ∷ []) }
     ensures room { length (free w.old) ≡ 10 + length (free w.new) }
     ensures same_slice { the_slice w.new ≡ the_slice w.old }
 {

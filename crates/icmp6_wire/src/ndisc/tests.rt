@@ -1,6 +1,6 @@
 ghost use Rattle.std.specs.Prelude.{◌≡◌, ◌<◌, ◌≤◌, length};
 ghost use Rattle.icmp6_wire.specs.Ndisc.{value_of, text_len, CanEmit};
-ghost use Rattle.icmp6_wire.specs.NdiscPacket.{seconds};
+ghost use Rattle.wirebase.specs.Duration.{seconds_of};
 
 use super::{NeighborFlags, Repr, RouterFlags};
 use crate::icmpv6::Packet;
@@ -107,7 +107,7 @@ fn router_advert() -> Repr<'static>
 
 // The same with this lifetime.
 fn router_advert_of(router_lifetime: Duration) -> Repr<'static>
-    requires { seconds router_lifetime ≤ 65535 }
+    requires { seconds_of router_lifetime ≤ 65535 }
     ensures can { CanEmit (value_of result) }
     ensures len { text_len (value_of result) ≡ 24 }
 {

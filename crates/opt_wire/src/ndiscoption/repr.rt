@@ -6,6 +6,7 @@ ghost use Rattle.std.specs.Fmt.{WritesOnOk};
 ghost use Rattle.wirebase.specs.Bytes.{bytes_of};
 ghost use Rattle.wirebase.specs.ByteWriter.{free, Puts, the_slice};
 ghost use Rattle.wirebase.specs.Format.{Rewrites, SameText};
+ghost use Rattle.wirebase.specs.HardwareAddress.{raw_bytes};
 ghost use Rattle.wirebase.specs.Ipv6.{IsPacket, payload_field, header_text};
 ghost use Rattle.wirebase.specs.declared.ipv6.Ipv6Repr.{Ipv6Repr};
 ghost use Rattle.opt_wire.specs.NdiscOption.{inner, view_octets, redirected_field};
@@ -255,8 +256,8 @@ fn units_of(count: usize) -> usize
 
 // Writes a link-layer address as an option of this type.
 fn put_link(w: &mut ByteWriter<'_>, kind: Type, addr: RawHardwareAddress)
-    requires room { 8 * units (2 + length addr) ≤ length (free w.old) }
-    ensures puts { Puts w.old w.new (link_fields (type_number kind) addr) }
+    requires room { 8 * units (2 + length (raw_bytes addr)) ≤ length (free w.old) }
+    ensures puts { Puts w.old w.new (link_fields (type_number kind) (raw_bytes addr)) }
     ensures same_slice { the_slice w.new ≡ the_slice w.old }
 {
     let len = 2 + addr.len();

@@ -1,7 +1,11 @@
 use Rattle.std.proofs.Common.{length, refl, ap, ◌∙◌}
 use Rattle.std.proofs.lemmas.List.{take_at}
-use Rattle.wirebase.proofs.HardwareAddresses.{same_front}
+use Rattle.wirebase.specs.HardwareAddress.{raw_bytes}
+use Rattle.wirebase.proofs.HardwareAddresses.{same_raw, same_front}
 use Rattle.wirebase.proofs.ethernet.RawHardwareAddress.from_bytes.Goals as goal
+
+pub returns-clause-same : goal.returns-clause-same
+returns-clause-same c x y = (λ e. ap raw_bytes e, same_raw x y)
 
 pub returns-clause-equality : goal.returns-clause-equality
 returns-clause-equality c x y = same_front _ x y refl
