@@ -9,9 +9,9 @@ pub use Rattle.wirebase.specs.Checksum
 pub use Rattle.wirebase.specs.Display
 pub use Rattle.wirebase.specs.Duration
 pub use Rattle.wirebase.specs.Ethernet
-pub use Rattle.wirebase.specs.HardwareAddress
 pub use Rattle.wirebase.specs.Format
 pub use Rattle.wirebase.specs.Hardware
+pub use Rattle.wirebase.specs.HardwareAddress
 pub use Rattle.wirebase.specs.Icmp
 pub use Rattle.wirebase.specs.Ip
 pub use Rattle.wirebase.specs.Ipv4
@@ -66,7 +66,11 @@ pub use Rattle.dns_wire.specs.DnsRepr
 pub use Rattle.dns_wire.specs.DnsRecord
 pub use Rattle.wirebase.specs.declared.capabilities.Checksum as ChecksumType
 pub use Rattle.wirebase.specs.declared.capabilities.ChecksumCapabilities as ChecksumCapabilitiesType
+pub use Rattle.wirebase.specs.declared.duration.Duration as DurationType
 pub use Rattle.wirebase.specs.declared.error.Error as ErrorType
+pub use Rattle.wirebase.specs.declared.ethernet.EthernetAddress as EthernetAddressType
+pub use Rattle.wirebase.specs.declared.ethernet.RawHardwareAddress as RawHardwareAddressType
+pub use Rattle.wirebase.specs.declared.hardware.Hardware as HardwareType
 pub use Rattle.wirebase.specs.declared.ip.IpProtocol as IpProtocolType
 pub use Rattle.wirebase.specs.declared.ipv4.Ipv4Address as Ipv4AddressType
 pub use Rattle.wirebase.specs.declared.ipv4.Ipv4Repr as Ipv4ReprType
@@ -78,11 +82,14 @@ pub use Rattle.icmp4_wire.specs.declared.icmpv4.tables.TimeExceeded as Icmpv4Tim
 pub use Rattle.icmp4_wire.specs.declared.igmp.repr.IgmpVersion as IgmpVersionType
 pub use Rattle.icmp4_wire.specs.declared.igmp.repr.Repr as IgmpReprType
 pub use Rattle.icmp6_wire.specs.declared.icmpv6.repr.Repr as Icmpv6ReprType
+pub use Rattle.icmp6_wire.specs.declared.icmpv6.tables.Message as Icmpv6MessageType
 pub use Rattle.icmp6_wire.specs.declared.icmpv6.tables.DstUnreachable as Icmpv6DstUnreachableType
 pub use Rattle.icmp6_wire.specs.declared.icmpv6.tables.ParamProblem as Icmpv6ParamProblemType
 pub use Rattle.icmp6_wire.specs.declared.icmpv6.tables.TimeExceeded as Icmpv6TimeExceededType
 pub use Rattle.icmp6_wire.specs.declared.mld.repr.Repr as MldReprType
 pub use Rattle.icmp6_wire.specs.declared.ndisc.repr.Repr as NdiscReprType
+pub use Rattle.icmp6_wire.specs.declared.ndisc.flags.NeighborFlags as NdiscNeighborFlagsType
+pub use Rattle.icmp6_wire.specs.declared.ndisc.flags.RouterFlags as NdiscRouterFlagsType
 pub use Rattle.icmp6_wire.specs.declared.mld.record.AddressRecordRepr as MldAddressRecordReprType
 pub use Rattle.icmp6_wire.specs.declared.mld.tables.RecordType as MldRecordTypeType
 pub use Rattle.dhcp_wire.specs.declared.dhcpv4.repr.Repr as Dhcpv4ReprType
@@ -93,3 +100,8 @@ pub use Rattle.dns_wire.specs.declared.dns.tables.Type as DnsTypeType
 pub use Rattle.dns_wire.specs.declared.dns.tables.Flags as DnsFlagsType
 pub use Rattle.dns_wire.specs.declared.dns.repr.Repr as DnsReprType
 pub use Rattle.opt_wire.specs.declared.ipv6option.tables.RouterAlert as RouterAlertType
+pub use Rattle.opt_wire.specs.declared.ndiscoption.repr.PrefixInformation as NdiscPrefixInformationType
+pub use Rattle.opt_wire.specs.declared.ndiscoption.repr.RedirectedHeader as NdiscRedirectedHeaderType
+pub use Rattle.opt_wire.specs.declared.ndiscoption.repr.Repr as NdiscOptionReprType
+pub use Rattle.opt_wire.specs.declared.ndiscoption.tables.PrefixInfoFlags as NdiscPrefixInfoFlagsType
+pub use Rattle.opt_wire.specs.declared.ndiscoption.tables.Type as NdiscOptionTypeType
