@@ -213,7 +213,7 @@ fn put_options(w: &mut ByteWriter<'_>, options: &[ipv6option::Repr<'_>])
 }
 
 // Writes an option.
-#[tactic(auto, using(wirebase::proofs::Chains::parts, crate::proofs::Ipv6OptionText::texts))]
+#[tactic(auto, using(crate::proofs::Ipv6OptionText::texts))]
 fn put_option(w: &mut ByteWriter<'_>, option: &ipv6option::Repr<'_>)
     requires enough { HasData (option_value option.now) }
     requires room { option_len (option_value option.now) ≤ length (free w.old) }

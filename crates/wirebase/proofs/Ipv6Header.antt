@@ -17,7 +17,7 @@ use Rattle.wirebase.specs.Ipv6.{IsHeader, header_fields, header_text, pseudo_fie
 use Rattle.wirebase.specs.Ipv6Address.{octets_of}
 use Rattle.wirebase.proofs.Pieces.{over-exact}
 use Rattle.wirebase.proofs.IpProtocols.{protocol_of-number}
-use Rattle.wirebase.proofs.Chains.{over-blank, put-fields}
+use Rattle.wirebase.proofs.Chains.{over-blank, put-fields, whole-sheet}
 
 -- ---- addresses
 
@@ -88,7 +88,7 @@ over-header old r =
     over-blank old (header_text r)
     ∙ ap (λ (s : Sheet). s.written ++ s.free) (put-fields (blank old) (header_fields r))
 
-pub ruleset header_writes = (over-header)
+pub ruleset header_writes = (over-header, whole-sheet)
 
 -- ---- reading what was written
 

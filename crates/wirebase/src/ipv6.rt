@@ -4,7 +4,7 @@
 ghost use Rattle.std.specs.Prelude.{◌≡◌, ◌↔◌, ◌≤◌, ◌<◌, IsTrue, IsOk, IfOk, Ok, Some, length};
 ghost use Rattle.std.specs.Borrow.{sem, Lends, Array, u8 as byte};
 ghost use Rattle.wirebase.specs.Bytes.{Reaches, bytes_of, byte_of, with_field, over};
-ghost use Rattle.wirebase.specs.ByteWriter.{free, Puts, the_slice};
+ghost use Rattle.wirebase.specs.ByteWriter.{free, Puts};
 ghost use Rattle.wirebase.specs.Ip.{protocol_of};
 ghost use Rattle.wirebase.specs.Ipv6.{inner, with_inner, view_octets, version_field, payload_len_field};
 ghost use Rattle.wirebase.specs.Ipv6.{next_header_field, hop_limit_field, src_addr_field, dst_addr_field, version_in};
@@ -90,6 +90,13 @@ impl<T: Octets> Ipv6Packet<T> {
         ensures { result ≡ inner self }
     {
         self.buffer
+    }
+
+    /// The octets.
+    pub fn as_ref(&self) -> &[u8]
+        ensures { result.now ≡ T.bytes (inner self.now) }
+    {
+        self.buffer.octets()
     }
 
     /// The version. Requires at least 1 byte.
@@ -273,8 +280,7 @@ impl Ipv6Repr {
     fn put(&self, w: &mut ByteWriter<'_>)
         requires room { 40 ≤ length (free w.old) }
         requires count { self.now.payload_len ≤ 65535 }
-        ensures puts { Puts w.old w.new (header_fields self.now) }
-        ensures same_slice { the_slice w.new ≡ the_slice w.old }
+        ensures { Puts w.old w.new (header_fields self.now) }
     {
         w.put_u32(0x6000_0000);
         w.put_u16(self.payload_len as u16);

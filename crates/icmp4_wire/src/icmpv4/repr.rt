@@ -337,7 +337,7 @@ fn put_echo(w: &mut ByteWriter<'_>, kind: Message, ident: u16, seq_no: u16, data
 }
 
 // Writes an error of this type.
-#[tactic(auto, using(wirebase::proofs::Chains::parts, wirebase::proofs::Ipv4Header::header_texts))]
+#[tactic(auto, using(wirebase::proofs::Ipv4Header::header_texts))]
 fn put_error(
     w: &mut ByteWriter<'_>,
     kind: Message,

@@ -38,7 +38,7 @@ pub(super) fn write_error(
 }
 
 // The same through a writer.
-#[tactic(auto, using(wirebase::proofs::Chains::parts, wirebase::proofs::Ipv6Header::header_texts))]
+#[tactic(auto, using(wirebase::proofs::Ipv6Header::header_texts))]
 fn put_error(
     w: &mut ByteWriter<'_>,
     kind: Message,

@@ -271,7 +271,6 @@ fn put_records(w: &mut ByteWriter<'_>, records: &[AddressRecordRepr<'_>])
 }
 
 // Writes a record.
-#[tactic(auto, using(wirebase::proofs::Chains::parts))]
 fn put_record(w: &mut ByteWriter<'_>, repr: &AddressRecordRepr<'_>)
     requires room { 20 ≤ length (free w.old) }
     requires group { IsMulticast repr.now.mcast_addr }

@@ -135,7 +135,7 @@ pub(super) fn put_target(w: &mut ByteWriter<'_>, lladdr: &Option<RawHardwareAddr
 }
 
 // Writes an option.
-#[tactic(auto, using(wirebase::proofs::Chains::parts, opt_wire::proofs::NdiscOptionTexts::texts))]
+#[tactic(auto, using(opt_wire::proofs::NdiscOptionTexts::texts))]
 fn put_some(w: &mut ByteWriter<'_>, option: &ndiscoption::Repr<'_>)
     requires sound { CanEmitOption (option_value option.now) }
     requires small { len_of_option (option_value option.now) < 2 ^ 64 }

@@ -305,7 +305,7 @@ fn put_redirected(w: &mut ByteWriter<'_>, header: &Ipv6Repr, data: &[u8])
 }
 
 // Writes a header and its payload.
-#[tactic(auto, using(wirebase::proofs::Chains::parts, wirebase::proofs::Ipv6Header::header_texts))]
+#[tactic(auto, using(wirebase::proofs::Ipv6Header::header_texts))]
 fn put_packet(w: &mut ByteWriter<'_>, header: &Ipv6Repr, data: &[u8])
     requires room { 40 + length «data».now ≤ length (free w.old) }
     requires count { header.now.payload_len ≤ 65535 }

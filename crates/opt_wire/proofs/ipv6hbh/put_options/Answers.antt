@@ -1,7 +1,6 @@
 use Rattle.std.proofs.Common.{List, map, sym, ap, ◌∙◌, arith}
 use Rattle.std.proofs.lemmas.List.{drop_all}
 use Rattle.wirebase.specs.ByteWriter.{sheet, put_all}
-use Rattle.wirebase.proofs.Chains.{whole-sheet}
 use Rattle.opt_wire.specs.declared.ipv6option.Repr.{Repr}
 use Rattle.opt_wire.specs.Ipv6Option.{value_of}
 use Rattle.opt_wire.specs.Ipv6Hbh.{header_fields}
@@ -13,5 +12,5 @@ returns-clause-puts c =
     record {
       puts = ap (λ (l : List Repr). put_all (sheet c.loop-option.w) (header_fields (map value_of l))) (sym none)
           ∙ c.loop-option.invariant.texts;
-      whole = sym (whole-sheet c.loop-option.w);
+      same_slice = c.loop-option.invariant.same_slice;
     }

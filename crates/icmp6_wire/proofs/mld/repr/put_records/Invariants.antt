@@ -5,9 +5,10 @@ use Rattle.icmp6_wire.proofs.mld.repr.put_records.Given as goal
 
 -- what is left to write gives what the whole gives
 abbrev pub invariant-loop-record : goal.invariant-loop-record
-invariant-loop-record l =
-    (put_all (sheet l.w) (record_texts (values_of (drop l.record-index l.records)))
-    ≡ put_all (sheet l.initial.w) (record_texts (values_of l.records)))
-    × (20 * length (drop l.record-index l.records) ≤ length (free l.w))
-    × AreGroups (values_of (drop l.record-index l.records))
-    × (the_slice l.w ≡ the_slice l.initial.w)
+invariant-loop-record l = record {
+  texts : put_all (sheet l.w) (record_texts (values_of (drop l.record-index l.records)))
+      ≡ put_all (sheet l.initial.w) (record_texts (values_of l.records));
+  room : 20 * length (drop l.record-index l.records) ≤ length (free l.w);
+  groups : AreGroups (values_of (drop l.record-index l.records));
+  same_slice : the_slice l.w ≡ the_slice l.initial.w;
+}

@@ -4,7 +4,8 @@ use Rattle.std.proofs.Common.{arith, length-drop}
 use Rattle.std.proofs.lemmas.List.{take_all, drop_all}
 use Rattle.std.proofs.lemmas.Bool.{cases_lt}
 use Rattle.wirebase.specs.Bytes.{part, splice}
-use Rattle.wirebase.specs.ByteWriter.{with_part}
+use Rattle.wirebase.specs.ByteWriter.{sheet_of}
+use Rattle.wirebase.proofs.Chains.{sheet_of-part, room-part}
 use Rattle.wirebase.proofs.byte_writer.Cursor.part.Goals as goal
 
 part-place : (bytes text : List ℕ) (p n start : ℕ) → n ≤ length (drop p bytes) → start ≡ min p (length bytes)
@@ -35,6 +36,7 @@ part-place bytes text p n start room is =
     ]
 
 pub range_mut-requires-clause-room : goal.range_mut-requires-clause-room
+unfolding sheet_of
 range_mut-requires-clause-room g c =
     let w = c.args.self.now in
     let bytes = g.T.Octets.bytes w.buffer in
@@ -47,7 +49,7 @@ range_mut-requires-clause-room g c =
     )
 
 pub returns : goal.returns
-unfolding with_part
+unfolding sheet_of
 returns g c =
     let w = c.args.self.now in
     let bytes = g.T.Octets.bytes w.buffer in
@@ -57,5 +59,12 @@ returns g c =
       record {
         lends = tt;
         value = c.range_mut.ensures.value ∙ (part-place bytes bytes w.position c.args.count _ c.requires start).1;
+        len = omega (arith, c.range_mut.ensures.len);
+        puts = λ text long.
+            sheet_of-part g.T.Octets.bytes g.T.OctetsMut.put g.met.T.OctetsMut.bytes_put w c.args.count text c.requires
+            long;
+        room = λ text long.
+            room-part g.T.Octets.bytes g.T.OctetsMut.put g.met.T.OctetsMut.bytes_put w c.args.count text c.requires
+            long;
       },
     )

@@ -12,5 +12,5 @@ returns-clause-puts c =
       puts = c.put_options.ensures.puts.puts
           ∙ ap (λ (s : Sheet). put_all s behind) c.put_header.ensures.puts.puts
           ∙ sym (put_all-header v behind (sheet c.args.w.now));
-      whole = c.put_options.ensures.puts.whole;
+      same_slice = c.put_options.ensures.same_slice ∙ c.put_header.ensures.same_slice;
     }
