@@ -23,12 +23,12 @@ impl Duration {
         Duration { micros }
     }
 
-    /// The duration of so many milliseconds, which are asked to be at most 18,446,744,073,709,551.
+    /// The duration of so many milliseconds, at most 18,446,744,073,709,551.
     pub const fn from_millis(millis: u64) -> Duration {
         Duration::from_micros(1_000 * millis)
     }
 
-    /// The duration of so many seconds, which are asked to be at most 18,446,744,073,709.
+    /// The duration of so many seconds, at most 18,446,744,073,709.
     pub const fn from_secs(secs: u64) -> Duration {
         Duration::from_micros(1_000_000 * secs)
     }

@@ -31,7 +31,7 @@ impl<'a> Iterator for NameIter<'a> {
             let limit = self.open_len;
             let read = source(self.in_message, self.message, self.slice);
             match read_front(&read[self.place..self.end]) {
-                Front::Label(label, _) => {
+                Front::Label(label) => {
                     self.place += 1 + label.len();
                     self.steps += 1;
                     return Some(Ok(label));

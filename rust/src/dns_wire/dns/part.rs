@@ -6,8 +6,8 @@ use crate::wirebase::{Error, Result};
 /// What stands at the front of a text.
 #[derive(Clone, Copy)]
 pub(crate) enum Front<'a> {
-    /// The bytes of a label, and the text after it.
-    Label(&'a [u8], &'a [u8]),
+    /// The bytes of a label.
+    Label(&'a [u8]),
     /// Where the name goes on.
     Pointer(usize),
     /// The end of the name.
@@ -32,7 +32,7 @@ pub(crate) fn read_front(text: &[u8]) -> Front<'_> {
             if rest.len() < len {
                 return Front::Torn;
             }
-            Front::Label(&rest[..len], &rest[len..])
+            Front::Label(&rest[..len])
         }
         [first, second, ..] if *first >= POINTER => {
             Front::Pointer(256 * (*first % 64) as usize + *second as usize)
@@ -52,7 +52,7 @@ fn part_len(text: &[u8]) -> Result<usize> {
     let mut len = 0;
     loop {
         match read_front(&text[len..]) {
-            Front::Label(label, _) => len += 1 + label.len(),
+            Front::Label(label) => len += 1 + label.len(),
             Front::Pointer(_) => return Ok(len + 2),
             Front::End => return Ok(len + 1),
             Front::Torn => return Err(Error),

@@ -1,10 +1,10 @@
 // Made from crates/dns_wire/src/dns/tests.rt by rust/erase.
-
-use super::{Flags, Opcode, Packet, Question, Rcode, Record, RecordData, Repr, Type};
+use super::{Flags, Opcode, Packet, Question, Rcode, Record, RecordData, Type};
 use crate::dns_wire::testing::{fail, same, same_of};
 use crate::wirebase::{Ipv4Address, Ipv6Address};
 
 pub(super) mod damaged;
+mod written;
 
 #[test]
 fn numbers_of_kinds_of_query() {
@@ -292,43 +292,44 @@ fn an_address_of_16_bytes() {
     same(cut.is_err(), true);
 }
 
-const ADDRESS_QUERY: Repr<'static> = Repr {
-    transaction_id: 0x1234,
-    opcode: Opcode::Query,
-    flags: Flags::RECURSION_DESIRED,
-    question: Question {
-        name: &[0x01, 0x61, 0x00],
-        type_: Type::A,
-    },
-};
-
-const ADDRESS_QUERY_OCTETS: [u8; 19] = [
-    0x12, 0x34, 0x01, 0x00, 0x00, 0x01, 0x00, 0x00, 0x00, 0x00, 0x00, 0x00, 0x01, 0x61, 0x00, 0x00,
-    0x01, 0x00, 0x01,
-];
-
 #[test]
-fn a_query_is_written() {
-    same(ADDRESS_QUERY.buffer_len(), 19);
-    for old in [0x00, 0xff, 0x2a] {
-        let mut octets = [old; 19];
-        ADDRESS_QUERY.emit(&mut Packet::new_unchecked(octets.as_mut_slice()));
-        same_of(old, octets, ADDRESS_QUERY_OCTETS);
+fn records_that_differ() {
+    let host = RecordData::A(Ipv4Address::new(172, 217, 168, 174));
+    let record = Record {
+        name: &[0xc0, 0x0c],
+        ttl: 202,
+        data: host,
+    };
+    let others = [
+        Record {
+            name: &[0xc0, 0x0d],
+            ..record
+        },
+        Record { ttl: 203, ..record },
+        Record {
+            data: RecordData::A(Ipv4Address::new(172, 217, 168, 175)),
+            ..record
+        },
+        Record {
+            data: RecordData::Cname(&[172, 217, 168, 174]),
+            ..record
+        },
+        Record {
+            data: RecordData::Other(Type::A, &[172, 217, 168, 174]),
+            ..record
+        },
+    ];
+    for other in &others {
+        same_of(other, *other == record, false);
     }
 }
 
 #[test]
-fn the_question_of_a_written_query() {
-    check_question(&ADDRESS_QUERY_OCTETS[12..], ADDRESS_QUERY.question, &[]);
-}
-
-#[test]
-fn a_query_is_written_over_the_front_of_longer_octets() {
-    let mut octets = [0xa5; 21];
-    ADDRESS_QUERY.emit_into(&mut octets);
-    let written = [
-        0x12, 0x34, 0x01, 0x00, 0x00, 0x01, 0x00, 0x00, 0x00, 0x00, 0x00, 0x00, 0x01, 0x61, 0x00,
-        0x00, 0x01, 0x00, 0x01, 0xa5, 0xa5,
-    ];
-    same(octets.as_slice(), written.as_slice());
+fn views_are_equal_where_their_octets_are() {
+    let copy = QUERY;
+    let view = Packet::new_unchecked(QUERY.as_slice());
+    same(view == Packet::new_unchecked(copy.as_slice()), true);
+    same(view == Packet::new_unchecked(&copy[..27]), false);
+    same(view == Packet::new_unchecked(&copy[1..]), false);
+    same(view.into_inner(), QUERY.as_slice());
 }

@@ -34,6 +34,12 @@ const CUT_LABEL: [u8; 18] = [
     0, 0, 0, 0, 0, 0, 0, 0, 0, 0, 0, 0, 3, 0x61, 0xc0, 0x0c, 0xc0, 0x0e,
 ];
 
+// Byte 0, and then three pointers, the first to that byte and each other one to the pointer before it.
+const FALLING_POINTERS: [u8; 7] = [0x00, 0xc0, 0x00, 0xc0, 0x01, 0xc0, 0x03];
+
+// A pointer to its own second byte, which begins a label of 13 bytes.
+const POINTER_INTO_ITSELF: [u8; 14] = [0, 0, 0, 0, 0, 0, 0, 0, 0, 0, 0, 0, 0xc0, 0x0d];
+
 // The walk gives this item, and then it has taken so many steps.
 fn check_next<'a>(
     of: (&[u8], &[u8]),
@@ -85,6 +91,8 @@ fn names_in_messages() {
         (&POINTER_FORWARD, 12, &[b"a\x00"], false, 3),
         // The label is cut by its window.
         (&CUT_LABEL, 16, &[], true, 2),
+        (&FALLING_POINTERS, 5, &[], false, 3),
+        (&POINTER_INTO_ITSELF, 12, &[], true, 1),
     ];
     for &(message, at, labels, broken, steps) in ROWS {
         holds_of(at, at <= message.len());
@@ -188,6 +196,31 @@ fn compare_walks(message: &[u8]) {
     }
 }
 
+// Compares the walks over a name outside a message, and over each shorter part of it.
+fn compare_outside(message: &[u8], slice: &[u8]) {
+    for len in 0..=slice.len() {
+        compare_walk(message, &slice[..len]);
+    }
+}
+
+#[test]
+fn names_outside_the_message_at_each_shorter_length() {
+    // Behind labels: byte 0; a pointer to labels, to another pointer, to the last byte, and past it.
+    const OUTSIDE: &[&[u8]] = &[
+        b"\x03www\x08facebook\x03com\x00",
+        b"\x03ftp\xc0\x10",
+        b"\x01a\x02bc\xc0\x3f",
+        b"\x01a\xc0\x4e",
+        b"\x01a\xc0\x4f",
+    ];
+    for &slice in OUTSIDE {
+        for len in 0..=RESPONSE.len() {
+            compare_outside(&RESPONSE[..len], slice);
+        }
+        compare_outside(&MEETING_POINTERS, slice);
+    }
+}
+
 const SYMBOLS: [u8; 7] = [0x00, 0x01, 0x3f, 0x40, 0xc0, 0xc1, 0x02];
 
 // The number's digit to base 7 at a place, as a symbol.
@@ -235,6 +268,8 @@ fn names_of_cut_and_of_damaged_messages() {
         &POINTER_TO_ITSELF,
         &POINTER_FORWARD,
         &CUT_LABEL,
+        &FALLING_POINTERS,
+        &POINTER_INTO_ITSELF,
     ];
     for &message in ROWS {
         compare_damaged(message);
