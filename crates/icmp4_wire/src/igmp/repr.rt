@@ -33,15 +33,19 @@ pub enum Repr {
         max_resp_time: Duration,
         /// The group, or 0.0.0.0 for all.
         group_addr: Ipv4Address,
+        /// The version of the query.
         version: IgmpVersion,
     },
     /// A host is a member of a group.
     MembershipReport {
+        /// The group.
         group_addr: Ipv4Address,
+        /// The version of the report.
         version: IgmpVersion,
     },
     /// A host leaves a group.
     LeaveGroup {
+        /// The group.
         group_addr: Ipv4Address,
     },
 }

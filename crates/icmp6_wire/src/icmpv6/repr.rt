@@ -34,7 +34,9 @@ use wirebase::{
 pub enum Repr<'a> {
     /// An error: the destination of the quoted packet is unreachable.
     DstUnreachable {
+        /// Why, by the code.
         reason: DstUnreachable,
+        /// The header of the packet that the error speaks of.
         header: Ipv6Repr,
         /// What stands behind the quoted header.
         data: &'a [u8],
@@ -43,36 +45,47 @@ pub enum Repr<'a> {
     PktTooBig {
         /// The bytes of the largest packet that it can.
         mtu: u32,
+        /// The header of the packet that the error speaks of.
         header: Ipv6Repr,
         /// What stands behind the quoted header.
         data: &'a [u8],
     },
     /// An error: a time of the quoted packet was exceeded.
     TimeExceeded {
+        /// Why, by the code.
         reason: TimeExceeded,
+        /// The header of the packet that the error speaks of.
         header: Ipv6Repr,
         /// What stands behind the quoted header.
         data: &'a [u8],
     },
     /// An error: a field of the quoted packet makes no sense.
     ParamProblem {
+        /// Why, by the code.
         reason: ParamProblem,
         /// The place of the field, counted from the quoted packet's first byte.
         pointer: u32,
+        /// The header of the packet that the error speaks of.
         header: Ipv6Repr,
         /// What stands behind the quoted header.
         data: &'a [u8],
     },
     /// An echo request.
     EchoRequest {
+        /// The identifier, which the reply has too.
         ident: u16,
+        /// The sequence number, which the reply has too.
         seq_no: u16,
+        /// The data, which the reply has too.
         data: &'a [u8],
     },
     /// An echo reply.
     EchoReply {
+        /// The identifier of the request.
         ident: u16,
+        /// The sequence number of the request.
         seq_no: u16,
+        /// The data of the request.
         data: &'a [u8],
     },
     /// A message of neighbor discovery (RFC 4861).

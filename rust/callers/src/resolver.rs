@@ -1,0 +1,196 @@
+// Made from crates/examples/src/resolver.rt by rust/erase.
+//! A resolver: the query for a name, and the addresses that the response has for it (RFC 1035 section 4).
+//!
+//! A name is given as it is written in messages: labels of 1 to 63 bytes, each after its length, and byte 0. Names are
+//! equal where their labels are, byte by byte: a server gives a name back in the case in which it was asked.
+
+use control_wire::dns::{Flags, Opcode, Packet, Question, Rcode, Record, RecordData, Repr, Type};
+use control_wire::{Ipv4Address, Ipv6Address, Result};
+
+/// An address of a name.
+#[derive(Debug, PartialEq, Eq, Clone, Copy)]
+pub enum Address {
+    /// An IPv4 address, of a record of type A.
+    V4(Ipv4Address),
+    /// An IPv6 address, of a record of type AAAA.
+    V6(Ipv6Address),
+}
+
+/// Writes the query for the records of a type at a name over the front of the octets, and says how many bytes it takes.
+/// None exactly where they have no room; then they are as they were. Requires a name of at most 255 bytes (RFC 1035
+/// section 2.3.4).
+pub fn query(transaction_id: u16, name: &[u8], type_: Type, out: &mut [u8]) -> Option<usize> {
+    let question = Question { name, type_ };
+    let query = Repr {
+        transaction_id,
+        opcode: Opcode::Query,
+        flags: Flags::RECURSION_DESIRED,
+        question,
+    };
+    let len = query.buffer_len();
+    if out.len() < len {
+        return None;
+    }
+    query.emit_into(&mut out[..len]);
+    Some(len)
+}
+
+/// What is left to read of a response's answers, and the name whose addresses are sought in it.
+#[derive(Clone, Copy)]
+pub struct Answers<'a> {
+    /// The whole response, into which its names' pointers lead.
+    pub message: &'a [u8],
+    /// The name, as it is written where it stands.
+    pub name: &'a [u8],
+    /// The number of records that are left.
+    pub left: u16,
+    /// The bytes that they begin in.
+    pub bytes: &'a [u8],
+}
+
+/// The answers of the response to a query. None exactly where the octets are no response to it, or tell of a failure.
+pub fn read_answers<'a>(
+    message: &'a [u8],
+    transaction_id: u16,
+    name: &'a [u8],
+    type_: Type,
+) -> Option<Answers<'a>> {
+    let packet = match Packet::new_checked(message) {
+        Ok(packet) => packet,
+        Err(_) => return None,
+    };
+    if !tells_of_success(&packet, transaction_id) {
+        return None;
+    }
+    let bytes = match after_question(message, name, type_) {
+        Some(bytes) => bytes,
+        None => return None,
+    };
+    Some(Answers {
+        message,
+        name,
+        left: packet.answer_record_count(),
+        bytes,
+    })
+}
+
+// Whether the header is that of the response to a query, and tells of success.
+fn tells_of_success(packet: &Packet<&[u8]>, transaction_id: u16) -> bool {
+    if packet.transaction_id() != transaction_id {
+        return false;
+    }
+    if !packet.flags().contains(Flags::RESPONSE) {
+        return false;
+    }
+    if packet.opcode() != Opcode::Query {
+        return false;
+    }
+    if packet.rcode() != Rcode::NoError {
+        return false;
+    }
+    packet.question_count() == 1
+}
+
+// What stands behind the question, where it is the one that was asked.
+fn after_question<'a>(message: &'a [u8], name: &'a [u8], type_: Type) -> Option<&'a [u8]> {
+    let packet = Packet::new_unchecked(message);
+    let (rest, question) = match Question::parse(packet.payload()) {
+        Ok(read) => read,
+        Err(_) => return None,
+    };
+    if question.type_ != type_ {
+        return None;
+    }
+    if !same_name(&packet, question.name, name) {
+        return None;
+    }
+    Some(rest)
+}
+
+/// The next address of the name, and what is left to read after it. None where no record has another up to the first
+/// that can't be read. An alias counts for the records behind it.
+pub fn next_address(answers: Answers<'_>) -> Option<(Address, Answers<'_>)> {
+    let message = answers.message;
+    let packet = Packet::new_unchecked(message);
+    let mut name = answers.name;
+    let mut left = answers.left;
+    let mut bytes = answers.bytes;
+    while left > 0 {
+        let (rest, record) = match Record::parse(bytes) {
+            Ok(read) => read,
+            Err(_) => return None,
+        };
+        left -= 1;
+        bytes = rest;
+        match read_turn(&packet, &record, name) {
+            Turn::Found(address) => {
+                let after = Answers {
+                    message,
+                    name,
+                    left,
+                    bytes,
+                };
+                return Some((address, after));
+            }
+            Turn::Sought(next) => name = next,
+        }
+    }
+    None
+}
+
+/// What a record says to who seeks a name's addresses: one of them, or for which name to go on.
+#[derive(Clone, Copy)]
+enum Turn<'a> {
+    Found(Address),
+    Sought(&'a [u8]),
+}
+
+// What the record says.
+fn read_turn<'a>(packet: &Packet<&'a [u8]>, record: &Record<'a>, name: &'a [u8]) -> Turn<'a> {
+    if !same_name(packet, record.name, name) {
+        return Turn::Sought(name);
+    }
+    match record.data {
+        RecordData::A(address) => Turn::Found(Address::V4(address)),
+        RecordData::Aaaa(address) => Turn::Found(Address::V6(address)),
+        RecordData::Cname(alias_of) => Turn::Sought(alias_of),
+        RecordData::Other(_, _) => Turn::Sought(name),
+    }
+}
+
+/// Whether two names of a message have the same labels, wherever their pointers lead.
+pub fn same_name<'a>(packet: &Packet<&'a [u8]>, a: &'a [u8], b: &'a [u8]) -> bool {
+    let mut left = packet.parse_name(a);
+    let mut right = packet.parse_name(b);
+    while let Some(item) = left.next() {
+        let label = match item {
+            Ok(label) => label,
+            Err(_) => return false,
+        };
+        if !is_label(right.next(), label) {
+            return false;
+        }
+    }
+    is_end(right.next())
+}
+
+// Whether a walk gave this label.
+fn is_label(answer: Option<Result<&[u8]>>, bytes: &[u8]) -> bool {
+    match answer {
+        Some(Ok(found)) => found == bytes,
+        Some(Err(_)) => false,
+        None => false,
+    }
+}
+
+// Whether a walk came to its end.
+fn is_end(answer: Option<Result<&[u8]>>) -> bool {
+    match answer {
+        Some(Ok(_)) => false,
+        Some(Err(_)) => false,
+        None => true,
+    }
+}
+
+#[cfg(test)]
+mod tests;

@@ -1,0 +1,246 @@
+#!/usr/bin/env python3
+"""Makes the Rust crate from the proved source: takes the contracts away, and leaves the code as it is.
+
+    erase.py SOURCES OUT     writes OUT/src and the packages beside it (SOURCES is the repository)
+    erase.py --rules         lists the rules
+
+What the rules do not know is refused, by file and line. `crates.txt` says which crate becomes what.
+"""
+import collections
+import pathlib
+import re
+import sys
+
+import flag_sets
+import rules
+import runtime
+from tokens import File, Refused
+
+HERE = pathlib.Path(__file__).resolve().parent
+
+
+class Unit:
+    """A package that is written: its crates, each with the module that it becomes, and its files by their targets."""
+
+    def __init__(self, folder, crates, own, root):
+        self.folder, self.crates, self.own, self.root = folder, crates, own, root
+        self.files = {}
+
+
+def table(path=HERE / "crates.txt"):
+    lines = (line.split("#")[0].split() for line in path.read_text().splitlines())
+    return [line for line in lines if line]
+
+
+def needs_of(sources):
+    """The crates that each crate of the repository stands on."""
+    lines = (line.split("#")[0].partition(":") for line in (sources / "crates.txt").read_text().splitlines())
+    return {name.split()[0]: below.split() for name, _, below in lines if name.split()}
+
+
+def below(needs, names):
+    """These crates and all of the repository below them, lowest first."""
+    order = []
+
+    def visit(name):
+        for need in needs[name]:
+            if need in needs:
+                visit(need)
+        if name not in order:
+            order.append(name)
+    for name in names:
+        visit(name)
+    return order
+
+
+# ---------------------------------------------------------------- reading
+
+def read(source, target, shown, files, runs=False):
+    """Reads a module's file, and those of the modules below it. `runs`: it is of a test or a program."""
+    file = File(shown, source.read_text(), runs)
+    files[target] = file
+    folder = source.parent if source.stem in ("lib", "main") else source.with_suffix("")
+    under = target.parent if target.stem in ("lib", "main") else target.with_suffix("")
+    for i in range(len(file.tokens)):
+        if file.text(i) == "mod" and file.text(i + 2) == ";":
+            name, for_tests = file.text(i + 1), file.texts(i - 7, "#", "[", "cfg", "(", "test", ")", "]")
+            path = folder / f"{name}.rt"
+            if not path.exists():
+                file.refuse(i, f"no {path.name} in {path.parent}")
+            at = shown.parent if source.stem in ("lib", "main") else shown.with_suffix("")
+            read(path, under / f"{name}.rs", at / f"{name}.rt", files, runs or for_tests)
+
+
+def units_of(sources):
+    """The packages, with the files of each as they are."""
+    rows, needs = table(), needs_of(sources)
+    kinds = collections.defaultdict(list)
+    for kind, *row in rows:
+        kinds[kind].append(row)
+    [[root]] = kinds["root"]
+    public = {crate: name for crate, name in kinds["module"]}
+    library = below(needs, [root, *public])
+    modules = {crate: "crate" if crate == root else f"crate::{public.get(crate, crate)}" for crate in library}
+    units = [Unit(pathlib.Path(), library, modules, root)]
+    outside = {crate: f"control_wire::{public[crate]}" if crate in public else "control_wire" for crate in library}
+    for crate, folder in kinds["package"]:
+        units.append(Unit(pathlib.Path(folder), [crate], outside, crate))
+    for unit in units:
+        for crate in unit.crates:
+            read_crate(sources, unit, crate, public, runs=unit.own is outside)
+    return units, public
+
+
+def read_crate(sources, unit, crate, public, runs):
+    folder = pathlib.Path("crates") / crate / "src"
+    name = "lib" if (sources / folder / "lib.rt").exists() else "main"
+    target = name if crate == unit.root else public.get(crate, crate)
+    files = {}
+    read(sources / folder / f"{name}.rt", unit.folder / "src" / f"{target}.rs", folder / f"{name}.rt", files, runs)
+    for path, file in files.items():
+        file.crate = crate
+        unit.files[path] = file
+
+
+# ---------------------------------------------------------------- rules
+
+def apply(file, group):
+    """Goes through a file once; at each token of the source the first rule that applies is taken."""
+    i = 0
+    while i < len(file.tokens):
+        place = i + 1
+        if file.tokens[i].origin is not None:
+            for one in group:
+                file.rule = one.__name__
+                there = one(file, i)
+                if there is not None:
+                    place = there
+                    break
+        i = place
+
+
+LIBRARY = rules.VALUES + rules.STD + [flag_sets.flag_set, flag_sets.flags_trait]
+LAST = [rules.imports, rules.paths, runtime.prelude]
+
+
+def all_rules():
+    return rules.CONTRACTS + LIBRARY + rules.VIEWS + runtime.RUNTIME + runtime.PATHS + LAST
+
+
+def erase(units):
+    """Applies the rules to all files."""
+    files = [file for unit in units for file in unit.files.values()]
+    for file in files:
+        file.used = rules.used_words(file)
+        apply(file, rules.CONTRACTS)
+    rules.NOTHING.clear()
+    rules.VIEW_NAMES.clear()
+    flag_sets.SETS.clear()
+    rules.find_nothing(files)
+    for file in files:
+        rules.find_views(file)
+    for unit in units:
+        for file in unit.files.values():
+            erase_rest(unit, file)
+
+
+def erase_rest(unit, file):
+    apply(file, LIBRARY)
+    if file.runtime:
+        apply(file, runtime.RUNTIME)
+    else:
+        apply(file, rules.VIEWS)
+    own = unit.own[file.crate].removeprefix("crate").removeprefix("::") if unit.root != file.crate else ""
+    crates = {crate: path for crate, path in unit.own.items() if path != crate}
+    file.rule = "imports"
+    rules.imports(file, file.used)
+    if file.runtime:
+        apply(file, runtime.PATHS)
+    file.rule = "paths"
+    rules.paths(file, crates, own)
+    file.rule = "prelude"
+    if file.runtime:
+        runtime.prelude(file)
+    rules.check(file)
+
+
+# ---------------------------------------------------------------- writing
+
+LIB_HEAD = """#![doc = include_str!("../README.md")]
+#![no_std]
+#![forbid(unsafe_code)]
+
+#[cfg(test)]
+extern crate std;
+
+mod by_hand;
+{modules}
+
+pub use by_hand::smoltcp;
+"""
+
+
+def text_of(unit, public, target, file):
+    """What is written of a file: a line that says what made it, and its text. The root of the library has a head of its
+    own in the place of its documentation."""
+    text = str(file)
+    if unit.own.get(unit.root) != "crate" or target.name != "lib.rs":
+        return f"// Made from {file.path} by rust/erase.\n{text}"
+    modules = "".join(f"pub mod {public[crate]};\n" if crate in public else f"mod {crate};\n"
+                      for crate in sorted(unit.crates) if crate != unit.root)
+    at = re.search(r"^(?!//!)", text, re.M).start()
+    return f"// Made from {file.path} by rust/erase.\n" + LIB_HEAD.format(modules=modules.strip()) + text[at:]
+
+
+def sets_test(sets):
+    """A test of the names and bits of each set of flags, as the proved source has them."""
+    lines = ["// Made from the sets of flags in crates/*/src by rust/erase.",
+             "//! The names and bits of the sets of flags, as the proved source has them.", "",
+             "use bitflags::Flags;", "",
+             "fn rows<F: Flags>() -> Vec<(&'static str, F::Bits)> {",
+             "    F::FLAGS.iter().map(|flag| (flag.name(), flag.value().bits())).collect()", "}"]
+    for file, name, bits, rows in sets:
+        path = public_path(file)
+        listed = ", ".join(f'("{row}", {number}{bits})' for row, number in rows)
+        test = re.sub(r"\W+", "_", f"{path}::{name}".removeprefix("control_wire::")).lower()
+        lines += ["", "#[test]", f"fn {test}() {{",
+                  f"    assert_eq!(rows::<{path}::{name}>(), [{listed}]);", "}"]
+    return "\n".join(lines) + "\n"
+
+
+def public_path(file):
+    """The module by which users name what a file of the library has: that of the file, or the one above it."""
+    return f"control_wire::{file.path.parts[3].removesuffix('.rt')}"
+
+
+def write(out, units, public):
+    """Writes all files; answers their paths."""
+    written = {}
+    for unit in units:
+        for target, file in unit.files.items():
+            written[out / target] = text_of(unit, public, target, file)
+    written[out / "tests" / "flags.rs"] = sets_test(flag_sets.SETS)
+    for path, text in written.items():
+        path.parent.mkdir(parents=True, exist_ok=True)
+        path.write_text(text)
+    return list(written)
+
+
+def main(arguments):
+    if arguments == ["--rules"]:
+        for one in all_rules():
+            print(f"{one.__name__:16} {one.__doc__.splitlines()[0]}")
+        return
+    sources, out = map(pathlib.Path, arguments)
+    units, public = units_of(sources)
+    erase(units)
+    write(out, units, public)
+
+
+if __name__ == "__main__":
+    if len(sys.argv) not in (2, 3):
+        sys.exit(__doc__.strip())
+    try:
+        main(sys.argv[1:])
+    except Refused as refused:
+        sys.exit(f"erase: {refused}")

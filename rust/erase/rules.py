@@ -1,0 +1,385 @@
+"""The rules for the library: each looks at one token, and answers None where it does not apply, or else the place to go
+on from. The first line of its text says what it does; `erase.py --rules` prints these lines."""
+
+CONTRACTS, VALUES, STD, VIEWS = [], [], [], []
+
+
+def rule(group):
+    return lambda function: group.append(function) or function
+
+
+# ---------------------------------------------------------------- contracts
+
+@rule(CONTRACTS)
+def ghost(file, i):
+    """Ghost items, members and fields go: no code sees them."""
+    if file.text(i) != "ghost":
+        return None
+    end = file.skip(i, (";", ","))
+    if file.text(end) in (";", ","):
+        end += 1
+    return file.remove(file.start(i), end)
+
+
+@rule(CONTRACTS)
+def clause(file, i):
+    """`requires` and `ensures` go, with their names and braces."""
+    if file.text(i) not in ("requires", "ensures"):
+        return None
+    end = i + 1
+    if file.text(end) == "*":
+        end += 1
+    if file.is_word(end):
+        end += 1
+    if file.text(end) != "{":
+        file.refuse(i, "a clause without braces")
+    return file.remove(i, file.close(end) + 1)
+
+
+@rule(CONTRACTS)
+def tactic(file, i):
+    """The attributes `tactic` and `cycle`, which speak to the prover, go."""
+    if file.text(i) != "#":
+        return None
+    bracket = i + 2 if file.text(i + 1) == "!" else i + 1
+    if file.text(bracket) != "[" or file.text(bracket + 1) not in ("tactic", "cycle"):
+        return None
+    return file.remove(i, file.close(bracket) + 1, comment=False)
+
+
+@rule(CONTRACTS)
+def final(file, i):
+    """`final` before a method of a trait goes: it keeps an `impl` from giving another body."""
+    if not file.texts(i, "final", "fn"):
+        return None
+    return file.remove(i, i + 1, comment=False)
+
+
+@rule(CONTRACTS)
+def model(file, i):
+    """`impl Model for T { .. }` goes: it says how a contract sees a value, and is ghost as a whole."""
+    if file.text(i) != "impl":
+        return None
+    body = file.body(i)
+    if not any(file.texts(k, "Model", "for") for k in range(i, body)):
+        return None
+    return file.remove(i, file.close(body) + 1)
+
+
+# ---------------------------------------------------------------- what a value may do
+
+@rule(VALUES)
+def drop(file, i):
+    """`Drop` in a derive or a bound goes: in Rattle a value may be let go only where its type is `Drop`, in Rust any may.
+
+    A destructor is refused."""
+    if file.text(i) != "Drop":
+        return None
+    before, after = file.text(i - 1), file.text(i + 1)
+    if after == "for":
+        file.refuse(i, "a destructor")
+    if file.texts(i - 4, "#", "[", "derive", "(", "Drop", ")", "]"):
+        return file.remove(i - 4, i + 3, comment=False)
+    if before in (",", "+"):
+        return file.remove(i - 1, i + 1, comment=False)
+    if after in (",", "+"):
+        return file.remove(i, i + 2, comment=False)
+    if before == ":":
+        return file.remove(i - 1, i + 1, comment=False)
+    file.refuse(i, "Drop in another place than a derive or a bound")
+
+
+@rule(VALUES)
+def clone(file, i):
+    """A `Clone` by hand, which answers a Result for want of memory, becomes a derive."""
+    if not file.texts(i, "impl", "Clone", "for") or file.runtime:
+        return None
+    name = file.text(i + 3)
+    file.remove(i, file.close(file.body(i)) + 1)
+    for k in range(len(file.tokens)):
+        if file.text(k) in ("struct", "enum") and file.text(k + 1) == name:
+            start = file.start(k)
+            if not file.texts(start, "#", "[", "derive", "("):
+                break
+            file.insert(file.close(start + 3), ", Clone")
+            return i
+    file.refuse(i, f"a Clone of {name}, which has no derive in this file")
+
+
+@rule(VALUES)
+def cloned(file, i):
+    """A function that answers want of memory serves a `Clone` by hand alone, and goes with it."""
+    if file.text(i) != "fn" or file.runtime or file.text(i + 1) == "clone":
+        return None
+    body = file.body(i)
+    if not any(file.text(k) == "AllocError" for k in range(i, body)):
+        return None
+    return file.remove(file.start(i), file.close(body) + 1)
+
+
+# Functions that are there for their contracts alone.
+NOTHING = set()
+
+
+def does_nothing(file, i):
+    """Where the body of the function at i begins, if it is empty and there is no result."""
+    body = file.body(i)
+    if file.texts(body, "{", "}") and "->" not in (file.text(k) for k in range(i, body)):
+        return body
+    return None
+
+
+def find_nothing(files):
+    """The names of the functions that do nothing."""
+    for file in files:
+        NOTHING.update(file.text(i + 1) for i in range(len(file.tokens))
+                       if file.text(i) == "fn" and does_nothing(file, i))
+
+
+@rule(VALUES)
+def nothing(file, i):
+    """A function with an empty body is there for its contract: it goes, with its calls and where it is passed on."""
+    if file.text(i) == "fn" and file.text(i + 1) in NOTHING and does_nothing(file, i):
+        return file.remove(file.start(i), does_nothing(file, i) + 2)
+    if file.text(i) not in NOTHING or not file.is_word(i) or file.text(i - 1) == "fn":
+        return None
+    start = i
+    while file.text(start - 1) == "::":
+        start -= 2
+    if file.text(i + 1) == "(" and file.text(start - 1) in ("{", ";", "}") and file.text(file.close(i + 1) + 1) == ";":
+        return file.remove(start, file.close(i + 1) + 2)
+    if file.text(i - 1) == "," and file.text(i + 1) in (",", "}"):
+        return file.remove(i - 1, i + 1, comment=False)
+    if file.text(i - 1) == "{" and file.text(i + 1) == ",":
+        return file.remove(i, i + 2, comment=False)
+    file.refuse(i, "a function that does nothing, in another place than a statement or an import")
+
+
+# ---------------------------------------------------------------- std
+
+@rule(STD)
+def formatter(file, i):
+    """`fn fmt<W: fmt::Write>(.., f: &mut fmt::Formatter<W>)` loses its writer: Rust's Formatter has no parameter for it."""
+    if file.text(i) != "fn" or file.text(i + 2) != "<":
+        return None
+    close = file.close_angle(i + 2)
+    for k in range(close, file.body(i)):
+        if file.texts(k, "Formatter", "<", "W", ">"):
+            if not file.texts(i + 3, "W", ":", "fmt", "::", "Write", ">"):
+                file.refuse(i, "a Formatter in a function with other parameters")
+            file.replace(k + 2, k + 3, "'_")
+            return file.remove(i + 2, close + 1, comment=False)
+    return None
+
+
+@rule(STD)
+def hex_groups(file, i):
+    """`Ipv6Addr::from(..).hex_groups()`, which Rust's std does not have, is `HexGroups(..)` of the files by hand."""
+    if not file.texts(i, "Ipv6Addr", "::", "from", "("):
+        return None
+    close = file.close(i + 3)
+    if not file.texts(close + 1, ".", "hex_groups", "(", ")"):
+        file.refuse(i, "an Ipv6Addr that is not printed by its groups")
+    file.remove(close + 1, close + 5, comment=False)
+    file.replace(i, i + 3, "crate::by_hand::HexGroups")
+    return i
+
+
+@rule(STD)
+def from_utf8(file, i):
+    """`str::from_utf8` is named by its module, as it is there since long before Rust 1.87."""
+    if not file.texts(i, "str", "::", "from_utf8") or file.text(i - 1) == "::":
+        return None
+    return file.replace(i, i + 1, "core::str")
+
+
+@rule(STD)
+def label(file, i):
+    """The label of a loop that nothing breaks or continues by goes: a proof speaks of the loop by it."""
+    if file.tokens[i].kind != "life" or file.text(i + 1) != ":" or file.text(i + 2) not in ("for", "while", "loop"):
+        return None
+    if any(file.text(k) == file.text(i) and file.text(k - 1) in ("break", "continue") for k in range(len(file.tokens))):
+        return None
+    return file.remove(i, i + 2, comment=False)
+
+
+# ---------------------------------------------------------------- views
+
+BYTES = "B: AsRef<[u8]> + ?Sized"
+
+# The names of the views: structs over `T: Octets`.
+VIEW_NAMES = set()
+
+
+def find_views(file):
+    for i in range(len(file.tokens)):
+        if file.text(i) == "struct" and file.texts(i + 2, "<", "T", ":", "Octets", ">"):
+            VIEW_NAMES.add(file.text(i + 1))
+
+
+@rule(VIEWS)
+def lender(file, i):
+    """The impls of `Octets` and `OctetsMut` for slices go: the files by hand have them for all that lends a slice."""
+    if file.text(i) != "impl" or file.text(i + 1) not in ("Octets", "OctetsMut") or file.text(i + 2) != "for":
+        return None
+    body = file.body(i)
+    if file.joined(i + 3, body) not in ("&[u8]", "&mut[u8]"):
+        file.refuse(i, "octets that are no slice")
+    return file.remove(i, file.close(body) + 1)
+
+
+def slice_of_view(file, k):
+    """Where `[u8]` begins in `View<&'a [u8]>` at k; None where there is no such type at k."""
+    if file.text(k) not in VIEW_NAMES or not file.texts(k + 1, "<", "&"):
+        return None
+    start = k + 4 if file.tokens[k + 3].kind == "life" else k + 3
+    return start if file.texts(start, "[", "u8", "]", ">") else None
+
+
+@rule(VIEWS)
+def lends_from_any(file, i):
+    """`impl<'a> View<&'a [u8]>` becomes one over any `&'a B` that lends a slice."""
+    if file.text(i) != "impl":
+        return None
+    after = file.close_angle(i + 1) + 1 if file.text(i + 1) == "<" else i + 1
+    at = slice_of_view(file, after)
+    if at is None or file.text(at + 4) != "{":
+        return None
+    as_slices(file, at + 4, "self")
+    file.replace(at, at + 3, "B")
+    if after == i + 1:
+        file.insert(i + 1, f"<{BYTES}>")
+    else:
+        file.insert(after - 1, f", {BYTES}")
+    return after
+
+
+def as_slices(file, open_, name):
+    """The octets of a view, `self.buffer`, are taken as a slice from the bracket at `open_` on: all but in calls of
+    `Octets`, which stand on the view's own octets."""
+    for k in range(file.close(open_) - 1, open_, -1):
+        if file.texts(k, name, ".", "buffer") and (file.text(k + 3) != "." or file.text(k + 4) == "len"):
+            file.insert(k + 3, ".as_ref()")
+
+
+@rule(VIEWS)
+def reads_from_any(file, i):
+    """A function that takes a `View<&[u8]>` takes one over any `&B` that lends a slice."""
+    if file.text(i) != "fn":
+        return None
+    open_ = file.close_angle(i + 2) + 1 if file.text(i + 2) == "<" else i + 2
+    found = [k for k in range(file.close(open_), open_, -1) if slice_of_view(file, k) is not None]
+    if not found:
+        return None
+    body = file.body(i)
+    for k in found:
+        start = k
+        while file.text(start) not in ("(", ","):
+            start -= 1
+        if file.text(body) == "{":
+            as_slices(file, body, file.text(start + 1))
+        at = slice_of_view(file, k)
+        file.replace(at, at + 3, "B")
+    if file.text(i + 2) == "<":
+        file.insert(file.close_angle(i + 2), f", {BYTES}")
+    else:
+        file.insert(i + 2, f"<{BYTES}>")
+    return i + 1
+
+
+# ---------------------------------------------------------------- at the end
+
+def prelude_words(crates, own, runtime):
+    """What each first word of a path becomes: a crate a module or a crate, and `std` `core`."""
+    words = {name: path for name, path in crates.items()}
+    words["crate"] = f"crate::{own}" if own else "crate"
+    words["std"] = "std" if runtime else "core"
+    return words
+
+
+def paths(file, crates, own):
+    """The crates of the library become modules of one, and std is core."""
+    words = prelude_words(crates, own, file.runtime)
+    i = 0
+    while i < len(file.tokens):
+        token = file.tokens[i]
+        is_first = token.kind == "word" and file.text(i + 1) == "::" and file.text(i - 1) != "::"
+        is_own = token.origin is None and token.text != "std"
+        if is_first and not is_own and words.get(token.text, token.text) != token.text:
+            i = file.replace(i, i + 1, words[token.text])
+        else:
+            i += 1
+
+
+def used_words(file):
+    """The words of a file outside of its imports."""
+    words, i = set(), 0
+    while i < len(file.tokens):
+        if file.text(i) == "use" and file.text(i - 1) != "ghost":
+            i = file.skip(i, (";",))
+        elif file.is_word(i):
+            words.add(file.text(i))
+        i += 1
+    return words
+
+
+def imports(file, before):
+    """An import that served only what was taken away goes: its name stood in the file, and no longer does."""
+    gone = before - used_words(file)
+    i = 0
+    while i < len(file.tokens):
+        if file.text(i) == "use" and file.text(i - 1) not in ("pub", ")"):
+            i = without_names(file, i, gone)
+        else:
+            i += 1
+
+
+def without_names(file, i, gone):
+    """The import at i without these names; answers the place behind it."""
+    end = file.skip(i, (";",))
+    open_ = next((k for k in range(i, end) if file.text(k) == "{"), None)
+    if open_ is None:
+        return file.remove(i, end + 1) if file.text(end - 1) in gone else end + 1
+    names = [(start, stop) for start, stop in parts(file, open_) if file.text(stop - 1) in gone]
+    if len(names) == len(parts(file, open_)):
+        return file.remove(i, end + 1)
+    for start, stop in reversed(names):
+        if file.text(stop) == ",":
+            file.remove(start, stop + 1, comment=False)
+        else:
+            file.remove(start - 1, stop, comment=False)
+    return file.skip(i, (";",)) + 1
+
+
+def parts(file, open_):
+    """The parts between the commas of the bracket at `open_`: from where to where."""
+    close, found, start = file.close(open_), [], open_ + 1
+    while start < close:
+        stop = file.skip(start, (",",))
+        found.append((start, stop))
+        start = stop + 1
+    return found
+
+
+# What must not be left, and what may stand in the library at all.
+LEFT = {"prove", "prove_eq", "prove_ne", "Global", "HostRuntime", "Abort", "Alloc", "Model", "Drop", "ghost",
+        "requires", "ensures", "final", "tactic", "cycle", "alloc", "rt", "unsafe"}
+ATTRIBUTES = {"derive", "cfg", "test", "default", "inline", "allow", "must_use", "doc"}
+MACROS = {"write", "writeln", "matches", "unreachable", "bitflags"}
+TEST_MACROS = MACROS | {"assert", "assert_eq", "assert_ne", "panic", "println", "eprintln", "vec", "print"}
+
+
+def check(file):
+    """Refuses what no rule took, and attributes and macros that none knows."""
+    for i, token in enumerate(file.tokens):
+        if token.kind == "word" and (token.text in LEFT or not token.text.isascii()):
+            file.refuse(i, f"`{token.text}` is left")
+        if token.kind == "mark" and not token.text.isascii():
+            file.refuse(i, f"`{token.text}` is left")
+        if token.text == "#" and file.text(i + 1) in ("[", "!"):
+            name = file.text(i + 2 if file.text(i + 1) == "[" else i + 3)
+            if name not in ATTRIBUTES:
+                file.refuse(i, f"an attribute `{name}` that no rule knows")
+        if token.kind == "word" and file.text(i + 1) == "!" and file.text(i + 2) in ("(", "[", "{"):
+            if token.text not in (TEST_MACROS if file.runtime else MACROS):
+                file.refuse(i, f"a macro `{token.text}!` that no rule knows")

@@ -1,0 +1,88 @@
+"""The rules for code over Rattle's runtime: tests and programs. What they name of Rattle's std and Rust's has not is in
+the crate `rattle_std`, over Rust's."""
+
+RUNTIME, PATHS = [], []
+HANDED = {"rt", "alloc"}
+MACROS = {"assert", "assert_eq", "assert_ne", "panic", "println", "eprintln", "print", "eprint"}
+TAKE_ALLOC = {"to_string", "concat", "to_vec", "repeat"}
+MODULES = {"alloc", "test", "io", "env"}
+PRELUDE = {"Vec", "String", "try_clone"} | {f"{word}_in" for word in TAKE_ALLOC}
+
+
+def rule(group):
+    return lambda function: group.append(function) or function
+
+
+@rule(RUNTIME)
+def handle(file, i):
+    """The runtime goes from a macro that may end the process: `assert!(rt; ..)`."""
+    if file.text(i) not in MACROS or not file.texts(i + 1, "!", "(", "rt", ";"):
+        return None
+    return file.remove(i + 3, i + 5, comment=False)
+
+
+@rule(RUNTIME)
+def takes_alloc(file, i):
+    """Calls of std that take the allocator, and `clone`, which answers a Result, have names of their own."""
+    if file.text(i) == "." and file.text(i + 1) in TAKE_ALLOC and file.text(i + 2) == "(":
+        if file.text(i + 3) in HANDED:
+            return file.replace(i + 1, i + 2, f"{file.text(i + 1)}_in")
+    if file.texts(i, ".", "clone", "("):
+        return file.replace(i + 1, i + 2, "try_clone")
+    if file.texts(i, "vec", "!", "[", "in"):
+        end = file.skip(i + 4, (";",))
+        file.remove(i + 3, end + 1, comment=False)
+        return file.replace(i, i + 1, "rattle_std::vec")
+    return None
+
+
+@rule(RUNTIME)
+def reader(file, i):
+    """Standard input is had without the runtime."""
+    if not file.texts(i, "rt", ".", "reader", "("):
+        return None
+    return file.replace(i, i + 3, "io::reader")
+
+
+@rule(RUNTIME)
+def handed(file, i):
+    """The runtime and the allocator, `rt` and `alloc`, go as parameters and as arguments."""
+    if file.texts(i, "let", "alloc", "=", "rt", ".", "alloc", "(", ")", ";"):
+        return file.remove(i, i + 9)
+    if file.text(i - 1) not in ("(", ","):
+        return None
+    name = i + 1 if file.text(i) == "&" else i
+    if file.text(name) not in HANDED:
+        return None
+    end = name + 1
+    if name == i and file.text(end) == ":":
+        end = file.skip(end, (",",))
+    elif file.texts(name, "rt", ".", "alloc", "(", ")"):
+        end = name + 5
+    if file.text(end) == ",":
+        return file.remove(i, end + 1, comment=False)
+    if file.text(end) != ")":
+        file.refuse(i, f"`{file.text(name)}` in another place than a parameter or an argument")
+    return file.remove(i - 1 if file.text(i - 1) == "," else i, end, comment=False)
+
+
+@rule(PATHS)
+def std_module(file, i):
+    """The modules of Rattle's std that know of the runtime or the allocator, and `hex`, are those of `rattle_std`."""
+    if file.text(i + 1) != "::" or file.text(i - 1) == "::":
+        return None
+    if file.text(i) == "std" and (file.text(i + 2) in MODULES or file.text(i + 2) == "{"):
+        return file.replace(i, i + 1, "rattle_std")
+    if file.text(i) == "hex":
+        return file.replace(i, i + 1, "rattle_std::hex")
+    return None
+
+
+def prelude(file):
+    """Names that Rattle's prelude has otherwise than Rust's are imported from `rattle_std`, where a file has them."""
+    if not PRELUDE & file.words():
+        return
+    pre = file.tokens[0].pre
+    end = file.insert(0, "#[allow(unused_imports)]\nuse rattle_std::prelude::*;")
+    file.tokens[0].pre = pre
+    file.tokens[end].pre = "\n"

@@ -1,0 +1,189 @@
+"""Tests of the rules: a few lines in and out for each, clauses that must not be left behind, what must be refused."""
+import pathlib
+import sys
+import unittest
+
+sys.path.insert(0, str(pathlib.Path(__file__).resolve().parents[1]))
+
+import audit
+import erase
+import flag_sets
+from tokens import File, Refused, tokens_of
+
+PATH = pathlib.Path("crates/one_wire/src/one.rt")
+
+
+def unit_of(source, runtime=False, above=""):
+    """A package of one file, in the place of one_wire/src/one.rt."""
+    unit = erase.Unit(pathlib.Path(), ["wirebase", "one_wire"], {"wirebase": "crate::wirebase", "one_wire": "crate::one"},
+                      "control_wire")
+    for name, text, runs in (("one.rs", source, runtime), ("base.rs", above, False)):
+        file = File(PATH if name == "one.rs" else PATH.with_name("base.rt"), text, runs)
+        file.crate = "one_wire"
+        unit.files[pathlib.Path(name)] = file
+    return unit
+
+
+def erased(source, runtime=False, above=""):
+    """The text that the rules leave of a source, by its tokens; `above` is another file of the package."""
+    unit = unit_of(source, runtime, above)
+    erase.erase([unit])
+    file = unit.files[pathlib.Path("one.rs")]
+    problems = []
+    audit.audit(file, problems)
+    if problems:
+        raise AssertionError(problems)
+    return words_of(str(file))
+
+
+def words_of(text):
+    return " ".join(token.text for token in tokens_of(text)[:-1])
+
+
+VIEW = "pub struct Packet<T: Octets> { buffer: T }"
+
+FLAGS = """
+/// Flags.
+#[derive(Debug, PartialEq, Eq, Clone, Copy)]
+pub struct Set(u8);
+impl Set {
+    /// One.
+    pub const A: Set = Set(0x80);
+    /// Another.
+    pub const B: Set = Set(0x01);
+    const NAMED: &'static [Flag<Set>] = &[
+        Flag { name: "A", value: Set::A, },
+        Flag { name: "B", value: Set::B, },
+    ];
+}
+""" + "\n".join(" ".join(texts) for texts in flag_sets.impls_of("Set", "u8", [("A", "0x80"), ("B", "0x01")]))
+
+# For each rule: what stands in a file, and what is left of it.
+ROWS = {
+    "ghost": ("ghost use Rattle.std.{◌≡◌}; struct S { a: u8, pub ghost whole: { length a ≡ 2 }, }",
+              "struct S { a: u8, }"),
+    "clause": ("fn f(a: u8) -> u8 requires { a ≤ 2 } ensures value { result ≡ «a» } ensures* lends { λ w. w } { a }",
+               "fn f(a: u8) -> u8 { a }"),
+    "tactic": ("#![tactic(auto)] #[tactic(auto, using(crate::proofs::Pieces::pieces))] #[inline] fn f() -> u8 { 1 }",
+               "#[inline] fn f() -> u8 { 1 }"),
+    "final": ("trait T { final fn f(&self) -> u8 { 1 } }", "trait T { fn f(&self) -> u8 { 1 } }"),
+    "model": ("impl<'a> Model for S<'a> { ghost view = { λ s. s.a }; } fn f() -> u8 { 1 }", "fn f() -> u8 { 1 }"),
+    "drop": ("#[derive(Drop)] struct A; #[derive(Debug, Drop)] struct B; trait T: Drop {} fn f<X: Copy + Drop>(x: X) -> X { x }",
+             "struct A; #[derive(Debug)] struct B; trait T {} fn f<X: Copy>(x: X) -> X { x }"),
+    "clone": ("#[derive(Debug)] struct S(u8); impl Clone for S { fn clone(&self) -> Result<S, AllocError> { Ok(S(self.0)) } }",
+              "#[derive(Debug, Clone)] struct S(u8);"),
+    "cloned": ("fn cloned(a: &A) -> Result<A, AllocError> { a.clone() } fn f() -> u8 { 1 }", "fn f() -> u8 { 1 }"),
+    "nothing": ("use wirebase::{Error, are_facts}; fn are_facts(a: u8) ensures { a ≡ a } {} "
+                "fn f() -> Error { are_facts(1); R::are_facts(2); Error }",
+                "use crate::wirebase::{Error}; fn f() -> Error { Error }"),
+    "formatter": ("fn fmt<W: fmt::Write>(&self, f: &mut fmt::Formatter<W>) -> fmt::Result { f.write_str(\"a\") }",
+                  "fn fmt(&self, f: &mut fmt::Formatter<'_>) -> fmt::Result { f.write_str(\"a\") }"),
+    "hex_groups": ("fn f(o: [u8; 16]) -> u8 { g(Ipv6Addr::from(o).hex_groups()) }",
+                   "fn f(o: [u8; 16]) -> u8 { g(crate::by_hand::HexGroups(o)) }"),
+    "from_utf8": ("fn f() -> u8 { g(str::from_utf8(a)) }", "fn f() -> u8 { g(core::str::from_utf8(a)) }"),
+    "label": ("fn f() -> u8 { 'a: loop { 'b: for i in c { continue 'b; } } }",
+              "fn f() -> u8 { loop { 'b: for i in c { continue 'b; } } }"),
+    "flag_set": (FLAGS, "bitflags::bitflags! { #[derive(Debug, PartialEq, Eq, PartialOrd, Ord, Hash, Clone, Copy)] "
+                        "pub struct Set: u8 { const A = 0x80; const B = 0x01; } }"),
+    "flags_trait": ("use bitflags::Flags as _; fn f() -> u8 { 1 }", "fn f() -> u8 { 1 }"),
+    "lender": ("impl Octets for &mut [u8] { fn octets(&self) -> &[u8] { &**self } } fn f() -> u8 { 1 }",
+               "fn f() -> u8 { 1 }"),
+    "lends_from_any": (VIEW + "impl<'a> Packet<&'a [u8]> { fn data(&self) -> &'a [u8] { let n = self.buffer.u8_at(0..1); "
+                       "&self.buffer[1..] } } impl Packet<&[u8]> { fn len(&self) -> usize { self.buffer.len() } }",
+                       VIEW + "impl<'a, B: AsRef<[u8]> + ?Sized> Packet<&'a B> { fn data(&self) -> &'a [u8] { "
+                       "let n = self.buffer.u8_at(0..1); &self.buffer.as_ref()[1..] } } "
+                       "impl<B: AsRef<[u8]> + ?Sized> Packet<&B> { fn len(&self) -> usize { self.buffer.as_ref().len() } }"),
+    "reads_from_any": (VIEW + "fn f<'a>(p: &Packet<&'a [u8]>) -> &'a [u8] { g(p.buffer) } fn h(p: &Packet<&[u8]>) -> u8 { 1 }",
+                       VIEW + "fn f<'a, B: AsRef<[u8]> + ?Sized>(p: &Packet<&'a B>) -> &'a [u8] { g(p.buffer.as_ref()) } "
+                       "fn h<B: AsRef<[u8]> + ?Sized>(p: &Packet<&B>) -> u8 { 1 }"),
+    "imports": ("use std::marker::Model; use std::fmt::{self, Kept, Seen}; impl Model for S {} fn f() -> fmt::Result "
+                "ensures { Seen } { g() }", "use core::fmt::{self, Kept}; fn f() -> fmt::Result { g() }"),
+    "paths": ("use wirebase::Error; use crate::one::A; fn f() -> std::fmt::Result { one_wire::g(self::h::std()) }",
+              "use crate::wirebase::Error; use crate::one::one::A; "
+              "fn f() -> core::fmt::Result { crate::one::g(self::h::std()) }"),
+}
+
+# The same of tests and programs.
+RUNTIME_ROWS = {
+    "handle": ("fn f(rt: &impl Abort) { assert!(rt; a == b, \"{a}\"); }", "fn f() { assert!(a == b, \"{a}\"); }"),
+    "takes_alloc": ("fn f(alloc: Global) -> u8 { g(a.to_string(alloc), b.clone(), vec![in alloc; 0; 3]) }",
+                    "use_prelude fn f() -> u8 { g(a.to_string_in(), b.try_clone(), rattle_std::vec![0; 3]) }"),
+    "reader": ("fn f(rt: &(impl A + B)) -> u8 { run(rt.alloc(), rt.reader(), io::writer(&rt)) }",
+               "fn f() -> u8 { run(io::reader(), io::writer()) }"),
+    "handed": ("fn t(rt: HostRuntime) { let alloc = rt.alloc(); f(&rt, alloc, 1); g(1, rt.alloc()); h(rt); }",
+               "fn t() { f(1); g(1); h(); }"),
+    "std_module": ("use std::io::Write; use std::fmt; fn f() -> u8 { hex::decode(a) }",
+                   "use rattle_std::io::Write; use std::fmt; fn f() -> u8 { rattle_std::hex::decode(a) }"),
+    "prelude": ("fn f() -> Vec<u8> { g() }", "use_prelude fn f() -> Vec<u8> { g() }"),
+}
+USE_PRELUDE = "#[allow(unused_imports)] use rattle_std::prelude::*;"
+
+# What no rule may pass over: the source, and a part of what is said.
+REFUSED = (
+    ("fn f() requires a ≤ 2 { 1 }", "a clause without braces"),
+    ("impl Drop for S { fn drop(&mut self) { a(); } }", "a destructor"),
+    ("type Drop = u8;", "Drop in another place"),
+    ("#[quick] fn f() -> u8 { 1 }", "an attribute `quick`"),
+    ("fn f() -> u8 { prove!(1) }", "`prove` is left"),
+    ("fn f() -> u8 { told!(1) }", "a macro `told!`"),
+    ("fn f() -> u8 { a ≤ b }", "`≤` is left"),
+    ("fn f() -> u8 { unsafe { 1 } }", "`unsafe` is left"),
+    ("fn f(rt: HostRuntime) -> u8 { 1 }", "is left"),
+    ("fn f<V, W: fmt::Write>(f: &mut fmt::Formatter<W>) -> u8 { 1 }", "a Formatter in a function with other parameters"),
+    ("fn f() -> u8 { Ipv6Addr::from(o).segments() }", "an Ipv6Addr"),
+    ("fn are_facts() {} fn f() -> u8 { let a = are_facts; a }", "a function that does nothing, in another place"),
+    ("impl Octets for [u8; 4] { fn octets(&self) -> &[u8] { self } }", "octets that are no slice"),
+    ("impl Clone for S { fn clone(&self) -> S { S } }", "a Clone of S"),
+    (FLAGS.replace("0x81 & !", "0x80 & !"), "no `impl Not for Set {"),
+    (FLAGS.replace("self . 0 | other . 0", "self . 0 & other . 0"), "no `impl BitOr for Set {"),
+    (FLAGS.replace('"B"', '"C"'), "the table of the flags of Set is another"),
+)
+
+
+class Rules(unittest.TestCase):
+    def test_each_rule(self):
+        for rows, runtime in ((ROWS, False), (RUNTIME_ROWS, True)):
+            for name, (source, left) in rows.items():
+                with self.subTest(rule=name):
+                    self.assertEqual(erased(source, runtime), words_of(left.replace("use_prelude", USE_PRELUDE)))
+
+    def test_each_rule_has_a_row(self):
+        self.assertEqual({one.__name__ for one in erase.all_rules()}, {*ROWS, *RUNTIME_ROWS})
+
+    def test_each_rule_applies_in_its_row(self):
+        for rows, runtime in ((ROWS, False), (RUNTIME_ROWS, True)):
+            for name, (source, _) in rows.items():
+                unit = unit_of(source, runtime)
+                erase.erase([unit])
+                with self.subTest(rule=name):
+                    self.assertIn(name, {edit.rule for file in unit.files.values() for edit in file.edits})
+
+    def test_refused(self):
+        for source, why in REFUSED:
+            with self.subTest(source=source), self.assertRaises(Refused) as refused:
+                erased(source)
+            self.assertIn(why, str(refused.exception))
+            self.assertRegex(str(refused.exception), r"^crates/one_wire/src/one\.rt:\d+: ")
+
+    def test_no_clause_is_left_behind(self):
+        source = "fn f() -> u8 ensures { a } ensures { b } requires c { d } { if e { g } else { h } }"
+        self.assertEqual(erased(source), words_of("fn f() -> u8 { if e { g } else { h } }"))
+
+    def test_words_in_texts_and_comments_stay(self):
+        source = 'fn f() -> &str { /* ensures { a /* } */ */ "ghost a; ensures { \\" } Drop" } // requires {'
+        self.assertEqual(erased(source), words_of(source))
+
+    def test_the_comment_of_what_goes_goes_too(self):
+        file = File(PATH, "//! Docs.\n\n// Of the ghost.\nghost a = { b };\n\n/// Of f.\nfn f() -> u8 { 1 }\n")
+        unit = unit_of("")
+        unit.files[pathlib.Path("one.rs")] = file
+        file.crate = "one_wire"
+        erase.erase([unit])
+        self.assertEqual(str(file), "//! Docs.\n\n\n/// Of f.\nfn f() -> u8 { 1 }\n")
+
+    def test_a_function_that_does_nothing_in_another_file(self):
+        self.assertEqual(erased("fn f() -> u8 { facts(1); 2 }", above="pub fn facts(a: u8) {}"), words_of("fn f() -> u8 { 2 }"))
+
+
+if __name__ == "__main__":
+    unittest.main()

@@ -1,0 +1,4 @@
+//! Tests that may fail by `?`.
+
+/// Why a test failed.
+pub type Fail = Box<dyn std::error::Error>;

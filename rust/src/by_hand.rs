@@ -1,0 +1,9 @@
+//! What stands beside the proved text, by hand: each file says what it has.
+
+mod addresses;
+mod octets;
+pub mod smoltcp;
+mod text;
+mod values;
+
+pub(crate) use text::HexGroups;

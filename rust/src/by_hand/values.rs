@@ -1,0 +1,37 @@
+//! What a Rust programmer expects of a value: errors are errors, and addresses have an order and a hash.
+
+use crate::{Error, EthernetAddress, Ipv4Address, Ipv6Address, RawHardwareAddress};
+use core::cmp::Ordering;
+use core::hash::{Hash, Hasher};
+
+impl core::error::Error for Error {}
+
+/// Addresses are ordered and hashed as their octets are.
+macro_rules! by_octets {
+    ($($address:ident: $octets:ident),+ $(,)?) => { $(
+        impl PartialOrd for $address {
+            fn partial_cmp(&self, other: &$address) -> Option<Ordering> {
+                Some(self.cmp(other))
+            }
+        }
+
+        impl Ord for $address {
+            fn cmp(&self, other: &$address) -> Ordering {
+                self.$octets().cmp(&other.$octets())
+            }
+        }
+
+        impl Hash for $address {
+            fn hash<H: Hasher>(&self, state: &mut H) {
+                self.$octets().hash(state);
+            }
+        }
+    )+ };
+}
+
+by_octets! {
+    EthernetAddress: as_bytes,
+    Ipv4Address: octets,
+    Ipv6Address: octets,
+    RawHardwareAddress: as_bytes,
+}

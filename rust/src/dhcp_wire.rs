@@ -1,0 +1,8 @@
+// Made from crates/dhcp_wire/src/lib.rt by rust/erase.
+//! The Dynamic Host Configuration Protocol of IPv4.
+
+pub mod dhcpv4;
+#[cfg(test)]
+mod plain_reader;
+#[cfg(test)]
+mod testing;

@@ -1,0 +1,104 @@
+// Made from crates/dhcp_wire/src/dhcpv4/options.rt by rust/erase.
+//! Options, read in turn and written in turn (RFC 2132 section 2).
+
+use super::kinds::{OPT_END, OPT_PAD};
+use crate::wirebase::{Error, Result};
+
+// The greatest number of bytes of data: an option counts them in one byte.
+const MAX_DATA_LEN: usize = 255;
+
+/// An option: a kind, and at most 255 bytes of data where it is to be written.
+#[derive(Debug, PartialEq, Eq, Clone, Copy)]
+pub struct DhcpOption<'a> {
+    /// The kind: one of the `OPT_` constants, or any other number.
+    pub kind: u8,
+    /// The data, without the kind and the length before them.
+    pub data: &'a [u8],
+}
+
+/// The options of a packet in turn. Padding is skipped; the end mark and an option that is cut off end them for good.
+#[derive(Debug)]
+pub struct OptionsIter<'a> {
+    // The octets after the options that were given.
+    rest: &'a [u8],
+}
+
+impl<'a> OptionsIter<'a> {
+    // The options in these octets.
+    pub(super) fn new(octets: &'a [u8]) -> OptionsIter<'a> {
+        OptionsIter { rest: octets }
+    }
+}
+
+impl<'a> Iterator for OptionsIter<'a> {
+    type Item = DhcpOption<'a>;
+
+    fn next(&mut self) -> Option<DhcpOption<'a>> {
+        let [kind, count, rest @ ..] = after_padding(self.rest) else {
+            return None;
+        };
+        if *kind == OPT_END || rest.len() < *count as usize {
+            return None;
+        }
+        let (data, rest) = rest.split_at(*count as usize);
+        self.rest = rest;
+        Some(DhcpOption { kind: *kind, data })
+    }
+}
+
+// The octets from the first on that is no padding.
+fn after_padding(octets: &[u8]) -> &[u8] {
+    for (i, kind) in octets.iter().enumerate() {
+        if *kind != OPT_PAD {
+            return &octets[i..];
+        }
+    }
+    &[]
+}
+
+/// Writes options over a slice, one after another from its front on, and then the end mark.
+#[derive(Debug)]
+pub struct DhcpOptionWriter<'a> {
+    buffer: &'a mut [u8],
+    position: usize,
+}
+
+impl<'a> DhcpOptionWriter<'a> {
+    /// A writer over this slice, all of whose bytes are free.
+    pub fn new(buffer: &'a mut [u8]) -> DhcpOptionWriter<'a> {
+        DhcpOptionWriter {
+            buffer,
+            position: 0,
+        }
+    }
+
+    /// Writes an option: its kind, the number of bytes of its data, and the data. Refused where the data has more than
+    /// 255 bytes, and where fewer bytes are free than that takes; then nothing changes.
+    pub fn emit(&mut self, option: DhcpOption<'_>) -> Result<()> {
+        let data = option.data;
+        let count = data.len();
+        if count > MAX_DATA_LEN {
+            return Err(Error);
+        }
+        let start = self.position;
+        if self.buffer.len() - start < 2 + count {
+            return Err(Error);
+        }
+        self.buffer[start] = option.kind;
+        self.buffer[start + 1] = count as u8;
+        self.buffer[start + 2..start + 2 + count].copy_from_slice(data);
+        self.position = start + 2 + count;
+        Ok(())
+    }
+
+    /// Writes the end mark. After that no byte is free. Refused where none is; then nothing changes.
+    pub fn end(&mut self) -> Result<()> {
+        let start = self.position;
+        if start == self.buffer.len() {
+            return Err(Error);
+        }
+        self.buffer[start] = OPT_END;
+        self.position = self.buffer.len();
+        Ok(())
+    }
+}

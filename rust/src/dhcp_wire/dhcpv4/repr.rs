@@ -1,0 +1,135 @@
+// Made from crates/dhcp_wire/src/dhcpv4/repr.rt by rust/erase.
+//! What a packet says.
+
+use super::MAX_DNS_SERVER_COUNT;
+use super::found::Found;
+use super::options::DhcpOption;
+use super::packet::Packet;
+use super::tables::{Flags, MessageType};
+use crate::wirebase::{Error, EthernetAddress, Hardware, Ipv4Address, Result};
+use arrayvec::ArrayVec;
+
+/// What a packet says (RFC 2131 section 2), with the options that a client or a server asks for (RFC 2132).
+#[derive(Debug, PartialEq, Eq, Clone)]
+pub struct Repr<'a> {
+    /// The type of the message, option 53. The operation of the packet goes with it.
+    pub message_type: MessageType,
+    /// The number that the client chose for this exchange.
+    pub transaction_id: u32,
+    /// The seconds since the client began.
+    pub secs: u16,
+    /// The client's address on its network.
+    pub client_hardware_address: EthernetAddress,
+    /// The address that the client has, or 0.0.0.0.
+    pub client_ip: Ipv4Address,
+    /// The address that the client is given, or 0.0.0.0.
+    pub your_ip: Ipv4Address,
+    /// The server to start from, or 0.0.0.0.
+    pub server_ip: Ipv4Address,
+    /// The router of the client's network, option 3.
+    pub router: Option<Ipv4Address>,
+    /// The mask of the client's network, option 1.
+    pub subnet_mask: Option<Ipv4Address>,
+    /// The relay that the packet came by, or 0.0.0.0.
+    pub relay_agent_ip: Ipv4Address,
+    /// Whether the answer is to be sent to everyone.
+    pub broadcast: bool,
+    /// The address that the client asks for, option 50.
+    pub requested_ip: Option<Ipv4Address>,
+    /// By what the server knows the client, option 61: an address of Ethernet.
+    pub client_identifier: Option<EthernetAddress>,
+    /// The server that the message is from or for, option 54.
+    pub server_identifier: Option<Ipv4Address>,
+    /// The kinds of option that the client asks for, option 55; at most 255 where it is to be written.
+    pub parameter_request_list: Option<&'a [u8]>,
+    /// The DNS servers, option 6.
+    pub dns_servers: Option<ArrayVec<Ipv4Address, MAX_DNS_SERVER_COUNT>>,
+    /// The greatest packet that the client takes, in bytes, option 57.
+    pub max_size: Option<u16>,
+    /// How long the address may be used, in seconds, option 51.
+    pub lease_duration: Option<u32>,
+    /// When the client is to ask its server for more time, in seconds, option 58.
+    pub renew_duration: Option<u32>,
+    /// When it is to ask any server, in seconds, option 59.
+    pub rebind_duration: Option<u32>,
+    /// Options of other kinds, which are written after those above. None are read.
+    pub additional_options: &'a [DhcpOption<'a>],
+}
+
+// The bytes of an address of Ethernet, and the number before the options (RFC 2131 section 3).
+pub(super) const ETHERNET_LEN: u8 = 6;
+
+pub(super) const MAGIC_NUMBER: u32 = 0x6382_5363;
+
+impl<'a> Repr<'a> {
+    /// What a packet says. Refused where the octets are fewer than 240; where the hardware is not Ethernet, or the
+    /// cookie not that of DHCP; where a client identifier of 7 bytes is of another hardware; and where no option gives
+    /// a type of message that has the operation of the packet. Every field that an option gives is that of the last
+    /// option of its kind and length; other options are not read.
+    pub fn parse<B: AsRef<[u8]> + ?Sized>(packet: &Packet<&'a B>) -> Result<Repr<'a>> {
+        Repr::read(packet)
+    }
+
+    // What a packet says.
+    fn read<B: AsRef<[u8]> + ?Sized>(packet: &Packet<&'a B>) -> Result<Repr<'a>> {
+        check_header(packet)?;
+        let found = Found::read(packet)?;
+        let Some(message_type) = found.message_type else {
+            return Err(Error);
+        };
+        Ok(Repr::of(packet, message_type, found))
+    }
+
+    // The value of a packet whose options were read.
+    fn of<B: AsRef<[u8]> + ?Sized>(
+        packet: &Packet<&'a B>,
+        message_type: MessageType,
+        found: Found<'a>,
+    ) -> Repr<'a> {
+        Repr {
+            message_type,
+            transaction_id: packet.transaction_id(),
+            secs: packet.secs(),
+            client_hardware_address: packet.client_hardware_address(),
+            client_ip: packet.client_ip(),
+            your_ip: packet.your_ip(),
+            server_ip: packet.server_ip(),
+            router: found.router,
+            subnet_mask: found.subnet_mask,
+            relay_agent_ip: packet.relay_agent_ip(),
+            broadcast: is_broadcast(packet),
+            requested_ip: found.requested_ip,
+            client_identifier: found.client_identifier,
+            server_identifier: found.server_identifier,
+            parameter_request_list: found.parameter_request_list,
+            dns_servers: found.dns_servers,
+            max_size: found.max_size,
+            lease_duration: found.lease_duration,
+            renew_duration: found.renew_duration,
+            rebind_duration: found.rebind_duration,
+            additional_options: &[],
+        }
+    }
+}
+
+// Whether the answer is to be sent to everyone.
+fn is_broadcast<B: AsRef<[u8]> + ?Sized>(packet: &Packet<&B>) -> bool {
+    packet.flags().contains(Flags::BROADCAST)
+}
+
+// Accepts a packet that is whole, of Ethernet, and with the cookie of DHCP.
+fn check_header<B: AsRef<[u8]> + ?Sized>(packet: &Packet<&B>) -> Result<()> {
+    packet.check_len()?;
+    let number: u16 = packet.hardware_type().into();
+    let ethernet: u16 = Hardware::Ethernet.into();
+    if number != ethernet || packet.hardware_len() != ETHERNET_LEN {
+        return Err(Error);
+    }
+    if packet.magic_number() != MAGIC_NUMBER {
+        return Err(Error);
+    }
+    Ok(())
+}
+
+#[cfg(test)]
+mod tests;

@@ -1,0 +1,73 @@
+// Made from crates/dns_wire/src/dns/question.rt by rust/erase.
+//! A question of a message (RFC 1035 section 4.1.2).
+
+use crate::dns_wire::dns::part::split_name;
+use crate::dns_wire::dns::tables::Type;
+use crate::wirebase::{ByteWriter, Error, Octets, Result};
+
+// What stands behind the name of a question.
+mod field {
+    use crate::wirebase::Field;
+
+    pub const TYPE: Field = 0..2;
+
+    pub const CLASS: Field = 2..4;
+
+    pub const END: usize = 4;
+}
+
+/// The class of the internet (RFC 1035 section 3.2.4).
+pub(crate) const CLASS_IN: u16 = 1;
+
+/// A question: the records of one type at a name (RFC 1035 section 4.1.2).
+#[derive(Debug, PartialEq, Eq, Clone, Copy)]
+pub struct Question<'a> {
+    /// The name as it is written: labels of 1 to 63 bytes, each after its length, and then byte 0 or a pointer.
+    pub name: &'a [u8],
+    /// The type of the records.
+    pub type_: Type,
+}
+
+impl<'a> Question<'a> {
+    /// What stands behind the question at the front of the octets, and the question. Refused where they do not begin
+    /// with a name of one part, a type and the class of the internet.
+    pub fn parse(buffer: &'a [u8]) -> Result<(&'a [u8], Question<'a>)> {
+        Question::read(buffer)
+    }
+
+    // The question at the front of the octets.
+    fn read(buffer: &'a [u8]) -> Result<(&'a [u8], Question<'a>)> {
+        let (name, after) = split_name(buffer)?;
+        if after.len() < field::END {
+            return Err(Error);
+        }
+        let type_ = Type::from(after.u16_at(field::TYPE));
+        if after.u16_at(field::CLASS) != CLASS_IN {
+            return Err(Error);
+        }
+        Ok((&after[field::END..], Question { name, type_ }))
+    }
+
+    /// The bytes that the question takes: those of its name, and 4. Requires that they fit a `usize`.
+    pub const fn buffer_len(&self) -> usize {
+        self.name.len() + field::END
+    }
+
+    /// Writes the question over the front of the octets; the others stay. Requires as many octets as it takes.
+    pub fn emit(&self, packet: &mut [u8]) {
+        self.write(packet);
+    }
+
+    // Writes the text of the question.
+    fn write(&self, packet: &mut [u8]) {
+        let mut w = ByteWriter::new(packet);
+        self.put(&mut w);
+    }
+
+    // Writes each field of the question.
+    pub(crate) fn put(&self, w: &mut ByteWriter<'_>) {
+        w.put_bytes(self.name);
+        w.put_u16(self.type_.into());
+        w.put_u16(CLASS_IN);
+    }
+}

@@ -1,0 +1,33 @@
+// Made from crates/dns_wire/src/testing.rt by rust/erase.
+// What the tests compare by, over one macro of std: the prover goes through the code of a macro anew at each place
+// where it stands, and through a call of these in a sixth of the time. They take the test's runtime, so that they
+// can't stand once in a library: the gate refuses a public function that may end the process.
+
+use crate::wirebase::Result;
+use std::fmt::Debug;
+
+// Ends the test where the two differ.
+pub(crate) fn same<T: PartialEq + Debug>(left: T, right: T) {
+    same_of((), left, right);
+}
+
+// Ends the test where the two differ, and says what they are of.
+pub(crate) fn same_of<T: PartialEq + Debug>(of: impl Debug, left: T, right: T) {
+    assert!(left == right, "{of:?}: {left:?} is not {right:?}");
+}
+
+// Ends the test where this does not hold, and says what it was to hold of.
+pub(crate) fn holds_of(of: impl Debug, is_so: bool) {
+    same_of(of, is_so, true);
+}
+
+// Ends the test where the library reads something else than the plain reader. Over any type, for where the prover knows
+// what a message is, it looks into each of its values.
+pub(crate) fn agree<T: PartialEq + Debug>(octets: &[u8], read: &Result<T>, plain: &Option<T>) {
+    same_of(octets, read.as_ref().ok(), plain.as_ref());
+}
+
+// Ends the test, for want of what should have been.
+pub(crate) fn fail(wanted: &str) {
+    assert!(false, "{wanted}");
+}

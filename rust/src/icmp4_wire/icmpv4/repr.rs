@@ -1,0 +1,272 @@
+// Made from crates/icmp4_wire/src/icmpv4/repr.rt by rust/erase.
+//! Messages as values (RFC 792).
+
+use super::field;
+use super::packet::Packet;
+use super::tables::{DstUnreachable, Message, TimeExceeded};
+use crate::wirebase::{
+    ByteWriter, ChecksumCapabilities, Error, Ipv4Packet, Ipv4Repr, OctetsMut, Result, checksum,
+};
+use core::fmt;
+
+// The bytes that stand at least behind the header that an error quotes.
+const MIN_QUOTED_DATA: usize = 8;
+
+/// A message (RFC 792).
+#[derive(Debug, PartialEq, Eq, Clone, Copy)]
+pub enum Repr<'a> {
+    /// An echo request.
+    EchoRequest {
+        /// The identifier, which the reply has too.
+        ident: u16,
+        /// The sequence number, which the reply has too.
+        seq_no: u16,
+        /// The data, which the reply has too.
+        data: &'a [u8],
+    },
+    /// An echo reply.
+    EchoReply {
+        /// The identifier of the request.
+        ident: u16,
+        /// The sequence number of the request.
+        seq_no: u16,
+        /// The data of the request.
+        data: &'a [u8],
+    },
+    /// An error: the destination of the quoted packet is unreachable.
+    DstUnreachable {
+        /// Why, by the code.
+        reason: DstUnreachable,
+        /// The header of the packet that the error speaks of.
+        header: Ipv4Repr,
+        /// What stands behind the quoted header.
+        data: &'a [u8],
+    },
+    /// An error: a time of the quoted packet was exceeded.
+    TimeExceeded {
+        /// Why, by the code.
+        reason: TimeExceeded,
+        /// The header of the packet that the error speaks of.
+        header: Ipv4Repr,
+        /// What stands behind the quoted header.
+        data: &'a [u8],
+    },
+}
+
+impl<'a> Repr<'a> {
+    /// The message in the octets. Refused where they are fewer than 8, where their checksum is to be verified and
+    /// isn't good, and where it is none of these messages; an echo has code 0, and an error quotes a packet that is
+    /// whole by its own lengths, with 8 bytes or more behind its header. All that stands behind that header is the
+    /// data, and its bytes are the `payload_len`.
+    pub fn parse<B: AsRef<[u8]> + ?Sized>(
+        packet: &Packet<&'a B>,
+        checksum_caps: &ChecksumCapabilities,
+    ) -> Result<Repr<'a>> {
+        Repr::read(packet, checksum_caps)
+    }
+
+    // The message in the octets.
+    fn read<B: AsRef<[u8]> + ?Sized>(
+        packet: &Packet<&'a B>,
+        checksum_caps: &ChecksumCapabilities,
+    ) -> Result<Repr<'a>> {
+        packet.check_len()?;
+        if checksum_caps.icmpv4.rx() && !packet.verify_checksum() {
+            return Err(Error);
+        }
+        Repr::read_content(packet)
+    }
+
+    // The message in octets that have its header, whatever their checksum.
+    fn read_content<B: AsRef<[u8]> + ?Sized>(packet: &Packet<&'a B>) -> Result<Repr<'a>> {
+        match (packet.msg_type(), packet.msg_code()) {
+            (Message::EchoRequest, 0) => Ok(Repr::EchoRequest {
+                ident: packet.echo_ident(),
+                seq_no: packet.echo_seq_no(),
+                data: packet.data(),
+            }),
+            (Message::EchoReply, 0) => Ok(Repr::EchoReply {
+                ident: packet.echo_ident(),
+                seq_no: packet.echo_seq_no(),
+                data: packet.data(),
+            }),
+            (Message::DstUnreachable, _) => Repr::read_unreachable(packet),
+            (Message::TimeExceeded, _) => Repr::read_time_exceeded(packet),
+            _ => Err(Error),
+        }
+    }
+
+    // The same of the error that its destination is unreachable.
+    fn read_unreachable<B: AsRef<[u8]> + ?Sized>(packet: &Packet<&'a B>) -> Result<Repr<'a>> {
+        let (header, data) = read_quote(packet.data())?;
+        Ok(Repr::DstUnreachable {
+            reason: packet.msg_code().into(),
+            header,
+            data,
+        })
+    }
+
+    // The same of the error that a time was exceeded.
+    fn read_time_exceeded<B: AsRef<[u8]> + ?Sized>(packet: &Packet<&'a B>) -> Result<Repr<'a>> {
+        let (header, data) = read_quote(packet.data())?;
+        Ok(Repr::TimeExceeded {
+            reason: packet.msg_code().into(),
+            header,
+            data,
+        })
+    }
+
+    /// The bytes that the message takes. Requires that a `usize` holds their number.
+    pub fn buffer_len(&self) -> usize {
+        match self {
+            Repr::EchoRequest { data, .. } => field::HEADER_END + data.len(),
+            Repr::EchoReply { data, .. } => field::HEADER_END + data.len(),
+            Repr::DstUnreachable { header, data, .. } => {
+                field::HEADER_END + header.buffer_len() + data.len()
+            }
+            Repr::TimeExceeded { header, data, .. } => {
+                field::HEADER_END + header.buffer_len() + data.len()
+            }
+        }
+    }
+
+    /// Writes the message over the front of the octets, as far as they go, and then, where the capabilities have it
+    /// computed, the checksum of all of them. Requires at least 8 bytes of an echo; of an error just its length, and
+    /// that the quoted `payload_len` is at most 65,515.
+    pub fn emit<T: OctetsMut>(&self, packet: &mut Packet<T>, checksum_caps: &ChecksumCapabilities) {
+        self.emit_into(packet.buffer.octets_mut(), checksum_caps);
+    }
+
+    /// The same into octets that stand by themselves.
+    pub fn emit_into(&self, octets: &mut [u8], checksum_caps: &ChecksumCapabilities) {
+        self.write(octets, checksum_caps);
+        seal(octets, checksum_caps);
+    }
+
+    // Writes the message, with the checksum zero.
+    fn write(&self, octets: &mut [u8], checksum_caps: &ChecksumCapabilities) {
+        let mut w = ByteWriter::new(octets);
+        self.put(&mut w, checksum_caps);
+    }
+
+    // The same with this writer.
+    fn put(&self, w: &mut ByteWriter<'_>, checksum_caps: &ChecksumCapabilities) {
+        match *self {
+            Repr::EchoRequest {
+                ident,
+                seq_no,
+                data,
+            } => put_echo(w, Message::EchoRequest, ident, seq_no, data),
+            Repr::EchoReply {
+                ident,
+                seq_no,
+                data,
+            } => put_echo(w, Message::EchoReply, ident, seq_no, data),
+            Repr::DstUnreachable {
+                reason,
+                header,
+                data,
+            } => {
+                let code = reason.into();
+                put_error(
+                    w,
+                    Message::DstUnreachable,
+                    code,
+                    &header,
+                    data,
+                    checksum_caps,
+                );
+            }
+            Repr::TimeExceeded {
+                reason,
+                header,
+                data,
+            } => {
+                let code = reason.into();
+                put_error(w, Message::TimeExceeded, code, &header, data, checksum_caps);
+            }
+        }
+    }
+}
+
+/// The message: an echo by its numbers and the bytes of its data, an error by its reason.
+impl fmt::Display for Repr<'_> {
+    fn fmt(&self, f: &mut fmt::Formatter<'_>) -> fmt::Result {
+        match self {
+            Repr::EchoRequest {
+                ident,
+                seq_no,
+                data,
+            } => {
+                let len = data.len();
+                write!(f, "ICMPv4 echo request id={ident} seq={seq_no} len={len}")
+            }
+            Repr::EchoReply {
+                ident,
+                seq_no,
+                data,
+            } => {
+                let len = data.len();
+                write!(f, "ICMPv4 echo reply id={ident} seq={seq_no} len={len}")
+            }
+            Repr::DstUnreachable { reason, .. } => {
+                write!(f, "ICMPv4 destination unreachable ({reason})")
+            }
+            Repr::TimeExceeded { reason, .. } => {
+                write!(f, "ICMPv4 time exceeded ({reason})")
+            }
+        }
+    }
+}
+
+// The header that an error quotes, and all that stands behind it (RFC 792).
+fn read_quote(octets: &[u8]) -> Result<(Ipv4Repr, &[u8])> {
+    let packet = Ipv4Packet::new_checked(octets)?;
+    let header_len = packet.header_len() as usize;
+    if octets.len() < header_len + MIN_QUOTED_DATA {
+        return Err(Error);
+    }
+    let data = &octets[header_len..];
+    let header = Ipv4Repr {
+        src_addr: packet.src_addr(),
+        dst_addr: packet.dst_addr(),
+        next_header: packet.next_header(),
+        payload_len: data.len(),
+        hop_limit: packet.hop_limit(),
+    };
+    Ok((header, data))
+}
+
+// Writes the checksum, where it is computed.
+fn seal(octets: &mut [u8], checksum_caps: &ChecksumCapabilities) {
+    if checksum_caps.icmpv4.tx() {
+        checksum::fill(octets, field::CHECKSUM, 0);
+    }
+}
+
+// Writes an echo of this type, as much of its data as there is room for.
+fn put_echo(w: &mut ByteWriter<'_>, kind: Message, ident: u16, seq_no: u16, data: &[u8]) {
+    w.put_u8(kind.into());
+    w.put_u8(0);
+    w.put_u16(0);
+    w.put_u16(ident);
+    w.put_u16(seq_no);
+    w.put_front(data);
+}
+
+// Writes an error of this type.
+fn put_error(
+    w: &mut ByteWriter<'_>,
+    kind: Message,
+    code: u8,
+    quoted: &Ipv4Repr,
+    data: &[u8],
+    checksum_caps: &ChecksumCapabilities,
+) {
+    w.put_u8(kind.into());
+    w.put_u8(code);
+    w.put_u16(0);
+    w.put_u32(0);
+    quoted.emit_into(w.part(quoted.buffer_len()), checksum_caps);
+    w.put_bytes(data);
+}

@@ -1,0 +1,28 @@
+// Made from crates/icmp4_wire/src/igmp.rt by rust/erase.
+//! The Internet Group Management Protocol, versions 1 and 2 (RFC 1112 appendix I, RFC 2236), with the codes of
+//! RFC 3376.
+
+mod code;
+mod packet;
+mod repr;
+mod tables;
+
+pub use packet::Packet;
+pub use repr::{IgmpVersion, Repr};
+pub use tables::Message;
+
+// The fields of a message; their picture is in specs/Igmp.antt.
+mod field {
+    use crate::wirebase::Field;
+
+    pub const TYPE: Field = 0..1;
+
+    pub const MAX_RESP_CODE: Field = 1..2;
+
+    pub const CHECKSUM: Field = 2..4;
+
+    pub const GROUP_ADDRESS: Field = 4..8;
+}
+
+#[cfg(test)]
+mod tests;

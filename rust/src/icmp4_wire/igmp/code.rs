@@ -1,0 +1,34 @@
+// Made from crates/icmp4_wire/src/igmp/code.rt by rust/erase.
+//! The codes of times (RFC 3376 section 4.1.1).
+
+use crate::wirebase::Duration;
+
+// The bit of a code that has an exponent and a mantissa: a code without it is a number of tenths of a second.
+const FLOATING: u8 = 0x80;
+
+// The tenths of a second that the last code, 0xff, stands for.
+const LONGEST: u64 = 31_744;
+
+// The time that a code stands for (RFC 3376 section 4.1.1).
+pub(super) fn duration_of_code(code: u8) -> Duration {
+    let tenths = if code < FLOATING {
+        code as u64
+    } else {
+        let exponent = (code >> 4) & 0x07;
+        let mantissa = 0x10 | (code & 0x0f);
+        (mantissa as u64) << (exponent + 3)
+    };
+    Duration::from_millis(100 * tenths)
+}
+
+// The code of the longest time that is within this one (RFC 3376 section 4.1.1).
+pub(super) fn code_of_duration(duration: Duration) -> u8 {
+    let tenths = (duration.total_millis() / 100).min(LONGEST) as u16;
+    if tenths < FLOATING as u16 {
+        return tenths as u8;
+    }
+    // The first bit of the mantissa is always set, and is not written.
+    let exponent = tenths.ilog2() - 7;
+    let mantissa = (tenths >> (exponent + 3)) & 0x0f;
+    FLOATING | (exponent << 4) as u8 | mantissa as u8
+}

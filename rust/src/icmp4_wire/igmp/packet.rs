@@ -1,0 +1,105 @@
+// Made from crates/icmp4_wire/src/igmp/packet.rt by rust/erase.
+//! The view of a message (RFC 2236 section 2).
+
+use super::field;
+use super::repr::Repr;
+use super::tables::Message;
+use crate::wirebase::{Error, Ipv4Address, Octets, OctetsMut, Result, checksum};
+use core::fmt;
+
+/// A view of the octets of a message.
+#[derive(Debug)]
+pub struct Packet<T: Octets> {
+    pub(super) buffer: T,
+}
+
+impl<T: Octets> Packet<T> {
+    /// The view of these octets, whatever they are.
+    pub fn new_unchecked(buffer: T) -> Packet<T> {
+        Packet { buffer }
+    }
+
+    /// The view of these octets, where they are 8 or more; refused where they are fewer. A refusal gives a
+    /// `&mut [u8]` up: who wants the octets back, as they were, takes `new_unchecked` and then `check_len`.
+    pub fn new_checked(buffer: T) -> Result<Packet<T>> {
+        let packet = Packet::new_unchecked(buffer);
+        packet.check_len()?;
+        Ok(packet)
+    }
+
+    /// Accepts 8 octets or more. Then each accessor may be called.
+    pub fn check_len(&self) -> Result<()> {
+        if self.buffer.octets().len() < field::GROUP_ADDRESS.end {
+            return Err(Error);
+        }
+        Ok(())
+    }
+
+    /// What the view was made from, as it is now.
+    pub fn into_inner(self) -> T {
+        self.buffer
+    }
+
+    /// The type. Requires at least 1 byte.
+    pub fn msg_type(&self) -> Message {
+        Message::from(self.buffer.u8_at(field::TYPE))
+    }
+
+    /// The code of the longest time to answer a query in (RFC 3376 section 4.1.1). Requires at least 2 bytes.
+    pub fn max_resp_code(&self) -> u8 {
+        self.buffer.u8_at(field::MAX_RESP_CODE)
+    }
+
+    /// The checksum. Requires at least 4 bytes.
+    pub fn checksum(&self) -> u16 {
+        self.buffer.u16_at(field::CHECKSUM)
+    }
+
+    /// The group that the message speaks of. Requires at least 8 bytes.
+    pub fn group_addr(&self) -> Ipv4Address {
+        Ipv4Address::from_octets(self.buffer.field(field::GROUP_ADDRESS).try_into().unwrap())
+    }
+
+    /// Whether the octets, as many as they are, carry their checksum (RFC 1071).
+    pub fn verify_checksum(&self) -> bool {
+        checksum::is_good(self.buffer.octets(), 0)
+    }
+}
+
+impl<T: OctetsMut> Packet<T> {
+    /// Writes the type. Requires at least 1 byte.
+    pub fn set_msg_type(&mut self, value: Message) {
+        self.buffer.set_u8(field::TYPE, value.into());
+    }
+
+    /// Writes the code of the longest time to answer a query in (RFC 3376 section 4.1.1). Requires at least 2 bytes.
+    pub fn set_max_resp_code(&mut self, value: u8) {
+        self.buffer.set_u8(field::MAX_RESP_CODE, value);
+    }
+
+    /// Writes the checksum. Requires at least 4 bytes.
+    pub fn set_checksum(&mut self, value: u16) {
+        self.buffer.set_u16(field::CHECKSUM, value);
+    }
+
+    /// Writes the group that the message speaks of. Requires at least 8 bytes.
+    pub fn set_group_address(&mut self, value: Ipv4Address) {
+        self.buffer.set_bytes(field::GROUP_ADDRESS, &value.octets());
+    }
+
+    /// Writes the checksum of all the octets, in which its field counts as zero (RFC 1071). Requires at least 4 bytes.
+    pub fn fill_checksum(&mut self) {
+        checksum::fill(self.buffer.octets_mut(), field::CHECKSUM, 0);
+    }
+}
+
+/// The message at the front of the octets; of octets that are refused `IGMP (wire::Error)`.
+impl<T: Octets> fmt::Display for Packet<T> {
+    fn fmt(&self, f: &mut fmt::Formatter<'_>) -> fmt::Result {
+        let packet = Packet::new_unchecked(self.buffer.octets());
+        match Repr::parse(&packet) {
+            Ok(repr) => write!(f, "{repr}"),
+            Err(_) => write!(f, "IGMP (wire::Error)"),
+        }
+    }
+}

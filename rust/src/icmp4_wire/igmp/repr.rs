@@ -1,0 +1,191 @@
+// Made from crates/icmp4_wire/src/igmp/repr.rt by rust/erase.
+//! Messages as values (RFC 1112 appendix I, RFC 2236 section 2).
+
+use super::code::{code_of_duration, duration_of_code};
+use super::field;
+use super::packet::Packet;
+use super::tables::Message;
+use crate::wirebase::{ByteWriter, Duration, Error, Ipv4Address, OctetsMut, Result, checksum};
+use core::fmt;
+
+/// The version of the protocol that a query or a report speaks.
+#[derive(Debug, PartialEq, Eq, Clone, Copy)]
+pub enum IgmpVersion {
+    /// RFC 1112 appendix I.
+    Version1,
+    /// RFC 2236.
+    Version2,
+}
+
+/// A message (RFC 1112 appendix I, RFC 2236).
+#[derive(Debug, PartialEq, Eq, Clone, Copy)]
+pub enum Repr {
+    /// A router asks which groups have members, or whether this one has.
+    MembershipQuery {
+        /// The longest time to answer in.
+        max_resp_time: Duration,
+        /// The group, or 0.0.0.0 for all.
+        group_addr: Ipv4Address,
+        /// The version of the query.
+        version: IgmpVersion,
+    },
+    /// A host is a member of a group.
+    MembershipReport {
+        /// The group.
+        group_addr: Ipv4Address,
+        /// The version of the report.
+        version: IgmpVersion,
+    },
+    /// A host leaves a group.
+    LeaveGroup {
+        /// The group.
+        group_addr: Ipv4Address,
+    },
+}
+
+impl Repr {
+    /// The message at the front of the octets. Refused where they are fewer than 8, where the group is neither
+    /// 0.0.0.0 nor multicast, and where the type has no name. The checksum is not verified; the code of a report
+    /// or of a leave message is not looked at.
+    pub fn parse<B: AsRef<[u8]> + ?Sized>(packet: &Packet<&B>) -> Result<Repr> {
+        Repr::read(packet)
+    }
+
+    // The message at the front of the octets.
+    fn read<B: AsRef<[u8]> + ?Sized>(packet: &Packet<&B>) -> Result<Repr> {
+        packet.check_len()?;
+        let group_addr = packet.group_addr();
+        let allowed = is_group(group_addr);
+        if !allowed {
+            return Err(Error);
+        }
+        match packet.msg_type() {
+            Message::MembershipQuery => Ok(query_of_code(packet.max_resp_code(), group_addr)),
+            Message::MembershipReportV1 => Ok(Repr::MembershipReport {
+                group_addr,
+                version: IgmpVersion::Version1,
+            }),
+            Message::MembershipReportV2 => Ok(Repr::MembershipReport {
+                group_addr,
+                version: IgmpVersion::Version2,
+            }),
+            Message::LeaveGroup => Ok(Repr::LeaveGroup { group_addr }),
+            Message::Unknown(_) => Err(Error),
+        }
+    }
+
+    /// The bytes that the message takes: 8.
+    pub const fn buffer_len(&self) -> usize {
+        field::GROUP_ADDRESS.end
+    }
+
+    /// Writes the message over the front of the octets, with the checksum of all of them; the others stay. Requires at
+    /// least 8 bytes.
+    pub fn emit<T: OctetsMut>(&self, packet: &mut Packet<T>) {
+        self.emit_into(packet.buffer.octets_mut());
+    }
+
+    /// The same into octets that stand by themselves.
+    pub fn emit_into(&self, octets: &mut [u8]) {
+        self.write(octets);
+        checksum::fill(octets, field::CHECKSUM, 0);
+    }
+
+    // Writes the fields of the message, with a checksum of zero.
+    fn write(&self, octets: &mut [u8]) {
+        let mut w = ByteWriter::new(octets);
+        match *self {
+            Repr::MembershipQuery {
+                max_resp_time,
+                group_addr,
+                version,
+            } => {
+                let code = match version {
+                    IgmpVersion::Version1 => 0,
+                    IgmpVersion::Version2 => code_of_duration(max_resp_time),
+                };
+                put_message(&mut w, Message::MembershipQuery, code, group_addr);
+            }
+            Repr::MembershipReport {
+                group_addr,
+                version,
+            } => {
+                let message = match version {
+                    IgmpVersion::Version1 => Message::MembershipReportV1,
+                    IgmpVersion::Version2 => Message::MembershipReportV2,
+                };
+                put_message(&mut w, message, 0, group_addr);
+            }
+            Repr::LeaveGroup { group_addr } => {
+                put_message(&mut w, Message::LeaveGroup, 0, group_addr);
+            }
+        }
+    }
+}
+
+/// The message and its fields. That of a leave message ends in a bracket which nothing opens.
+impl fmt::Display for Repr {
+    fn fmt(&self, f: &mut fmt::Formatter<'_>) -> fmt::Result {
+        match self {
+            Repr::MembershipQuery {
+                max_resp_time,
+                group_addr,
+                version,
+            } => {
+                let version = version_name(*version);
+                write!(
+                    f,
+                    "IGMP membership query max_resp_time={max_resp_time} group_addr={group_addr} version={version}"
+                )
+            }
+            Repr::MembershipReport {
+                group_addr,
+                version,
+            } => {
+                let version = version_name(*version);
+                write!(
+                    f,
+                    "IGMP membership report group_addr={group_addr} version={version}"
+                )
+            }
+            Repr::LeaveGroup { group_addr } => {
+                write!(f, "IGMP leave group group_addr={group_addr})")
+            }
+        }
+    }
+}
+
+// The name of a version.
+fn version_name(version: IgmpVersion) -> &'static str {
+    match version {
+        IgmpVersion::Version1 => "Version1",
+        IgmpVersion::Version2 => "Version2",
+    }
+}
+
+// Writes each field of a message, with a checksum of zero.
+fn put_message(w: &mut ByteWriter<'_>, message: Message, code: u8, group: Ipv4Address) {
+    w.put_u8(message.into());
+    w.put_u8(code);
+    w.put_u16(0);
+    w.put_bytes(&group.octets());
+}
+
+// Whether a message may speak of this group: of none, 0.0.0.0, or of a multicast address.
+fn is_group(address: Ipv4Address) -> bool {
+    address.is_unspecified() || address.is_multicast()
+}
+
+// The query with this code. One of code 0 is of version 1 (RFC 3376 section 7.1).
+fn query_of_code(code: u8, group_addr: Ipv4Address) -> Repr {
+    let version = if code == 0 {
+        IgmpVersion::Version1
+    } else {
+        IgmpVersion::Version2
+    };
+    Repr::MembershipQuery {
+        max_resp_time: duration_of_code(code),
+        group_addr,
+        version,
+    }
+}

@@ -1,0 +1,63 @@
+// Made from crates/icmp6_wire/src/icmpv6.rt by rust/erase.
+//! The Internet Control Message Protocol of IPv6 (RFC 4443).
+
+mod packet;
+mod quote;
+mod reading;
+mod repr;
+mod tables;
+
+use crate::wirebase::{IPV6_HEADER_LEN, IPV6_MIN_MTU};
+pub use packet::Packet;
+pub use repr::Repr;
+pub use tables::{DstUnreachable, Message, ParamProblem, TimeExceeded};
+
+// The bytes that an error has at the most, and those of them that it quotes behind a header, so that its packet is one
+// that every link can carry (RFC 4443 section 2.4).
+const MAX_ERROR_PACKET_LEN: usize = IPV6_MIN_MTU - IPV6_HEADER_LEN;
+
+const MAX_QUOTED_DATA: usize = MAX_ERROR_PACKET_LEN - field::HEADER_END - IPV6_HEADER_LEN;
+
+// The fields of a message; the picture of their header is in specs/Icmp.antt of wirebase.
+pub(crate) mod field {
+    use crate::wirebase::Field;
+
+    pub const TYPE: Field = 0..1;
+
+    pub const CODE: Field = 1..2;
+
+    pub const CHECKSUM: Field = 2..4;
+
+    pub const UNUSED: Field = 4..8;
+
+    pub const MTU: Field = 4..8;
+
+    pub const POINTER: Field = 4..8;
+
+    pub const ECHO_IDENT: Field = 4..6;
+
+    pub const ECHO_SEQNO: Field = 6..8;
+
+    pub const HEADER_END: usize = 8;
+
+    // Neighbor discovery (RFC 4861 section 4).
+    pub const RETRANS_TM: Field = 12..16;
+
+    pub const TARGET_ADDR: Field = 8..24;
+
+    pub const DEST_ADDR: Field = 24..40;
+
+    // Multicast listener discovery (RFC 3810 section 5).
+    pub const QUERY_RESERVED: Field = 6..8;
+
+    pub const SQRV: Field = 24..25;
+
+    pub const QUERY_NUM_SRCS: Field = 26..28;
+
+    pub const REPORT_RESERVED: Field = 4..6;
+
+    pub const NR_MCAST_RCRDS: Field = 6..8;
+}
+
+#[cfg(test)]
+mod tests;

@@ -1,0 +1,64 @@
+// Made from crates/icmp6_wire/src/icmpv6/quote.rt by rust/erase.
+//! What an error quotes: a packet that was sent, from its header on, as much of it as the error may carry (RFC 4443
+//! section 2.4).
+
+use super::tables::Message;
+use super::{MAX_QUOTED_DATA, field};
+use crate::wirebase::{ByteWriter, IPV6_HEADER_LEN, Ipv6Packet, Ipv6Repr};
+
+// The bytes of an error that quotes this header and as much of this data as it may.
+pub(super) fn error_len(quoted: &Ipv6Repr, data: &[u8]) -> usize {
+    field::HEADER_END + quoted.buffer_len() + quotable(data).len()
+}
+
+// Writes an error of this type over the front of the octets, with as much of its data as it may quote.
+pub(super) fn write_error(
+    octets: &mut [u8],
+    kind: Message,
+    code: u8,
+    word: u32,
+    quoted: &Ipv6Repr,
+    data: &[u8],
+) {
+    put_error(&mut ByteWriter::new(octets), kind, code, word, quoted, data);
+}
+
+// The same through a writer.
+fn put_error(
+    w: &mut ByteWriter<'_>,
+    kind: Message,
+    code: u8,
+    word: u32,
+    quoted: &Ipv6Repr,
+    data: &[u8],
+) {
+    w.put_u8(kind.into());
+    w.put_u8(code);
+    w.put_u16(0);
+    w.put_u32(word);
+    write_header(quoted, w.part(quoted.buffer_len()));
+    w.put_bytes(quotable(data));
+}
+
+// Writes a header into octets of just its length.
+fn write_header(header: &Ipv6Repr, octets: &mut [u8]) {
+    header.emit_into(octets);
+}
+
+// The data that an error may quote.
+fn quotable(data: &[u8]) -> &[u8] {
+    &data[..data.len().min(MAX_QUOTED_DATA)]
+}
+
+// The header that an error quotes, and all that stands behind it (RFC 4443 section 3).
+pub(super) fn read_quote(octets: &[u8]) -> (Ipv6Repr, &[u8]) {
+    let packet = Ipv6Packet::new_unchecked(octets);
+    let header = Ipv6Repr {
+        src_addr: packet.src_addr(),
+        dst_addr: packet.dst_addr(),
+        next_header: packet.next_header(),
+        payload_len: packet.payload_len() as usize,
+        hop_limit: packet.hop_limit(),
+    };
+    (header, &octets[IPV6_HEADER_LEN..])
+}

@@ -1,0 +1,103 @@
+// Made from crates/icmp6_wire/src/icmpv6/reading.rt by rust/erase.
+//! Messages read from the octets of a packet, by their types.
+
+use super::packet::Packet;
+use super::quote::read_quote;
+use super::repr::Repr;
+use super::tables::Message;
+use crate::icmp6_wire::{mld, ndisc};
+use crate::wirebase::{Error, IPV6_HEADER_LEN, Result};
+
+// The error in octets of such a type.
+pub(super) fn read_error<'a, B: AsRef<[u8]> + ?Sized>(packet: &Packet<&'a B>) -> Result<Repr<'a>> {
+    let payload = packet.payload();
+    if payload.len() < IPV6_HEADER_LEN {
+        return Err(Error);
+    }
+    match (packet.msg_type(), packet.msg_code()) {
+        (Message::DstUnreachable, _) => Ok(read_unreachable(packet)),
+        (Message::PktTooBig, 0) => Ok(read_too_big(packet)),
+        (Message::TimeExceeded, _) => Ok(read_time_exceeded(packet)),
+        (Message::ParamProblem, _) => Ok(read_param_problem(packet)),
+        _ => Err(Error),
+    }
+}
+
+// The error of an unreachable destination in octets of that type that hold a quoted header.
+fn read_unreachable<'a, B: AsRef<[u8]> + ?Sized>(packet: &Packet<&'a B>) -> Repr<'a> {
+    let (header, data) = read_quote(packet.payload());
+    Repr::DstUnreachable {
+        reason: packet.msg_code().into(),
+        header,
+        data,
+    }
+}
+
+// The same of a packet that is too big, whose code is 0.
+fn read_too_big<'a, B: AsRef<[u8]> + ?Sized>(packet: &Packet<&'a B>) -> Repr<'a> {
+    let (header, data) = read_quote(packet.payload());
+    Repr::PktTooBig {
+        mtu: packet.pkt_too_big_mtu(),
+        header,
+        data,
+    }
+}
+
+// The same of a time that was exceeded.
+fn read_time_exceeded<'a, B: AsRef<[u8]> + ?Sized>(packet: &Packet<&'a B>) -> Repr<'a> {
+    let (header, data) = read_quote(packet.payload());
+    Repr::TimeExceeded {
+        reason: packet.msg_code().into(),
+        header,
+        data,
+    }
+}
+
+// The same of a parameter problem.
+fn read_param_problem<'a, B: AsRef<[u8]> + ?Sized>(packet: &Packet<&'a B>) -> Repr<'a> {
+    let (header, data) = read_quote(packet.payload());
+    Repr::ParamProblem {
+        reason: packet.msg_code().into(),
+        pointer: packet.param_problem_ptr(),
+        header,
+        data,
+    }
+}
+
+// The echo request in octets of that type and of code 0.
+pub(super) fn read_echo_request<'a, B: AsRef<[u8]> + ?Sized>(packet: &Packet<&'a B>) -> Repr<'a> {
+    Repr::EchoRequest {
+        ident: packet.echo_ident(),
+        seq_no: packet.echo_seq_no(),
+        data: packet.payload(),
+    }
+}
+
+// The same of an echo reply.
+pub(super) fn read_echo_reply<'a, B: AsRef<[u8]> + ?Sized>(packet: &Packet<&'a B>) -> Repr<'a> {
+    Repr::EchoReply {
+        ident: packet.echo_ident(),
+        seq_no: packet.echo_seq_no(),
+        data: packet.payload(),
+    }
+}
+
+// The message of multicast listener discovery in octets of code 0.
+pub(super) fn read_listener<'a, B: AsRef<[u8]> + ?Sized>(
+    packet: &Packet<&'a B>,
+) -> Result<Repr<'a>> {
+    match mld::Repr::parse(packet) {
+        Ok(message) => Ok(Repr::Mld(message)),
+        Err(_) => Err(Error),
+    }
+}
+
+// The message of neighbor discovery in octets of such a type and of code 0.
+pub(super) fn read_neighbor<'a, B: AsRef<[u8]> + ?Sized>(
+    packet: &Packet<&'a B>,
+) -> Result<Repr<'a>> {
+    match ndisc::Repr::parse(packet) {
+        Ok(message) => Ok(Repr::Ndisc(message)),
+        Err(_) => Err(Error),
+    }
+}

@@ -1,0 +1,257 @@
+// Made from crates/icmp6_wire/src/icmpv6/repr.rt by rust/erase.
+//! Messages as values (RFC 4443).
+
+use super::field;
+use super::packet::{Packet, fill};
+use super::quote::{error_len, write_error};
+use super::reading::{
+    read_echo_reply, read_echo_request, read_error, read_listener, read_neighbor,
+};
+use super::tables::{DstUnreachable, Message, ParamProblem, TimeExceeded};
+use crate::icmp6_wire::writing::put_type;
+use crate::icmp6_wire::{mld, ndisc};
+use crate::wirebase::{
+    ByteWriter, ChecksumCapabilities, Error, Ipv6Address, Ipv6Repr, Octets, OctetsMut, Result,
+};
+
+/// A message (RFC 4443).
+#[derive(Debug, PartialEq, Eq, Clone, Copy)]
+pub enum Repr<'a> {
+    /// An error: the destination of the quoted packet is unreachable.
+    DstUnreachable {
+        /// Why, by the code.
+        reason: DstUnreachable,
+        /// The header of the packet that the error speaks of.
+        header: Ipv6Repr,
+        /// What stands behind the quoted header.
+        data: &'a [u8],
+    },
+    /// An error: the quoted packet is longer than the next link can carry.
+    PktTooBig {
+        /// The bytes of the largest packet that it can.
+        mtu: u32,
+        /// The header of the packet that the error speaks of.
+        header: Ipv6Repr,
+        /// What stands behind the quoted header.
+        data: &'a [u8],
+    },
+    /// An error: a time of the quoted packet was exceeded.
+    TimeExceeded {
+        /// Why, by the code.
+        reason: TimeExceeded,
+        /// The header of the packet that the error speaks of.
+        header: Ipv6Repr,
+        /// What stands behind the quoted header.
+        data: &'a [u8],
+    },
+    /// An error: a field of the quoted packet makes no sense.
+    ParamProblem {
+        /// Why, by the code.
+        reason: ParamProblem,
+        /// The place of the field, counted from the quoted packet's first byte.
+        pointer: u32,
+        /// The header of the packet that the error speaks of.
+        header: Ipv6Repr,
+        /// What stands behind the quoted header.
+        data: &'a [u8],
+    },
+    /// An echo request.
+    EchoRequest {
+        /// The identifier, which the reply has too.
+        ident: u16,
+        /// The sequence number, which the reply has too.
+        seq_no: u16,
+        /// The data, which the reply has too.
+        data: &'a [u8],
+    },
+    /// An echo reply.
+    EchoReply {
+        /// The identifier of the request.
+        ident: u16,
+        /// The sequence number of the request.
+        seq_no: u16,
+        /// The data of the request.
+        data: &'a [u8],
+    },
+    /// A message of neighbor discovery (RFC 4861).
+    Ndisc(ndisc::Repr<'a>),
+    /// A message of multicast listener discovery (RFC 3810).
+    Mld(mld::Repr<'a>),
+}
+
+impl<'a> Repr<'a> {
+    /// The message in the octets, which goes from `src_addr` to `dst_addr`. Refused where they don't begin with the
+    /// header of a type that is read here, where their checksum is to be verified and isn't good, and where the message
+    /// is none of these. Of all but three errors the code is 0: those of an unreachable destination, an exceeded time
+    /// and a parameter problem. An error quotes a whole header, whose version and payload length are not looked at, and
+    /// all that stands behind that header is the data. A message of neighbor discovery is read by `ndisc::Repr::parse`,
+    /// a query and a report by `mld::Repr::parse`.
+    pub fn parse<B: AsRef<[u8]> + ?Sized>(
+        src_addr: &Ipv6Address,
+        dst_addr: &Ipv6Address,
+        packet: &Packet<&'a B>,
+        checksum_caps: &ChecksumCapabilities,
+    ) -> Result<Repr<'a>> {
+        Repr::read(src_addr, dst_addr, packet, checksum_caps)
+    }
+
+    // The message in the octets.
+    fn read<B: AsRef<[u8]> + ?Sized>(
+        src_addr: &Ipv6Address,
+        dst_addr: &Ipv6Address,
+        packet: &Packet<&'a B>,
+        checksum_caps: &ChecksumCapabilities,
+    ) -> Result<Repr<'a>> {
+        packet.check_len()?;
+        if checksum_caps.icmpv6.rx() && !packet.verify_checksum(src_addr, dst_addr) {
+            return Err(Error);
+        }
+        Repr::read_content(packet)
+    }
+
+    // The message in octets that begin with a whole header, whatever their checksum.
+    fn read_content<B: AsRef<[u8]> + ?Sized>(packet: &Packet<&'a B>) -> Result<Repr<'a>> {
+        let kind = packet.msg_type();
+        if kind.is_error() {
+            return read_error(packet);
+        }
+        if packet.msg_code() != 0 {
+            return Err(Error);
+        }
+        match kind {
+            Message::EchoRequest => Ok(read_echo_request(packet)),
+            Message::EchoReply => Ok(read_echo_reply(packet)),
+            _ if kind.is_mld() => read_listener(packet),
+            _ if kind.is_ndisc() => read_neighbor(packet),
+            _ => Err(Error),
+        }
+    }
+
+    /// The bytes that the message takes, of an error at most 1,240; of a report by its records those before them, 8.
+    /// Requires that a `usize` holds their number.
+    pub fn buffer_len(&self) -> usize {
+        match self {
+            Repr::Mld(message) => message.buffer_len(),
+            _ => self.packet_len(),
+        }
+    }
+
+    /// The bytes that the packet of the message has, of an error at most 1,240. Requires that a `usize` holds their
+    /// number.
+    pub fn packet_len(&self) -> usize {
+        match self {
+            Repr::DstUnreachable { header, data, .. }
+            | Repr::PktTooBig { header, data, .. }
+            | Repr::TimeExceeded { header, data, .. }
+            | Repr::ParamProblem { header, data, .. } => error_len(header, data),
+            Repr::EchoRequest { data, .. } | Repr::EchoReply { data, .. } => {
+                field::HEADER_END + data.len()
+            }
+            Repr::Ndisc(message) => message.buffer_len(),
+            Repr::Mld(message) => message.packet_len(),
+        }
+    }
+
+    /// Writes the message over the front of the octets, as far as they go, and then, where the capabilities have it
+    /// computed, the checksum of all of them as a message from `src_addr` to `dst_addr`. Requires at least 8 bytes of
+    /// an echo; of an error its length or more, and that the quoted `payload_len` is at most 65,535; of a message of
+    /// multicast listener discovery what `mld::Repr::emit` asks, and of neighbor discovery what `ndisc::Repr::emit`
+    /// asks.
+    pub fn emit<T: OctetsMut>(
+        &self,
+        src_addr: &Ipv6Address,
+        dst_addr: &Ipv6Address,
+        packet: &mut Packet<T>,
+        checksum_caps: &ChecksumCapabilities,
+    ) {
+        self.emit_into(
+            src_addr,
+            dst_addr,
+            packet.buffer.octets_mut(),
+            checksum_caps,
+        );
+    }
+
+    /// The same into octets that stand by themselves.
+    pub fn emit_into(
+        &self,
+        src_addr: &Ipv6Address,
+        dst_addr: &Ipv6Address,
+        octets: &mut [u8],
+        checksum_caps: &ChecksumCapabilities,
+    ) {
+        self.write(octets);
+        seal(octets, src_addr, dst_addr, checksum_caps);
+    }
+
+    // Writes the message, with the checksum zero.
+    fn write(&self, octets: &mut [u8]) {
+        match self {
+            Repr::DstUnreachable {
+                reason,
+                header,
+                data,
+            } => {
+                let code = (*reason).into();
+                write_error(octets, Message::DstUnreachable, code, 0, header, data);
+            }
+            Repr::PktTooBig { mtu, header, data } => {
+                write_error(octets, Message::PktTooBig, 0, *mtu, header, data);
+            }
+            Repr::TimeExceeded {
+                reason,
+                header,
+                data,
+            } => {
+                let code = (*reason).into();
+                write_error(octets, Message::TimeExceeded, code, 0, header, data);
+            }
+            Repr::ParamProblem {
+                reason,
+                pointer,
+                header,
+                data,
+            } => {
+                let code = (*reason).into();
+                write_error(octets, Message::ParamProblem, code, *pointer, header, data);
+            }
+            Repr::EchoRequest {
+                ident,
+                seq_no,
+                data,
+            } => write_echo(octets, Message::EchoRequest, *ident, *seq_no, data),
+            Repr::EchoReply {
+                ident,
+                seq_no,
+                data,
+            } => write_echo(octets, Message::EchoReply, *ident, *seq_no, data),
+            Repr::Ndisc(message) => message.emit_into(octets),
+            Repr::Mld(message) => message.emit_into(octets),
+        }
+    }
+}
+
+// Writes an echo of this type over the front of the octets.
+fn write_echo(octets: &mut [u8], kind: Message, ident: u16, seq_no: u16, data: &[u8]) {
+    put_echo(&mut ByteWriter::new(octets), kind, ident, seq_no, data);
+}
+
+// Writes an echo of this type, as much of its data as there is room for.
+fn put_echo(w: &mut ByteWriter<'_>, kind: Message, ident: u16, seq_no: u16, data: &[u8]) {
+    put_type(w, kind);
+    w.put_u16(ident);
+    w.put_u16(seq_no);
+    w.put_front(data);
+}
+
+// Writes the checksum, where it is computed.
+fn seal(
+    octets: &mut [u8],
+    src_addr: &Ipv6Address,
+    dst_addr: &Ipv6Address,
+    checksum_caps: &ChecksumCapabilities,
+) {
+    if checksum_caps.icmpv6.tx() {
+        fill(octets, src_addr, dst_addr);
+    }
+}

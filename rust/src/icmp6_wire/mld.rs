@@ -1,0 +1,41 @@
+// Made from crates/icmp6_wire/src/mld.rt by rust/erase.
+//! Multicast listener discovery, version 2 (RFC 3810).
+
+mod packet;
+mod record;
+mod repr;
+mod tables;
+
+pub use record::{AddressRecord, AddressRecordRepr};
+pub use repr::Repr;
+pub use tables::RecordType;
+
+mod field {
+    use crate::wirebase::Field;
+
+    // Of a query (RFC 3810 section 5.1).
+    pub const MAX_RESP_CODE: Field = 4..6;
+
+    pub const QUERY_MCAST_ADDR: Field = 8..24;
+
+    pub const SQRV: Field = 24..25;
+
+    pub const QQIC: Field = 25..26;
+
+    pub const QUERY_NUM_SRCS: Field = 26..28;
+
+    // Of a report (RFC 3810 section 5.2).
+    pub const NR_MCAST_RCRDS: Field = 6..8;
+
+    // Of a record in a report.
+    pub const RECORD_TYPE: Field = 0..1;
+
+    pub const AUX_DATA_LEN: Field = 1..2;
+
+    pub const RECORD_NUM_SRCS: Field = 2..4;
+
+    pub const RECORD_MCAST_ADDR: Field = 4..20;
+}
+
+#[cfg(test)]
+mod tests;

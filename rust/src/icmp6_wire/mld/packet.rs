@@ -1,0 +1,99 @@
+// Made from crates/icmp6_wire/src/mld/packet.rt by rust/erase.
+//! The fields of queries and reports (RFC 3810 sections 5.1 and 5.2).
+
+use super::field;
+use crate::icmp6_wire::icmpv6::Packet;
+use crate::wirebase::{Ipv6Address, Octets, OctetsMut};
+
+// The bit of the flag S; the robustness variable is what stands below it.
+const S_FLAG: u8 = 0x08;
+
+impl<T: Octets> Packet<T> {
+    /// The code of the longest time to answer a query in (RFC 3810 section 5.1.3). Requires at least 6 bytes.
+    pub fn max_resp_code(&self) -> u16 {
+        self.buffer.u16_at(field::MAX_RESP_CODE)
+    }
+
+    /// The group that a query asks for, or `::` for all (RFC 3810 section 5.1.5). Requires at least 24 bytes.
+    pub fn mcast_addr(&self) -> Ipv6Address {
+        Ipv6Address::from_octets(
+            self.buffer
+                .field(field::QUERY_MCAST_ADDR)
+                .try_into()
+                .unwrap(),
+        )
+    }
+
+    /// The flag S of a query: whether routers that hear it are to leave their timers as they are (RFC 3810 section
+    /// 5.1.7). Requires at least 25 bytes.
+    pub fn s_flag(&self) -> bool {
+        self.buffer.u8_at(field::SQRV) / S_FLAG % 2 == 1
+    }
+
+    /// The querier's robustness variable, 0 to 7 (RFC 3810 section 5.1.8). Requires at least 25 bytes.
+    pub fn qrv(&self) -> u8 {
+        self.buffer.u8_at(field::SQRV) % S_FLAG
+    }
+
+    /// The code of the querier's interval (RFC 3810 section 5.1.9). Requires at least 26 bytes.
+    pub fn qqic(&self) -> u8 {
+        self.buffer.u8_at(field::QQIC)
+    }
+
+    /// The number of sources in a query (RFC 3810 section 5.1.10). Requires at least 28 bytes.
+    pub fn num_srcs(&self) -> u16 {
+        self.buffer.u16_at(field::QUERY_NUM_SRCS)
+    }
+
+    /// The number of records in a report (RFC 3810 section 5.2.3). Requires at least 8 bytes.
+    pub fn nr_mcast_addr_rcrds(&self) -> u16 {
+        self.buffer.u16_at(field::NR_MCAST_RCRDS)
+    }
+}
+
+impl<T: OctetsMut> Packet<T> {
+    /// Writes the code of the longest time to answer a query in. Requires at least 6 bytes.
+    pub fn set_max_resp_code(&mut self, value: u16) {
+        self.buffer.set_u16(field::MAX_RESP_CODE, value);
+    }
+
+    /// Writes the group that a query asks for. Requires at least 24 bytes.
+    pub fn set_mcast_addr(&mut self, value: Ipv6Address) {
+        self.buffer
+            .set_bytes(field::QUERY_MCAST_ADDR, &value.octets());
+    }
+
+    /// Sets the flag S, and writes zeros into the reserved bits beside it. Requires at least 25 bytes.
+    pub fn set_s_flag(&mut self) {
+        let qrv = self.qrv();
+        self.buffer.set_u8(field::SQRV, S_FLAG + qrv);
+    }
+
+    /// Clears the flag S, and the reserved bits beside it. Requires at least 25 bytes.
+    pub fn clear_s_flag(&mut self) {
+        let qrv = self.qrv();
+        self.buffer.set_u8(field::SQRV, qrv);
+    }
+
+    /// Writes the querier's robustness variable, and zeros into the reserved bits; the flag stays. Requires at least 25
+    /// bytes, and a value below 8.
+    pub fn set_qrv(&mut self, value: u8) {
+        let flag = self.buffer.u8_at(field::SQRV) / S_FLAG % 2;
+        self.buffer.set_u8(field::SQRV, S_FLAG * flag + value);
+    }
+
+    /// Writes the code of the querier's interval. Requires at least 26 bytes.
+    pub fn set_qqic(&mut self, value: u8) {
+        self.buffer.set_u8(field::QQIC, value);
+    }
+
+    /// Writes the number of sources in a query. Requires at least 28 bytes.
+    pub fn set_num_srcs(&mut self, value: u16) {
+        self.buffer.set_u16(field::QUERY_NUM_SRCS, value);
+    }
+
+    /// Writes the number of records in a report. Requires at least 8 bytes.
+    pub fn set_nr_mcast_addr_rcrds(&mut self, value: u16) {
+        self.buffer.set_u16(field::NR_MCAST_RCRDS, value);
+    }
+}

@@ -1,0 +1,186 @@
+// Made from crates/icmp6_wire/src/mld/record.rt by rust/erase.
+//! Records of reports (RFC 3810 section 5.2).
+
+use super::field;
+use super::tables::RecordType;
+use crate::icmp6_wire::writing::put_address;
+use crate::wirebase::{ByteWriter, Error, Ipv6Address, Octets, OctetsMut, Result};
+
+/// A view of the octets of a record in a report (RFC 3810 section 5.2).
+#[derive(Debug, Clone)]
+pub struct AddressRecord<T: Octets> {
+    buffer: T,
+}
+
+impl<T: Octets> AddressRecord<T> {
+    /// The view of these octets, whatever they are.
+    pub fn new_unchecked(buffer: T) -> AddressRecord<T> {
+        AddressRecord { buffer }
+    }
+
+    /// The view of these octets, where they are 20 or more; refused where they are fewer.
+    /// A refusal gives a `&mut [u8]` up: who wants the octets back, as they were, takes `new_unchecked` and then
+    /// `check_len`.
+    pub fn new_checked(buffer: T) -> Result<AddressRecord<T>> {
+        let record = AddressRecord::new_unchecked(buffer);
+        record.check_len()?;
+        Ok(record)
+    }
+
+    /// Accepts 20 octets or more. Then each accessor may be called.
+    pub fn check_len(&self) -> Result<()> {
+        if self.buffer.octets().len() < field::RECORD_MCAST_ADDR.end {
+            return Err(Error);
+        }
+        Ok(())
+    }
+
+    /// What the view was made from, as it is now.
+    pub fn into_inner(self) -> T {
+        self.buffer
+    }
+
+    /// The type. Requires at least 1 byte.
+    pub fn record_type(&self) -> RecordType {
+        RecordType::from(self.buffer.u8_at(field::RECORD_TYPE))
+    }
+
+    /// The words of 4 bytes that the auxiliary data has. Requires at least 2 bytes.
+    pub fn aux_data_len(&self) -> u8 {
+        self.buffer.u8_at(field::AUX_DATA_LEN)
+    }
+
+    /// The number of sources. Requires at least 4 bytes.
+    pub fn num_srcs(&self) -> u16 {
+        self.buffer.u16_at(field::RECORD_NUM_SRCS)
+    }
+
+    /// The group. Requires at least 20 bytes.
+    pub fn mcast_addr(&self) -> Ipv6Address {
+        Ipv6Address::from_octets(
+            self.buffer
+                .field(field::RECORD_MCAST_ADDR)
+                .try_into()
+                .unwrap(),
+        )
+    }
+}
+
+impl<'a, B: AsRef<[u8]> + ?Sized> AddressRecord<&'a B> {
+    /// What stands after the fields, sources and auxiliary data, for as long as the octets live. Requires at least 20
+    /// bytes.
+    pub fn payload(&self) -> &'a [u8] {
+        &self.buffer.as_ref()[field::RECORD_MCAST_ADDR.end..]
+    }
+}
+
+impl<T: OctetsMut> AddressRecord<T> {
+    /// Writes the type. Requires at least 1 byte.
+    pub fn set_record_type(&mut self, value: RecordType) {
+        self.buffer.set_u8(field::RECORD_TYPE, value.into());
+    }
+
+    /// Writes the words of 4 bytes that the auxiliary data has. Requires at least 2 bytes.
+    pub fn set_aux_data_len(&mut self, value: u8) {
+        self.buffer.set_u8(field::AUX_DATA_LEN, value);
+    }
+
+    /// Writes the number of sources. Requires at least 4 bytes.
+    pub fn set_num_srcs(&mut self, value: u16) {
+        self.buffer.set_u16(field::RECORD_NUM_SRCS, value);
+    }
+
+    /// Writes the group. Requires at least 20 bytes, and a multicast address.
+    pub fn set_mcast_addr(&mut self, value: Ipv6Address) {
+        self.buffer
+            .set_bytes(field::RECORD_MCAST_ADDR, &value.octets());
+    }
+
+    /// Lends what stands after the fields for writing; the fields stay. Requires at least 20 bytes.
+    pub fn payload_mut(&mut self) -> &mut [u8] {
+        let len = self.buffer.octets().len();
+        self.buffer.range_mut(field::RECORD_MCAST_ADDR.end, len)
+    }
+}
+
+/// Views are equal where their octets are.
+impl<T: Octets> PartialEq for AddressRecord<T> {
+    fn eq(&self, other: &AddressRecord<T>) -> bool {
+        self.buffer.octets() == other.buffer.octets()
+    }
+}
+
+impl<T: Octets> Eq for AddressRecord<T> {}
+
+/// A record of a report (RFC 3810 section 5.2).
+#[derive(Debug, PartialEq, Eq, Clone, Copy)]
+pub struct AddressRecordRepr<'a> {
+    /// What the record says of the group.
+    pub record_type: RecordType,
+    /// The words of 4 bytes that the auxiliary data has.
+    pub aux_data_len: u8,
+    /// The number of sources.
+    pub num_srcs: u16,
+    /// The group.
+    pub mcast_addr: Ipv6Address,
+    /// What stands after the fields: sources and auxiliary data. It is not written.
+    pub payload: &'a [u8],
+}
+
+impl<'a> AddressRecordRepr<'a> {
+    /// A record of this type for a group, with no sources and no auxiliary data.
+    pub fn new(record_type: RecordType, mcast_addr: Ipv6Address) -> AddressRecordRepr<'a> {
+        AddressRecordRepr {
+            record_type,
+            aux_data_len: 0,
+            num_srcs: 0,
+            mcast_addr,
+            payload: &[],
+        }
+    }
+
+    /// The record at the front of the octets; refused where they are fewer than 20. The counts are not compared with
+    /// what stands after them.
+    pub fn parse<B: AsRef<[u8]> + ?Sized>(
+        view: &AddressRecord<&'a B>,
+    ) -> Result<AddressRecordRepr<'a>> {
+        AddressRecordRepr::read(view)
+    }
+
+    // The record at the front of the octets.
+    fn read<B: AsRef<[u8]> + ?Sized>(view: &AddressRecord<&'a B>) -> Result<AddressRecordRepr<'a>> {
+        view.check_len()?;
+        Ok(AddressRecordRepr {
+            record_type: view.record_type(),
+            aux_data_len: view.aux_data_len(),
+            num_srcs: view.num_srcs(),
+            mcast_addr: view.mcast_addr(),
+            payload: view.payload(),
+        })
+    }
+
+    /// The bytes that the record takes, without what stands after its fields: 20.
+    pub fn buffer_len(&self) -> usize {
+        field::RECORD_MCAST_ADDR.end
+    }
+
+    /// Writes the record over the front of the octets, without what stands after its fields; the others stay. Requires
+    /// at least 20 bytes, and a multicast address.
+    pub fn emit<T: OctetsMut>(&self, view: &mut AddressRecord<T>) {
+        self.emit_into(view.buffer.octets_mut());
+    }
+
+    /// The same into octets that stand by themselves.
+    pub fn emit_into(&self, octets: &mut [u8]) {
+        self.write(octets);
+    }
+
+    // Writes the fields.
+    fn write(&self, octets: &mut [u8]) {
+        let mut w = ByteWriter::new(octets);
+        w.put_u8(self.record_type.into());
+        w.put_u8(self.aux_data_len);
+        w.put_u16(self.num_srcs);
+        put_address(&mut w, &self.mcast_addr);
+    }
+}

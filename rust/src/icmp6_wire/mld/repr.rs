@@ -1,0 +1,193 @@
+// Made from crates/icmp6_wire/src/mld/repr.rt by rust/erase.
+//! Messages as values (RFC 3810 section 5).
+
+use super::field;
+use super::record::AddressRecordRepr;
+use crate::icmp6_wire::icmpv6::{Message, Packet};
+use crate::icmp6_wire::writing::{put_address, put_type};
+use crate::wirebase::{ByteWriter, Error, Ipv6Address, OctetsMut, Result};
+
+/// A message (RFC 3810 section 5).
+#[derive(Debug, PartialEq, Eq, Clone, Copy)]
+pub enum Repr<'a> {
+    /// A router asks which groups have listeners, or whether this one has.
+    Query {
+        /// The code of the longest time to answer in.
+        max_resp_code: u16,
+        /// The group, or `::` for all.
+        mcast_addr: Ipv6Address,
+        /// The flag S: whether routers that hear the query are to leave their timers as they are.
+        s_flag: bool,
+        /// The querier's robustness variable, below 8.
+        qrv: u8,
+        /// The code of the querier's interval.
+        qqic: u8,
+        /// The number of sources.
+        num_srcs: u16,
+        /// The sources, and what stands behind them.
+        data: &'a [u8],
+    },
+    /// A host reports what it listens to.
+    Report {
+        /// The number of records.
+        nr_mcast_addr_rcrds: u16,
+        /// The records, and what stands behind them.
+        data: &'a [u8],
+    },
+    /// A report to be written, by its records.
+    ReportRecordReprs(&'a [AddressRecordRepr<'a>]),
+}
+
+impl<'a> Repr<'a> {
+    /// The message in the octets. Refused where they don't begin with the header of their type, and where that is
+    /// neither a query nor a report. The counts are not compared with the data.
+    pub fn parse<B: AsRef<[u8]> + ?Sized>(packet: &Packet<&'a B>) -> Result<Repr<'a>> {
+        Repr::read(packet)
+    }
+
+    // The message in the octets.
+    fn read<B: AsRef<[u8]> + ?Sized>(packet: &Packet<&'a B>) -> Result<Repr<'a>> {
+        packet.check_len()?;
+        match packet.msg_type() {
+            Message::MldQuery => Ok(read_query(packet)),
+            Message::MldReport => Ok(Repr::Report {
+                nr_mcast_addr_rcrds: packet.nr_mcast_addr_rcrds(),
+                data: packet.payload(),
+            }),
+            _ => Err(Error),
+        }
+    }
+
+    /// The bytes that the message takes; of a list of records those before it, 8. Requires that a `usize` holds their
+    /// number.
+    pub fn buffer_len(&self) -> usize {
+        match self {
+            Repr::ReportRecordReprs(_) => field::NR_MCAST_RCRDS.end,
+            _ => self.packet_len(),
+        }
+    }
+
+    /// The bytes that the packet of the message has, a list of records counted. Requires that a `usize` holds their
+    /// number.
+    pub fn packet_len(&self) -> usize {
+        match self {
+            Repr::Query { data, .. } => field::QUERY_NUM_SRCS.end + data.len(),
+            Repr::Report { data, .. } => field::NR_MCAST_RCRDS.end + data.len(),
+            Repr::ReportRecordReprs(records) => {
+                field::NR_MCAST_RCRDS.end + field::RECORD_MCAST_ADDR.end * records.len()
+            }
+        }
+    }
+
+    /// Writes the message, with the checksum zero. Requires octets of just its length, a robustness variable below 8,
+    /// and of records that they are of groups and at most 65,535.
+    pub fn emit<T: OctetsMut>(&self, packet: &mut Packet<T>) {
+        self.emit_into(packet.buffer.octets_mut());
+    }
+
+    /// The same into octets that stand by themselves.
+    pub fn emit_into(&self, octets: &mut [u8]) {
+        self.write(octets);
+    }
+
+    // Writes the message into octets of just its length.
+    fn write(&self, octets: &mut [u8]) {
+        let mut w = ByteWriter::new(octets);
+        self.put(&mut w);
+    }
+
+    // The same with this writer.
+    fn put(&self, w: &mut ByteWriter<'_>) {
+        match *self {
+            Repr::Query {
+                max_resp_code,
+                mcast_addr,
+                s_flag,
+                qrv,
+                qqic,
+                num_srcs,
+                data,
+            } => put_query(
+                w,
+                max_resp_code,
+                mcast_addr,
+                s_flag,
+                qrv,
+                qqic,
+                num_srcs,
+                data,
+            ),
+            Repr::Report {
+                nr_mcast_addr_rcrds,
+                data,
+            } => put_report(w, nr_mcast_addr_rcrds, data),
+            Repr::ReportRecordReprs(records) => put_list(w, records),
+        }
+    }
+}
+
+// The query in octets of that type.
+fn read_query<'a, B: AsRef<[u8]> + ?Sized>(packet: &Packet<&'a B>) -> Repr<'a> {
+    Repr::Query {
+        max_resp_code: packet.max_resp_code(),
+        mcast_addr: packet.mcast_addr(),
+        s_flag: packet.s_flag(),
+        qrv: packet.qrv(),
+        qqic: packet.qqic(),
+        num_srcs: packet.num_srcs(),
+        data: packet.payload(),
+    }
+}
+
+// Writes a query.
+fn put_query(
+    w: &mut ByteWriter<'_>,
+    max_resp_code: u16,
+    mcast_addr: Ipv6Address,
+    s_flag: bool,
+    qrv: u8,
+    qqic: u8,
+    num_srcs: u16,
+    data: &[u8],
+) {
+    put_type(w, Message::MldQuery);
+    w.put_u16(max_resp_code);
+    w.put_u16(0);
+    put_address(w, &mcast_addr);
+    let flag = if s_flag { 8 } else { 0 };
+    w.put_u8(flag + qrv);
+    w.put_u8(qqic);
+    w.put_u16(num_srcs);
+    w.put_bytes(data);
+}
+
+// Writes a report of so many records, which the data holds.
+fn put_report(w: &mut ByteWriter<'_>, count: u16, data: &[u8]) {
+    put_report_header(w, count);
+    w.put_bytes(data);
+}
+
+// Writes a report of these records.
+fn put_list(w: &mut ByteWriter<'_>, records: &[AddressRecordRepr<'_>]) {
+    put_report_header(w, records.len() as u16);
+    put_records(w, records);
+}
+
+// Writes the header of a report of so many records.
+fn put_report_header(w: &mut ByteWriter<'_>, count: u16) {
+    put_type(w, Message::MldReport);
+    w.put_u16(0);
+    w.put_u16(count);
+}
+
+// Writes each record.
+fn put_records(w: &mut ByteWriter<'_>, records: &[AddressRecordRepr<'_>]) {
+    for record in records {
+        put_record(w, record);
+    }
+}
+
+// Writes a record.
+fn put_record(w: &mut ByteWriter<'_>, repr: &AddressRecordRepr<'_>) {
+    repr.emit_into(w.part(repr.buffer_len()));
+}

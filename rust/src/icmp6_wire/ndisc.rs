@@ -1,0 +1,131 @@
+// Made from crates/icmp6_wire/src/ndisc.rt by rust/erase.
+//! Neighbor discovery (RFC 4861): what its messages have behind the checksum.
+
+use crate::icmp6_wire::icmpv6::Packet;
+use crate::wirebase::{Duration, Ipv6Address, Octets, OctetsMut};
+
+mod flags;
+mod found;
+mod options;
+mod repr;
+
+pub use flags::{NeighborFlags, RouterFlags};
+pub use repr::Repr;
+
+// The fields behind the checksum (RFC 4861 section 4); their picture is in specs/NdiscPacket.antt.
+mod field {
+    use crate::wirebase::Field;
+
+    pub const HOP_LIMIT: Field = 4..5;
+
+    pub const ROUTER_FLAGS: Field = 5..6;
+
+    pub const ROUTER_LIFETIME: Field = 6..8;
+
+    pub const REACHABLE_TIME: Field = 8..12;
+
+    pub const RETRANS_TIME: Field = 12..16;
+
+    pub const NEIGHBOR_FLAGS: Field = 4..5;
+
+    // The end of the word that is reserved in solicitations and redirects.
+    pub const RESERVED_END: usize = 8;
+
+    pub const TARGET_ADDR: Field = 8..24;
+
+    pub const DEST_ADDR: Field = 24..40;
+}
+
+impl<T: Octets> Packet<T> {
+    /// The hop limit that a router advertisement asks hosts to set, 0 for none. Requires at least 5 bytes.
+    pub fn current_hop_limit(&self) -> u8 {
+        self.buffer.u8_at(field::HOP_LIMIT)
+    }
+
+    /// The flags of a router advertisement that have a name. Requires at least 6 bytes.
+    pub fn router_flags(&self) -> RouterFlags {
+        RouterFlags::from_bits_truncate(self.buffer.u8_at(field::ROUTER_FLAGS))
+    }
+
+    /// How long the sender of a router advertisement is a default router, in whole seconds. Requires at least 8 bytes.
+    pub fn router_lifetime(&self) -> Duration {
+        Duration::from_secs(self.buffer.u16_at(field::ROUTER_LIFETIME) as u64)
+    }
+
+    /// How long a neighbor counts as reachable, in whole milliseconds; 0 where it is not told. Requires at least 12
+    /// bytes.
+    pub fn reachable_time(&self) -> Duration {
+        Duration::from_millis(self.buffer.u32_at(field::REACHABLE_TIME) as u64)
+    }
+
+    /// The time between solicitations, in whole milliseconds; 0 where it is not told. Requires at least 16 bytes.
+    pub fn retrans_time(&self) -> Duration {
+        Duration::from_millis(self.buffer.u32_at(field::RETRANS_TIME) as u64)
+    }
+
+    /// The address that a neighbor message or a redirect speaks of. Requires at least 24 bytes.
+    pub fn target_addr(&self) -> Ipv6Address {
+        Ipv6Address::from_octets(self.buffer.field(field::TARGET_ADDR).try_into().unwrap())
+    }
+
+    /// The flags of a neighbor advertisement that have a name. Requires at least 5 bytes.
+    pub fn neighbor_flags(&self) -> NeighborFlags {
+        NeighborFlags::from_bits_truncate(self.buffer.u8_at(field::NEIGHBOR_FLAGS))
+    }
+
+    /// The destination that a redirect redirects. Requires at least 40 bytes.
+    pub fn dest_addr(&self) -> Ipv6Address {
+        Ipv6Address::from_octets(self.buffer.field(field::DEST_ADDR).try_into().unwrap())
+    }
+}
+
+impl<T: OctetsMut> Packet<T> {
+    /// Writes the hop limit that hosts are to set. Requires at least 5 bytes.
+    pub fn set_current_hop_limit(&mut self, value: u8) {
+        self.buffer.set_u8(field::HOP_LIMIT, value);
+    }
+
+    /// Writes the flags of a router advertisement, all their bits. Requires at least 6 bytes.
+    pub fn set_router_flags(&mut self, flags: RouterFlags) {
+        self.buffer.set_u8(field::ROUTER_FLAGS, flags.bits());
+    }
+
+    /// Writes how long the sender is a default router, in whole seconds; what is past them is left out. Requires at
+    /// least 8 bytes, and 65,535 seconds at most.
+    pub fn set_router_lifetime(&mut self, value: Duration) {
+        self.buffer
+            .set_u16(field::ROUTER_LIFETIME, value.secs() as u16);
+    }
+
+    /// Writes how long a neighbor counts as reachable, in whole milliseconds; what is past them is left out. Requires
+    /// at least 12 bytes, and 4,294,967,295 milliseconds at most.
+    pub fn set_reachable_time(&mut self, value: Duration) {
+        self.buffer
+            .set_u32(field::REACHABLE_TIME, value.total_millis() as u32);
+    }
+
+    /// Writes the time between solicitations, in whole milliseconds; what is past them is left out. Requires at least
+    /// 16 bytes, and 4,294,967,295 milliseconds at most.
+    pub fn set_retrans_time(&mut self, value: Duration) {
+        self.buffer
+            .set_u32(field::RETRANS_TIME, value.total_millis() as u32);
+    }
+
+    /// Writes the address that the message speaks of. Requires at least 24 bytes.
+    pub fn set_target_addr(&mut self, value: Ipv6Address) {
+        self.buffer.set_bytes(field::TARGET_ADDR, &value.octets());
+    }
+
+    /// Writes the flags of a neighbor advertisement, all their bits. Requires at least 5 bytes.
+    pub fn set_neighbor_flags(&mut self, flags: NeighborFlags) {
+        self.buffer.set_u8(field::NEIGHBOR_FLAGS, flags.bits());
+    }
+
+    /// Writes the destination that a redirect redirects. Requires at least 40 bytes.
+    pub fn set_dest_addr(&mut self, value: Ipv6Address) {
+        self.buffer.set_bytes(field::DEST_ADDR, &value.octets());
+    }
+}
+
+#[cfg(test)]
+mod tests;

@@ -1,0 +1,321 @@
+// Made from crates/icmp6_wire/src/ndisc/repr.rt by rust/erase.
+//! Messages as values (RFC 4861 sections 4.1 to 4.5).
+
+use super::field;
+use super::flags::{NeighborFlags, RouterFlags};
+use super::found::Found;
+use super::options::{
+    mtu_option, option_len, prefix_option, put_option, put_source, put_target, redirected_option,
+    source_len, target_len,
+};
+use crate::icmp6_wire::icmpv6::{Message, Packet};
+use crate::icmp6_wire::writing::{put_address, put_type};
+use crate::opt_wire::ndiscoption::{PrefixInformation, RedirectedHeader};
+use crate::wirebase::{
+    ByteWriter, Duration, Error, Ipv6Address, OctetsMut, RawHardwareAddress, Result,
+};
+
+/// A message (RFC 4861 section 4). Its options are there or not; of several of one kind the last is read.
+#[derive(Debug, PartialEq, Eq, Clone, Copy)]
+pub enum Repr<'a> {
+    /// A host asks the routers to advertise themselves.
+    RouterSolicit {
+        /// The link-layer address of the sender.
+        lladdr: Option<RawHardwareAddress>,
+    },
+    /// A router advertises itself.
+    RouterAdvert {
+        /// The hop limit that hosts are to set, 0 for none.
+        hop_limit: u8,
+        /// The flags.
+        flags: RouterFlags,
+        /// How long the sender is a default router, sent in whole seconds.
+        router_lifetime: Duration,
+        /// How long a neighbor counts as reachable, sent in whole milliseconds; 0 where it is not told.
+        reachable_time: Duration,
+        /// The time between solicitations, sent in whole milliseconds; 0 where it is not told.
+        retrans_time: Duration,
+        /// The link-layer address of the sender.
+        lladdr: Option<RawHardwareAddress>,
+        /// The greatest packet of the link, in bytes.
+        mtu: Option<u32>,
+        /// A prefix of the link, of an option: the last one.
+        prefix_info: Option<PrefixInformation>,
+    },
+    /// A host asks for the link-layer address of the neighbor that has an address.
+    NeighborSolicit {
+        /// The address that is looked for.
+        target_addr: Ipv6Address,
+        /// The link-layer address of the sender.
+        lladdr: Option<RawHardwareAddress>,
+    },
+    /// A neighbor tells its link-layer address.
+    NeighborAdvert {
+        /// The flags.
+        flags: NeighborFlags,
+        /// The address that is told of.
+        target_addr: Ipv6Address,
+        /// The link-layer address of the target.
+        lladdr: Option<RawHardwareAddress>,
+    },
+    /// A router tells of a better first hop.
+    Redirect {
+        /// The better first hop.
+        target_addr: Ipv6Address,
+        /// The destination that it is better for.
+        dest_addr: Ipv6Address,
+        /// The link-layer address of the target.
+        lladdr: Option<RawHardwareAddress>,
+        /// The packet that the redirect answers.
+        redirected_hdr: Option<RedirectedHeader<'a>>,
+    },
+}
+
+impl<'a> Repr<'a> {
+    /// The message in the octets. Refused where they don't begin with the header of their type, where that is none of
+    /// neighbor discovery, and where what follows isn't whole options one after another. An option that can't be read
+    /// is left out, and so are flags without a name; neither code nor checksum is looked at.
+    pub fn parse<B: AsRef<[u8]> + ?Sized>(packet: &Packet<&'a B>) -> Result<Repr<'a>> {
+        Repr::read(packet)
+    }
+
+    // The message in the octets.
+    fn read<B: AsRef<[u8]> + ?Sized>(packet: &Packet<&'a B>) -> Result<Repr<'a>> {
+        packet.check_len()?;
+        let Ok(found) = Found::read(packet.payload()) else {
+            return Err(Error);
+        };
+        Repr::read_content(packet, &found)
+    }
+
+    // The message in octets that begin with a whole header, whose options say this.
+    fn read_content<B: AsRef<[u8]> + ?Sized>(
+        packet: &Packet<&'a B>,
+        found: &Found<'a>,
+    ) -> Result<Repr<'a>> {
+        match packet.msg_type() {
+            Message::RouterSolicit => Ok(Repr::RouterSolicit {
+                lladdr: found.source,
+            }),
+            Message::RouterAdvert => Ok(read_router_advert(packet, found)),
+            Message::NeighborSolicit => Ok(Repr::NeighborSolicit {
+                target_addr: packet.target_addr(),
+                lladdr: found.source,
+            }),
+            Message::NeighborAdvert => Ok(Repr::NeighborAdvert {
+                flags: packet.neighbor_flags(),
+                target_addr: packet.target_addr(),
+                lladdr: found.target,
+            }),
+            Message::Redirect => Ok(Repr::Redirect {
+                target_addr: packet.target_addr(),
+                dest_addr: packet.dest_addr(),
+                lladdr: found.target,
+                redirected_hdr: found.redirected_hdr,
+            }),
+            _ => Err(Error),
+        }
+    }
+
+    /// The bytes that the message takes: whole units behind its header. Requires that a `usize` holds their number.
+    pub fn buffer_len(&self) -> usize {
+        self.header_len() + self.options_len()
+    }
+
+    // The bytes of the header.
+    fn header_len(&self) -> usize {
+        match self {
+            Repr::RouterSolicit { .. } => field::RESERVED_END,
+            Repr::RouterAdvert { .. } => field::RETRANS_TIME.end,
+            Repr::NeighborSolicit { .. } => field::TARGET_ADDR.end,
+            Repr::NeighborAdvert { .. } => field::TARGET_ADDR.end,
+            Repr::Redirect { .. } => field::DEST_ADDR.end,
+        }
+    }
+
+    // The bytes of the options.
+    fn options_len(&self) -> usize {
+        match self {
+            Repr::RouterSolicit { lladdr } => source_len(lladdr),
+            Repr::RouterAdvert {
+                lladdr,
+                mtu,
+                prefix_info,
+                ..
+            } => router_options_len(lladdr, mtu, prefix_info),
+            Repr::NeighborSolicit { lladdr, .. } => source_len(lladdr),
+            Repr::NeighborAdvert { lladdr, .. } => target_len(lladdr),
+            Repr::Redirect {
+                lladdr,
+                redirected_hdr,
+                ..
+            } => redirect_options_len(lladdr, redirected_hdr),
+        }
+    }
+
+    /// Writes the message over the front of the octets, with the checksum zero; the others stay. Times are cut to their
+    /// whole units. Requires the bytes that the message takes; a lifetime of at most 65,535 seconds, and times of at
+    /// most 4,294,967,295 milliseconds; of a prefix lifetimes of at most 4,294,967,295 seconds; and of a redirected
+    /// packet that it counts its data as its payload, at most 1,992 bytes.
+    pub fn emit<T: OctetsMut>(&self, packet: &mut Packet<T>) {
+        self.emit_into(packet.buffer.octets_mut());
+    }
+
+    /// The same into octets that stand by themselves.
+    pub fn emit_into(&self, octets: &mut [u8]) {
+        let mut w = ByteWriter::new(octets);
+        self.put(&mut w);
+    }
+
+    // Writes the message.
+    fn put(&self, w: &mut ByteWriter<'_>) {
+        self.put_header(w);
+        self.put_options(w);
+    }
+
+    // Writes the header.
+    fn put_header(&self, w: &mut ByteWriter<'_>) {
+        match self {
+            Repr::RouterSolicit { .. } => put_reserved(w, Message::RouterSolicit),
+            Repr::RouterAdvert {
+                hop_limit,
+                flags,
+                router_lifetime,
+                reachable_time,
+                retrans_time,
+                ..
+            } => {
+                put_router(w, *hop_limit, *flags);
+                put_times(w, router_lifetime, reachable_time, retrans_time);
+            }
+            Repr::NeighborSolicit { target_addr, .. } => {
+                put_reserved(w, Message::NeighborSolicit);
+                put_address(w, target_addr);
+            }
+            Repr::NeighborAdvert {
+                flags, target_addr, ..
+            } => {
+                put_neighbor(w, *flags);
+                put_address(w, target_addr);
+            }
+            Repr::Redirect {
+                target_addr,
+                dest_addr,
+                ..
+            } => {
+                put_reserved(w, Message::Redirect);
+                put_address(w, target_addr);
+                put_address(w, dest_addr);
+            }
+        }
+    }
+
+    // Writes the options.
+    fn put_options(&self, w: &mut ByteWriter<'_>) {
+        match self {
+            Repr::RouterSolicit { lladdr } => put_source(w, lladdr),
+            Repr::RouterAdvert {
+                lladdr,
+                mtu,
+                prefix_info,
+                ..
+            } => put_router_options(w, lladdr, mtu, prefix_info),
+            Repr::NeighborSolicit { lladdr, .. } => put_source(w, lladdr),
+            Repr::NeighborAdvert { lladdr, .. } => put_target(w, lladdr),
+            Repr::Redirect {
+                lladdr,
+                redirected_hdr,
+                ..
+            } => put_redirect_options(w, lladdr, redirected_hdr),
+        }
+    }
+}
+
+// The router advertisement in octets of that type, whose options say this.
+fn read_router_advert<'a, B: AsRef<[u8]> + ?Sized>(
+    packet: &Packet<&'a B>,
+    found: &Found<'a>,
+) -> Repr<'a> {
+    Repr::RouterAdvert {
+        hop_limit: packet.current_hop_limit(),
+        flags: packet.router_flags(),
+        router_lifetime: packet.router_lifetime(),
+        reachable_time: packet.reachable_time(),
+        retrans_time: packet.retrans_time(),
+        lladdr: found.source,
+        mtu: found.mtu,
+        prefix_info: found.prefix_info,
+    }
+}
+
+// The bytes of the options of a router advertisement.
+fn router_options_len(
+    lladdr: &Option<RawHardwareAddress>,
+    mtu: &Option<u32>,
+    prefix_info: &Option<PrefixInformation>,
+) -> usize {
+    source_len(lladdr) + option_len(&mtu_option(mtu)) + option_len(&prefix_option(prefix_info))
+}
+
+// The bytes of the options of a redirect.
+fn redirect_options_len(
+    lladdr: &Option<RawHardwareAddress>,
+    header: &Option<RedirectedHeader<'_>>,
+) -> usize {
+    target_len(lladdr) + option_len(&redirected_option(header))
+}
+
+// Writes a router advertisement up to its times.
+fn put_router(w: &mut ByteWriter<'_>, hop_limit: u8, flags: RouterFlags) {
+    put_type(w, Message::RouterAdvert);
+    w.put_u8(hop_limit);
+    w.put_u8(flags.bits());
+}
+
+// Writes the options of a router advertisement.
+fn put_router_options(
+    w: &mut ByteWriter<'_>,
+    lladdr: &Option<RawHardwareAddress>,
+    mtu: &Option<u32>,
+    prefix_info: &Option<PrefixInformation>,
+) {
+    put_source(w, lladdr);
+    put_option(w, &mtu_option(mtu));
+    put_option(w, &prefix_option(prefix_info));
+}
+
+// Writes the options of a redirect.
+fn put_redirect_options(
+    w: &mut ByteWriter<'_>,
+    lladdr: &Option<RawHardwareAddress>,
+    header: &Option<RedirectedHeader<'_>>,
+) {
+    put_target(w, lladdr);
+    put_option(w, &redirected_option(header));
+}
+
+// Writes a neighbor advertisement up to its address.
+fn put_neighbor(w: &mut ByteWriter<'_>, flags: NeighborFlags) {
+    put_type(w, Message::NeighborAdvert);
+    w.put_u8(flags.bits());
+    w.put_u8(0);
+    w.put_u16(0);
+}
+
+// Writes the type, the code 0, no checksum and a word that is reserved.
+fn put_reserved(w: &mut ByteWriter<'_>, kind: Message) {
+    put_type(w, kind);
+    w.put_u32(0);
+}
+
+// Writes the times of a router advertisement, in whole seconds and twice in whole milliseconds.
+fn put_times(
+    w: &mut ByteWriter<'_>,
+    lifetime: &Duration,
+    reachable: &Duration,
+    retrans: &Duration,
+) {
+    w.put_u16(lifetime.secs() as u16);
+    w.put_u32(reachable.total_millis() as u32);
+    w.put_u32(retrans.total_millis() as u32);
+}

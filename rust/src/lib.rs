@@ -1,0 +1,40 @@
+// Made from crates/control_wire/src/lib.rt by rust/erase.
+#![doc = include_str!("../README.md")]
+#![no_std]
+#![forbid(unsafe_code)]
+
+#[cfg(test)]
+extern crate std;
+
+mod by_hand;
+mod dhcp_wire;
+mod dns_wire;
+mod icmp4_wire;
+mod icmp6_wire;
+mod opt_wire;
+mod wirebase;
+
+pub use by_hand::smoltcp;
+
+pub mod icmp;
+
+pub use crate::dhcp_wire::dhcpv4;
+pub use crate::dns_wire::dns;
+pub use crate::icmp4_wire::{icmpv4, igmp};
+pub use crate::icmp6_wire::icmpv6::Repr as Icmpv6Repr;
+pub use crate::icmp6_wire::mld::Repr as MldRepr;
+pub use crate::icmp6_wire::ndisc::Repr as NdiscRepr;
+pub use crate::icmp6_wire::{icmpv6, mld, ndisc};
+pub use crate::opt_wire::ipv6option::{Ipv6Option, Ipv6OptionsIterator, Repr as Ipv6OptionRepr};
+pub use crate::opt_wire::ndiscoption::{
+    NdiscOption, PrefixInformation as NdiscPrefixInformation,
+    RedirectedHeader as NdiscRedirectedHeader, Repr as NdiscOptionRepr,
+};
+pub use crate::opt_wire::{ipv6ext_header, ipv6hbh, ipv6option, ndiscoption};
+pub use crate::wirebase::capabilities::Checksum;
+pub use crate::wirebase::{
+    ByteWriter, ChecksumCapabilities, Duration, Error, EthernetAddress, Field, Hardware,
+    IPV6_HBH_MAX_OPTIONS, IPV6_HEADER_LEN, IPV6_LINK_LOCAL_ALL_NODES, IPV6_LINK_LOCAL_ALL_ROUTERS,
+    IPV6_MIN_MTU, IpProtocol, Ipv4Address, Ipv4Packet, Ipv4Repr, Ipv6Address, Ipv6Packet, Ipv6Repr,
+    MAX_HARDWARE_ADDRESS_LEN, Octets, OctetsMut, RawHardwareAddress, Result, checksum, octets,
+};

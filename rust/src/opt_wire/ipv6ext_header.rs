@@ -1,0 +1,154 @@
+// Made from crates/opt_wire/src/ipv6ext_header.rt by rust/erase.
+//! The header that the extension headers of IPv6 with options have in common (RFC 8200 sections 4.3 and 4.6).
+
+use crate::wirebase::{ByteWriter, Error, IpProtocol, Octets, OctetsMut, Result};
+
+// The fields of a header; their picture is in specs/Ipv6ExtHeader.antt.
+mod field {
+    use crate::wirebase::Field;
+
+    pub const NEXT_HEADER: Field = 0..1;
+
+    pub const LENGTH: Field = 1..2;
+
+    pub const PAYLOAD: usize = 2;
+
+    // The bytes of the shortest header.
+    pub const MIN_END: usize = 8;
+}
+
+/// A view of the octets of a header.
+#[derive(Debug)]
+pub struct Header<T: Octets> {
+    buffer: T,
+}
+
+impl<T: Octets> Header<T> {
+    /// The view of these octets, whatever they are.
+    pub fn new_unchecked(buffer: T) -> Header<T> {
+        Header { buffer }
+    }
+
+    /// The view of these octets, where they are 8 or more and as many as the length counts; refused where they are
+    /// fewer.
+    /// A refusal gives a `&mut [u8]` up: who wants the octets back, as they were, takes `new_unchecked` and then
+    /// `check_len`.
+    pub fn new_checked(buffer: T) -> Result<Header<T>> {
+        let header = Header::new_unchecked(buffer);
+        header.check_len()?;
+        Ok(header)
+    }
+
+    /// Accepts octets that are 8 or more, and as many as the length counts. Then each accessor may be called.
+    pub fn check_len(&self) -> Result<()> {
+        let len = self.buffer.octets().len();
+        if len < field::MIN_END || len < end_of(self.header_len()) {
+            return Err(Error);
+        }
+        Ok(())
+    }
+
+    /// What the view was made from, as it is now.
+    pub fn into_inner(self) -> T {
+        self.buffer
+    }
+
+    /// What follows the header. Requires at least 1 byte.
+    pub fn next_header(&self) -> IpProtocol {
+        IpProtocol::from(self.buffer.u8_at(field::NEXT_HEADER))
+    }
+
+    /// The length: eight bytes each, without the first eight. Requires at least 2 bytes.
+    pub fn header_len(&self) -> u8 {
+        self.buffer.u8_at(field::LENGTH)
+    }
+}
+
+// Where the payload of a header of this length ends.
+fn end_of(length: u8) -> usize {
+    8 * length as usize + field::MIN_END
+}
+
+impl<'a, B: AsRef<[u8]> + ?Sized> Header<&'a B> {
+    /// The payload, for as long as the octets live. Requires the bytes that the length counts.
+    pub fn payload(&self) -> &'a [u8] {
+        let octets: &'a [u8] = self.buffer.as_ref();
+        &octets[field::PAYLOAD..end_of(self.header_len())]
+    }
+}
+
+impl<T: OctetsMut> Header<T> {
+    /// Writes what follows the header. Requires at least 1 byte.
+    pub fn set_next_header(&mut self, value: IpProtocol) {
+        self.buffer.set_u8(field::NEXT_HEADER, value.into());
+    }
+
+    /// Writes the length: eight bytes each, without the first eight. Requires at least 2 bytes.
+    pub fn set_header_len(&mut self, value: u8) {
+        self.buffer.set_u8(field::LENGTH, value);
+    }
+
+    /// Lends the payload for writing; the other octets stay. Requires the bytes that the length counts.
+    pub fn payload_mut(&mut self) -> &mut [u8] {
+        let end = end_of(self.header_len());
+        self.buffer.range_mut(field::PAYLOAD, end)
+    }
+}
+
+/// Views are equal where their octets are.
+impl<T: Octets> PartialEq for Header<T> {
+    fn eq(&self, other: &Header<T>) -> bool {
+        self.buffer.octets() == other.buffer.octets()
+    }
+}
+
+impl<T: Octets> Eq for Header<T> {}
+
+/// A header.
+#[derive(Debug, PartialEq, Eq, Clone, Copy)]
+pub struct Repr<'a> {
+    /// What follows the header.
+    pub next_header: IpProtocol,
+    /// The length: eight bytes each, without the first eight.
+    pub length: u8,
+    /// The payload: the bytes of the header behind its length.
+    pub data: &'a [u8],
+}
+
+impl<'a> Repr<'a> {
+    /// The header at the front of the octets. Refused where they are fewer than 8, or than the length counts.
+    pub fn parse<B: AsRef<[u8]> + ?Sized>(header: &Header<&'a B>) -> Result<Repr<'a>> {
+        header.check_len()?;
+        Ok(Repr {
+            next_header: header.next_header(),
+            length: header.header_len(),
+            data: header.payload(),
+        })
+    }
+
+    /// The bytes that are written: 2.
+    pub const fn header_len(&self) -> usize {
+        field::PAYLOAD
+    }
+
+    /// Writes the next header and the length over the front of the octets; the others, the payload too, stay. Requires
+    /// at least 2 bytes.
+    pub fn emit<T: OctetsMut>(&self, header: &mut Header<T>) {
+        self.emit_into(header.buffer.octets_mut());
+    }
+
+    /// The same into octets that stand by themselves.
+    pub fn emit_into(&self, octets: &mut [u8]) {
+        self.write(octets);
+    }
+
+    // Writes the first two bytes.
+    fn write(&self, octets: &mut [u8]) {
+        let mut w = ByteWriter::new(octets);
+        w.put_u8(self.next_header.into());
+        w.put_u8(self.length);
+    }
+}
+
+#[cfg(test)]
+mod tests;

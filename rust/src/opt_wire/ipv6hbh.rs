@@ -1,0 +1,136 @@
+// Made from crates/opt_wire/src/ipv6hbh.rt by rust/erase.
+//! Hop-by-hop options headers (RFC 8200 section 4.3), from their options on.
+
+use crate::opt_wire::ipv6option;
+use crate::opt_wire::ipv6option::{Ipv6OptionsIterator, RouterAlert};
+use crate::wirebase::{ByteWriter, Error, IPV6_HBH_MAX_OPTIONS, Octets, OctetsMut, Result};
+use arrayvec::ArrayVec;
+
+/// A view of the options of a hop-by-hop header: all that stands after its first two bytes.
+pub struct Header<T: Octets> {
+    buffer: T,
+}
+
+impl<T: Octets> Header<T> {
+    /// The view of these octets, whatever they are.
+    pub fn new_unchecked(buffer: T) -> Header<T> {
+        Header { buffer }
+    }
+
+    /// The view of these octets; refused where there are none.
+    /// A refusal gives a `&mut [u8]` up: who wants the octets back, as they were, takes `new_unchecked` and then
+    /// `check_len`.
+    pub fn new_checked(buffer: T) -> Result<Header<T>> {
+        let header = Header::new_unchecked(buffer);
+        header.check_len()?;
+        Ok(header)
+    }
+
+    /// Accepts any octets but none at all.
+    pub fn check_len(&self) -> Result<()> {
+        if self.buffer.octets().is_empty() {
+            return Err(Error);
+        }
+        Ok(())
+    }
+
+    /// What the view was made from, as it is now.
+    pub fn into_inner(self) -> T {
+        self.buffer
+    }
+}
+
+impl<'a, B: AsRef<[u8]> + ?Sized> Header<&'a B> {
+    /// The octets of all options, for as long as they live.
+    pub fn options(&self) -> &'a [u8] {
+        let octets: &'a [u8] = self.buffer.as_ref();
+        octets
+    }
+}
+
+impl<T: OctetsMut> Header<T> {
+    /// Lends all octets for writing.
+    pub fn options_mut(&mut self) -> &mut [u8] {
+        self.buffer.octets_mut()
+    }
+}
+
+/// The options of a hop-by-hop header, at most `IPV6_HBH_MAX_OPTIONS`.
+#[derive(Debug, PartialEq, Eq, Clone)]
+pub struct Repr<'a> {
+    /// The options, in the order of the header.
+    pub options: ArrayVec<ipv6option::Repr<'a>, IPV6_HBH_MAX_OPTIONS>,
+}
+
+impl<'a> Repr<'a> {
+    /// The options of a header, the first `IPV6_HBH_MAX_OPTIONS` of them. Refused where there are no octets, and
+    /// where one of these options, or the one after them, can't be read; what follows is not looked at.
+    pub fn parse<B: AsRef<[u8]> + ?Sized>(header: &Header<&'a B>) -> Result<Repr<'a>> {
+        Repr::read(header)
+    }
+
+    // The options of a header.
+    fn read<B: AsRef<[u8]> + ?Sized>(header: &Header<&'a B>) -> Result<Repr<'a>> {
+        header.check_len()?;
+        let mut options = ArrayVec::new();
+        for option in Ipv6OptionsIterator::new(header.options()) {
+            let option = option?;
+            if options.is_full() {
+                break;
+            }
+            options.push(option);
+        }
+        Ok(Repr { options })
+    }
+
+    /// The bytes that the options take, by the lengths that they count.
+    pub fn buffer_len(&self) -> usize {
+        let options = self.options.as_slice();
+        let mut len = 0;
+        for option in options {
+            len += option.buffer_len();
+        }
+        len
+    }
+
+    /// The header of the multicast listener reports of version 2: one router alert (RFC 3810 section 5).
+    pub fn mldv2_router_alert() -> Repr<'a> {
+        let mut options = ArrayVec::new();
+        options.push(ipv6option::Repr::RouterAlert(
+            RouterAlert::MulticastListenerDiscovery,
+        ));
+        Repr { options }
+    }
+
+    /// Adds padding, a PadN of `n` bytes of data, last. Requires that the list has room.
+    pub fn push_padn_option(&mut self, n: u8) {
+        self.options.push(ipv6option::Repr::PadN(n));
+    }
+
+    /// Writes the options over the front of the octets; the others stay. Requires the bytes that they take, and that
+    /// each holds as much data as it counts.
+    pub fn emit<T: OctetsMut>(&self, header: &mut Header<T>) {
+        self.emit_into(header.options_mut());
+    }
+
+    /// The same into octets that stand by themselves.
+    pub fn emit_into(&self, octets: &mut [u8]) {
+        let mut w = ByteWriter::new(octets);
+        put_options(&mut w, self.options.as_slice());
+    }
+}
+
+// Writes options one after another.
+fn put_options(w: &mut ByteWriter<'_>, options: &[ipv6option::Repr<'_>]) {
+    for option in options {
+        put_option(w, option);
+    }
+}
+
+// Writes an option.
+fn put_option(w: &mut ByteWriter<'_>, option: &ipv6option::Repr<'_>) {
+    option.emit_into(w.part(option.buffer_len()));
+}
+
+#[cfg(test)]
+mod tests;

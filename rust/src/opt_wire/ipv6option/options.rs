@@ -1,0 +1,45 @@
+// Made from crates/opt_wire/src/ipv6option/options.rt by rust/erase.
+//! The options of a header in turn (RFC 8200 section 4.2).
+
+use super::{Ipv6Option, Repr};
+use crate::wirebase::Result;
+
+/// The options of a header in turn: each one while they read, one refusal where no option
+/// stands, and then the end for good.
+#[derive(Debug)]
+pub struct Ipv6OptionsIterator<'a> {
+    // The octets after the options that were given.
+    data: &'a [u8],
+    hit_error: bool,
+}
+
+impl<'a> Ipv6OptionsIterator<'a> {
+    /// The options in these octets. The answers to come are those of the one tiling of the octets; where there is
+    /// no refusal among them, the options take up all the octets.
+    pub fn new(octets: &'a [u8]) -> Ipv6OptionsIterator<'a> {
+        Ipv6OptionsIterator {
+            data: octets,
+            hit_error: false,
+        }
+    }
+}
+
+impl<'a> Iterator for Ipv6OptionsIterator<'a> {
+    type Item = Result<Repr<'a>>;
+
+    fn next(&mut self) -> Option<Result<Repr<'a>>> {
+        if self.hit_error || self.data.is_empty() {
+            return None;
+        }
+        match Repr::parse(&Ipv6Option::new_unchecked(self.data)) {
+            Ok(repr) => {
+                self.data = &self.data[repr.buffer_len()..];
+                Some(Ok(repr))
+            }
+            Err(error) => {
+                self.hit_error = true;
+                Some(Err(error))
+            }
+        }
+    }
+}

@@ -1,0 +1,254 @@
+// Made from crates/opt_wire/src/ndiscoption.rt by rust/erase.
+//! Options of neighbor discovery (RFC 4861 section 4.6).
+
+use crate::wirebase::{
+    Duration, Error, Ipv6Address, MAX_HARDWARE_ADDRESS_LEN, Octets, OctetsMut, RawHardwareAddress,
+    Result,
+};
+use core::fmt;
+
+mod repr;
+mod tables;
+
+pub use repr::{PrefixInformation, RedirectedHeader, Repr};
+pub use tables::{PrefixInfoFlags, Type};
+
+// The fields of an option (RFC 4861 section 4.6), of units of 8 bytes; their picture is in specs/NdiscOption.antt.
+mod field {
+    use crate::wirebase::Field;
+
+    pub const TYPE: Field = 0..1;
+
+    pub const LENGTH: Field = 1..2;
+
+    pub const PREFIX_LEN: Field = 2..3;
+
+    pub const PREFIX_FLAGS: Field = 3..4;
+
+    pub const VALID_LIFETIME: Field = 4..8;
+
+    pub const PREFERRED_LIFETIME: Field = 8..12;
+
+    pub const PREFIX_RESERVED: Field = 12..16;
+
+    pub const PREFIX: Field = 16..32;
+
+    pub const REDIRECTED_RESERVED: Field = 2..8;
+
+    pub const MTU: Field = 4..8;
+
+    // The bytes of a unit.
+    pub const UNIT: usize = 8;
+
+    // The data of an option of so many units.
+    pub fn data(units: u8) -> Field {
+        2..UNIT * units as usize
+    }
+
+    // The redirected packet in an option of so many units.
+    pub fn redirected(units: u8) -> Field {
+        REDIRECTED_RESERVED.end..UNIT * units as usize
+    }
+
+    // A link-layer address of so many bytes.
+    pub fn link_layer_addr(len: usize) -> Field {
+        2..2 + len
+    }
+}
+
+/// A view of the octets of one option.
+#[derive(Debug)]
+pub struct NdiscOption<T: Octets> {
+    buffer: T,
+}
+
+impl<T: Octets> NdiscOption<T> {
+    /// The view of these octets, whatever they are.
+    pub fn new_unchecked(buffer: T) -> NdiscOption<T> {
+        NdiscOption { buffer }
+    }
+
+    /// The view of these octets, where they begin with a whole option of one unit or more; refused where they don't.
+    /// A refusal gives a `&mut [u8]` up: who wants the octets back, as they were, takes `new_unchecked` and then
+    /// `check_len`.
+    pub fn new_checked(buffer: T) -> Result<NdiscOption<T>> {
+        let option = NdiscOption::new_unchecked(buffer);
+        option.check_len()?;
+        if option.data_len() == 0 {
+            return Err(Error);
+        }
+        Ok(option)
+    }
+
+    /// Accepts 8 octets or more that hold all the units that the option counts, which are 4 or more of a prefix and
+    /// 6 or more of a redirected header. Then each accessor of its type may be called, but for the data and the
+    /// link-layer address of an option that counts no units.
+    pub fn check_len(&self) -> Result<()> {
+        let len = self.buffer.octets().len();
+        if len < field::UNIT {
+            return Err(Error);
+        }
+        let units = self.data_len();
+        let least = match self.option_type() {
+            Type::PrefixInformation => 4,
+            Type::RedirectedHeader => 6,
+            _ => 0,
+        };
+        if len < field::UNIT * units as usize || units < least {
+            return Err(Error);
+        }
+        Ok(())
+    }
+
+    /// What the view was made from, as it is now.
+    pub fn into_inner(self) -> T {
+        self.buffer
+    }
+
+    /// The type. Requires at least 1 byte.
+    pub fn option_type(&self) -> Type {
+        Type::from(self.buffer.u8_at(field::TYPE))
+    }
+
+    /// The units of 8 bytes that the option counts. Requires at least 2 bytes.
+    pub fn data_len(&self) -> u8 {
+        self.buffer.u8_at(field::LENGTH)
+    }
+
+    /// The link-layer address of a source or target: what the option has room for, but no more than 8 bytes. Requires
+    /// those bytes, and that the option counts one unit or more.
+    pub fn link_layer_addr(&self) -> RawHardwareAddress {
+        let room = field::UNIT * self.data_len() as usize - field::LENGTH.end;
+        let len = MAX_HARDWARE_ADDRESS_LEN.min(room);
+        RawHardwareAddress::from_bytes(self.buffer.field(field::link_layer_addr(len)))
+    }
+
+    /// The greatest packet of the link, in bytes. Requires at least 8 bytes.
+    pub fn mtu(&self) -> u32 {
+        self.buffer.u32_at(field::MTU)
+    }
+
+    /// The bits of a prefix that count. Requires at least 3 bytes.
+    pub fn prefix_len(&self) -> u8 {
+        self.buffer.u8_at(field::PREFIX_LEN)
+    }
+
+    /// The flags of a prefix that have a name. Requires at least 4 bytes.
+    pub fn prefix_flags(&self) -> PrefixInfoFlags {
+        PrefixInfoFlags::from_bits_truncate(self.buffer.u8_at(field::PREFIX_FLAGS))
+    }
+
+    /// How long a prefix is on the link, in whole seconds. Requires at least 8 bytes.
+    pub fn valid_lifetime(&self) -> Duration {
+        Duration::from_secs(self.buffer.u32_at(field::VALID_LIFETIME) as u64)
+    }
+
+    /// How long addresses made of a prefix are preferred, in whole seconds. Requires at least 12 bytes.
+    pub fn preferred_lifetime(&self) -> Duration {
+        Duration::from_secs(self.buffer.u32_at(field::PREFERRED_LIFETIME) as u64)
+    }
+
+    /// The prefix. Requires at least 32 bytes.
+    pub fn prefix(&self) -> Ipv6Address {
+        Ipv6Address::from_octets(self.buffer.field(field::PREFIX).try_into().unwrap())
+    }
+}
+
+impl<'a, B: AsRef<[u8]> + ?Sized> NdiscOption<&'a B> {
+    /// The data, for as long as the octets live. Requires the units that the option counts, one or more.
+    pub fn data(&self) -> &'a [u8] {
+        let octets: &'a [u8] = self.buffer.as_ref();
+        &octets[field::data(self.data_len())]
+    }
+}
+
+impl<T: OctetsMut> NdiscOption<T> {
+    /// Writes the type. Requires at least 1 byte.
+    pub fn set_option_type(&mut self, value: Type) {
+        self.buffer.set_u8(field::TYPE, value.into());
+    }
+
+    /// Writes the units of 8 bytes that the option counts. Requires at least 2 bytes.
+    pub fn set_data_len(&mut self, value: u8) {
+        self.buffer.set_u8(field::LENGTH, value);
+    }
+
+    /// Writes the link-layer address of a source or target. Requires at least 2 bytes and those of the address.
+    pub fn set_link_layer_addr(&mut self, addr: RawHardwareAddress) {
+        self.buffer
+            .set_bytes(field::link_layer_addr(addr.len()), addr.as_bytes());
+    }
+
+    /// Writes the greatest packet of the link, in bytes. Requires at least 8 bytes.
+    pub fn set_mtu(&mut self, value: u32) {
+        self.buffer.set_u32(field::MTU, value);
+    }
+
+    /// Writes the bits of a prefix that count. Requires at least 3 bytes.
+    pub fn set_prefix_len(&mut self, value: u8) {
+        self.buffer.set_u8(field::PREFIX_LEN, value);
+    }
+
+    /// Writes the flags of a prefix, all their bits. Requires at least 4 bytes.
+    pub fn set_prefix_flags(&mut self, flags: PrefixInfoFlags) {
+        self.buffer.set_u8(field::PREFIX_FLAGS, flags.bits());
+    }
+
+    /// Writes how long a prefix is on the link, in whole seconds; what is past them is left out. Requires at least 8
+    /// bytes, and 4,294,967,295 seconds at most.
+    pub fn set_valid_lifetime(&mut self, time: Duration) {
+        self.buffer
+            .set_u32(field::VALID_LIFETIME, time.secs() as u32);
+    }
+
+    /// Writes how long addresses made of a prefix are preferred, in whole seconds; what is past them is left out.
+    /// Requires at least 12 bytes, and 4,294,967,295 seconds at most.
+    pub fn set_preferred_lifetime(&mut self, time: Duration) {
+        self.buffer
+            .set_u32(field::PREFERRED_LIFETIME, time.secs() as u32);
+    }
+
+    /// Writes zeros into what is reserved in a prefix. Requires at least 16 bytes.
+    pub fn clear_prefix_reserved(&mut self) {
+        self.buffer.set_u32(field::PREFIX_RESERVED, 0);
+    }
+
+    /// Writes the prefix. Requires at least 32 bytes.
+    pub fn set_prefix(&mut self, addr: Ipv6Address) {
+        self.buffer.set_bytes(field::PREFIX, &addr.octets());
+    }
+
+    /// Writes zeros into what is reserved before a redirected header. Requires at least 8 bytes.
+    pub fn clear_redirected_reserved(&mut self) {
+        self.buffer.set_bytes(field::REDIRECTED_RESERVED, &[0; 6]);
+    }
+
+    /// Lends the data for writing; the other octets stay. Requires the units that the option counts, one or more.
+    pub fn data_mut(&mut self) -> &mut [u8] {
+        let data = field::data(self.data_len());
+        self.buffer.field_mut(data)
+    }
+}
+
+/// Views are equal where their octets are.
+impl<T: Octets> PartialEq for NdiscOption<T> {
+    fn eq(&self, other: &NdiscOption<T>) -> bool {
+        self.buffer.octets() == other.buffer.octets()
+    }
+}
+
+impl<T: Octets> Eq for NdiscOption<T> {}
+
+/// The option at the front of the octets; of octets that are refused `NDISC Option (wire::Error)`.
+impl<T: Octets> fmt::Display for NdiscOption<T> {
+    fn fmt(&self, f: &mut fmt::Formatter<'_>) -> fmt::Result {
+        let option = NdiscOption::new_unchecked(self.buffer.octets());
+        match Repr::parse(&option) {
+            Ok(repr) => write!(f, "{repr}"),
+            Err(error) => write!(f, "NDISC Option ({error})"),
+        }
+    }
+}
+
+#[cfg(test)]
+mod tests;

@@ -1,0 +1,266 @@
+// Made from crates/opt_wire/src/ndiscoption/repr.rt by rust/erase.
+//! The values of options of neighbor discovery (RFC 4861 section 4.6).
+
+use super::{NdiscOption, PrefixInfoFlags, Type, field};
+use crate::wirebase::{
+    ByteWriter, Duration, Error, Ipv6Address, Ipv6Packet, Ipv6Repr, OctetsMut, RawHardwareAddress,
+    Result,
+};
+use core::fmt;
+
+/// A prefix of addresses (RFC 4861 section 4.6.2). Its times are sent in whole seconds.
+#[derive(Debug, PartialEq, Eq, Clone, Copy)]
+pub struct PrefixInformation {
+    /// The bits of the prefix that count.
+    pub prefix_len: u8,
+    /// What the prefix is for.
+    pub flags: PrefixInfoFlags,
+    /// How long the prefix is on the link.
+    pub valid_lifetime: Duration,
+    /// How long addresses made of it are preferred.
+    pub preferred_lifetime: Duration,
+    /// The prefix, as the address that begins with it.
+    pub prefix: Ipv6Address,
+}
+
+impl PrefixInformation {
+    /// Whether hosts may make themselves addresses of the prefix (RFC 4862 section 5.5.3, a to c): it has the flag for
+    /// it, is not that of link-local addresses, and is not preferred for longer than it is valid.
+    pub fn is_valid_prefix_info(&self) -> bool {
+        self.flags.contains(PrefixInfoFlags::ADDRCONF)
+            && !self.prefix.is_link_local()
+            && self.preferred_lifetime <= self.valid_lifetime
+    }
+}
+
+/// The packet that a redirect speaks of (RFC 4861 section 4.6.3).
+#[derive(Debug, PartialEq, Eq, Clone, Copy)]
+pub struct RedirectedHeader<'a> {
+    /// The header of that packet.
+    pub header: Ipv6Repr,
+    /// The payload, all the bytes that the header counts.
+    pub data: &'a [u8],
+}
+
+/// An option (RFC 4861 section 4.6).
+#[derive(Debug, PartialEq, Eq, Clone, Copy)]
+pub enum Repr<'a> {
+    /// The link-layer address of the sender.
+    SourceLinkLayerAddr(RawHardwareAddress),
+    /// The link-layer address of the target.
+    TargetLinkLayerAddr(RawHardwareAddress),
+    /// A prefix of the link.
+    PrefixInformation(PrefixInformation),
+    /// The packet that a redirect speaks of.
+    RedirectedHeader(RedirectedHeader<'a>),
+    /// The greatest packet of the link, in bytes.
+    Mtu(u32),
+    /// An option of any other type.
+    Unknown {
+        /// The type, a number without a name.
+        type_: u8,
+        /// The units of 8 bytes that the option counts.
+        length: u8,
+        /// The data behind type and length: 8 * `length` - 2 bytes.
+        data: &'a [u8],
+    },
+}
+
+impl<'a> Repr<'a> {
+    /// The option at the front of the octets. Refused where they don't begin with a whole option of one unit or more,
+    /// where a prefix counts other than 4 units or an MTU other than 1, and where a redirected header is none of a
+    /// whole packet of version 6. Flags without a name are left out; reserved bytes and padding are not looked at.
+    pub fn parse<B: AsRef<[u8]> + ?Sized>(opt: &NdiscOption<&'a B>) -> Result<Repr<'a>> {
+        Repr::read(opt)
+    }
+
+    // The option at the front of the octets.
+    fn read<B: AsRef<[u8]> + ?Sized>(opt: &NdiscOption<&'a B>) -> Result<Repr<'a>> {
+        opt.check_len()?;
+        let length = opt.data_len();
+        if length == 0 {
+            return Err(Error);
+        }
+        match (opt.option_type(), length) {
+            (Type::SourceLinkLayerAddr, _) => Ok(Repr::SourceLinkLayerAddr(opt.link_layer_addr())),
+            (Type::TargetLinkLayerAddr, _) => Ok(Repr::TargetLinkLayerAddr(opt.link_layer_addr())),
+            (Type::PrefixInformation, 4) => Ok(Repr::PrefixInformation(PrefixInformation {
+                prefix_len: opt.prefix_len(),
+                flags: opt.prefix_flags(),
+                valid_lifetime: opt.valid_lifetime(),
+                preferred_lifetime: opt.preferred_lifetime(),
+                prefix: opt.prefix(),
+            })),
+            (Type::RedirectedHeader, _) => {
+                let (header, data) = read_redirected(opt.redirected())?;
+                Ok(Repr::RedirectedHeader(RedirectedHeader { header, data }))
+            }
+            (Type::Mtu, 1) => Ok(Repr::Mtu(opt.mtu())),
+            (Type::Unknown(type_), length) => Ok(Repr::Unknown {
+                type_,
+                length,
+                data: opt.data(),
+            }),
+            _ => Err(Error),
+        }
+    }
+
+    /// The bytes that the option takes, by the units that it counts: whole units. Requires that a `usize` holds their
+    /// number.
+    pub fn buffer_len(&self) -> usize {
+        match self {
+            Repr::SourceLinkLayerAddr(addr) => field::UNIT * units_of(2 + addr.len()),
+            Repr::TargetLinkLayerAddr(addr) => field::UNIT * units_of(2 + addr.len()),
+            Repr::PrefixInformation(_) => field::PREFIX.end,
+            Repr::RedirectedHeader(redirected) => {
+                field::UNIT * units_of(48 + redirected.data.len())
+            }
+            Repr::Mtu(_) => field::MTU.end,
+            Repr::Unknown { length, .. } => field::UNIT * *length as usize,
+        }
+    }
+
+    /// Writes the option over the front of the octets, its reserved bytes and its padding zero; the others stay.
+    /// Requires the bytes that the option takes; times of 4,294,967,295 seconds at most; that a redirected header
+    /// counts its data as the payload, 1,992 bytes at most; and that the data of an unknown option, which counts one
+    /// unit or more, fills those units.
+    pub fn emit<T: OctetsMut>(&self, opt: &mut NdiscOption<T>) {
+        self.emit_into(opt.buffer.octets_mut());
+    }
+
+    /// The same into octets that stand by themselves.
+    pub fn emit_into(&self, octets: &mut [u8]) {
+        let mut w = ByteWriter::new(octets);
+        self.put(&mut w);
+    }
+
+    // Writes each field of the option.
+    fn put(&self, w: &mut ByteWriter<'_>) {
+        match *self {
+            Repr::SourceLinkLayerAddr(addr) => put_link(w, Type::SourceLinkLayerAddr, addr),
+            Repr::TargetLinkLayerAddr(addr) => put_link(w, Type::TargetLinkLayerAddr, addr),
+            Repr::PrefixInformation(info) => put_prefix(w, &info),
+            Repr::RedirectedHeader(RedirectedHeader { header, data }) => {
+                put_redirected(w, &header, data);
+            }
+            Repr::Mtu(mtu) => {
+                w.put_u8(Type::Mtu.into());
+                w.put_u8(1);
+                w.put_u16(0);
+                w.put_u32(mtu);
+            }
+            Repr::Unknown {
+                type_,
+                length,
+                data,
+            } => {
+                w.put_u8(type_);
+                w.put_u8(length);
+                w.put_bytes(data);
+            }
+        }
+    }
+}
+
+impl<'a, B: AsRef<[u8]> + ?Sized> NdiscOption<&'a B> {
+    // The redirected packet.
+    fn redirected(&self) -> &'a [u8] {
+        let octets: &'a [u8] = self.buffer.as_ref();
+        &octets[field::redirected(self.data_len())]
+    }
+}
+
+// The header of a packet, and its payload.
+fn read_redirected(octets: &[u8]) -> Result<(Ipv6Repr, &[u8])> {
+    let packet = Ipv6Packet::new_checked(octets)?;
+    let header = Ipv6Repr::parse(&packet)?;
+    Ok((header, packet.payload()))
+}
+
+// The units that so many bytes take.
+fn units_of(count: usize) -> usize {
+    count.div_ceil(field::UNIT)
+}
+
+// Writes a link-layer address as an option of this type.
+fn put_link(w: &mut ByteWriter<'_>, kind: Type, addr: RawHardwareAddress) {
+    let len = 2 + addr.len();
+    let units = units_of(len);
+    w.put_u8(kind.into());
+    w.put_u8(units as u8);
+    w.put_bytes(addr.as_bytes());
+    w.put_zeros(field::UNIT * units - len);
+}
+
+// Writes a prefix.
+fn put_prefix(w: &mut ByteWriter<'_>, info: &PrefixInformation) {
+    w.put_u8(Type::PrefixInformation.into());
+    w.put_u8(4);
+    w.put_u8(info.prefix_len);
+    w.put_u8(info.flags.bits());
+    w.put_u32(info.valid_lifetime.secs() as u32);
+    w.put_u32(info.preferred_lifetime.secs() as u32);
+    w.put_u32(0);
+    w.put_bytes(&info.prefix.octets());
+}
+
+// Writes a redirected packet.
+fn put_redirected(w: &mut ByteWriter<'_>, header: &Ipv6Repr, data: &[u8]) {
+    let len = 48 + data.len();
+    let units = units_of(len);
+    w.put_u8(Type::RedirectedHeader.into());
+    w.put_u8(units as u8);
+    w.put_u16(0);
+    w.put_u32(0);
+    put_packet(w, header, data);
+    w.put_zeros(field::UNIT * units - len);
+}
+
+// Writes a header and its payload.
+fn put_packet(w: &mut ByteWriter<'_>, header: &Ipv6Repr, data: &[u8]) {
+    write_header(header, w.part(header.buffer_len()));
+    w.put_bytes(data);
+}
+
+// Writes a header into octets of just its length.
+fn write_header(header: &Ipv6Repr, octets: &mut [u8]) {
+    header.emit_into(octets);
+}
+
+/// What the option has, as `NDISC Option: MTU mtu=1500`.
+impl fmt::Display for Repr<'_> {
+    fn fmt(&self, f: &mut fmt::Formatter<'_>) -> fmt::Result {
+        match self {
+            Repr::SourceLinkLayerAddr(addr) => {
+                write!(f, "NDISC Option: SourceLinkLayer addr={addr}")
+            }
+            Repr::TargetLinkLayerAddr(addr) => {
+                write!(f, "NDISC Option: TargetLinkLayer addr={addr}")
+            }
+            Repr::PrefixInformation(info) => fmt_prefix(f, info),
+            Repr::RedirectedHeader(redirected) => {
+                write!(
+                    f,
+                    "NDISC Option: RedirectedHeader header={}",
+                    redirected.header
+                )
+            }
+            Repr::Mtu(mtu) => write!(f, "NDISC Option: MTU mtu={mtu}"),
+            Repr::Unknown { type_, length, .. } => fmt_unknown(f, *type_, *length),
+        }
+    }
+}
+
+// What a prefix prints.
+fn fmt_prefix(f: &mut fmt::Formatter<'_>, info: &PrefixInformation) -> fmt::Result {
+    write!(
+        f,
+        "NDISC Option: PrefixInformation prefix={}/{}",
+        info.prefix, info.prefix_len
+    )
+}
+
+// What an option of any other type prints, whatever its data.
+fn fmt_unknown(f: &mut fmt::Formatter<'_>, type_: u8, length: u8) -> fmt::Result {
+    write!(f, "NDISC Option: Unknown({type_}) length={length}")
+}

@@ -1,0 +1,34 @@
+// Made from crates/wirebase/src/lib.rt by rust/erase.
+//! What every format of the wire stands on: the one refusal, the octets that a view is made from, checksums, spans
+//! of time, and the IP protocols and addresses.
+
+pub mod byte_writer;
+pub mod capabilities;
+pub mod checksum;
+pub mod config;
+pub mod duration;
+pub mod error;
+pub mod ethernet;
+pub mod failing_writer;
+pub mod hardware;
+pub mod ip;
+pub mod ipv4;
+pub mod ipv6;
+pub mod octets;
+#[cfg(test)]
+mod testing;
+
+pub use byte_writer::ByteWriter;
+pub use capabilities::ChecksumCapabilities;
+pub use config::IPV6_HBH_MAX_OPTIONS;
+pub use duration::Duration;
+pub use error::{Error, Result};
+pub use ethernet::{EthernetAddress, MAX_HARDWARE_ADDRESS_LEN, RawHardwareAddress};
+pub use hardware::Hardware;
+pub use ip::IpProtocol;
+pub use ipv4::{Ipv4Address, Ipv4Packet, Ipv4Repr};
+pub use ipv6::{
+    IPV6_HEADER_LEN, IPV6_LINK_LOCAL_ALL_NODES, IPV6_LINK_LOCAL_ALL_ROUTERS, IPV6_MIN_MTU,
+    Ipv6Address, Ipv6Packet, Ipv6Repr,
+};
+pub use octets::{Field, Octets, OctetsMut};

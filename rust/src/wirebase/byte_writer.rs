@@ -1,0 +1,76 @@
+// Made from crates/wirebase/src/byte_writer.rt by rust/erase.
+//! A writer of bytes.
+
+use crate::wirebase::octets::OctetsMut;
+use byteorder::{BigEndian, ByteOrder};
+
+/// Writes from the front of what it is made from on.
+pub struct Cursor<T> {
+    buffer: T,
+    position: usize,
+}
+
+/// Writes bytes into a lent slice, one after another from its front on.
+pub type ByteWriter<'a> = Cursor<&'a mut [u8]>;
+
+impl<'a> Cursor<&'a mut [u8]> {
+    /// A writer over this slice, all of whose bytes are free.
+    pub fn new(buffer: &'a mut [u8]) -> ByteWriter<'a> {
+        Cursor {
+            buffer,
+            position: 0,
+        }
+    }
+}
+
+impl Cursor<&mut [u8]> {
+    /// The number of bytes that are free.
+    pub fn free(&self) -> usize {
+        self.buffer.len().saturating_sub(self.position)
+    }
+
+    /// Writes the bytes. Requires that as many are free.
+    pub fn put_bytes(&mut self, bytes: &[u8]) {
+        self.part(bytes.len()).copy_from_slice(bytes);
+    }
+
+    /// Writes a byte. Requires that one is free.
+    pub fn put_u8(&mut self, value: u8) {
+        self.put_bytes(&[value]);
+    }
+
+    /// Writes two bytes, the higher first. Requires that two are free.
+    pub fn put_u16(&mut self, value: u16) {
+        let mut bytes = [0; 2];
+        BigEndian::write_u16(&mut bytes, value);
+        self.put_bytes(&bytes);
+    }
+
+    /// Writes four bytes, the highest first. Requires that four are free.
+    pub fn put_u32(&mut self, value: u32) {
+        let mut bytes = [0; 4];
+        BigEndian::write_u32(&mut bytes, value);
+        self.put_bytes(&bytes);
+    }
+
+    /// Writes so many zeros. Requires that as many bytes are free.
+    pub fn put_zeros(&mut self, count: usize) {
+        self.part(count).fill(0);
+    }
+
+    /// Writes the first of the bytes, as many as are free.
+    pub fn put_front(&mut self, bytes: &[u8]) {
+        let count = bytes.len().min(self.free());
+        self.put_bytes(&bytes[..count]);
+    }
+}
+
+impl<T: OctetsMut> Cursor<T> {
+    /// Lends the next bytes, which count as written. Requires that as many are free.
+    pub fn part(&mut self, count: usize) -> &mut [u8] {
+        let len = self.buffer.octets().len();
+        let start = self.position.min(len);
+        self.position += count;
+        self.buffer.range_mut(start, start + count)
+    }
+}

@@ -1,0 +1,78 @@
+// Made from crates/wirebase/src/capabilities.rt by rust/erase.
+//! Which checksums are verified and computed here, and which are left to the device.
+
+/// Who takes care of a protocol's checksum: in both directions this library, or in one, or in none.
+#[derive(Debug, Default, Clone, Copy, PartialEq, Eq)]
+pub enum Checksum {
+    /// Verified when a packet is read, and computed when one is written.
+    #[default]
+    Both,
+    /// Verified when a packet is read.
+    Rx,
+    /// Computed when a packet is written.
+    Tx,
+    /// Neither verified nor computed.
+    None,
+}
+
+impl Checksum {
+    /// Whether the checksum of a packet that is read is verified.
+    pub fn rx(&self) -> bool {
+        match *self {
+            Checksum::Both | Checksum::Rx => true,
+            Checksum::Tx | Checksum::None => false,
+        }
+    }
+
+    /// Whether the checksum of a packet that is written is computed.
+    pub fn tx(&self) -> bool {
+        match *self {
+            Checksum::Both | Checksum::Tx => true,
+            Checksum::Rx | Checksum::None => false,
+        }
+    }
+}
+
+/// What is done about the checksum of each protocol.
+#[derive(Debug, Clone, Copy, PartialEq, Eq)]
+pub struct ChecksumCapabilities {
+    /// The header's checksum of IPv4.
+    pub ipv4: Checksum,
+    /// That of UDP, which no call here reads or writes.
+    pub udp: Checksum,
+    /// That of TCP, which no call here reads or writes.
+    pub tcp: Checksum,
+    /// That of ICMPv4.
+    pub icmpv4: Checksum,
+    /// That of ICMPv6, with the pseudo header of IPv6.
+    pub icmpv6: Checksum,
+}
+
+impl ChecksumCapabilities {
+    /// No checksum is verified and none is computed.
+    pub fn ignored() -> ChecksumCapabilities {
+        ChecksumCapabilities {
+            ipv4: Checksum::None,
+            udp: Checksum::None,
+            tcp: Checksum::None,
+            icmpv4: Checksum::None,
+            icmpv6: Checksum::None,
+        }
+    }
+}
+
+/// Every checksum is verified, and every one is computed.
+impl Default for ChecksumCapabilities {
+    fn default() -> ChecksumCapabilities {
+        ChecksumCapabilities {
+            ipv4: Checksum::Both,
+            udp: Checksum::Both,
+            tcp: Checksum::Both,
+            icmpv4: Checksum::Both,
+            icmpv6: Checksum::Both,
+        }
+    }
+}
+
+#[cfg(test)]
+mod tests;

@@ -1,0 +1,19 @@
+// Made from crates/wirebase/src/hardware/tests.rt by rust/erase.
+use super::Hardware;
+use crate::wirebase::testing::{same, same_of};
+
+#[test]
+fn hardware_by_its_number() {
+    const ROWS: &[(u16, Hardware)] = &[
+        (0, Hardware::Unknown(0)),
+        (1, Hardware::Ethernet),
+        (2, Hardware::Unknown(2)),
+        (0xffff, Hardware::Unknown(0xffff)),
+    ];
+    for &(number, hardware) in ROWS {
+        same_of(number, Hardware::from(number), hardware);
+        same_of(hardware, u16::from(hardware), number);
+    }
+    same(Hardware::Ethernet < Hardware::Unknown(0), true);
+    same(Hardware::Unknown(0) < Hardware::Unknown(2), true);
+}

@@ -1,0 +1,34 @@
+// Made from crates/wirebase/src/ip/tests.rt by rust/erase.
+use super::IpProtocol;
+use crate::wirebase::testing::same;
+
+#[test]
+fn protocols_and_their_numbers() {
+    const ROWS: &[(IpProtocol, u8)] = &[
+        (IpProtocol::HopByHop, 0),
+        (IpProtocol::Icmp, 1),
+        (IpProtocol::Igmp, 2),
+        (IpProtocol::Tcp, 6),
+        (IpProtocol::Udp, 17),
+        (IpProtocol::Ipv6Route, 43),
+        (IpProtocol::Ipv6Frag, 44),
+        (IpProtocol::IpSecEsp, 50),
+        (IpProtocol::IpSecAh, 51),
+        (IpProtocol::Icmpv6, 58),
+        (IpProtocol::Ipv6NoNxt, 59),
+        (IpProtocol::Ipv6Opts, 60),
+        (IpProtocol::Unknown(3), 3),
+        (IpProtocol::Unknown(255), 255),
+    ];
+    for &(protocol, number) in ROWS {
+        same(u8::from(protocol), number);
+        same(IpProtocol::from(number), protocol);
+    }
+}
+
+#[test]
+fn order_of_protocols() {
+    same(IpProtocol::HopByHop < IpProtocol::Icmp, true);
+    same(IpProtocol::Ipv6Opts < IpProtocol::Unknown(3), true);
+    same(IpProtocol::Unknown(3) < IpProtocol::Unknown(4), true);
+}

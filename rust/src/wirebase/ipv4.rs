@@ -1,0 +1,239 @@
+// Made from crates/wirebase/src/ipv4.rt by rust/erase.
+//! IPv4: addresses and the header (RFC 791).
+
+use crate::wirebase::byte_writer::ByteWriter;
+use crate::wirebase::capabilities::ChecksumCapabilities;
+use crate::wirebase::checksum;
+use crate::wirebase::error::{Error, Result};
+use crate::wirebase::ip::IpProtocol;
+use crate::wirebase::octets::{Octets, OctetsMut};
+use core::fmt;
+
+/// An IPv4 address, four octets: `a.b.c.d` (RFC 791 section 3.2).
+///
+/// The octets are fields of their own, and so every contract knows that there are four.
+#[derive(Debug, PartialEq, Eq, Clone, Copy)]
+pub struct Ipv4Address {
+    a: u8,
+    b: u8,
+    c: u8,
+    d: u8,
+}
+
+impl Ipv4Address {
+    /// No address, 0.0.0.0.
+    pub const UNSPECIFIED: Ipv4Address = Ipv4Address {
+        a: 0,
+        b: 0,
+        c: 0,
+        d: 0,
+    };
+
+    /// The address `a.b.c.d`.
+    pub const fn new(a: u8, b: u8, c: u8, d: u8) -> Ipv4Address {
+        Ipv4Address::from_octets([a, b, c, d])
+    }
+
+    /// The address of these octets, the highest first. Addresses are equal exactly when their octets are.
+    pub const fn from_octets(octets: [u8; 4]) -> Ipv4Address {
+        let [a, b, c, d] = octets;
+        Ipv4Address { a, b, c, d }
+    }
+
+    /// The octets, the highest first.
+    pub const fn octets(&self) -> [u8; 4] {
+        [self.a, self.b, self.c, self.d]
+    }
+
+    /// Whether this is 0.0.0.0.
+    pub fn is_unspecified(&self) -> bool {
+        *self == Self::UNSPECIFIED
+    }
+
+    /// Whether packets to this address go to many receivers: 224.0.0.0 to 239.255.255.255 (RFC 1112 section 4).
+    pub const fn is_multicast(&self) -> bool {
+        matches!(self.a, 224..=239)
+    }
+}
+
+/// The unspecified address.
+impl Default for Ipv4Address {
+    fn default() -> Ipv4Address {
+        Ipv4Address::UNSPECIFIED
+    }
+}
+
+/// The octets in decimal with dots between them, as `10.0.0.1`.
+impl fmt::Display for Ipv4Address {
+    fn fmt(&self, f: &mut fmt::Formatter<'_>) -> fmt::Result {
+        let [a, b, c, d] = self.octets();
+        write!(f, "{a}.{b}.{c}.{d}")
+    }
+}
+
+// The fields of the header; its picture is in specs/Ipv4.antt.
+mod field {
+    use crate::wirebase::octets::Field;
+
+    pub const IHL: Field = 0..1;
+
+    pub const TOTAL_LEN: Field = 2..4;
+
+    pub const TIME_TO_LIVE: Field = 8..9;
+
+    pub const PROTOCOL: Field = 9..10;
+
+    pub const CHECKSUM: Field = 10..12;
+
+    pub const SRC_ADDR: Field = 12..16;
+
+    pub const DST_ADDR: Field = 16..20;
+}
+
+// The bytes of a header without options.
+const HEADER_LEN: usize = field::DST_ADDR.end;
+
+/// A view of the octets of an IPv4 packet, header and payload (RFC 791 section 3.1).
+#[derive(Debug, Clone)]
+pub struct Ipv4Packet<T: Octets> {
+    buffer: T,
+}
+
+impl<T: Octets> Ipv4Packet<T> {
+    /// The view of these octets, whatever they are.
+    pub fn new_unchecked(buffer: T) -> Ipv4Packet<T> {
+        Ipv4Packet { buffer }
+    }
+
+    /// The view of these octets, where they begin with a whole packet; refused where they don't. A refusal gives a
+    /// `&mut [u8]` up: who wants the octets back, as they were, takes `new_unchecked` and then `check_len`.
+    pub fn new_checked(buffer: T) -> Result<Ipv4Packet<T>> {
+        let packet = Ipv4Packet::new_unchecked(buffer);
+        packet.check_len()?;
+        Ok(packet)
+    }
+
+    /// Accepts octets of 20 bytes and more that hold the header and the whole packet by the lengths in them, with a
+    /// header that is not longer than the packet. Then each accessor may be called. The version is not looked at,
+    /// and a header may be counted shorter than its 20 bytes.
+    pub fn check_len(&self) -> Result<()> {
+        let len = self.buffer.octets().len();
+        if len < HEADER_LEN {
+            return Err(Error);
+        }
+        let header_len = self.header_len() as usize;
+        let total_len = self.total_len() as usize;
+        if len < header_len || total_len < header_len || len < total_len {
+            return Err(Error);
+        }
+        Ok(())
+    }
+
+    /// What the view was made from, as it is now.
+    pub fn into_inner(self) -> T {
+        self.buffer
+    }
+
+    /// The bytes of the header, 0 to 60: four for each word of its IHL. Requires at least 1 byte.
+    pub fn header_len(&self) -> u8 {
+        4 * (self.buffer.u8_at(field::IHL) & 0x0f)
+    }
+
+    /// The bytes of header and payload. Requires at least 4 bytes.
+    pub fn total_len(&self) -> u16 {
+        self.buffer.u16_at(field::TOTAL_LEN)
+    }
+
+    /// The protocol of the payload. Requires at least 10 bytes.
+    pub fn next_header(&self) -> IpProtocol {
+        IpProtocol::from(self.buffer.u8_at(field::PROTOCOL))
+    }
+
+    /// The hops that are left: the time to live. Requires at least 9 bytes.
+    pub fn hop_limit(&self) -> u8 {
+        self.buffer.u8_at(field::TIME_TO_LIVE)
+    }
+
+    /// The address of the sender. Requires at least 16 bytes.
+    pub fn src_addr(&self) -> Ipv4Address {
+        Ipv4Address::from_octets(self.buffer.field(field::SRC_ADDR).try_into().unwrap())
+    }
+
+    /// The address of the receiver. Requires at least 20 bytes.
+    pub fn dst_addr(&self) -> Ipv4Address {
+        Ipv4Address::from_octets(self.buffer.field(field::DST_ADDR).try_into().unwrap())
+    }
+}
+
+/// Views are equal where their octets are.
+impl<T: Octets> PartialEq for Ipv4Packet<T> {
+    fn eq(&self, other: &Ipv4Packet<T>) -> bool {
+        self.buffer.octets() == other.buffer.octets()
+    }
+}
+
+impl<T: Octets> Eq for Ipv4Packet<T> {}
+
+/// An IPv4 header without options (RFC 791 section 3.1).
+#[derive(Debug, PartialEq, Eq, Clone, Copy)]
+pub struct Ipv4Repr {
+    /// The address that the packet comes from.
+    pub src_addr: Ipv4Address,
+    /// The address that the packet goes to.
+    pub dst_addr: Ipv4Address,
+    /// The protocol of the payload.
+    pub next_header: IpProtocol,
+    /// The bytes of the payload.
+    pub payload_len: usize,
+    /// The hops that are left.
+    pub hop_limit: u8,
+}
+
+impl Ipv4Repr {
+    /// The bytes that the header takes: 20.
+    pub fn buffer_len(&self) -> usize {
+        HEADER_LEN
+    }
+
+    /// Writes the header over the front of the octets; the others stay. It is a header of version 4 and 20 bytes, not
+    /// to be fragmented, with its checksum where `checksum_caps.ipv4` has it computed, and else with zeros there.
+    /// Requires at least 20 bytes, and a payload of at most 65,515 bytes.
+    pub fn emit<T: OctetsMut>(
+        &self,
+        packet: &mut Ipv4Packet<T>,
+        checksum_caps: &ChecksumCapabilities,
+    ) {
+        self.emit_into(packet.buffer.octets_mut(), checksum_caps);
+    }
+
+    /// The same into octets that stand by themselves.
+    pub fn emit_into(&self, octets: &mut [u8], checksum_caps: &ChecksumCapabilities) {
+        self.write(&mut octets[..HEADER_LEN], checksum_caps);
+    }
+
+    // Writes a header of 20 bytes, which these are.
+    fn write(&self, header: &mut [u8], checksum_caps: &ChecksumCapabilities) {
+        self.write_fields(header);
+        if checksum_caps.ipv4.tx() {
+            checksum::fill(header, field::CHECKSUM, 0);
+        }
+    }
+
+    // Writes the fields, with a checksum of zero.
+    fn write_fields(&self, header: &mut [u8]) {
+        let mut w = ByteWriter::new(header);
+        w.put_u8(0x45);
+        w.put_u8(0);
+        w.put_u16((HEADER_LEN + self.payload_len) as u16);
+        w.put_u16(0);
+        w.put_u16(0x4000);
+        w.put_u8(self.hop_limit);
+        w.put_u8(self.next_header.into());
+        w.put_u16(0);
+        w.put_bytes(&self.src_addr.octets());
+        w.put_bytes(&self.dst_addr.octets());
+    }
+}
+
+#[cfg(test)]
+mod tests;

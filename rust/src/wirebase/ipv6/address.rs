@@ -1,0 +1,65 @@
+// Made from crates/wirebase/src/ipv6/address.rt by rust/erase.
+//! IPv6 addresses (RFC 4291).
+
+use byteorder::{BigEndian, ByteOrder};
+use core::fmt;
+
+/// An IPv6 address, sixteen octets (RFC 4291 section 2).
+#[derive(Debug, PartialEq, Eq, Clone, Copy)]
+pub struct Ipv6Address {
+    octets: [u8; 16],
+}
+
+impl Ipv6Address {
+    /// No address, `::`.
+    pub const UNSPECIFIED: Ipv6Address = Ipv6Address { octets: [0; 16] };
+
+    /// The address of these eight groups of 16 bits, the highest first.
+    pub fn new(a: u16, b: u16, c: u16, d: u16, e: u16, f: u16, g: u16, h: u16) -> Ipv6Address {
+        let mut octets = [0; 16];
+        BigEndian::write_u16_into(&[a, b, c, d, e, f, g, h], &mut octets);
+        Ipv6Address { octets }
+    }
+
+    /// The address of these octets, the highest first. Addresses are equal exactly when their octets are.
+    pub const fn from_octets(octets: [u8; 16]) -> Ipv6Address {
+        Ipv6Address { octets }
+    }
+
+    /// The octets, the highest first.
+    pub const fn octets(&self) -> [u8; 16] {
+        self.octets
+    }
+
+    /// Whether this is `::`.
+    pub fn is_unspecified(&self) -> bool {
+        *self == Self::UNSPECIFIED
+    }
+
+    /// Whether packets to this address go to many receivers: its first octet is 0xff (RFC 4291 section 2.7).
+    pub const fn is_multicast(&self) -> bool {
+        self.octets[0] == 0xff
+    }
+
+    /// Whether this address is for use on one link alone: `fe80::/64` (RFC 4291 section 2.5.6).
+    pub fn is_link_local(&self) -> bool {
+        self.octets[..8] == [0xfe, 0x80, 0, 0, 0, 0, 0, 0]
+    }
+}
+
+/// All nodes of a link, `ff02::1` (RFC 4291 section 2.7.1).
+pub const IPV6_LINK_LOCAL_ALL_NODES: Ipv6Address = Ipv6Address {
+    octets: [0xff, 0x02, 0, 0, 0, 0, 0, 0, 0, 0, 0, 0, 0, 0, 0, 1],
+};
+
+/// All routers of a link, `ff02::2` (RFC 4291 section 2.7.1).
+pub const IPV6_LINK_LOCAL_ALL_ROUTERS: Ipv6Address = Ipv6Address {
+    octets: [0xff, 0x02, 0, 0, 0, 0, 0, 0, 0, 0, 0, 0, 0, 0, 0, 2],
+};
+
+/// The groups in hexadecimal, as `fe80::1` (RFC 5952 section 4).
+impl fmt::Display for Ipv6Address {
+    fn fmt(&self, f: &mut fmt::Formatter<'_>) -> fmt::Result {
+        write!(f, "{}", crate::by_hand::HexGroups(self.octets))
+    }
+}

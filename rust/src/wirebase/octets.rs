@@ -1,0 +1,79 @@
+// Made from crates/wirebase/src/octets.rt by rust/erase.
+//! The octets under a view, and the parts of them that it reads, writes and lends.
+
+use byteorder::{BigEndian, ByteOrder};
+use core::ops::Range;
+
+/// A field of a layout: its octets, from the first up to the one after the last.
+pub type Field = Range<usize>;
+
+/// What holds octets: `&[u8]` and `&mut [u8]` alone.
+pub trait Octets {
+    /// The slice that is referred to.
+    fn octets(&self) -> &[u8];
+
+    /// The octets from one place up to another. Requires that the places are in order and that the octets reach the
+    /// second.
+    fn range(&self, from: usize, to: usize) -> &[u8] {
+        &self.octets()[from..to]
+    }
+
+    /// The octets of a field. Requires that they are there.
+    fn field(&self, field: Field) -> &[u8] {
+        self.range(field.start, field.end)
+    }
+
+    /// The octet in a field of one. Requires that it is there.
+    fn u8_at(&self, field: Field) -> u8 {
+        self.range(field.start, field.end)[0]
+    }
+
+    /// The number in a field of two octets, the higher first. Requires that they are there.
+    fn u16_at(&self, field: Field) -> u16 {
+        BigEndian::read_u16(self.range(field.start, field.end))
+    }
+
+    /// The number in a field of four octets, the highest first. Requires that they are there.
+    fn u32_at(&self, field: Field) -> u32 {
+        BigEndian::read_u32(self.range(field.start, field.end))
+    }
+}
+
+/// What holds octets that may be written: `&mut [u8]` alone.
+pub trait OctetsMut: Octets {
+    /// Lends the octets from one place up to another for writing; the others stay. Requires that the places are in
+    /// order and that the octets reach the second.
+    fn range_mut(&mut self, from: usize, to: usize) -> &mut [u8];
+
+    /// Lends the octets of a field for writing; the others stay. Requires that they are there.
+    fn field_mut(&mut self, field: Field) -> &mut [u8] {
+        self.range_mut(field.start, field.end)
+    }
+
+    /// Lends all octets for writing.
+    fn octets_mut(&mut self) -> &mut [u8] {
+        let len = self.octets().len();
+        self.range_mut(0, len)
+    }
+
+    /// Writes an octet into a field of one. Requires that it is there.
+    fn set_u8(&mut self, field: Field, value: u8) {
+        self.range_mut(field.start, field.end)[0] = value;
+    }
+
+    /// Writes a number into a field of two octets, the higher first. Requires that they are there.
+    fn set_u16(&mut self, field: Field, value: u16) {
+        BigEndian::write_u16(self.range_mut(field.start, field.end), value);
+    }
+
+    /// Writes a number into a field of four octets, the highest first. Requires that they are there.
+    fn set_u32(&mut self, field: Field, value: u32) {
+        BigEndian::write_u32(self.range_mut(field.start, field.end), value);
+    }
+
+    /// Writes octets into a field of as many. Requires that they are there.
+    fn set_bytes(&mut self, field: Field, value: &[u8]) {
+        self.range_mut(field.start, field.end)
+            .copy_from_slice(value);
+    }
+}

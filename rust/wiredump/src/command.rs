@@ -1,0 +1,124 @@
+// Made from crates/wiredump/src/command.rt by rust/erase.
+//! How a packet is read: by the word before it.
+
+use crate::dhcp::show_dhcp;
+use crate::hbh::show_hbh;
+use crate::icmp4::show_icmp4;
+use crate::icmp6::show_icmp6;
+use crate::igmp::show_igmp;
+use crate::mld::show_mld;
+use crate::name::show_name;
+use crate::ndopt::show_ndopt;
+use crate::question::show_question;
+use crate::words::{is, read_address, read_offset};
+use rattle_std::io;
+use rattle_std::io::Write;
+
+/// How a packet is read.
+#[derive(Clone, Copy)]
+pub enum Command {
+    /// As the options of a hop-by-hop header of IPv6.
+    Hbh,
+    /// As a message of ICMPv4.
+    Icmp4,
+    /// As a message of IGMP.
+    Igmp,
+    /// As a message of ICMPv6 from one address to another.
+    Icmp6([u8; 16], [u8; 16]),
+    /// As a message of multicast listener discovery.
+    Mld,
+    /// As an option of neighbor discovery.
+    Ndopt,
+    /// As a packet of DHCP.
+    Dhcp,
+    /// As a question of DNS.
+    Question,
+    /// As a message of DNS, by the walk over the name that begins at this offset.
+    Name(usize),
+}
+
+impl Command {
+    /// The command of a word and the words between it and the packet, or None where there is none.
+    pub fn of(word: &[u8], arguments: &[&[u8]]) -> Option<Command> {
+        let count = arguments.len();
+        if count == 0 {
+            return Command::alone(word);
+        }
+        if count == 1 {
+            return Command::at(word, arguments[0]);
+        }
+        if count == 2 {
+            return Command::between(word, arguments[0], arguments[1]);
+        }
+        None
+    }
+
+    // The command of a word alone.
+    fn alone(word: &[u8]) -> Option<Command> {
+        if is(word, "hbh") {
+            Some(Command::Hbh)
+        } else if is(word, "icmp4") {
+            Some(Command::Icmp4)
+        } else if is(word, "igmp") {
+            Some(Command::Igmp)
+        } else if is(word, "mld") {
+            Some(Command::Mld)
+        } else if is(word, "ndopt") {
+            Some(Command::Ndopt)
+        } else if is(word, "dhcp") {
+            Some(Command::Dhcp)
+        } else if is(word, "question") {
+            Some(Command::Question)
+        } else {
+            None
+        }
+    }
+
+    // The command of a word and an offset.
+    fn at(word: &[u8], offset: &[u8]) -> Option<Command> {
+        if !is(word, "name") {
+            return None;
+        }
+        match read_offset(offset) {
+            Some(offset) => Some(Command::Name(offset)),
+            None => None,
+        }
+    }
+
+    // The command of a word and two addresses.
+    fn between(word: &[u8], source: &[u8], destination: &[u8]) -> Option<Command> {
+        if !is(word, "icmp6") {
+            return None;
+        }
+        match read_address(source) {
+            Some(source) => match read_address(destination) {
+                Some(destination) => Some(Command::Icmp6(source, destination)),
+                None => None,
+            },
+            None => None,
+        }
+    }
+
+    /// Whether the command reads these octets, if only to refuse them: an offset may not be past their end.
+    pub fn reads(self, packet: &[u8]) -> bool {
+        match self {
+            Command::Name(offset) => offset <= packet.len(),
+            _ => true,
+        }
+    }
+
+    /// Prints what a packet holds, read so.
+    pub fn show<W: Write>(self, output: &mut W, packet: &[u8]) -> io::Result<()> {
+        match self {
+            Command::Hbh => show_hbh(output, packet),
+            Command::Icmp4 => show_icmp4(output, packet),
+            Command::Igmp => show_igmp(output, packet),
+            Command::Icmp6(source, destination) => show_icmp6(output, source, destination, packet),
+            Command::Mld => show_mld(output, packet),
+            Command::Ndopt => show_ndopt(output, packet),
+            Command::Dhcp => show_dhcp(output, packet),
+            Command::Question => show_question(output, packet),
+            Command::Name(offset) => show_name(output, offset, packet),
+        }
+    }
+}

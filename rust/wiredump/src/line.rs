@@ -1,0 +1,27 @@
+// Made from crates/wiredump/src/line.rt by rust/erase.
+//! What a line prints.
+
+use crate::reading::Line;
+use crate::shape::Shape;
+use crate::{Fault, printer};
+use rattle_std::io::Write;
+
+/// Prints what a line holds, and answers whether its shape is known.
+///
+/// It is a command, the words for that, and a packet. A line without a word prints nothing.
+pub fn show_line<W: Write>(output: &mut W, line: &Line) -> Result<bool, Fault> {
+    show_shape(output, &line.shape()?)
+}
+
+// The same of its shape.
+fn show_shape<W: Write>(output: &mut W, shape: &Shape) -> Result<bool, Fault> {
+    let (shown, known) = match shape {
+        Shape::Blank => (Ok(()), true),
+        Shape::Packet(command, packet) => (command.show(output, packet.as_slice()), true),
+        Shape::Bad => (printer::line(output, "bad line"), false),
+    };
+    match shown {
+        Ok(()) => Ok(known),
+        Err(_) => Err(Fault::Write),
+    }
+}

@@ -1,0 +1,63 @@
+// Made from crates/wiredump/src/main.rt by rust/erase.
+//! Prints what packets hold, one line of standard input each.
+//!
+//! A line says how to read a packet and gives its octets in hexadecimal, as `hbh 010400000000`.
+
+mod command;
+mod dhcp;
+mod fault;
+mod hbh;
+mod icmp4;
+mod icmp6;
+mod igmp;
+mod ipv6;
+mod line;
+mod mld;
+mod name;
+mod ndisc;
+mod ndopt;
+mod printer;
+mod question;
+mod reading;
+mod run;
+mod shape;
+#[cfg(test)]
+mod testing;
+#[cfg(test)]
+mod tests;
+mod words;
+
+pub use fault::Fault;
+use rattle_std::{env, io};
+pub use run::{run, run_onto, status};
+use std::process::ExitCode;
+pub use words::read_word;
+
+// The status where an argument was given.
+const USAGE_STATUS: u8 = 2;
+
+// Whether there is an argument beside the program's name.
+fn has_arguments() -> Result<bool, Fault> {
+    match env::args() {
+        Ok(mut arguments) => Ok(arguments.nth(1).is_some()),
+        // One that is no text is one.
+        Err(error) if error.kind() == io::ErrorKind::InvalidData => Ok(true),
+        Err(error) if error.kind() == io::ErrorKind::OutOfMemory => Err(Fault::Memory),
+        Err(_) => Err(Fault::Read),
+    }
+}
+
+fn main() -> ExitCode {
+    let answer = match has_arguments() {
+        Ok(true) => {
+            let _ = eprintln!("usage: wiredump");
+            return ExitCode::from(USAGE_STATUS);
+        }
+        Ok(false) => run(io::reader(), io::writer()),
+        Err(fault) => Err(fault),
+    };
+    if answer.is_err() {
+        let _ = eprintln!("wiredump: failed");
+    }
+    ExitCode::from(status(&answer))
+}

@@ -1,0 +1,127 @@
+// Made from crates/wiredump/src/printer.rt by rust/erase.
+//! What each value is printed with: names and fields, one a line.
+
+use control_wire::{Duration, Ipv4Address};
+use rattle_std::io;
+use rattle_std::io::Write;
+
+/// What may stand behind a field's name: a number, truth value, text, octets, or none of these.
+pub trait Value {
+    /// Writes the value as it is printed, without a line's end.
+    fn write_to<W: Write>(self, output: &mut W) -> io::Result<()>;
+}
+
+impl Value for u8 {
+    fn write_to<W: Write>(self, output: &mut W) -> io::Result<()> {
+        write!(output, "{self}")
+    }
+}
+
+impl Value for u16 {
+    fn write_to<W: Write>(self, output: &mut W) -> io::Result<()> {
+        write!(output, "{self}")
+    }
+}
+
+impl Value for u32 {
+    fn write_to<W: Write>(self, output: &mut W) -> io::Result<()> {
+        write!(output, "{self}")
+    }
+}
+
+impl Value for u64 {
+    fn write_to<W: Write>(self, output: &mut W) -> io::Result<()> {
+        write!(output, "{self}")
+    }
+}
+
+impl Value for usize {
+    fn write_to<W: Write>(self, output: &mut W) -> io::Result<()> {
+        write!(output, "{self}")
+    }
+}
+
+impl Value for bool {
+    fn write_to<W: Write>(self, output: &mut W) -> io::Result<()> {
+        output.write_all(if self { b"true" } else { b"false" })
+    }
+}
+
+impl Value for &str {
+    fn write_to<W: Write>(self, output: &mut W) -> io::Result<()> {
+        output.write_all(self.as_bytes())
+    }
+}
+
+// An address with dots.
+impl Value for Ipv4Address {
+    fn write_to<W: Write>(self, output: &mut W) -> io::Result<()> {
+        write!(output, "{self}")
+    }
+}
+
+// A span of time in whole milliseconds.
+impl Value for Duration {
+    fn write_to<W: Write>(self, output: &mut W) -> io::Result<()> {
+        self.total_millis().write_to(output)
+    }
+}
+
+impl<V: Value> Value for Option<V> {
+    fn write_to<W: Write>(self, output: &mut W) -> io::Result<()> {
+        match self {
+            Some(value) => value.write_to(output),
+            None => output.write_all(b"none"),
+        }
+    }
+}
+
+// How many octets are turned into digits at a time, and the digits of these.
+const OCTETS: usize = 64;
+
+const DIGITS: usize = 2 * OCTETS;
+
+// Octets in lower-case hexadecimal digits, or `-` for none.
+impl Value for &[u8] {
+    fn write_to<W: Write>(self, output: &mut W) -> io::Result<()> {
+        if self.is_empty() {
+            return output.write_all(b"-");
+        }
+        for octets in self.chunks(OCTETS) {
+            write_digits(output, octets)?;
+        }
+        Ok(())
+    }
+}
+
+// Writes the digits of so many octets at the most.
+fn write_digits<W: Write>(output: &mut W, octets: &[u8]) -> io::Result<()> {
+    let mut room = [0u8; DIGITS];
+    let digits = &mut room[..2 * octets.len()];
+    rattle_std::hex::encode_to_slice(octets, digits).unwrap();
+    output.write_all(digits)
+}
+
+/// Prints a line of its own: a variant's name, a value that has none, or an answer that is no value.
+pub fn line<V: Value, W: Write>(output: &mut W, value: V) -> io::Result<()> {
+    value.write_to(output)?;
+    output.write_all(b"\n")
+}
+
+/// Prints a field, or a variant with one unnamed value, as `name=value`.
+pub fn field<V: Value, W: Write>(output: &mut W, name: &str, value: V) -> io::Result<()> {
+    output.write_all(name.as_bytes())?;
+    output.write_all(b"=")?;
+    line(output, value)
+}
+
+/// Prints a field of a part, whose name and a dot, `part`, stand before the field's name.
+pub fn part_field<V: Value, W: Write>(
+    output: &mut W,
+    part: &str,
+    name: &str,
+    value: V,
+) -> io::Result<()> {
+    output.write_all(part.as_bytes())?;
+    field(output, name, value)
+}

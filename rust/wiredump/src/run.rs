@@ -1,0 +1,65 @@
+// Made from crates/wiredump/src/run.rt by rust/erase.
+//! The lines of an input, in one pass.
+
+use crate::Fault;
+use crate::line::show_line;
+use crate::reading::{Line, read_line};
+use rattle_std::io::{BufRead, BufReader, BufWriter, Read, Write};
+
+/// Prints what each line of the input holds; true where each line had a known shape.
+///
+/// What was printed before a fault is written out first, as far as the output takes it.
+pub fn run<R: Read, W: Write>(input: R, output: W) -> Result<bool, Fault> {
+    let (all_known, _) = run_onto(input, output)?;
+    Ok(all_known)
+}
+
+/// The same, which hands the output back with all that was printed written out.
+pub fn run_onto<R: Read, W: Write>(input: R, output: W) -> Result<(bool, W), Fault> {
+    let Ok(mut input) = BufReader::new(input) else {
+        return Err(Fault::Memory);
+    };
+    let Ok(mut output) = BufWriter::new(output) else {
+        return Err(Fault::Memory);
+    };
+    let all_known = show_flushed(&mut input, &mut output)?;
+    match output.into_inner() {
+        Ok(output) => Ok((all_known, output)),
+        Err(_) => Err(Fault::Write),
+    }
+}
+
+// Prints what each line holds, and writes out what was printed, also where a fault ends that.
+fn show_flushed<R: BufRead, W: Write>(input: &mut R, output: &mut W) -> Result<bool, Fault> {
+    let answer = show_lines(input, output);
+    let flushed = output.flush();
+    let all_known = answer?;
+    match flushed {
+        Ok(()) => Ok(all_known),
+        Err(_) => Err(Fault::Write),
+    }
+}
+
+// Prints what each line holds; true where each line had a known shape.
+fn show_lines<R: BufRead, W: Write>(input: &mut R, output: &mut W) -> Result<bool, Fault> {
+    let mut line = Line::new();
+    let mut all_known = true;
+    for _ in 0..u64::MAX {
+        let more = read_line(input, &mut line)?;
+        if !more {
+            return Ok(all_known);
+        }
+        let known = show_line(output, &line)?;
+        all_known &= known;
+    }
+    Err(Fault::Read)
+}
+
+/// The exit status of a run's answer.
+pub fn status(answer: &Result<bool, Fault>) -> u8 {
+    match answer {
+        Ok(true) => 0,
+        Ok(false) => 2,
+        Err(_) => 3,
+    }
+}

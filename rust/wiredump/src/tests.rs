@@ -1,0 +1,129 @@
+// Made from crates/wiredump/src/tests.rt by rust/erase.
+//! What lines print, word by word. Each packet is compared with the text that the manual has for it and with a plain
+//! printer; those without a checksum also at each shorter length, and with each of their digits changed.
+
+#[allow(unused_imports)]
+use rattle_std::prelude::*;
+mod dhcp;
+mod dns;
+mod faults;
+mod icmp4;
+mod icmp6;
+mod lines;
+mod ndisc;
+mod options;
+mod plain;
+mod values;
+mod words;
+
+use crate::run;
+use crate::testing::{holds_of, same_of};
+use std::fmt::Debug;
+
+// What a digit of a packet is changed to.
+const CHANGED: &[u8] = b"048f";
+
+// Puts a text behind another so often. Ends the test where there is no memory for it.
+fn append(text: &mut String, part: &str, count: usize) {
+    for _ in 0..count {
+        holds_of(part, text.push_str(part).is_ok());
+    }
+}
+
+fn joined(parts: &[&str]) -> String {
+    let mut text = String::new();
+    for part in parts {
+        append(&mut text, part, 1);
+    }
+    text
+}
+
+// A text that is made of others, each so often.
+fn repeated(parts: &[(&str, usize)]) -> String {
+    let mut text = String::new();
+    for &(part, count) in parts {
+        append(&mut text, part, count);
+    }
+    text
+}
+
+// Each packet behind these words is known, and prints this.
+fn check(words: &str, rows: &[(&str, &str)]) {
+    for (packet, want) in rows {
+        check_packet(words, packet, want);
+    }
+}
+
+// The same, and of each packet cut and changed what the plain printer prints.
+fn check_changed(words: &str, rows: &[(&str, &str)]) {
+    check(words, rows);
+    for (packet, _) in rows {
+        let line = joined(&[words, " ", packet]);
+        compare_changed(line.as_bytes(), words.len());
+    }
+}
+
+// A packet behind these words is known, and prints this.
+fn check_packet(words: &str, packet: &str, want: &str) {
+    let line = joined(&[words, " ", packet]);
+    check_line(line.as_str(), want);
+}
+
+// The same of headers with data behind each: they print this, and then what is printed of the data.
+fn check_with_data(words: &str, rows: &[(&str, &str)], data: &str, printed: &str) {
+    for (header, want) in rows {
+        let line = joined(&[words, " ", header, data]);
+        let want = joined(&[want, printed]);
+        check_line(line.as_str(), want.as_str());
+    }
+}
+
+// Each line is known, and prints this.
+fn check_lines(rows: &[(&str, &str)]) {
+    for (line, want) in rows {
+        check_line(line, want);
+    }
+}
+
+// A line is known, and prints this, as the plain printer does.
+fn check_line(line: &str, want: &str) {
+    check_run(&line, line.as_bytes(), true, want.as_bytes());
+    let mut text = Vec::new();
+    holds_of(line, plain::print(&mut text, line.as_bytes()));
+    same_of(line, text.as_slice(), want.as_bytes());
+}
+
+// Compares the program with the plain printer on a line that is cut at each place from there on, before its packet,
+// and on it with each octet there changed.
+fn compare_changed(line: &[u8], start: usize) {
+    for at in start..line.len() {
+        compare(&line[..at]);
+        for digit in CHANGED {
+            compare_with(line, at, *digit);
+        }
+    }
+}
+
+// The same on a line with this octet there.
+fn compare_with(line: &[u8], at: usize, digit: u8) {
+    let mut changed = Vec::new();
+    holds_of(line, changed.extend_from_slice(line).is_ok());
+    if let Some(octet) = changed.as_mut_slice().get_mut(at) {
+        *octet = digit;
+    }
+    compare(changed.as_slice());
+}
+
+fn compare(line: &[u8]) {
+    let mut text = Vec::new();
+    let is_known = plain::print(&mut text, line);
+    check_run(&line, line, is_known, text.as_slice());
+}
+
+// An input prints this, and each of its lines is known, or is not.
+fn check_run(of: &impl Debug, input: &[u8], is_known: bool, want: &[u8]) {
+    let mut output = Vec::new();
+    let answer = run(input, &mut output);
+    same_of(of, answer, Ok(is_known));
+    same_of(of, output.as_slice(), want);
+}
