@@ -92,6 +92,13 @@ impl<T: Octets> Ipv6Packet<T> {
         self.buffer
     }
 
+    /// The octets.
+    pub fn as_ref(&self) -> &[u8]
+        ensures { result.now ≡ T.bytes (inner self.now) }
+    {
+        self.buffer.octets()
+    }
+
     /// The version. Requires at least 1 byte.
     pub fn version(&self) -> u8
         requires { Reaches version_field (T.bytes (inner self.now)) }

@@ -2,7 +2,7 @@ use Rattle.std.proofs.Common.{rules}
 use Rattle.wirebase.specs.ByteWriter.{Puts}
 use Rattle.wirebase.specs.Ipv6.{pseudo_fields}
 use Rattle.wirebase.proofs.Chains.{over-puts}
-use Rattle.wirebase.proofs.checksum.write_pseudo_header.Goals as goal
+use Rattle.wirebase.proofs.checksum.write_pseudo_header_v6.Goals as goal
 
 pub returns : goal.returns
 unfolding pseudo_fields

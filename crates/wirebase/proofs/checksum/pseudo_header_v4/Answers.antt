@@ -1,0 +1,11 @@
+use Rattle.std.proofs.Common.{List, ℕ, refl, ap, ◌∙◌}
+use Rattle.wirebase.specs.Checksum.{word_sum, fold}
+use Rattle.wirebase.specs.Ipv4.{pseudo_sum}
+use Rattle.wirebase.proofs.Ipv4Header.{over-pseudo}
+use Rattle.wirebase.proofs.checksum.pseudo_header_v4.Goals as goal
+
+pub returns : goal.returns
+unfolding pseudo_sum
+returns c =
+    c.data.ensures
+    ∙ ap (λ (l : List ℕ). fold (word_sum l)) (c.write_pseudo_header_v4.ensures ∙ over-pseudo _ _ _ _ _ refl)
