@@ -55,6 +55,15 @@ fn addresses_that_have_a_name_in_hexadecimal(rt: HostRuntime) {
     prints(&rt, rt.alloc(), &IPV6_LINK_LOCAL_ALL_ROUTERS, "ff02::2");
 }
 
+#[test]
+fn groups_of_all_nodes_and_of_all_routers_of_a_link(rt: HostRuntime) {
+    // RFC 4291 section 2.7.1: FF02:0:0:0:0:0:0:1 and FF02:0:0:0:0:0:0:2.
+    let nodes = [0xff, 0x02, 0, 0, 0, 0, 0, 0, 0, 0, 0, 0, 0, 0, 0, 1];
+    same(&rt, IPV6_LINK_LOCAL_ALL_NODES.octets(), nodes);
+    let routers = [0xff, 0x02, 0, 0, 0, 0, 0, 0, 0, 0, 0, 0, 0, 0, 0, 2];
+    same(&rt, IPV6_LINK_LOCAL_ALL_ROUTERS.octets(), routers);
+}
+
 // A run of groups that are zero, in a text that begins and ends with a colon; the longest first.
 const RUNS: &[&str] = &[
     ":0:0:0:0:0:0:0:0:",
@@ -208,6 +217,7 @@ fn headers_are_read(rt: HostRuntime) {
     let packet = Ipv6Packet::new_unchecked(&PACKET[..]);
     same(&rt, packet.src_addr(), first());
     same(&rt, packet.dst_addr(), second());
+    same(&rt, packet.as_ref(), PACKET.as_slice());
     same(&rt, Ipv6Repr::parse(&packet), Ok(quoted()));
 }
 
