@@ -1,0 +1,3 @@
+pub mod Error
+pub mod Icmpv4Error
+pub mod Icmpv6Error
