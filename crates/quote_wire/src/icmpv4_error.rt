@@ -220,7 +220,7 @@ fn kind_name(kind: Kind) -> &'static str
 }
 
 // Whether the octets are the front of an IPv4 datagram: a header of version 4, and 8 bytes or more behind it.
-fn is_datagram(octets: &[u8]) -> bool
+pub(crate) fn is_datagram(octets: &[u8]) -> bool
     ensures { IsTrue result ↔ IsDatagram octets.now }
 {
     let Some(first) = octets.first() else {
@@ -241,3 +241,6 @@ fn seal(octets: &mut [u8], checksum_caps: &ChecksumCapabilities)
         checksum::fill(octets, field::CHECKSUM, 0);
     }
 }
+
+#[cfg(test)]
+mod tests;

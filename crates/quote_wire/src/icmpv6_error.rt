@@ -239,7 +239,7 @@ fn kind_name(kind: Kind) -> &'static str
 }
 
 // Whether the octets begin with a header of version 6.
-fn is_packet_front(octets: &[u8]) -> bool
+pub(crate) fn is_packet_front(octets: &[u8]) -> bool
     ensures { IsTrue result ↔ IsPacketFront octets.now }
 {
     octets.len() >= IPV6_HEADER_LEN && octets[0] / 16 == 6
@@ -278,3 +278,6 @@ fn sum_before(octets: &[u8], src_addr: &Ipv6Address, dst_addr: &Ipv6Address) -> 
     let len = octets.len() as u64 % (1 << 32);
     checksum::pseudo_header_v6(src_addr, dst_addr, IpProtocol::Icmpv6, len as u32)
 }
+
+#[cfg(test)]
+mod tests;
