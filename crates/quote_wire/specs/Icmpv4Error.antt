@@ -1,0 +1,61 @@
+-- Errors of ICMPv4 (RFC 792): a destination that is unreachable, a source that is to send less, a better gateway, a time
+-- that was exceeded, a parameter that is wrong.
+use Rattle.std.specs.Prelude.{◌≡◌, ℕ, zero, ◌+◌, ◌/◌, ◌%◌, ◌==◌, ◌≤◌, ◌^◌, ◌++◌, List, length, if◌then◌else◌, Option, Some, None}
+use Rattle.std.specs.Prelude.{codes, decimal}
+use Rattle.wirebase.specs.declared.capabilities.ChecksumCapabilities.{ChecksumCapabilities}
+use Rattle.wirebase.specs.Bytes.{byte_of}
+use Rattle.wirebase.specs.Ipv4.{ihl_field, header_len_in}
+use Rattle.quote_wire.specs.declared.icmpv4_error.Kind.{Kind}
+use Rattle.quote_wire.specs.declared.icmpv4_error.Kind.TheVariants as kind
+use Rattle.quote_wire.specs.declared.icmpv4_error.Repr.{Repr}
+use Rattle.quote_wire.specs.Error.{Protocol, ErrorValue}
+
+-- the types of error
+abbrev pub kind_number : Kind → ℕ
+kind_number kind.DstUnreachable = 3
+kind_number kind.SourceQuench = 4
+kind_number kind.Redirect = 5
+kind_number kind.TimeExceeded = 11
+kind_number kind.ParamProblem = 12
+
+-- The front of an IPv4 datagram: its header, of version 4 and 20 bytes or more by its own length, and 8 bytes or more
+-- behind it, whatever its total length says (RFC 792).
+pub record IsDatagram (bytes : List ℕ) : Type 0 where
+  pub version : byte_of ihl_field bytes / 16 ≡ 4
+  pub header : 20 ≤ header_len_in bytes
+  pub behind : header_len_in bytes + 8 ≤ length bytes
+
+-- An error has at most 576 bytes with the 20 of its own IPv4 header (RFC 1812 section 4.3.2.3), and so it quotes at most
+-- 548. No pseudo header counts in its checksum.
+abbrev pub protocol : ChecksumCapabilities → Protocol Kind
+protocol capabilities = record {
+  number = kind_number;
+  IsQuoted = IsDatagram;
+  most = 548;
+  checksum = capabilities.icmpv4;
+  extra = λ n. 0;
+}
+
+abbrev pub value_of : Repr → ErrorValue Kind
+value_of repr = record { kind = repr.kind; code = repr.code; rest = repr.rest; quoted = repr.quoted.now }
+
+-- the MTU of the next link that an error tells: of one that asks for a smaller datagram, and not 0 (RFC 1191 section 4)
+abbrev pub told_mtu : ℕ → Option ℕ
+told_mtu zero = None
+told_mtu n = Some n
+
+abbrev pub next_hop_mtu_in : ErrorValue Kind → Option ℕ
+next_hop_mtu_in v = if kind_number v.kind == 3 then (if v.code == 4 then told_mtu (v.rest % 2 ^ 16) else None) else None
+
+-- what an error prints
+abbrev pub kind_display : Kind → List ℕ
+kind_display kind.DstUnreachable = codes "destination unreachable"
+kind_display kind.SourceQuench = codes "source quench"
+kind_display kind.Redirect = codes "redirect"
+kind_display kind.TimeExceeded = codes "time exceeded"
+kind_display kind.ParamProblem = codes "parameter problem"
+
+abbrev pub repr_display : ErrorValue Kind → List ℕ
+repr_display v =
+    codes "ICMPv4 " ++ kind_display v.kind ++ codes " code=" ++ decimal v.code ++ codes " quoted="
+    ++ decimal (length v.quoted)

@@ -1,0 +1,58 @@
+-- Errors of ICMPv6 (RFC 4443 section 3): a destination that is unreachable, a packet that is too big, a time that was
+-- exceeded, a parameter that is wrong.
+use Rattle.std.specs.Prelude.{◌≡◌, ℕ, ◌/◌, ◌%◌, ◌^◌, ◌==◌, ◌≤◌, ◌++◌, List, length, slice_index, if◌then◌else◌}
+use Rattle.std.specs.Prelude.{Option, Some, None, codes, decimal}
+use Rattle.wirebase.specs.declared.capabilities.ChecksumCapabilities.{ChecksumCapabilities}
+use Rattle.wirebase.specs.declared.ip.IpProtocol.TheVariants.{Icmpv6}
+use Rattle.wirebase.specs.declared.ipv6.address.Ipv6Address.{Ipv6Address}
+use Rattle.wirebase.specs.Ipv6.{pseudo_sum}
+use Rattle.quote_wire.specs.declared.icmpv6_error.Kind.{Kind}
+use Rattle.quote_wire.specs.declared.icmpv6_error.Kind.TheVariants as kind
+use Rattle.quote_wire.specs.declared.icmpv6_error.Repr.{Repr}
+use Rattle.quote_wire.specs.Error.{Protocol, ErrorValue}
+
+-- the types of error
+abbrev pub kind_number : Kind → ℕ
+kind_number kind.DstUnreachable = 1
+kind_number kind.PktTooBig = 2
+kind_number kind.TimeExceeded = 3
+kind_number kind.ParamProblem = 4
+
+-- the front of an IPv6 packet: its header, of version 6, whatever its payload length says
+pub record IsPacketFront (bytes : List ℕ) : Type 0 where
+  pub version : slice_index bytes 0 / 16 ≡ 6
+  pub header : 40 ≤ length bytes
+
+-- the sum of the pseudo header of an error of so many bytes (RFC 4443 section 2.3, RFC 8200 section 8.1)
+abbrev pub extra_sum : Ipv6Address → Ipv6Address → ℕ → ℕ
+extra_sum source destination n = pseudo_sum source destination Icmpv6 (n % 2 ^ 32)
+
+-- An error has at most 1,280 bytes with the 40 of its own IPv6 header (RFC 4443 section 2.4(c)), and so it quotes at
+-- most 1,232. The pseudo header counts in its checksum.
+abbrev pub protocol : Ipv6Address → Ipv6Address → ChecksumCapabilities → Protocol Kind
+protocol source destination capabilities = record {
+  number = kind_number;
+  IsQuoted = IsPacketFront;
+  most = 1232;
+  checksum = capabilities.icmpv6;
+  extra = extra_sum source destination;
+}
+
+abbrev pub value_of : Repr → ErrorValue Kind
+value_of repr = record { kind = repr.kind; code = repr.code; rest = repr.rest; quoted = repr.quoted.now }
+
+-- the MTU of the next link that an error tells: of a packet that is too big for it
+abbrev pub mtu_in : ErrorValue Kind → Option ℕ
+mtu_in v = if kind_number v.kind == 2 then Some v.rest else None
+
+-- what an error prints
+abbrev pub kind_display : Kind → List ℕ
+kind_display kind.DstUnreachable = codes "destination unreachable"
+kind_display kind.PktTooBig = codes "packet too big"
+kind_display kind.TimeExceeded = codes "time exceeded"
+kind_display kind.ParamProblem = codes "parameter problem"
+
+abbrev pub repr_display : ErrorValue Kind → List ℕ
+repr_display v =
+    codes "ICMPv6 " ++ kind_display v.kind ++ codes " code=" ++ decimal v.code ++ codes " quoted="
+    ++ decimal (length v.quoted)
