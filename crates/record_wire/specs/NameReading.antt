@@ -3,7 +3,13 @@ use Rattle.std.specs.Prelude.{◌≡◌, ℕ, ◌+◌, ◌-◌, ◌*◌, ◌<◌
 use Rattle.std.specs.Prelude.{Option, None, Some, IsNone}
 use Rattle.std.specs.Char.{is_ascii_graphic, is_ascii_digit}
 use Rattle.std.specs.Borrow.{Bor}
-use Rattle.record_wire.specs.NameText.{is_special, Spells}
+use Rattle.record_wire.specs.declared.name.text.Behind.{Behind}
+use Rattle.record_wire.specs.declared.name.text.Behind.TheVariants.{End, Label, Other}
+use Rattle.std.specs.List.{AllByRecursion}
+use Rattle.dns_wire.specs.DnsName.{IsLabel}
+use Rattle.dns_wire.specs.DnsNameWalk.{Coming, Gives}
+use Rattle.record_wire.specs.Labels.{written_all}
+use Rattle.record_wire.specs.NameText.{is_special, Spells, IsTextOf}
 
 abbrev pub three_digits : ℕ → ℕ → ℕ → ℕ
 three_digits x y z = 100 * (x - 48) + 10 * (y - 48) + (z - 48)
@@ -32,6 +38,22 @@ first_byte (x ∷ rest) =
     else if is_ascii_graphic x && not (is_special x) then Some (x, rest)
     else None
 
+-- what stands behind the text of a label: the end or a last dot, a dot and then a text, or something else
+pub data BehindLabel : Type 0 where
+  at_end : BehindLabel
+  at_label : List ℕ → BehindLabel
+  at_other : BehindLabel
+
+abbrev pub behind_in : List ℕ → BehindLabel
+behind_in [] = at_end
+behind_in (x ∷ []) = if x == 46 then at_end else at_other
+behind_in (x ∷ y ∷ rest) = if x == 46 then at_label (y ∷ rest) else at_other
+
+abbrev pub seen_behind : Behind → BehindLabel
+seen_behind End = at_end
+seen_behind (Label text) = at_label text.now
+seen_behind Other = at_other
+
 -- a pair seen without where the rest lies in memory
 abbrev pub seen_byte : Option (ℕ × Bor (List ℕ)) → Option (ℕ × List ℕ)
 seen_byte None = None
@@ -45,3 +67,18 @@ seen_label (Some (label, rest)) = Some (label.now, rest.now)
 pub record IsSpelling (text bytes rest : List ℕ) : Type 0 where
   pub spells : Spells text bytes rest
   pub no_more : first_byte rest ≡ None
+
+-- the octets of the labels of a text, of which there is one at least
+pub record AreSpelled (text octets : List ℕ) : Type 0 where
+  pub first : List ℕ
+  pub more : List (List ℕ)
+  pub each : AllByRecursion IsLabel (first ∷ more)
+  pub is : IsTextOf (first ∷ more) text
+  pub written : octets ≡ written_all (first ∷ more)
+
+-- the octets of the labels that a walk gives
+pub record AreGiven (ahead : List Coming) (octets : List ℕ) : Type 0 where
+  pub labels : List (List ℕ)
+  pub each : AllByRecursion IsLabel labels
+  pub gives : Gives ahead labels
+  pub written : octets ≡ written_all labels

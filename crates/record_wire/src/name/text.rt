@@ -1,18 +1,64 @@
 //! The characters and the labels of a name's text (RFC 1035 section 5.1).
 
-ghost use Rattle.std.specs.Prelude.{◌≡◌, ◌≤◌, ◌<◌, ◌-◌, ℕ, List, length, IfOk, IsOk, IsTrue};
+ghost use Rattle.std.specs.Prelude.{◌≡◌, ◌≤◌, ◌<◌, ◌-◌, ◌∷◌, ℕ, List, length, IfOk, IsOk, IsOkAnd, IsTrue};
 ghost use Rattle.std.specs.Char.{is_ascii_digit};
 ghost use Rattle.record_wire.specs.NameReading.{first_byte, quoted_in, numbered_at, seen_byte, IsSpelling};
-ghost use Rattle.record_wire.specs.NameText.{is_special};
+ghost use Rattle.record_wire.specs.NameReading.{AreSpelled, seen_behind, behind_in};
+ghost use Rattle.record_wire.specs.Labels.{written_all};
+ghost use Rattle.record_wire.specs.NameText.{is_special, IsNameText};
 
-use crate::name::label::MAX_LABEL_LEN;
+use crate::name::MAX_NAME_LEN;
+use crate::name::label::{MAX_LABEL_LEN, push_label};
 use arrayvec::ArrayVec;
 use std::fmt;
 use wirebase::{Error, Result};
 
-/// Reads a label's text, up to where no more characters stand, and gives what stands there. Refused where the label
-/// would be empty or has more than 63 bytes.
-pub(super) fn read_label(text: &[u8]) -> Result<(ArrayVec<u8, MAX_LABEL_LEN>, &[u8])>
+/// The octets of the labels of a text, with dots between them and a last dot allowed. Refused where the text is none,
+/// where a label is empty or has more than 63 bytes, and where they have more than 255 octets.
+pub(super) fn read_labels(text: &[u8]) -> Result<ArrayVec<u8, MAX_NAME_LEN>>
+    ensures sound { IfOk result (λ octets. AreSpelled text.now octets.items) }
+    ensures complete { (label : List ℕ) (labels : List (List ℕ)) → IsNameText text.now (label ∷ labels)
+        → IsOkAnd result (λ octets. octets.items ≡ written_all (label ∷ labels)) }
+{
+    let mut octets = ArrayVec::new();
+    let mut left = text;
+    loop {
+        let (label, rest) = read_label(left)?;
+        push_label(&mut octets, label.as_slice())?;
+        match read_behind(rest) {
+            Behind::End => return Ok(octets),
+            Behind::Label(next) => left = next,
+            Behind::Other => return Err(Error),
+        }
+    }
+}
+
+/// What stands behind the text of a label.
+#[derive(Clone, Copy)]
+pub(super) enum Behind<'a> {
+    /// The end, or a last dot.
+    End,
+    /// A dot, and then this text.
+    Label(&'a [u8]),
+    /// Something else.
+    Other,
+}
+
+// What stands behind the text of a label.
+fn read_behind(text: &[u8]) -> Behind<'_>
+    ensures { seen_behind result ≡ behind_in text.now }
+{
+    match text {
+        [] => Behind::End,
+        [b'.'] => Behind::End,
+        [b'.', next @ ..] => Behind::Label(next),
+        _ => Behind::Other,
+    }
+}
+
+// Reads a label's text, up to where no more characters stand, and gives what stands there. Refused where the label
+// would be empty or has more than 63 bytes.
+fn read_label(text: &[u8]) -> Result<(ArrayVec<u8, MAX_LABEL_LEN>, &[u8])>
     ensures sound { IfOk result (λ read. IsSpelling text.now read.0.items read.1.now) }
     ensures some { IfOk result (λ read. 1 ≤ length read.0.items) }
     ensures few { IfOk result (λ read. length read.0.items ≤ 63) }
