@@ -186,3 +186,24 @@ room_before done label more h =
     omega (arith, h, ap length a, length-append (written_all (done ++ label ∷ more)) (0 ∷ []),
     length-append (written_all done) (written label ++ written_all more),
     length-append (written label) (written_all more))
+
+-- octets that were written are those of the labels in them
+pub in_written : (octets : List ℕ) (labels : List (List ℕ)) → AllByRecursion IsLabel labels
+    → octets ≡ written_all labels → labels_in octets ≡ labels
+in_written octets labels each e = ap labels_in e ∙ labels-written labels each
+
+pub written_in : (octets : List ℕ) (labels : List (List ℕ)) → AllByRecursion IsLabel labels
+    → octets ≡ written_all labels → written_all (labels_in octets) ≡ octets
+written_in octets labels each e = ap written_all (in_written octets labels each e) ∙ sym e
+
+pub room_for_end : (octets : List ℕ) (labels : List (List ℕ)) → octets ≡ written_all labels
+    → length (wire labels) ≤ 255 → length octets < 255
+room_for_end octets labels e h =
+    omega (arith, h, ap length e, length-append (written_all labels) (0 ∷ []))
+
+pub name_of : (octets : List ℕ) (labels : List (List ℕ)) → AllByRecursion IsLabel labels
+    → octets ≡ written_all labels → length octets < 255 → AreOfName labels
+name_of octets labels each e h = record {
+  each = each;
+  fits = omega (arith, h, ap length e, length-append (written_all labels) (0 ∷ []));
+}

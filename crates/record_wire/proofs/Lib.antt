@@ -3,3 +3,5 @@ pub mod Spelling
 pub mod LabelLists
 pub mod NameLabels
 pub mod NameWalks
+pub mod NameTexts
+pub mod Outcomes

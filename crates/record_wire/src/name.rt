@@ -12,8 +12,8 @@ ghost use Rattle.dns_wire.specs.DnsPacket.{view_octets};
 ghost use Rattle.record_wire.specs.Labels.{wire, written_all, labels_in, AreOfName};
 ghost use Rattle.record_wire.specs.NameReading.{AreGiven};
 
-use crate::name::label::{MAX_LABEL_LEN, push_label, split_label};
-use crate::name::text::{LabelText, read_labels};
+use crate::name::label::{is_label, push_label, split_label};
+use crate::name::text::{LabelText, is_root, read_labels};
 use arrayvec::ArrayVec;
 use dns_wire::dns::{NameIter, Packet};
 use std::fmt;
@@ -56,7 +56,7 @@ impl Name {
         ensures reads_back { (labels : List (List ℕ)) → AreOfName labels → IsBytes (wire labels)
             → text.now ≡ name_text labels → IsOkAnd result (λ name. labels_of name ≡ labels) }
     {
-        if text == b".".as_slice() {
+        if is_root(text) {
             return Name::finish(ArrayVec::new());
         }
         Name::finish(read_labels(text)?)
@@ -95,7 +95,7 @@ fn given_labels(mut walk: NameIter<'_>) -> Result<ArrayVec<u8, MAX_NAME_LEN>>
             Ok(label) => label,
             Err(_) => return Err(Error),
         };
-        if label.is_empty() || label.len() > MAX_LABEL_LEN {
+        if !is_label(label) {
             return Err(Error);
         }
         push_label(&mut octets, label)?;

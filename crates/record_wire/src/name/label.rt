@@ -1,6 +1,6 @@
 //! The labels in the octets of a name (RFC 1035 section 3.1).
 
-ghost use Rattle.std.specs.Prelude.{◌≡◌, ◌↔◌, ◌+◌, ◌≤◌, ◌++◌, length, IsOk, OnOk};
+ghost use Rattle.std.specs.Prelude.{◌≡◌, ◌↔◌, ◌+◌, ◌≤◌, ◌++◌, length, IsOk, IsTrue, OnOk};
 ghost use Rattle.dns_wire.specs.DnsName.{IsLabel, written};
 ghost use Rattle.record_wire.specs.Labels.{first_label};
 ghost use Rattle.record_wire.specs.NameReading.{seen_label};
@@ -23,6 +23,13 @@ pub(super) fn split_label(octets: &[u8]) -> Option<(&[u8], &[u8])>
         }
         _ => None,
     }
+}
+
+/// Whether these bytes may be a label.
+pub(super) fn is_label(bytes: &[u8]) -> bool
+    ensures { IsTrue result ↔ IsLabel bytes.now }
+{
+    !bytes.is_empty() && bytes.len() <= MAX_LABEL_LEN
 }
 
 /// Writes a label behind its length. Refused where there is no room; then less may be written.

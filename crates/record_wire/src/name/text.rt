@@ -1,6 +1,7 @@
 //! The characters and the labels of a name's text (RFC 1035 section 5.1).
 
-ghost use Rattle.std.specs.Prelude.{◌≡◌, ◌≤◌, ◌<◌, ◌-◌, ◌∷◌, ℕ, List, length, IfOk, IsOk, IsOkAnd, IsTrue};
+ghost use Rattle.std.specs.Prelude.{◌≡◌, ◌↔◌, ◌≤◌, ◌<◌, ◌-◌, ◌∷◌, ℕ, List, length, codes};
+ghost use Rattle.std.specs.Prelude.{IfOk, IsOk, IsOkAnd, IsTrue};
 ghost use Rattle.std.specs.Char.{is_ascii_digit};
 ghost use Rattle.record_wire.specs.NameReading.{first_byte, quoted_in, numbered_at, seen_byte, IsSpelling};
 ghost use Rattle.record_wire.specs.NameReading.{AreSpelled, seen_behind, behind_in};
@@ -12,6 +13,13 @@ use crate::name::label::{MAX_LABEL_LEN, push_label};
 use arrayvec::ArrayVec;
 use std::fmt;
 use wirebase::{Error, Result};
+
+/// Whether this is the text of the root, a dot alone.
+pub(super) fn is_root(text: &[u8]) -> bool
+    ensures { IsTrue result ↔ (text.now ≡ codes ".") }
+{
+    matches!(text, [b'.'])
+}
 
 /// The octets of the labels of a text, with dots between them and a last dot allowed. Refused where the text is none,
 /// where a label is empty or has more than 63 bytes, and where they have more than 255 octets.
