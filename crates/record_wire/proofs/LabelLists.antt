@@ -1,7 +1,7 @@
 -- The labels in octets.
-use Rattle.std.proofs.Common.{◌≡◌, ℕ, zero, suc, ◌+◌, ◌<◌, ◌≤◌, ◌⊎◌, Bool, true, false, cond, leb, ◌&&◌, List, [], ◌∷◌, ◌++◌}
-use Rattle.std.proofs.Common.{length, take, drop, Option, None, Some, refl, sym, ap, ◌∙◌, subst, inl, inr, arith}
-use Rattle.std.proofs.Common.{length-append, length-drop, append_assoc}
+use Rattle.std.proofs.Common.{◌≡◌, ℕ, zero, suc, ◌+◌, ◌<◌, ◌≤◌, Bool, true, false, cond, leb, ◌&&◌, List, [], ◌∷◌, ◌++◌}
+use Rattle.std.proofs.Common.{length, take, drop, Option, None, Some, refl, sym, ap, ◌∙◌, arith}
+use Rattle.std.proofs.Common.{length-append, append_assoc}
 use Rattle.std.proofs.lemmas.List.{take-append-drop, length-take-le, append-nil}
 use Rattle.std.proofs.lemmas.Bool.{leb-true, le-leb}
 use Rattle.std.proofs.lemmas.Grind.{flat_map-append}
@@ -183,9 +183,14 @@ pub room_before : (done : List (List ℕ)) (label : List ℕ) (more : List (List
 room_before done label more h =
     let a : written_all (done ++ label ∷ more) ≡ written_all done ++ (written label ++ written_all more) =
     flat_map-append written done (label ∷ more) in
-    omega (arith, h, ap length a, length-append (written_all (done ++ label ∷ more)) (0 ∷ []),
-    length-append (written_all done) (written label ++ written_all more),
-    length-append (written label) (written_all more))
+    omega (
+      arith,
+      h,
+      ap length a,
+      length-append (written_all (done ++ label ∷ more)) (0 ∷ []),
+      length-append (written_all done) (written label ++ written_all more),
+      length-append (written label) (written_all more),
+    )
 
 -- octets that were written are those of the labels in them
 pub in_written : (octets : List ℕ) (labels : List (List ℕ)) → AllByRecursion IsLabel labels

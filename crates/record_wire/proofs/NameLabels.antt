@@ -1,10 +1,10 @@
 -- The labels of a name's text, one after another.
-use Rattle.std.proofs.Common.{◌≡◌, ℕ, ◌+◌, ◌≤◌, ◌⊎◌, List, [], ◌∷◌, ◌++◌, length, None, refl, sym, ap, ◌∙◌, subst, inl, inr}
+use Rattle.std.proofs.Common.{◌≡◌, ℕ, ◌+◌, ◌≤◌, List, [], ◌∷◌, ◌++◌, length, None, refl, sym, ap, ◌∙◌, subst, inl, inr}
 use Rattle.std.proofs.Common.{arith, codes, eqb, length-append}
 use Rattle.std.proofs.lemmas.Bool.{eqb-true}
 use Rattle.std.specs.List.{AllByRecursion}
 use Rattle.dns_wire.specs.DnsName.{IsLabel, written}
-use Rattle.record_wire.specs.Labels.{written_all, wire, AreOfName}
+use Rattle.record_wire.specs.Labels.{written_all, wire}
 use Rattle.record_wire.specs.NameText.{Spells, GoesOn, IsTextOf, IsNameText}
 use Rattle.record_wire.specs.NameReading.{first_byte, AreSpelled, behind_in, at_end, at_label, at_other}
 use Rattle.record_wire.proofs.LabelLists.{written_more, each_more, room_before}
@@ -156,7 +156,6 @@ next_label text octets left label labels so is =
       room = subst (λ o. length o + length (written b.label) + 1 ≤ 255) (sym so.written)
           (room_before so.done b.label b.more (subst (λ ls. length (wire ls) ≤ 255) b.is is.name.fits));
     }
-
 
 -- ---- what stands behind a label
 

@@ -1,8 +1,8 @@
 -- The text of a label: its characters one after another, as many as there are.
-use Rattle.std.proofs.Common.{◌≡◌, ℕ, ◌+◌, ◌≤◌, ◌⊎◌, List, [], ◌∷◌, ◌++◌, length, None, Some, refl, sym, ap, ◌∙◌, subst}
+use Rattle.std.proofs.Common.{◌≡◌, ℕ, ◌+◌, ◌≤◌, List, [], ◌∷◌, ◌++◌, length, None, Some, refl, sym, ap, ◌∙◌, subst}
 use Rattle.std.proofs.Common.{inl, inr, arith}
 use Rattle.record_wire.specs.NameText.{IsCharacter, Spells, GoesOn}
-use Rattle.record_wire.specs.NameReading.{first_byte, IsSpelling}
+use Rattle.record_wire.specs.NameReading.{first_byte}
 use Rattle.record_wire.proofs.Characters.{first_character, character_first, same_byte}
 
 -- one character more

@@ -1,5 +1,5 @@
 -- The octets of a whole name (RFC 1035 section 3.1): each label behind its length, and then byte 0.
-use Rattle.std.specs.Prelude.{◌≡◌, ℕ, ◌≤◌, ◌&&◌, nat_le, if◌then◌else◌, List, [], ◌∷◌, ◌++◌, length, take, drop}
+use Rattle.std.specs.Prelude.{ℕ, ◌≤◌, ◌&&◌, nat_le, if◌then◌else◌, List, [], ◌∷◌, ◌++◌, length, take, drop}
 use Rattle.std.specs.Prelude.{Option, None, Some, suc, zero}
 use Rattle.std.specs.List.{AllByRecursion, flat_map}
 use Rattle.dns_wire.specs.DnsName.{IsLabel, written}

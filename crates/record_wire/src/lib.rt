@@ -2,5 +2,7 @@
 #![tactic(auto)]
 
 pub mod name;
+#[cfg(test)]
+mod testing;
 
 pub use name::Name;

@@ -138,3 +138,6 @@ impl fmt::Display for BehindDots<'_> {
         Ok(())
     }
 }
+
+#[cfg(test)]
+mod tests;

@@ -1,5 +1,5 @@
-use Rattle.std.proofs.Common.{◌≡◌, ◌≤◌, ◌+◌, ◌++◌, length, Some, ap, arith}
-use Rattle.dns_wire.specs.DnsNameWalk.{answer_of, label, fault, ending}
+use Rattle.std.proofs.Common.{◌≡◌, Some, ap, arith}
+use Rattle.dns_wire.specs.DnsNameWalk.{answer_of, label, fault}
 use Rattle.record_wire.proofs.NameWalks.{one_given, all_given, given_same, given_no_fault, given_label}
 use Rattle.record_wire.proofs.name.given_labels.Goals as goal
 

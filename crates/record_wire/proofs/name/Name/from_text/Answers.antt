@@ -1,4 +1,4 @@
-use Rattle.std.proofs.Common.{◌≡◌, ℕ, List, [], ◌∷◌, ◌∙◌, refl, sym, ap, subst, codes}
+use Rattle.std.proofs.Common.{◌≡◌, [], ◌∷◌, ◌∙◌, sym, ap, subst}
 use Rattle.record_wire.specs.Labels.{written_all, labels_in}
 use Rattle.record_wire.specs.Name.{labels_of}
 use Rattle.record_wire.specs.NameText.{IsNameText}

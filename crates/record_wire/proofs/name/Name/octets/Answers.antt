@@ -1,6 +1,4 @@
-use Rattle.std.proofs.Common.{◌≡◌, ◌≤◌, length, ap, ◌∙◌, arith}
-use Rattle.record_wire.specs.Labels.{wire}
-use Rattle.record_wire.specs.Name.{labels_of}
+use Rattle.std.proofs.Common.{length, ap, arith}
 use Rattle.record_wire.proofs.LabelLists.{each_in}
 use Rattle.record_wire.proofs.name.Name.octets.Goals as goal
 

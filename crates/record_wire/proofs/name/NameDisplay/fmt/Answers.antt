@@ -1,4 +1,4 @@
-use Rattle.std.proofs.Common.{◌≡◌, sym, ap, ◌∙◌, subst}
+use Rattle.std.proofs.Common.{sym, ap, ◌∙◌, subst}
 use Rattle.std.specs.Fmt.{HasWritten}
 use Rattle.record_wire.specs.Labels.{first_label}
 use Rattle.record_wire.specs.NameText.{name_text}

@@ -1,4 +1,4 @@
-use Rattle.std.proofs.Common.{◌≡◌, ◌+◌, ◌<◌, ◌≤◌, [], ◌∷◌, ◌++◌, length, ap, sym, subst, rules, arith}
+use Rattle.std.proofs.Common.{◌≡◌, ◌<◌, [], ◌∷◌, ◌++◌, length, ap, sym, subst, rules, arith}
 use Rattle.std.proofs.Common.{length-append}
 use Rattle.record_wire.specs.NameText.{Spells}
 use Rattle.record_wire.proofs.Spelling.{spells_more, spelling_one, spelling_longer}

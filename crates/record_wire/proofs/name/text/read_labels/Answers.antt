@@ -1,4 +1,4 @@
-use Rattle.std.proofs.Common.{◌≡◌, ◌≤◌, ◌+◌, ◌∷◌, ◌++◌, length, sym, ap, ◌∙◌, subst, arith}
+use Rattle.std.proofs.Common.{◌≤◌, ◌+◌, ◌++◌, length, sym, ap, ◌∙◌, subst, arith}
 use Rattle.dns_wire.specs.DnsName.{written}
 use Rattle.record_wire.proofs.NameLabels.{one_more, all_read, all_same, next_label, next_fits, next_goes}
 use Rattle.record_wire.proofs.NameLabels.{end_behind, label_behind, spelled_shorter}
