@@ -1,3 +1,4 @@
+pub mod Dhcpv4Data
 pub mod Dhcpv4Lists
 pub mod Dhcpv4Writes
 pub mod Dhcpv4Text
