@@ -14,7 +14,7 @@ use Rattle.dhcp_wire.specs.Dhcpv4.{Value, of_slots, slots_of, options_of, option
 use Rattle.dhcp_wire.specs.Dhcpv4Format.{AllShort, CanEmit, IsCanonical, norm, format, Emits}
 use Rattle.dhcp_wire.specs.Dhcpv4Options.{OptionValue, option_text}
 use Rattle.dhcp_wire.proofs.Dhcpv4Canonical.{canonical-read}
-use Rattle.dhcp_wire.proofs.Dhcpv4Emission.{Emitted}
+use Rattle.dhcp_wire.proofs.Dhcpv4Packet.{Emitted}
 use Rattle.dhcp_wire.proofs.Dhcpv4Lengths.{text_len-options, text_len-whole}
 use Rattle.dhcp_wire.proofs.Dhcpv4Kept.{packet-unique}
 use Rattle.dhcp_wire.proofs.Dhcpv4Reading.{packet-read}

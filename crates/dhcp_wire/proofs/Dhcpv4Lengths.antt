@@ -6,7 +6,7 @@ use Rattle.dhcp_wire.specs.Dhcpv4.{Value, Slot, of_slot, of_slots, slots_of, opt
 use Rattle.dhcp_wire.specs.Dhcpv4.{text}
 use Rattle.dhcp_wire.specs.Dhcpv4Format.{data_len, slots_len, fields_len, options_len, text_len}
 use Rattle.dhcp_wire.specs.Dhcpv4Options.{OptionValue, option, option_text}
-use Rattle.dhcp_wire.proofs.Dhcpv4Emission.{header_len-240}
+use Rattle.dhcp_wire.proofs.Dhcpv4Packet.{header_len-240}
 
 pub text_len-options : (v : Value) → length (text v) ≡ 240 + (length (options_text (options_of v)) + 1)
 text_len-options v =

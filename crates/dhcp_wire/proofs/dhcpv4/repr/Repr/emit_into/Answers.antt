@@ -2,7 +2,7 @@ use Rattle.std.proofs.Common.{rules, length, ap, arith}
 use Rattle.wirebase.specs.ByteWriter.{with_part}
 use Rattle.wirebase.proofs.Chains.{part-free}
 use Rattle.dhcp_wire.specs.Dhcpv4.{value_of}
-use Rattle.dhcp_wire.proofs.Dhcpv4Emission.{laid_behind}
+use Rattle.dhcp_wire.proofs.Dhcpv4Packet.{laid_behind}
 use Rattle.dhcp_wire.proofs.Dhcpv4Laws.{emits}
 use Rattle.dhcp_wire.proofs.dhcpv4.repr.Repr.emit_into.Goals as goal
 
