@@ -25,7 +25,8 @@ use Rattle.dhcp_wire.specs.Dhcpv4Options.{OptionValue, option, option_text, Opti
 use Rattle.dhcp_wire.specs.Dhcpv4Options.{goes_on}
 use Rattle.dhcp_wire.specs.Dhcpv4Packet.{op_field}
 use Rattle.dhcp_wire.specs.Dhcpv4Tables.{message_number, messages, message_of, message_rows}
-use Rattle.dhcp_wire.proofs.Dhcpv4Lengths.{octets-len, be16-len, be32-len, text_len-options, text_len-whole}
+use Rattle.dhcp_wire.proofs.Dhcpv4Data.{octets-len, be16-len, be32-len}
+use Rattle.dhcp_wire.proofs.Dhcpv4Lengths.{text_len-options, text_len-whole}
 
 -- ---- what holds of each option holds of the last
 

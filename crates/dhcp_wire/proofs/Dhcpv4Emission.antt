@@ -4,19 +4,20 @@ use Rattle.std.proofs.Common.{◌++◌, length, take, drop, IsOk, OnOk, OnErr, i
 use Rattle.std.proofs.Common.{refl, sym, ap, subst, ◌∙◌, arith, length-append, length-drop}
 use Rattle.std.proofs.lemmas.Bool.Decides.{nat_tests}
 use Rattle.std.proofs.lemmas.Grind.{common_steps}
-use Rattle.std.proofs.lemmas.List.{append_assoc, append-nil, drop-drop, drop_all, take_at, drop_at, take_rest}
-use borrow.Rule.Slice.PartMut.{put_mid}
-use Rattle.wirebase.specs.ByteWriter.{be8, be16, be32, fields}
+use Rattle.std.proofs.lemmas.List.{append_assoc, append-nil, drop-drop, drop_all, take_all}
+use Rattle.wirebase.specs.ByteWriter.{Writer, Sheet, sheet, written, free as free_bytes, blank, put, put_all, be8, be16}
+use Rattle.wirebase.specs.ByteWriter.{be32, fields, Puts, IsBlank, after_part}
+use Rattle.wirebase.proofs.Chains.{part-free, put-fields, sheet-part, whole-sheet}
 use Rattle.wirebase.specs.declared.error.Error.{Error}
 use Rattle.wirebase.specs.Bytes.{over}
 use Rattle.wirebase.proofs.Pieces.{over-fits}
 use Rattle.dhcp_wire.specs.declared.dhcpv4.options.DhcpOptionWriter.{DhcpOptionWriter}
 use Rattle.dhcp_wire.specs.Dhcpv4.{Value, Slot, slot, of_slot, of_slots, slots_of, options_of, options_text}
-use Rattle.dhcp_wire.specs.Dhcpv4.{header_text}
+use Rattle.dhcp_wire.specs.Dhcpv4.{header_fields, header_text}
 use Rattle.dhcp_wire.specs.Dhcpv4Format.{fits, texts_before, AllShort}
 use Rattle.dhcp_wire.specs.Dhcpv4Emission.{Progress, at, progress, WritesOptions, fitted, step}
-use Rattle.dhcp_wire.specs.Dhcpv4Emission.{step_slot, steps, step_all}
-use Rattle.dhcp_wire.specs.Dhcpv4Options.{OptionValue, option_text}
+use Rattle.dhcp_wire.specs.Dhcpv4Emission.{slot_step, step_slot, steps, step_all}
+use Rattle.dhcp_wire.specs.Dhcpv4Options.{OptionValue, option, option_text}
 use Rattle.dhcp_wire.specs.Dhcpv4Writer.{Fits, IsUnchanged, settled, free}
 
 -- ---- after a refusal
@@ -29,6 +30,11 @@ stopped_at : (s f : List ℕ) (os : List OptionValue) → step_all (at s f false
 unfolding step_all
 stopped_at s f [] = refl
 stopped_at s f (o ∷ os) = ap (λ (p : Progress). step_all p os) (stopped_one s f o) ∙ stopped_at s f os
+
+pub stopped_all : (w : DhcpOptionWriter) (e : Error) (os : List OptionValue)
+    → step_all (progress w (Err e)) os ≡ progress w (Err e)
+unfolding progress
+stopped_all w e os = stopped_at (settled w) (free w) os
 
 -- ---- one option, and one after another
 
@@ -61,6 +67,21 @@ pub fields-then : (p : Progress) (v : Value)
 fields-then p v = step_all-append p (of_slots (slots_of v)) v.additional_options
     ∙ ap (λ (q : Progress). step_all q v.additional_options) (sym (steps-all p (slots_of v)))
 
+-- a field's option was refused, or all were written
+pub fields-refused : (w u : DhcpOptionWriter) (e : Error) (result : Result (Unit {0}) Error) (v : Value)
+    → progress u (Err e) ≡ steps (progress w (Ok tt)) (slots_of v) → result ≡ Err e
+    → progress u result ≡ step_all (progress w (Ok tt)) (options_of v)
+fields-refused w u e result v stopped is =
+    ap (λ (r : Result (Unit {0}) Error). progress u r) is ∙ sym (stopped_all u e v.additional_options)
+    ∙ ap (λ (p : Progress). step_all p v.additional_options) stopped ∙ sym (fields-then (progress w (Ok tt)) v)
+
+pub fields-written : (w u x : DhcpOptionWriter) (result : Result (Unit {0}) Error) (v : Value)
+    → progress u (Ok tt) ≡ steps (progress w (Ok tt)) (slots_of v)
+    → progress x result ≡ step_all (progress u (Ok tt)) v.additional_options
+    → progress x result ≡ step_all (progress w (Ok tt)) (options_of v)
+fields-written w u x result v fields_ rest =
+    rest ∙ ap (λ (p : Progress). step_all p v.additional_options) fields_ ∙ sym (fields-then (progress w (Ok tt)) v)
+
 fits_from : (room : ℕ) (o : OptionValue) → Fits room o → fits room o ≡ true
 fits_from room o h = let a = h.0 in let b = h.1 in grind (arith, nat_tests)
 
@@ -91,21 +112,29 @@ pub stopped_step : (w : DhcpOptionWriter) (e : Error) (o : OptionValue)
 unfolding progress
 stopped_step w e o = stopped_one (settled w) (free w) o
 
-pub ruleset emission = (common_steps, stopped_step, step_all-none, step_all-more)
+pub stopped_slot : (w : DhcpOptionWriter) (e : Error) (s : Slot)
+    → step_slot (progress w (Err e)) s ≡ progress w (Err e)
+unfolding step_slot
+stopped_slot w e s = stopped_body w e s.kind s.body
+  where
+    stopped_body : (w : DhcpOptionWriter) (e : Error) (kind : ℕ) (body : Option (List ℕ))
+        → slot_step (progress w (Err e)) kind body ≡ progress w (Err e)
+    stopped_body w e kind None = refl
+    stopped_body w e kind (Some d) = stopped_step w e (option kind d)
 
--- the option was written or refused, after a call that was not
-pub emitted_step : (w v : DhcpOptionWriter) (so_far result : Result (Unit {0}) Error) (x : Unit {0}) (o : OptionValue)
-    → so_far ≡ Ok x → (IsOk result ↔ Fits (length (free w)) o) → OnOk result (settled v ≡ settled w ++ option_text o)
+-- of the options of fields, and of a list of options
+pub ruleset slots = (stopped_slot)
+
+pub ruleset emission = (common_steps, stopped_all, step_all-none, step_all-more)
+
+-- a call that writes an option or refuses it
+pub emitted_step : (w v : DhcpOptionWriter) (result : Result (Unit {0}) Error) (o : OptionValue)
+    → (IsOk result ↔ Fits (length (free w)) o) → OnOk result (settled v ≡ settled w ++ option_text o)
     → OnOk result (free v ≡ drop (2 + length o.body) (free w)) → OnErr result (IsUnchanged w v)
-    → progress v result ≡ step (progress w so_far) o
+    → progress v result ≡ step (progress w (Ok tt)) o
 unfolding progress
-emitted_step w v so_far result x o is accepts one two refusal =
+emitted_step w v result o accepts one two refusal =
     emitted result (settled w) (free w) (settled v) (free v) o accepts one two refusal
-    ∙ ap (λ (r : Result (Unit {0}) Error). step (at (settled w) (free w) (is_ok r)) o) (sym is)
-
--- one more step
-pub next : (p q r : Progress) (s : Slot) → p ≡ q → r ≡ step_slot p s → r ≡ step_slot q s
-next p q r s e f = f ∙ ap (λ (x : Progress). step_slot x s) e
 
 -- ---- all of them, and the end mark
 
@@ -198,7 +227,7 @@ before-none : (room : ℕ) → length (texts_before room []) ≤ room
 unfolding texts_before
 before-none room = omega arith
 
-length-before : (os : List OptionValue) (room : ℕ) → length (texts_before room os) ≤ room
+pub length-before : (os : List OptionValue) (room : ℕ) → length (texts_before room os) ≤ room
 length-before [] room = before-none room
 length-before (o ∷ os) room = before-more (fits room o) room o os refl (length-before os (room - length
     (option_text o)))
@@ -327,122 +356,30 @@ ended-options os s f t g old new (Err e) is room one two refusal left =
 
 -- ---- a writer that is done with
 
+from_start : (os : List OptionValue) (w : DhcpOptionWriter) (old : List ℕ) → settled w ≡ [] → free w ≡ old
+    → step_all (progress w (Ok tt)) os ≡ step_all (at [] old true) os
+unfolding progress
+from_start os w old none all =
+    ap (λ (l : List ℕ). step_all (at l (free w) true) os) none ∙ ap (λ (l : List ℕ). step_all (at [] l true) os) all
+
 -- where an option was refused
 pub writes-refused : (os : List OptionValue) (w v : DhcpOptionWriter) (old new : List ℕ) (e : Error)
     (result : Result (Unit {0}) Error)
-    → settled w ≡ [] → free w ≡ old → progress v result ≡ step_all (progress w (Ok tt)) os → result ≡ Err e
+    → settled w ≡ [] → free w ≡ old → progress v (Err e) ≡ step_all (progress w (Ok tt)) os → result ≡ Err e
     → new ≡ settled v ++ free v → WritesOptions os old result new
 unfolding progress
 writes-refused os w v old new e result none all is failed left =
-    let from : at (settled w) (free w) true ≡ at [] old true = ap (λ (l : List ℕ). at l (free w) true) none
-    ∙ ap (λ (l : List ℕ). at [] l true) all in
-    let gone : at (settled v) (free v) false ≡ step_all (at [] old true) os =
-    ap (λ (r : Result (Unit {0}) Error). at (settled v) (free v) (is_ok r)) (sym failed) ∙ is
-    ∙ ap (λ (p : Progress). step_all p os) from in
     subst (λ (r : Result (Unit {0}) Error). WritesOptions os old r new) (sym failed) (refused-options os (settled v)
-    (free v) old new e gone left)
+    (free v) old new e (is ∙ from_start os w old none all) left)
 
 -- where all were written
-pub writes-ended : (os : List OptionValue) (w v u : DhcpOptionWriter) (old new : List ℕ) (x : Unit {0})
-    (so_far result : Result (Unit {0}) Error)
-    → settled w ≡ [] → free w ≡ old → progress v so_far ≡ step_all (progress w (Ok tt)) os → so_far ≡ Ok x
+pub writes-ended : (os : List OptionValue) (w v u : DhcpOptionWriter) (old new : List ℕ)
+    (result : Result (Unit {0}) Error)
+    → settled w ≡ [] → free w ≡ old → progress v (Ok tt) ≡ step_all (progress w (Ok tt)) os
     → (IsOk result ↔ (0 < length (free v))) → OnOk result (settled u ≡ settled v ++ 255 ∷ drop 1 (free v))
     → OnOk result (free u ≡ [])
     → OnErr result (IsUnchanged v u) → new ≡ settled u ++ free u → WritesOptions os old result new
 unfolding progress
-writes-ended os w v u old new x so_far result none all is worked room one two refusal left =
-    let from : at (settled w) (free w) true ≡ at [] old true = ap (λ (l : List ℕ). at l (free w) true) none
-    ∙ ap (λ (l : List ℕ). at [] l true) all in
-    let gone : at (settled v) (free v) true ≡ step_all (at [] old true) os =
-    ap (λ (r : Result (Unit {0}) Error). at (settled v) (free v) (is_ok r)) (sym worked) ∙ is
-    ∙ ap (λ (p : Progress). step_all p os) from in
-    ended-options os (settled v) (free v) (settled u) (free u) old new result gone room one two refusal left
-
--- ---- the header, and the options behind it
-
-pub header_len-240 : (v : Value) → length (header_text v) ≡ 240
-unfolding header_text fields be8 be16 be32
-header_len-240 v = refl
-
--- a front and what was written behind it
-laid : (h old t : List ℕ) (n : ℕ) → length h ≡ n → length t + n ≤ length old
-    → h ++ over (drop n old) t ≡ over old (h ++ t)
-laid h old t n e room =
-    let long = length-append h t in
-    ap (λ (l : List ℕ). h ++ l) (over-fits (drop n old) t (omega (arith, length-drop n old)))
-    ∙ sym (append_assoc h t (drop (length t) (drop n old)))
-    ∙ ap (λ (l : List ℕ). (h ++ t) ++ l) (drop-drop (length t) n old
-    ∙ ap (λ (k : ℕ). drop k old) (omega (arith, long, e)))
-    ∙ sym (over-fits old (h ++ t) (omega (arith, long, e)))
-
-pub record Emitted (h t : List ℕ) (n : ℕ) (os : List OptionValue) (old : List ℕ) (result : Result (Unit {0}) Error)
-    (new : List ℕ) : Type 0 where
-  pub accepts : IsOk result ↔ (AllShort os × (length (h ++ t) ≤ length old))
-  pub ok : OnOk result (new ≡ over old (h ++ t))
-  pub refused : OnErr result (new ≡ over old (h ++ texts_before (length old - n) os))
-
-behind : (h old rest mine : List ℕ) (n : ℕ) (os : List OptionValue) (result : Result (Unit {0}) Error)
-    → length h ≡ n → n ≤ length old
-    → rest ≡ drop n old → WritesOptions os rest result mine
-    → Emitted h (options_text os ++ 255 ∷ []) n os old result (h ++ mine)
-behind h old rest mine n os (Ok x) e room is w =
-    let t : List ℕ = options_text os ++ 255 ∷ [] in
-    let two = w.accepts.0 refl in
-    let far = two.1 in
-    let fits_ : length t + n ≤ length old = omega (arith, ap length is, length-drop n old) in
-    record {
-      accepts = ((λ ok. (two.0, omega (arith, length-append h t, e))), (λ ok. refl));
-      ok = ap (λ (l : List ℕ). h ++ l) (w.ok ∙ ap (λ (l : List ℕ). over l t) is) ∙ laid h old t n e fits_;
-      refused = tt;
-    }
-behind h old rest mine n os (Err x) e room is w =
-    let t : List ℕ = options_text os ++ 255 ∷ [] in
-    let long : length rest ≡ length old - n = ap length is ∙ length-drop n old in
-    let before : List ℕ = texts_before (length old - n) os in
-    let short = length-before os (length old - n) in
-    record {
-      accepts = (
-        (λ ok. absurd (cc)),
-        (λ both. w.accepts.1 (
-          both.0,
-          let l = both.1 in omega (
-            arith,
-            length-append h t,
-            e,
-            long,
-          ),
-        )),
-      );
-      ok = tt;
-      refused = ap (λ (l : List ℕ). h ++ l) (w.refused
-          ∙ ap (λ (l : List ℕ). over l (texts_before (length rest) os)) is
-          ∙ ap (λ (k : ℕ). over (drop n old) (texts_before k os)) long)
-          ∙ laid h old before n e (omega arith);
-    }
-
--- what stands behind the header, as it is lent for the options
-lent : (h old mid : List ℕ) (n : ℕ) → length h ≡ n → n ≤ length old → mid ≡ over old h
-    → (take n mid ≡ h) × (take (length mid - n) (drop n mid) ≡ drop n old) × (drop (length mid - n) (drop n mid) ≡ [])
-lent h old mid n e room is =
-    let front : mid ≡ h ++ drop n old = is ∙ over-fits old h (omega (arith, e)) ∙ ap (λ (k : ℕ). h ++ drop k old) e in (
-      ap (λ (l : List ℕ). take n l) front ∙ take_at h (drop n old) n e,
-      take_rest mid n ∙ ap (λ (l : List ℕ). drop n l) front ∙ drop_at h (drop n old) n e,
-      drop_all (length mid - n) (drop n mid) (omega (arith, length-drop n mid)),
-    )
-
--- what writing a value leaves where the header was written, and then the options behind it
-pub laid_behind : (v : Value) (old mid mine : List ℕ) (result : Result (Unit {0}) Error) → 240 ≤ length old
-    → mid ≡ over old (header_text v)
-    → WritesOptions (options_of v) (take (length mid - 240) (drop 240 mid)) result mine
-    → Emitted (header_text v) (options_text (options_of v) ++ 255 ∷ []) 240 (options_of v) old result
-    (put_mid 240 (length mid - 240) mid mine)
-laid_behind v old mid mine result room is w =
-    let h : List ℕ = header_text v in
-    let t : List ℕ = options_text (options_of v) ++ 255 ∷ [] in
-    let three = lent h old mid 240 (header_len-240 v) room is in
-    let whole : put_mid 240 (length mid - 240) mid mine ≡ h ++ mine =
-    ap (λ (l : List ℕ). l ++ (mine ++ drop (length mid - 240) (drop 240 mid))) three.0
-    ∙ ap (λ (l : List ℕ). h ++ (mine ++ l)) three.2 ∙ ap (λ (l : List ℕ). h ++ l) (append-nil mine) in
-    subst (λ (new : List ℕ). Emitted h t 240 (options_of v) old result new) (sym whole)
-    (behind h old (take (length mid - 240) (drop 240 mid)) mine 240 (options_of v) result
-    (header_len-240 v) room three.1 w)
+writes-ended os w v u old new result none all is room one two refusal left =
+    ended-options os (settled v) (free v) (settled u) (free u) old new result (is ∙ from_start os w old none all) room
+    one two refusal left

@@ -1,22 +1,20 @@
 -- The format of DHCP packets: their bytes have one value, which is canonical, and what was written is read back.
-use Rattle.std.proofs.Common.{◌≡◌, ◌≢◌, ◌↔◌, IsOk, ℕ, ◌-◌, ◌≤◌, List, [], ◌∷◌, ◌++◌, length, take, drop}
+use Rattle.std.proofs.Common.{◌≡◌, ◌≢◌, ◌↔◌, IsOk, ℕ, ◌≤◌, List, [], ◌∷◌, ◌++◌, length, drop}
 use Rattle.std.proofs.Common.{Result, Ok, Err}
 use Rattle.std.proofs.Common.{OnOk, is_ok, true}
 use Rattle.std.proofs.Common.{refl, sym, ap, subst, ◌∙◌, arith, length-append}
 use Rattle.std.proofs.lemmas.List.{append_assoc}
 use Rattle.std.proofs.lemmas.Result.{on_ok_weaker}
-use borrow.Rule.Slice.PartMut.{put_mid}
 use Rattle.wirebase.specs.Bytes.{over}
 use Rattle.wirebase.specs.Format.{SameText}
 use Rattle.wirebase.specs.declared.error.Error.{Error}
 use Rattle.wirebase.proofs.Format.{IsFormat, round_trips, same_text}
 use Rattle.wirebase.proofs.Pieces.{over-fits, over-exact}
 use Rattle.dhcp_wire.specs.Dhcpv4.{Value, of_slots, slots_of, options_of, options_text, header_text, text, IsPacket}
-use Rattle.dhcp_wire.specs.Dhcpv4Emission.{WritesOptions}
 use Rattle.dhcp_wire.specs.Dhcpv4Format.{AllShort, CanEmit, IsCanonical, norm, format, Emits}
 use Rattle.dhcp_wire.specs.Dhcpv4Options.{OptionValue, option_text}
 use Rattle.dhcp_wire.proofs.Dhcpv4Canonical.{canonical-read}
-use Rattle.dhcp_wire.proofs.Dhcpv4Emission.{laid_behind}
+use Rattle.dhcp_wire.proofs.Dhcpv4Packet.{Emitted}
 use Rattle.dhcp_wire.proofs.Dhcpv4Lengths.{text_len-options, text_len-whole}
 use Rattle.dhcp_wire.proofs.Dhcpv4Kept.{packet-unique}
 use Rattle.dhcp_wire.proofs.Dhcpv4Reading.{packet-read}
@@ -110,13 +108,10 @@ counted : (v : Value) (room : ℕ) (result : Result (Unit {0}) Error)
 counted v room result h =
     subst (λ (n : ℕ). IsOk result ↔ (AllShort (options_of v) × (n ≤ room))) (text_len-whole v) h
 
-pub emits : (v : Value) (old mid mine : List ℕ) (result : Result (Unit {0}) Error) → 240 ≤ length old
-    → mid ≡ over old (header_text v)
-    → WritesOptions (options_of v) (take (length mid - 240) (drop 240 mid)) result mine
-    → Emits v old result (put_mid 240 (length mid - 240) mid mine)
-emits v old mid mine result room is w =
-    let new : List ℕ = put_mid 240 (length mid - 240) mid mine in
-    let all = laid_behind v old mid mine result room is w in
+pub emits : (v : Value) (old new : List ℕ) (result : Result (Unit {0}) Error)
+    → Emitted (header_text v) (options_text (options_of v) ++ 255 ∷ []) 240 (options_of v) old result new
+    → Emits v old result new
+emits v old new result all =
     let fits_ = on_ok-room (AllShort (options_of v)) (length (text v) ≤ length old) result all.accepts.0 in
     record {
       accepts = counted v (length old) result all.accepts;

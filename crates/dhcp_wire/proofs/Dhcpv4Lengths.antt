@@ -1,39 +1,12 @@
 -- How many bytes a value takes.
-use Rattle.std.proofs.Common.{◌≡◌, ℕ, ◌+◌, ◌*◌, ◌<◌, ◌^◌, List, [], ◌∷◌, ◌++◌, length, flat_map}
-use Rattle.std.proofs.Common.{Option, None, Some}
+use Rattle.std.proofs.Common.{◌≡◌, ℕ, ◌+◌, List, [], ◌∷◌, ◌++◌, length, Option, None, Some}
 use Rattle.std.proofs.Common.{refl, sym, ap, ◌∙◌, arith, length-append}
-use Rattle.std.specs.Option.{is_some, option_map}
 use Rattle.std.proofs.lemmas.Grind.{common_steps}
-use Rattle.std.proofs.lemmas.List.Concat.{flat_map-cons}
-use Rattle.wirebase.specs.ByteWriter.{be8, be16, be32}
-use Rattle.wirebase.specs.Ethernet.{octets_of as ethernet_octets}
-use Rattle.wirebase.specs.Ipv4.{octets_of}
-use Rattle.wirebase.specs.declared.ipv4.Ipv4Address.{Ipv4Address}
-use Rattle.wirebase.proofs.Pieces.{length-big_bytes}
 use Rattle.dhcp_wire.specs.Dhcpv4.{Value, Slot, of_slot, of_slots, slots_of, options_of, options_text, header_text}
 use Rattle.dhcp_wire.specs.Dhcpv4.{text}
-use Rattle.dhcp_wire.specs.Dhcpv4Format.{data_len, len_if, fields_len, options_len, text_len}
+use Rattle.dhcp_wire.specs.Dhcpv4Format.{data_len, slots_len, fields_len, options_len, text_len}
 use Rattle.dhcp_wire.specs.Dhcpv4Options.{OptionValue, option, option_text}
-use Rattle.dhcp_wire.specs.Dhcpv4Tables.{message_number}
-use Rattle.dhcp_wire.proofs.Dhcpv4Emission.{header_len-240}
-
-pub octets-len : (xs : List Ipv4Address) → length (flat_map octets_of xs) ≡ 4 * length xs
-octets-len [] = refl
-octets-len (x ∷ xs) =
-    omega (
-      arith,
-      octets-len xs,
-      ap length (flat_map-cons octets_of x xs),
-      length-append (octets_of x) (flat_map octets_of xs),
-    )
-
-pub be16-len : (n : ℕ) → length (be16 n) ≡ 2
-unfolding be16
-be16-len n = length-big_bytes 2 n
-
-pub be32-len : (n : ℕ) → length (be32 n) ≡ 4
-unfolding be32
-be32-len n = length-big_bytes 4 n
+use Rattle.dhcp_wire.proofs.Dhcpv4Packet.{header_len-240}
 
 pub text_len-options : (v : Value) → length (text v) ≡ 240 + (length (options_text (options_of v)) + 1)
 text_len-options v =
@@ -71,41 +44,13 @@ slot_len : (kind : ℕ) (body : Option (List ℕ)) (os : List OptionValue)
 slot_len kind None os = omega arith
 slot_len kind (Some d) os = options_len-more (option kind d) os
 
-map_len : {A : Type 0} (f : A → List ℕ) (n : ℕ) → ((x : A) → length (f x) ≡ n) → (a : Option A)
-    → data_len (option_map f a) ≡ len_if (is_some a) (2 + n)
-map_len f n long None = refl
-map_len f n long (Some x) = ap (λ (k : ℕ). 2 + k) (long x)
+slots_len-whole : (ss : List Slot) → length (options_text (of_slots ss)) ≡ slots_len ss
+slots_len-whole [] = options_len-none
+slots_len-whole (s ∷ ss) =
+    slot_len s.kind s.body (of_slots ss) ∙ ap (λ (n : ℕ). data_len s.body + n) (slots_len-whole ss)
 
-be8-len : (n : ℕ) → length (be8 n) ≡ 1
-unfolding be8
-be8-len n = refl
-
-abbrev slots_sum : List Slot → ℕ
-slots_sum [] = 0
-slots_sum (s ∷ ss) = data_len s.body + slots_sum ss
-
-slots_len : (ss : List Slot) → length (options_text (of_slots ss)) ≡ slots_sum ss
-slots_len [] = options_len-none
-slots_len (s ∷ ss) = slot_len s.kind s.body (of_slots ss) ∙ ap (λ (n : ℕ). data_len s.body + n) (slots_len ss)
-
-fields_sum : (v : Value) → slots_sum (slots_of v) + 241 ≡ fields_len v
-fields_sum v =
-    omega (
-      arith,
-      be8-len (message_number v.message_type),
-      map_len (λ a. 1 ∷ ethernet_octets a) 7 (λ x. refl) v.client_identifier,
-      map_len octets_of 4 (λ x. refl) v.server_identifier,
-      map_len octets_of 4 (λ x. refl) v.router,
-      map_len octets_of 4 (λ x. refl) v.subnet_mask,
-      map_len octets_of 4 (λ x. refl) v.requested_ip,
-      map_len be16 2 be16-len v.max_size,
-      map_len be32 4 be32-len v.lease_duration,
-      map_len be32 4 be32-len v.renew_duration,
-      map_len be32 4 be32-len v.rebind_duration,
-    )
-
-with-ends : (a b f : ℕ) → a + 241 ≡ f → 240 + (a + b + 1) ≡ f + b
-with-ends a b f e = omega (arith, e)
+with-ends : (a b : ℕ) → 240 + (a + b + 1) ≡ 241 + a + b
+with-ends a b = omega arith
 
 -- the fields, and the additional options
 pub text_len-fields : (v : Value) → length (text v) ≡ fields_len v + length (options_text v.additional_options)
@@ -113,8 +58,7 @@ text_len-fields v =
     text_len-options v
     ∙ ap (λ (n : ℕ). 240 + (n + 1)) (options_len-append (of_slots (slots_of v)) v.additional_options)
     ∙ with-ends (length (options_text (of_slots (slots_of v)))) (length (options_text v.additional_options))
-    (fields_len v)
-    (ap (λ (n : ℕ). n + 241) (slots_len (slots_of v)) ∙ fields_sum v)
+    ∙ ap (λ (n : ℕ). 241 + n + length (options_text v.additional_options)) (slots_len-whole (slots_of v))
 
 options_len-whole : (os : List OptionValue) → length (options_text os) ≡ options_len os
 options_len-whole [] = options_len-none
@@ -125,7 +69,4 @@ pub text_len-whole : (v : Value) → length (text v) ≡ text_len v
 text_len-whole v =
     text_len-fields v ∙ ap (λ (n : ℕ). fields_len v + n) (options_len-whole v.additional_options)
 
-pub fields_len-room : (v : Value) → length (text v) < 2 ^ 64 → fields_len v < 2 ^ 64
-fields_len-room v h = let e = text_len-fields v in omega (arith, e, h)
-
-pub ruleset lengths = (common_steps, options_len-none, options_len-more, octets-len)
+pub ruleset lengths = (common_steps, options_len-none, options_len-more)

@@ -30,7 +30,7 @@ use Rattle.dhcp_wire.specs.Dhcpv4Packet.{ciaddr_field, yiaddr_field, siaddr_fiel
 use Rattle.dhcp_wire.specs.Dhcpv4Packet.{magic_field}
 use Rattle.dhcp_wire.specs.Dhcpv4Tables.{opcode_number, operation_of, message_number, message_rows}
 use Rattle.dhcp_wire.proofs.Dhcpv4Addresses.{whole-short}
-use Rattle.dhcp_wire.proofs.Dhcpv4Emission.{header_len-240}
+use Rattle.dhcp_wire.proofs.Dhcpv4Packet.{header_len-240}
 use Rattle.wirebase.proofs.LastOf.{or-assoc, or-none}
 
 -- ---- the options of a text

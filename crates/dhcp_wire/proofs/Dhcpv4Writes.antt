@@ -1,15 +1,42 @@
--- Lemmas that the writers' functions are proved with
-use Rattle.std.proofs.Common.{◌≡◌, ℕ, ◌<◌, List, ◌∷◌, ◌++◌, length, take, drop, slice_set, refl, ap, ◌∙◌, sym, add-one}
-use Rattle.std.proofs.Common.{arith, length-set}
-use Rattle.std.proofs.lemmas.Slice.{take-put_mid, drop-put_mid}
-use Rattle.std.proofs.lemmas.List.{set_split, drop-drop, take_all}
+-- What a writer of options is proved with.
+use Rattle.std.proofs.Common.{◌≡◌, ℕ, ◌+◌, ◌≤◌, List, [], ◌∷◌, length, drop}
+use Rattle.std.proofs.Common.{refl, sym, ap, ◌∙◌, arith}
 use Rattle.std.proofs.lemmas.Grind.{common_steps}
+use Rattle.std.proofs.lemmas.List.{append-nil}
+use Rattle.std.proofs.lemmas.Slice.{take-put_mid, drop-put_mid}
+use Rattle.wirebase.specs.Bytes.{over}
+use Rattle.wirebase.specs.ByteWriter.{Writer, be8, fields, IsBlank, Puts, put_all, sheet}
+use Rattle.wirebase.proofs.Chains.{over-puts, whole-sheet}
+use Rattle.wirebase.proofs.Pieces.{over-exact, over-fits}
+use Rattle.dhcp_wire.specs.Dhcpv4Options.{OptionValue, option_text}
 
--- a mark at place p, and the whole list counted as settled
-pub take_marked : (b : List ℕ) (p k n : ℕ) → n ≡ length b → p < length b
-    → take n (slice_set b p k) ≡ take p b ++ k ∷ drop 1 (drop p b)
-take_marked b p k n e h =
-    take_all n (slice_set b p k) (omega (arith, length-set {A = ℕ})) ∙ set_split b p k h
-    ∙ ap (λ r. take p b ++ k ∷ r) (sym (drop-drop 1 p b ∙ rw add-one refl))
+-- an option, field by field
+option-fields : (o : OptionValue) → fields (be8 o.kind ∷ be8 (length o.body) ∷ o.body ∷ []) ≡ option_text o
+unfolding fields be8
+option-fields o = ap (λ (l : List ℕ). o.kind ∷ length o.body ∷ l) (append-nil o.body)
 
-pub ruleset writes = (common_steps, take-put_mid, drop-put_mid, take_marked)
+option-len : (o : OptionValue) → length (option_text o) ≡ 2 + length o.body
+option-len o = omega arith
+
+-- octets of its length hold just the option
+pub option-whole : (old : List ℕ) (w v : Writer) (o : OptionValue) → IsBlank w old → length old ≡ 2 + length o.body
+    → sheet v ≡ put_all (sheet w) (be8 o.kind ∷ be8 (length o.body) ∷ o.body ∷ [])
+    → v.buffer.now ≡ option_text o
+option-whole old w v o fresh long puts =
+    over-puts old w v (be8 o.kind ∷ be8 (length o.body) ∷ o.body ∷ []) fresh
+    (record { puts = puts; whole = sym (whole-sheet v) })
+    ∙ ap (λ (text : List ℕ). over old text) (option-fields o)
+    ∙ over-exact old (option_text o) (long ∙ sym (option-len o))
+
+mark-fields : fields (be8 255 ∷ []) ≡ 255 ∷ []
+unfolding fields be8
+mark-fields = refl
+
+-- the end mark over the first octet
+pub mark-first : (old : List ℕ) (w v : Writer) → IsBlank w old → 1 ≤ length old → Puts w v (be8 255 ∷ [])
+    → v.buffer.now ≡ 255 ∷ drop 1 old
+mark-first old w v fresh some puts =
+    over-puts old w v (be8 255 ∷ []) fresh puts ∙ ap (λ (text : List ℕ). over old text) mark-fields
+    ∙ over-fits old (255 ∷ []) some
+
+pub ruleset writes = (common_steps, take-put_mid, drop-put_mid)

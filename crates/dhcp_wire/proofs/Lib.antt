@@ -1,9 +1,11 @@
+pub mod Dhcpv4Data
 pub mod Dhcpv4Lists
 pub mod Dhcpv4Writes
 pub mod Dhcpv4Text
 pub mod Dhcpv4Addresses
 pub mod Dhcpv4Kept
 pub mod Dhcpv4Emission
+pub mod Dhcpv4Packet
 pub mod Dhcpv4Lengths
 pub mod Dhcpv4Reading
 pub mod Dhcpv4Canonical

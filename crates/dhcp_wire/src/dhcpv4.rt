@@ -1,5 +1,6 @@
 //! The Dynamic Host Configuration Protocol (RFC 2131) with its options (RFC 2132).
 
+mod data;
 mod emission;
 mod found;
 mod kinds;

@@ -1,13 +1,16 @@
 //! Options, read in turn and written in turn (RFC 2132 section 2).
 
 ghost use Rattle.std.specs.Prelude.{◌≡◌, ◌≤◌, ◌<◌, ◌+◌, ◌++◌, ◌∷◌, [], ◌↔◌, List, ℕ, length, drop, IsOk, OnOk, OnErr};
-ghost use Rattle.dhcp_wire.specs.Dhcpv4Options.{OptionValue, value_of_option, option_text, Options};
+ghost use Rattle.dhcp_wire.specs.Dhcpv4Options.{OptionValue, value_of_option, option, option_text, Options};
 ghost use Rattle.dhcp_wire.specs.Dhcpv4OptionsAhead.{list_of};
+ghost use Rattle.std.specs.Option.{option_map};
+ghost use Rattle.dhcp_wire.specs.Dhcpv4.{slot};
 ghost use Rattle.dhcp_wire.specs.Dhcpv4Options.{GivesFirst, HasNoPadding};
 
+use super::data::Data;
 use super::kinds::{OPT_END, OPT_PAD};
 use std::marker::Model;
-use wirebase::{Error, Result};
+use wirebase::{ByteWriter, Error, Result};
 
 // The greatest number of bytes of data: an option counts them in one byte.
 const MAX_DATA_LEN: usize = 255;
@@ -94,6 +97,7 @@ pub struct DhcpOptionWriter<'a> {
 
 impl<'a> DhcpOptionWriter<'a> {
     ghost use Rattle.dhcp_wire.specs.Dhcpv4Writer.{settled, free, the_slice, Fits, IsUnchanged};
+    ghost use Rattle.dhcp_wire.specs.Dhcpv4Emission.{progress, step_slot};
 
     /// A writer over this slice, all of whose bytes are free.
     pub fn new(buffer: &'a mut [u8]) -> DhcpOptionWriter<'a>
@@ -119,20 +123,7 @@ impl<'a> DhcpOptionWriter<'a> {
         ensures refused { OnErr result (IsUnchanged self.old self.new) }
         ensures same_slice { the_slice self.new ≡ the_slice self.old }
     {
-        let data = option.data;
-        let count = data.len();
-        if count > MAX_DATA_LEN {
-            return Err(Error);
-        }
-        let start = self.position;
-        if self.buffer.len() - start < 2 + count {
-            return Err(Error);
-        }
-        self.buffer[start] = option.kind;
-        self.buffer[start + 1] = count as u8;
-        self.buffer[start + 2..start + 2 + count].copy_from_slice(data);
-        self.position = start + 2 + count;
-        Ok(())
+        self.emit_data(option.kind, option.data)
     }
 
     /// Writes the end mark. After that no byte is free. Refused where none is; then nothing changes.
@@ -148,8 +139,62 @@ impl<'a> DhcpOptionWriter<'a> {
         if start == self.buffer.len() {
             return Err(Error);
         }
-        self.buffer[start] = OPT_END;
+        write_end(&mut self.buffer[start..]);
         self.position = self.buffer.len();
         Ok(())
     }
+
+    // Writes an option of this kind with the data that a field of a value gives, where it is there.
+    pub(super) fn put<D: Data>(&mut self, kind: u8, field: Option<D>) -> Result<()>
+        ensures step { progress self.new result
+            ≡ step_slot (progress self.old (Ok tt)) (slot kind (option_map D.bytes field)) }
+        ensures same_slice { the_slice self.new ≡ the_slice self.old }
+    {
+        match field {
+            Some(data) => self.emit_data(kind, data),
+            None => Ok(()),
+        }
+    }
+
+    // Writes an option of this kind with these data, or refuses it, as `emit`.
+    fn emit_data<D: Data>(&mut self, kind: u8, data: D) -> Result<()>
+        ensures accepts { IsOk result
+            ↔ Fits (length (free self.old)) (option kind (D.bytes «data»)) }
+        ensures settled { OnOk result
+            (settled self.new ≡ settled self.old ++ option_text (option kind (D.bytes «data»))) }
+        ensures free { OnOk result
+            (free self.new ≡ drop (2 + length (D.bytes «data»)) (free self.old)) }
+        ensures refused { OnErr result (IsUnchanged self.old self.new) }
+        ensures same_slice { the_slice self.new ≡ the_slice self.old }
+    {
+        let start = self.position;
+        let len = data.len();
+        if len > MAX_DATA_LEN || self.buffer.len() - start < 2 + len {
+            return Err(Error);
+        }
+        let end = start + 2 + len;
+        write_option(&mut self.buffer[start..end], kind, len as u8, data);
+        self.position = end;
+        Ok(())
+    }
+}
+
+// Writes an option over octets of its length.
+fn write_option<D: Data>(octets: &mut [u8], kind: u8, len: u8, data: D)
+    requires counted { len ≡ length (D.bytes «data») }
+    requires room { length octets.old ≡ 2 + length (D.bytes «data») }
+    ensures { octets.new ≡ option_text (option kind (D.bytes «data»)) }
+{
+    let mut w = ByteWriter::new(octets);
+    w.put_u8(kind);
+    w.put_u8(len);
+    data.put(&mut w);
+}
+
+// Writes the end mark over the first octet.
+fn write_end(octets: &mut [u8])
+    requires { 1 ≤ length octets.old }
+    ensures { octets.new ≡ 255 ∷ drop 1 octets.old }
+{
+    ByteWriter::new(octets).put_u8(OPT_END);
 }

@@ -1,4 +1,4 @@
-use Rattle.std.proofs.Common.{◌≡◌, drop, map}
+use Rattle.std.proofs.Common.{◌≡◌, Ok, drop, map}
 use Rattle.dhcp_wire.specs.Dhcpv4Emission.{progress, step_all}
 use Rattle.dhcp_wire.specs.Dhcpv4Options.{value_of_option}
 use Rattle.dhcp_wire.specs.Dhcpv4Writer.{the_slice}
@@ -8,6 +8,6 @@ use Rattle.dhcp_wire.proofs.dhcpv4.emission.put_all.Given as goal
 abbrev pub invariant-loop-option : goal.invariant-loop-option
 invariant-loop-option l = record {
   same : the_slice l.w ≡ the_slice l.initial.w;
-  left : step_all (progress l.w l.so_far) (map value_of_option (drop l.option-index l.options))
-      ≡ step_all (progress l.initial.w l.initial.so_far) (map value_of_option l.options);
+  left : step_all (progress l.w (Ok tt)) (map value_of_option (drop l.option-index l.options))
+      ≡ step_all (progress l.initial.w (Ok tt)) (map value_of_option l.options);
 }

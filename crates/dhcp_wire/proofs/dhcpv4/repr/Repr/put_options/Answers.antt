@@ -1,12 +1,15 @@
-use Rattle.std.proofs.Common.{ap, sym, ◌∙◌, Ok, map}
+use Rattle.std.proofs.Common.{rules, ◌≡◌, Err}
 use Rattle.dhcp_wire.specs.Dhcpv4.{value_of}
-use Rattle.dhcp_wire.specs.Dhcpv4Emission.{Progress, progress, step_all}
-use Rattle.dhcp_wire.specs.Dhcpv4Options.{value_of_option}
-use Rattle.dhcp_wire.proofs.Dhcpv4Emission.{fields-then}
+use Rattle.dhcp_wire.proofs.Dhcpv4Emission.{fields-refused, fields-written}
 use Rattle.dhcp_wire.proofs.dhcpv4.repr.Repr.put_options.Goals as goal
+
+pub returns-in_err-put_fields-clause-steps : goal.returns-in_err-put_fields-clause-steps
+returns-in_err-put_fields-clause-steps c =
+    let failed : c.from_residual.result ≡ Err c.in_err-put_fields.field-0.0 = search rules in
+    fields-refused c.args.w.now c.put_fields.new.w _ _ (value_of c.args.self.now) c.in_err-put_fields.ensures.steps
+    failed
 
 pub returns-clause-steps : goal.returns-clause-steps
 returns-clause-steps c =
-    c.put_all.ensures.steps
-    ∙ ap (λ (p : Progress). step_all p (map value_of_option c.args.self.now.additional_options.now))
-    c.put_fields-so_far.ensures.steps ∙ sym (fields-then (progress c.args.w.now (Ok tt)) (value_of c.args.self.now))
+    fields-written c.args.w.now c.put_fields.new.w c.put_all.new.w c.put_all.result (value_of c.args.self.now)
+    c.in_ok-put_fields.ensures.steps c.put_all.ensures.steps

@@ -1,7 +1,7 @@
 use Rattle.std.proofs.Common.{◌≡◌, ◌+◌, length, drop, map}
 use Rattle.dhcp_wire.specs.Dhcpv4.{value_of, options_text, text}
 use Rattle.dhcp_wire.specs.Dhcpv4Options.{value_of_option}
-use Rattle.dhcp_wire.proofs.dhcpv4.repr.Repr.whole_len.Given as goal
+use Rattle.dhcp_wire.proofs.dhcpv4.repr.Repr.buffer_len.Given as goal
 
 -- what is counted, and what is left to count
 abbrev pub invariant-loop-option : goal.invariant-loop-option
