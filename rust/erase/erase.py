@@ -179,6 +179,7 @@ def erase_rest(unit, file):
     file.rule = "prelude"
     if file.runtime:
         runtime.prelude(file)
+    rules.comments(file)
     rules.check(file)
 
 

@@ -289,6 +289,22 @@ def reads_from_any(file, i):
 
 # ---------------------------------------------------------------- at the end
 
+# Comments that are not true of the Rust crate, and what stands in their place.
+COMMENTS = {
+    "/// What holds octets: `&[u8]` and `&mut [u8]` alone.":
+        "/// What holds octets: all that lends a slice of them. The proofs are of `&[u8]` and `&mut [u8]`.",
+    "/// What holds octets that may be written: `&mut [u8]` alone.":
+        "/// What holds octets that may be written: all that lends a slice of them so. The proofs are of `&mut [u8]`.",
+}
+
+
+def comments(file):
+    """Comments that are not true of the Rust crate are others; no token is touched."""
+    for token in file.tokens:
+        for one, other in COMMENTS.items():
+            token.pre = token.pre.replace(one, other)
+
+
 def paths(file, crates, own):
     """The crates of the library become modules of one, and std is core."""
     words = {**crates, "crate": f"crate::{own}" if own else "crate", "std": "std" if file.runtime else "core"}

@@ -19,7 +19,7 @@ pub mod octets;
 mod testing;
 
 pub use byte_writer::ByteWriter;
-pub use capabilities::ChecksumCapabilities;
+pub use capabilities::{Checksum, ChecksumCapabilities};
 pub use config::IPV6_HBH_MAX_OPTIONS;
 pub use duration::Duration;
 pub use error::{Error, Result};

@@ -3,11 +3,13 @@ import pathlib
 import sys
 import unittest
 
-sys.path.insert(0, str(pathlib.Path(__file__).resolve().parents[1]))
+HERE = pathlib.Path(__file__).resolve().parents[1]
+sys.path.insert(0, str(HERE))
 
 import audit
 import erase
 import flag_sets
+import rules
 from tokens import File, Refused, tokens_of
 
 PATH = pathlib.Path("crates/one_wire/src/one.rt")
@@ -182,6 +184,11 @@ class Rules(unittest.TestCase):
         file.crate = "one_wire"
         erase.erase([unit])
         self.assertEqual(str(file), "//! Docs.\n\n\n/// Of f.\nfn f() -> u8 { 1 }\n")
+
+    def test_each_comment_that_is_exchanged_stands_in_the_source(self):
+        sources = [path.read_text() for path in (HERE.parents[1] / "crates").glob("*/src/**/*.rt")]
+        for comment in rules.COMMENTS:
+            self.assertEqual(sum(comment in source for source in sources), 1, comment)
 
     def test_a_function_that_does_nothing_in_another_file(self):
         self.assertEqual(erased("fn f() -> u8 { facts(1); 2 }", above="pub fn facts(a: u8) {}"), words_of("fn f() -> u8 { 2 }"))
