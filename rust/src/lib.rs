@@ -13,6 +13,7 @@ mod icmp4_wire;
 mod icmp6_wire;
 mod opt_wire;
 pub mod quotes;
+pub mod record;
 mod wirebase;
 
 pub use by_hand::smoltcp;

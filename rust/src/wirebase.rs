@@ -9,7 +9,6 @@ pub mod config;
 pub mod duration;
 pub mod error;
 pub mod ethernet;
-pub mod failing_writer;
 pub mod hardware;
 pub mod ip;
 pub mod ipv4;
