@@ -70,7 +70,7 @@ def model(file, i):
 
 @rule(VALUES)
 def drop(file, i):
-    """`Drop` in a derive or a bound goes: in Rattle a value may be let go only where its type is `Drop`, in Rust any may.
+    """`Drop` in a derive or a bound goes: in Rattle only a value of such a type may be let go, in Rust any may.
 
     A destructor is refused."""
     if file.text(i) != "Drop":
@@ -159,7 +159,7 @@ def nothing(file, i):
 
 @rule(STD)
 def formatter(file, i):
-    """`fn fmt<W: fmt::Write>(.., f: &mut fmt::Formatter<W>)` loses its writer: Rust's Formatter has no parameter for it."""
+    """`fn fmt<W: fmt::Write>(.., f: &mut fmt::Formatter<W>)` loses its writer, for which Rust has no parameter."""
     if file.text(i) != "fn" or file.text(i + 2) != "<":
         return None
     close = file.close_angle(i + 2)
