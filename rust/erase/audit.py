@@ -1,12 +1,12 @@
 #!/usr/bin/env python3
-"""Audits what the rules did: every token of the source is in the output, in its order, or was taken away by a rule in a
-shape that the table below allows it; and nothing else was put in.
+"""Audits what the rules did: every token of the source is in the output, in its order, or was taken away by a rule in
+a shape that the table below allows it; and nothing else was put in.
 
     audit.py SOURCES OUT     SOURCES is the repository, OUT the folder with the crate
 
-The table is no part of the rules, and knows nothing of how they work: a rule that takes a statement of a body away fails
-here. So does an output that was changed by hand. Formatting may add and drop commas and the braces of an arm, and sort
-imports; all other tokens of OUT are counted against what the rules left.
+The table is no part of the rules, and knows nothing of how they work: a rule that takes a statement of a body away
+fails here. So does an output that was changed by hand. Formatting may add and drop commas and the braces of an arm, and
+sort imports; all other tokens of OUT are counted against what the rules left.
 """
 import collections
 import pathlib
@@ -51,7 +51,8 @@ SHAPES = {
     "hex_groups": (r"Ipv6Addr :: from|\. hex_groups \( \.\. \)", r"(crate :: by_hand :: HexGroups)?"),
     "from_utf8": (r"str", r"core :: str"),
     "label": (r"'\w+ :", ""),
-    "flag_set": (r"# \[ \.\. \] pub struct \w+ \( \.\. \) ;|impl [^{};]*\{ \.\. \}", r"(bitflags :: bitflags ! \{.*\})?"),
+    "flag_set": (r"# \[ \.\. \] pub struct \w+ \( \.\. \) ;|impl [^{};]*\{ \.\. \}",
+                 r"(bitflags :: bitflags ! \{.*\})?"),
     "flags_trait": (r"use bitflags :: Flags( as \w+)? ;", ""),
     "lender": (r"impl Octets(Mut)? for & (mut )?\[ \.\. \] \{ \.\. \}", ""),
     "lends_from_any": (r"\[ \.\. \]|", r"B|(, |< )?B : AsRef < \[ u8 \] > \+ \? Sized( >)?|\. as_ref \( \)"),
@@ -61,8 +62,8 @@ SHAPES = {
     "takes_alloc": (r"to_string|concat|to_vec|repeat|clone|vec|in [^;]* ;",
                     r"to_string_in|concat_in|to_vec_in|repeat_in|try_clone|rattle_std :: vec|"),
     "reader": (r"rt \. reader", r"io :: reader"),
-    "handed": (r"let alloc = rt \. alloc \( \.\. \) ;|"
-               r"(, )?&? ?(rt|alloc)( : &? ?(impl \w+|\( \.\. \)|HostRuntime|Global))?( \. alloc \( \.\. \))?( ,)?", ""),
+    "handed": (r"let alloc = rt \. alloc \( \.\. \) ;|(, )?&? ?(rt|alloc)"
+               r"( : &? ?(impl \w+|\( \.\. \)|HostRuntime|Global))?( \. alloc \( \.\. \))?( ,)?", ""),
     "std_module": (r"std|hex", r"rattle_std( :: hex)?"),
     "imports": (r"use [\w: ]*(\{ \.\. \})?( as \w+)? ;|, [\w:]+( as \w+)?|[\w:]+( as \w+)? ,", ""),
     "paths": (r"\w+", r"core|std|control_wire( :: \w+)?|crate( :: \w+)?"),
@@ -78,9 +79,15 @@ def is_allowed(source, kept, edit):
         return False
     if taken and any(origin in kept for origin in range(edit.taken[0], edit.taken[-1])):
         return False
+    if edit.rule in FIRST_OF_A_PATH and source[edit.taken[-1] + 1] != "::":
+        return False
     takes, puts = SHAPES[edit.rule]
-    extra = INSIDE.get(edit.rule)
-    return bool(re.fullmatch(takes, outline) and re.fullmatch(puts, put, re.S) and (extra is None or extra(taken)))
+    is_inside = INSIDE.get(edit.rule, lambda taken: True)
+    return bool(re.fullmatch(takes, outline) and re.fullmatch(puts, put, re.S) and is_inside(taken))
+
+
+# The rules that exchange the first word of a path.
+FIRST_OF_A_PATH = ("from_utf8", "paths", "std_module")
 
 
 def is_tactic(taken):
@@ -146,7 +153,8 @@ def audit(file, problems):
     for edit in file.edits:
         if not is_allowed(source, stays, edit):
             taken = " ".join(source[origin] for origin in edit.taken)
-            problems.append(f"{file.path}:{edit.line}: `{edit.rule}` takes `{taken[:80]}` and puts `{' '.join(edit.put)[:80]}`")
+            problems.append(f"{file.path}:{edit.line}: `{edit.rule}` takes `{taken[:80]}`, and puts "
+                            f"`{' '.join(edit.put)[:80]}` in its place")
     for at, token in enumerate(file.tokens):
         if token.origin is None and (at == 0 or file.tokens[at - 1].edit is not token.edit):
             if not is_in_place(file, token.edit, at):

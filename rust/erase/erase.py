@@ -76,7 +76,7 @@ def read(source, target, shown, files, runs=False):
 
 
 def kinds_of(needs):
-    """The rows of the table by their kinds. Each crate of the repository that is not below a root or a module has one."""
+    """The rows of the table by their kinds. Each crate that is not below a root or a module has one."""
     kinds = collections.defaultdict(dict)
     for kind, crate, *name in table():
         if kind not in ("root", "module", "package", "example", "left"):
@@ -179,6 +179,7 @@ def erase_rest(unit, file):
     file.rule = "prelude"
     if file.runtime:
         runtime.prelude(file)
+    rules.comments(file)
     rules.check(file)
 
 
@@ -234,15 +235,15 @@ def manifest_of(unit, kinds, needs):
     root = next(iter(unit.files.values()))
     docs = re.match(r"(?://! .*\n)+", root.source).group()
     description = re.match(r"(.+?)\.( |$)", docs.replace("//! ", "").replace("\n", " ")).group(1)
-    lines = {"control_wire": 'control_wire = { path = "../.." }', "rattle_std": 'rattle_std = { path = "../../rattle_std" }'}
+    lines = {"control_wire": 'control_wire = { path = "../.." }',
+             "rattle_std": 'rattle_std = { path = "../../rattle_std" }'}
     for need in needs[unit.root]:
         if need in kinds["package"]:
             lines[need] = f'{kinds["package"][need]} = {{ path = "../{kinds["package"][need]}" }}'
         elif need not in needs and need != "hex":
             lines[need] = f"{need}.workspace = true"
-    text = MANIFEST.format(path=root.path, name=unit.folder.name, description=description.replace('"', "'"),
+    return MANIFEST.format(path=root.path, name=unit.folder.name, description=description.replace('"', "'"),
                            needs="\n".join(lines[need] for need in sorted(lines)))
-    return text
 
 
 def sets_test(sets):

@@ -54,7 +54,7 @@ MACRO = """bitflags::bitflags! {{
 
 
 def flag_set(file, i):
-    """A set of flags by hand is one by `bitflags!`: the same bits and names, and the operators that the macro writes."""
+    """A set of flags by hand is one by `bitflags!`: the same bits and names, and the operators of the macro."""
     if file.text(i) != "struct" or file.text(i + 2) != "(" or not file.texts(i + 4, ")", ";"):
         return None
     name, bits = file.text(i + 1), file.text(i + 3)

@@ -70,7 +70,7 @@ def model(file, i):
 
 @rule(VALUES)
 def drop(file, i):
-    """`Drop` in a derive or a bound goes: in Rattle a value may be let go only where its type is `Drop`, in Rust any may.
+    """`Drop` in a derive or a bound goes: in Rattle only a value of such a type may be let go, in Rust any may.
 
     A destructor is refused."""
     if file.text(i) != "Drop":
@@ -159,7 +159,7 @@ def nothing(file, i):
 
 @rule(STD)
 def formatter(file, i):
-    """`fn fmt<W: fmt::Write>(.., f: &mut fmt::Formatter<W>)` loses its writer: Rust's Formatter has no parameter for it."""
+    """`fn fmt<W: fmt::Write>(.., f: &mut fmt::Formatter<W>)` loses its writer, for which Rust has no parameter."""
     if file.text(i) != "fn" or file.text(i + 2) != "<":
         return None
     close = file.close_angle(i + 2)
@@ -288,6 +288,22 @@ def reads_from_any(file, i):
 
 
 # ---------------------------------------------------------------- at the end
+
+# Comments that are not true of the Rust crate, and what stands in their place.
+COMMENTS = {
+    "/// What holds octets: `&[u8]` and `&mut [u8]` alone.":
+        "/// What holds octets: all that lends a slice of them. The proofs are of `&[u8]` and `&mut [u8]`.",
+    "/// What holds octets that may be written: `&mut [u8]` alone.":
+        "/// What holds octets that may be written: all that lends a slice of them so. The proofs are of `&mut [u8]`.",
+}
+
+
+def comments(file):
+    """Comments that are not true of the Rust crate are others; no token is touched."""
+    for token in file.tokens:
+        for one, other in COMMENTS.items():
+            token.pre = token.pre.replace(one, other)
+
 
 def paths(file, crates, own):
     """The crates of the library become modules of one, and std is core."""

@@ -12,6 +12,8 @@ mod dns_wire;
 mod icmp4_wire;
 mod icmp6_wire;
 mod opt_wire;
+pub mod quotes;
+pub mod record;
 mod wirebase;
 
 pub use by_hand::smoltcp;
@@ -31,9 +33,8 @@ pub use crate::opt_wire::ndiscoption::{
     RedirectedHeader as NdiscRedirectedHeader, Repr as NdiscOptionRepr,
 };
 pub use crate::opt_wire::{ipv6ext_header, ipv6hbh, ipv6option, ndiscoption};
-pub use crate::wirebase::capabilities::Checksum;
 pub use crate::wirebase::{
-    ByteWriter, ChecksumCapabilities, Duration, Error, EthernetAddress, Field, Hardware,
+    ByteWriter, Checksum, ChecksumCapabilities, Duration, Error, EthernetAddress, Field, Hardware,
     IPV6_HBH_MAX_OPTIONS, IPV6_HEADER_LEN, IPV6_LINK_LOCAL_ALL_NODES, IPV6_LINK_LOCAL_ALL_ROUTERS,
     IPV6_MIN_MTU, IpProtocol, Ipv4Address, Ipv4Packet, Ipv4Repr, Ipv6Address, Ipv6Packet, Ipv6Repr,
     MAX_HARDWARE_ADDRESS_LEN, Octets, OctetsMut, RawHardwareAddress, Result, checksum, octets,

@@ -9,7 +9,6 @@ pub mod config;
 pub mod duration;
 pub mod error;
 pub mod ethernet;
-pub mod failing_writer;
 pub mod hardware;
 pub mod ip;
 pub mod ipv4;
@@ -19,7 +18,7 @@ pub mod octets;
 mod testing;
 
 pub use byte_writer::ByteWriter;
-pub use capabilities::ChecksumCapabilities;
+pub use capabilities::{Checksum, ChecksumCapabilities};
 pub use config::IPV6_HBH_MAX_OPTIONS;
 pub use duration::Duration;
 pub use error::{Error, Result};

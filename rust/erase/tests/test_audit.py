@@ -133,8 +133,10 @@ class Audit(unittest.TestCase):
         self.assertEqual(len(problems), 1)
 
     def test_files_that_were_changed_by_hand(self):
-        for change, told in ((lambda text: text, 0), (lambda text: text.replace("2", "3"), 1),
-                             (lambda text: text.replace("a.set(2);", ""), 1), (lambda text: text.replace("{", "{\n"), 0)):
+        for change, told in ((lambda text: text, 0),
+                             (lambda text: text.replace("{", "{\n"), 0),
+                             (lambda text: text.replace("2", "3"), 1),
+                             (lambda text: text.replace("a.set(2);", ""), 1)):
             unit, kinds, problems = unit_of(SOURCE), {"module": {}}, []
             unit.root = "other"
             erase.erase([unit])
@@ -146,7 +148,8 @@ class Audit(unittest.TestCase):
             self.assertEqual(len(problems), told)
 
     def test_the_lexer_loses_nothing(self):
-        source = "fn f<'a>(b: &'a str) -> u8 { r#\"\"a\"\"#; b\"\\\"\"; 'x'; b'\\n'; '\\u{1f}'; 1.5e3; 0..=9; /* a /* b */ */ 0x1f_u8 } // c"
+        source = ("fn f<'a>(b: &'a str) -> u8 { r#\"\"a\"\"#; b\"\\\"\"; 'x'; b'\\n'; '\\u{1f}'; "
+                  "1.5e3; 0..=9; /* a /* b */ */ 0x1f_u8 } // c")
         tokens = tokens_of(source)
         self.assertEqual("".join(token.pre + token.text for token in tokens), source)
         for text in ("'a", 'r#""a""#', 'b"\\""', "'x'", "b'\\n'", "'\\u{1f}'", "..=", "0x1f_u8"):

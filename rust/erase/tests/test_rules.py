@@ -3,11 +3,13 @@ import pathlib
 import sys
 import unittest
 
-sys.path.insert(0, str(pathlib.Path(__file__).resolve().parents[1]))
+HERE = pathlib.Path(__file__).resolve().parents[1]
+sys.path.insert(0, str(HERE))
 
 import audit
 import erase
 import flag_sets
+import rules
 from tokens import File, Refused, tokens_of
 
 PATH = pathlib.Path("crates/one_wire/src/one.rt")
@@ -68,9 +70,11 @@ ROWS = {
                "#[inline] fn f() -> u8 { 1 }"),
     "final": ("trait T { final fn f(&self) -> u8 { 1 } }", "trait T { fn f(&self) -> u8 { 1 } }"),
     "model": ("impl<'a> Model for S<'a> { ghost view = { λ s. s.a }; } fn f() -> u8 { 1 }", "fn f() -> u8 { 1 }"),
-    "drop": ("#[derive(Drop)] struct A; #[derive(Debug, Drop)] struct B; trait T: Drop {} fn f<X: Copy + Drop>(x: X) -> X { x }",
+    "drop": ("#[derive(Drop)] struct A; #[derive(Debug, Drop)] struct B; trait T: Drop {} "
+             "fn f<X: Copy + Drop>(x: X) -> X { x }",
              "struct A; #[derive(Debug)] struct B; trait T {} fn f<X: Copy>(x: X) -> X { x }"),
-    "clone": ("#[derive(Debug)] struct S(u8); impl Clone for S { fn clone(&self) -> Result<S, AllocError> { Ok(S(self.0)) } }",
+    "clone": ("#[derive(Debug)] struct S(u8); "
+              "impl Clone for S { fn clone(&self) -> Result<S, AllocError> { Ok(S(self.0)) } }",
               "#[derive(Debug, Clone)] struct S(u8);"),
     "cloned": ("fn cloned(a: &A) -> Result<A, AllocError> { a.clone() } fn f() -> u8 { 1 }", "fn f() -> u8 { 1 }"),
     "nothing": ("use wirebase::{Error, are_facts}; fn are_facts(a: u8) ensures { a ≡ a } {} "
@@ -88,13 +92,17 @@ ROWS = {
     "flags_trait": ("use bitflags::Flags as _; fn f() -> u8 { 1 }", "fn f() -> u8 { 1 }"),
     "lender": ("impl Octets for &mut [u8] { fn octets(&self) -> &[u8] { &**self } } fn f() -> u8 { 1 }",
                "fn f() -> u8 { 1 }"),
-    "lends_from_any": (VIEW + "impl<'a> Packet<&'a [u8]> { fn data(&self) -> &'a [u8] { let n = self.buffer.u8_at(0..1); "
-                       "&self.buffer[1..] } } impl Packet<&[u8]> { fn len(&self) -> usize { self.buffer.len() } }",
+    "lends_from_any": (VIEW + "impl<'a> Packet<&'a [u8]> { fn data(&self) -> &'a [u8] { "
+                       "let n = self.buffer.u8_at(0..1); &self.buffer[1..] } } "
+                       "impl Packet<&[u8]> { fn len(&self) -> usize { self.buffer.len() } }",
                        VIEW + "impl<'a, B: AsRef<[u8]> + ?Sized> Packet<&'a B> { fn data(&self) -> &'a [u8] { "
                        "let n = self.buffer.u8_at(0..1); &self.buffer.as_ref()[1..] } } "
-                       "impl<B: AsRef<[u8]> + ?Sized> Packet<&B> { fn len(&self) -> usize { self.buffer.as_ref().len() } }"),
-    "reads_from_any": (VIEW + "fn f<'a>(p: &Packet<&'a [u8]>) -> &'a [u8] { g(p.buffer) } fn h(p: &Packet<&[u8]>) -> u8 { 1 }",
-                       VIEW + "fn f<'a, B: AsRef<[u8]> + ?Sized>(p: &Packet<&'a B>) -> &'a [u8] { g(p.buffer.as_ref()) } "
+                       "impl<B: AsRef<[u8]> + ?Sized> Packet<&B> { "
+                       "fn len(&self) -> usize { self.buffer.as_ref().len() } }"),
+    "reads_from_any": (VIEW + "fn f<'a>(p: &Packet<&'a [u8]>) -> &'a [u8] { g(p.buffer) } "
+                       "fn h(p: &Packet<&[u8]>) -> u8 { 1 }",
+                       VIEW + "fn f<'a, B: AsRef<[u8]> + ?Sized>(p: &Packet<&'a B>) -> &'a [u8] { "
+                       "g(p.buffer.as_ref()) } "
                        "fn h<B: AsRef<[u8]> + ?Sized>(p: &Packet<&B>) -> u8 { 1 }"),
     "imports": ("use std::marker::Model; use std::fmt::{self, Kept, Seen}; impl Model for S {} fn f() -> fmt::Result "
                 "ensures { Seen } { g() }", "use core::fmt::{self, Kept}; fn f() -> fmt::Result { g() }"),
@@ -131,7 +139,7 @@ REFUSED = (
     ("fn f() -> u8 { a ≤ b }", "`≤` is left"),
     ("fn f() -> u8 { unsafe { 1 } }", "`unsafe` is left"),
     ("fn f(rt: HostRuntime) -> u8 { 1 }", "is left"),
-    ("fn f<V, W: fmt::Write>(f: &mut fmt::Formatter<W>) -> u8 { 1 }", "a Formatter in a function with other parameters"),
+    ("fn f<V, W: fmt::Write>(f: &mut fmt::Formatter<W>) -> u8 { 1 }", "a Formatter in a function with other"),
     ("fn f() -> u8 { Ipv6Addr::from(o).segments() }", "an Ipv6Addr"),
     ("fn are_facts() {} fn f() -> u8 { let a = are_facts; a }", "a function that does nothing, in another place"),
     ("impl Octets for [u8; 4] { fn octets(&self) -> &[u8] { self } }", "octets that are no slice"),
@@ -183,8 +191,14 @@ class Rules(unittest.TestCase):
         erase.erase([unit])
         self.assertEqual(str(file), "//! Docs.\n\n\n/// Of f.\nfn f() -> u8 { 1 }\n")
 
+    def test_each_comment_that_is_exchanged_stands_in_the_source(self):
+        sources = [path.read_text() for path in (HERE.parents[1] / "crates").glob("*/src/**/*.rt")]
+        for comment in rules.COMMENTS:
+            self.assertEqual(sum(comment in source for source in sources), 1, comment)
+
     def test_a_function_that_does_nothing_in_another_file(self):
-        self.assertEqual(erased("fn f() -> u8 { facts(1); 2 }", above="pub fn facts(a: u8) {}"), words_of("fn f() -> u8 { 2 }"))
+        left = erased("fn f() -> u8 { facts(1); 2 }", above="pub fn facts(a: u8) {}")
+        self.assertEqual(left, words_of("fn f() -> u8 { 2 }"))
 
 
 if __name__ == "__main__":

@@ -4,10 +4,9 @@
 // can't stand once in a library: the gate refuses a public function that may end the process.
 
 use crate::wirebase::Result;
-use crate::wirebase::failing_writer::FailingWriter;
 #[allow(unused_imports)]
 use rattle_std::prelude::*;
-use std::fmt::{Debug, Display, Write};
+use std::fmt::{self, Debug, Display, Write};
 
 // Ends the test where the two differ.
 pub(crate) fn same<T: PartialEq + Debug>(left: T, right: T) {
@@ -40,6 +39,21 @@ pub(crate) fn prints(value: &impl Display, text: &str) {
 pub(crate) fn prints_each<T: From<u8> + Display>(rows: &[(u8, &str)]) {
     for &(number, text) in rows {
         prints(&T::from(number), text);
+    }
+}
+
+// A writer that takes so many writes, and fails at the one after them.
+struct FailingWriter {
+    left: u32,
+}
+
+impl Write for FailingWriter {
+    fn write_str(&mut self, _text: &str) -> fmt::Result {
+        if self.left == 0 {
+            return Err(fmt::Error);
+        }
+        self.left -= 1;
+        Ok(())
     }
 }
 

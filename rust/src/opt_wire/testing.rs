@@ -3,10 +3,9 @@
 // where it stands, and through a call of these in a sixth of the time. They take the test's runtime, so that they
 // can't stand once in a library: the gate refuses a public function that may end the process.
 
-use crate::wirebase::failing_writer::FailingWriter;
 #[allow(unused_imports)]
 use rattle_std::prelude::*;
-use std::fmt::{Debug, Display, Write};
+use std::fmt::{self, Debug, Display, Write};
 
 // What octets hold before a test writes over them.
 pub(crate) const FILLERS: &[u8] = &[0x00, 0xff, 0x2a, 0xa5];
@@ -37,6 +36,21 @@ pub(crate) fn ascend<T: PartialOrd + Debug>(values: &[T]) {
 pub(crate) fn prints(value: &impl Display, text: &str) {
     let printed = value.to_string_in().ok();
     same(printed.as_deref(), Some(text));
+}
+
+// A writer that takes so many writes, and fails at the one after them.
+struct FailingWriter {
+    left: u32,
+}
+
+impl Write for FailingWriter {
+    fn write_str(&mut self, _text: &str) -> fmt::Result {
+        if self.left == 0 {
+            return Err(fmt::Error);
+        }
+        self.left -= 1;
+        Ok(())
+    }
 }
 
 // Whether the value is printed by a writer that takes so many writes.

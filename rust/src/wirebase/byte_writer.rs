@@ -66,7 +66,7 @@ impl Cursor<&mut [u8]> {
 }
 
 impl<T: OctetsMut> Cursor<T> {
-    /// Lends the next bytes, which count as written. Requires that as many are free.
+    /// Lends the next bytes: what they hold at the end is written. Requires that as many are free.
     pub fn part(&mut self, count: usize) -> &mut [u8] {
         let len = self.buffer.octets().len();
         let start = self.position.min(len);

@@ -3,6 +3,7 @@
 
 use crate::wirebase::byte_writer::ByteWriter;
 use crate::wirebase::ip::IpProtocol;
+use crate::wirebase::ipv4::Ipv4Address;
 use crate::wirebase::ipv6::Ipv6Address;
 use crate::wirebase::octets::Field;
 use byteorder::{BigEndian, ByteOrder, LittleEndian};
@@ -96,6 +97,35 @@ fn added_64(a: u64, b: u64) -> u64 {
     sum + carry as u64
 }
 
+/// The sum of the pseudo header that the checksums of TCP and UDP over IPv4 count before the payload (RFC 768): the
+/// addresses, its protocol, and the number of bytes of the payload, of which the lower 16 bits count.
+pub fn pseudo_header_v4(
+    src_addr: &Ipv4Address,
+    dst_addr: &Ipv4Address,
+    next_header: IpProtocol,
+    len: u32,
+) -> u16 {
+    let mut octets = [0; 12];
+    write_pseudo_header_v4(&mut octets, src_addr, dst_addr, next_header, len);
+    data(&octets)
+}
+
+// Writes the pseudo header into octets of just its length.
+fn write_pseudo_header_v4(
+    octets: &mut [u8],
+    src_addr: &Ipv4Address,
+    dst_addr: &Ipv4Address,
+    next_header: IpProtocol,
+    len: u32,
+) {
+    let mut w = ByteWriter::new(octets);
+    w.put_bytes(&src_addr.octets());
+    w.put_bytes(&dst_addr.octets());
+    w.put_u8(0);
+    w.put_u8(next_header.into());
+    w.put_u16((len % (1 << 16)) as u16);
+}
+
 /// The sum of the pseudo header that the checksums of ICMPv6, TCP and UDP over IPv6 count before the payload
 /// (RFC 8200 section 8.1): the addresses, the number of bytes of the payload, and its protocol.
 pub fn pseudo_header_v6(
@@ -105,12 +135,12 @@ pub fn pseudo_header_v6(
     len: u32,
 ) -> u16 {
     let mut octets = [0; 40];
-    write_pseudo_header(&mut octets, src_addr, dst_addr, next_header, len);
+    write_pseudo_header_v6(&mut octets, src_addr, dst_addr, next_header, len);
     data(&octets)
 }
 
 // Writes the pseudo header into octets of just its length.
-fn write_pseudo_header(
+fn write_pseudo_header_v6(
     octets: &mut [u8],
     src_addr: &Ipv6Address,
     dst_addr: &Ipv6Address,

@@ -75,9 +75,16 @@ impl fmt::Display for Ipv4Address {
 mod field {
     use crate::wirebase::octets::Field;
 
+    pub const VERSION: Field = 0..1;
+
     pub const IHL: Field = 0..1;
 
     pub const TOTAL_LEN: Field = 2..4;
+
+    pub const IDENT: Field = 4..6;
+
+    // the flags and the fragment offset
+    pub const FRAGMENT: Field = 6..8;
 
     pub const TIME_TO_LIVE: Field = 8..9;
 
@@ -92,6 +99,11 @@ mod field {
 
 // The bytes of a header without options.
 const HEADER_LEN: usize = field::DST_ADDR.end;
+
+// The flags before the fragment offset, which takes the 13 bits below them.
+const DONT_FRAG: u16 = 0x4000;
+
+const MORE_FRAGS: u16 = 0x2000;
 
 /// A view of the octets of an IPv4 packet, header and payload (RFC 791 section 3.1).
 #[derive(Debug, Clone)]
@@ -134,6 +146,11 @@ impl<T: Octets> Ipv4Packet<T> {
         self.buffer
     }
 
+    /// The version. Requires at least 1 byte.
+    pub fn version(&self) -> u8 {
+        self.buffer.u8_at(field::VERSION) / 16
+    }
+
     /// The bytes of the header, 0 to 60: four for each word of its IHL. Requires at least 1 byte.
     pub fn header_len(&self) -> u8 {
         4 * (self.buffer.u8_at(field::IHL) & 0x0f)
@@ -142,6 +159,27 @@ impl<T: Octets> Ipv4Packet<T> {
     /// The bytes of header and payload. Requires at least 4 bytes.
     pub fn total_len(&self) -> u16 {
         self.buffer.u16_at(field::TOTAL_LEN)
+    }
+
+    /// The identification that the fragments of one packet share. Requires at least 6 bytes.
+    pub fn ident(&self) -> u16 {
+        self.buffer.u16_at(field::IDENT)
+    }
+
+    /// Whether the packet must not be fragmented. Requires at least 8 bytes.
+    pub fn dont_frag(&self) -> bool {
+        self.buffer.u16_at(field::FRAGMENT) / DONT_FRAG % 2 == 1
+    }
+
+    /// Whether this is a fragment that others follow. Requires at least 8 bytes.
+    pub fn more_frags(&self) -> bool {
+        self.buffer.u16_at(field::FRAGMENT) / MORE_FRAGS % 2 == 1
+    }
+
+    /// Where the payload stands in that of the whole packet, in bytes: a multiple of 8, and 0 where the packet is the
+    /// first fragment or is whole. Requires at least 8 bytes.
+    pub fn frag_offset(&self) -> u16 {
+        8 * (self.buffer.u16_at(field::FRAGMENT) % MORE_FRAGS)
     }
 
     /// The protocol of the payload. Requires at least 10 bytes.
@@ -162,6 +200,20 @@ impl<T: Octets> Ipv4Packet<T> {
     /// The address of the receiver. Requires at least 20 bytes.
     pub fn dst_addr(&self) -> Ipv4Address {
         Ipv4Address::from_octets(self.buffer.field(field::DST_ADDR).try_into().unwrap())
+    }
+
+    /// Whether the header, as long as its IHL says, carries its checksum. Requires at least 1 byte, and the header.
+    pub fn verify_checksum(&self) -> bool {
+        checksum::is_good(self.buffer.range(0, self.header_len() as usize), 0)
+    }
+}
+
+impl<'a, B: AsRef<[u8]> + ?Sized> Ipv4Packet<&'a B> {
+    /// The payload, for as long as the octets live: what stands between the header's end and the packet's, by the
+    /// lengths in the header. Requires at least 4 bytes, the whole packet, and a header that is not longer than it.
+    pub fn payload(&self) -> &'a [u8] {
+        let octets = self.buffer.as_ref();
+        &octets[self.header_len() as usize..self.total_len() as usize]
     }
 }
 

@@ -70,6 +70,11 @@ impl<T: Octets> Ipv6Packet<T> {
         self.buffer
     }
 
+    /// The octets.
+    pub fn as_ref(&self) -> &[u8] {
+        self.buffer.octets()
+    }
+
     /// The version. Requires at least 1 byte.
     pub fn version(&self) -> u8 {
         self.buffer.u8_at(field::VERSION) / 16

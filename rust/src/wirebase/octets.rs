@@ -7,7 +7,7 @@ use core::ops::Range;
 /// A field of a layout: its octets, from the first up to the one after the last.
 pub type Field = Range<usize>;
 
-/// What holds octets: `&[u8]` and `&mut [u8]` alone.
+/// What holds octets: all that lends a slice of them. The proofs are of `&[u8]` and `&mut [u8]`.
 pub trait Octets {
     /// The slice that is referred to.
     fn octets(&self) -> &[u8];
@@ -39,7 +39,7 @@ pub trait Octets {
     }
 }
 
-/// What holds octets that may be written: `&mut [u8]` alone.
+/// What holds octets that may be written: all that lends a slice of them so. The proofs are of `&mut [u8]`.
 pub trait OctetsMut: Octets {
     /// Lends the octets from one place up to another for writing; the others stay. Requires that the places are in
     /// order and that the octets reach the second.

@@ -5,8 +5,8 @@
 use control_wire::igmp::{IgmpVersion, Packet, Repr};
 use control_wire::mld::{self, AddressRecordRepr, RecordType};
 use control_wire::{
-    ChecksumCapabilities, Duration, IpProtocol, Ipv4Address, Ipv6Address, Result, icmpv6,
-    ipv6ext_header, ipv6hbh,
+    ChecksumCapabilities, Duration, IpProtocol, Ipv4Address, Ipv6Address, icmpv6, ipv6ext_header,
+    ipv6hbh,
 };
 
 /// The bytes of each message.
@@ -75,15 +75,8 @@ const REPORTS_TO: [u8; 16] = [0xff, 0x02, 0, 0, 0, 0, 0, 0, 0, 0, 0, 0, 0, 0, 0,
 pub fn report_v6(own: &Ipv6Address, records: &[AddressRecordRepr<'_>], out: &mut [u8]) {
     let caps = ChecksumCapabilities::default();
     let to = Ipv6Address::from_octets(REPORTS_TO);
-    let Ok(message) = report_of(records) else {
-        return;
-    };
+    let message = icmpv6::Repr::Mld(mld::Repr::ReportRecordReprs(records));
     message.emit_into(own, &to, out, &caps);
-}
-
-// The report. It is a Result so that the toolchain learns what other messages hold.
-fn report_of<'a>(records: &'a [AddressRecordRepr<'a>]) -> Result<icmpv6::Repr<'a>> {
-    Ok(icmpv6::Repr::Mld(mld::Repr::ReportRecordReprs(records)))
 }
 
 /// Writes the hop-by-hop options that go before a report: the alert of multicast listener discovery, and padding (RFC

@@ -7,7 +7,7 @@ use control_wire::icmpv6::{Packet, Repr};
 use control_wire::ndisc::{self, NeighborFlags};
 use control_wire::ndiscoption::PrefixInformation;
 use control_wire::{
-    ChecksumCapabilities, Duration, EthernetAddress, Ipv6Address, RawHardwareAddress, Result,
+    ChecksumCapabilities, Duration, EthernetAddress, Ipv6Address, RawHardwareAddress,
 };
 
 /// The bytes of an answer.
@@ -39,7 +39,15 @@ fn solicits(peer: &Ipv6Address, asked: &Ipv6Address, own: &Ipv6Address, octets: 
         return false;
     };
     match &message {
-        Repr::Ndisc(ndisc::Repr::NeighborSolicit { target_addr, .. }) => *target_addr == *own,
+        Repr::Ndisc(message) => looks_for(message, own),
+        _ => false,
+    }
+}
+
+// Whether a message is a solicitation for this address.
+fn looks_for(message: &ndisc::Repr<'_>, own: &Ipv6Address) -> bool {
+    match message {
+        ndisc::Repr::NeighborSolicit { target_addr, .. } => is_same(target_addr, own),
         _ => false,
     }
 }
@@ -47,19 +55,12 @@ fn solicits(peer: &Ipv6Address, asked: &Ipv6Address, own: &Ipv6Address, octets: 
 // Writes the answer.
 fn write_answer(own: &Ipv6Address, peer: &Ipv6Address, lladdr: EthernetAddress, out: &mut [u8]) {
     let caps = ChecksumCapabilities::default();
-    let Ok(message) = answer_of(own, lladdr) else {
-        return;
-    };
-    message.emit_into(own, peer, out, &caps);
-}
-
-// The answer. It is a Result so that the toolchain learns what other messages hold.
-fn answer_of(own: &Ipv6Address, lladdr: EthernetAddress) -> Result<Repr<'static>> {
-    Ok(Repr::Ndisc(ndisc::Repr::NeighborAdvert {
+    let message = Repr::Ndisc(ndisc::Repr::NeighborAdvert {
         flags: NeighborFlags::SOLICITED | NeighborFlags::OVERRIDE,
         target_addr: *own,
         lladdr: Some(RawHardwareAddress::from(lladdr)),
-    }))
+    });
+    message.emit_into(own, peer, out, &caps);
 }
 
 /// The address on the link that an advertisement tells of a neighbor, which came from `source` to `destination`. None

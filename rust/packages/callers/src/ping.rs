@@ -2,7 +2,7 @@
 //! A host that is pinged: the answers to echo requests of ICMPv4 (RFC 792) and of ICMPv6 (RFC 4443 section 4).
 
 use control_wire::icmpv4::{Packet, Repr};
-use control_wire::{ChecksumCapabilities, Ipv6Address, Result, icmpv6};
+use control_wire::{ChecksumCapabilities, Ipv6Address, icmpv6};
 
 /// Writes the answer to an echo request over the front of the reply, and says how many bytes it takes. None exactly
 /// where the request is no echo request with a good checksum, or where the reply has no room for the answer; then the
@@ -69,8 +69,10 @@ fn write_reply_v6(
     data: &[u8],
     out: &mut [u8],
 ) -> Option<usize> {
-    let Ok(message) = echo_reply_of(ident, seq_no, data) else {
-        return None;
+    let message = icmpv6::Repr::EchoReply {
+        ident,
+        seq_no,
+        data,
     };
     let len = message.buffer_len();
     if len > out.len() {
@@ -79,15 +81,6 @@ fn write_reply_v6(
     let caps = ChecksumCapabilities::default();
     message.emit_into(own, peer, &mut out[..len], &caps);
     Some(len)
-}
-
-// An echo reply. It is a Result so that the toolchain learns what other messages hold.
-fn echo_reply_of(ident: u16, seq_no: u16, data: &[u8]) -> Result<icmpv6::Repr<'_>> {
-    Ok(icmpv6::Repr::EchoReply {
-        ident,
-        seq_no,
-        data,
-    })
 }
 
 #[cfg(test)]

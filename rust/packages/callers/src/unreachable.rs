@@ -4,8 +4,7 @@
 //! 4443 section 2.4): that is the caller's to see.
 
 use control_wire::{
-    ChecksumCapabilities, Ipv4Packet, Ipv4Repr, Ipv6Address, Ipv6Packet, Ipv6Repr, Result, icmpv4,
-    icmpv6,
+    ChecksumCapabilities, Ipv4Packet, Ipv4Repr, Ipv6Address, Ipv6Packet, Ipv6Repr, icmpv4, icmpv6,
 };
 
 // The bytes of an IPv4 header without options.
@@ -94,8 +93,10 @@ fn write_error_v6(
     payload: &[u8],
     out: &mut [u8],
 ) -> Option<usize> {
-    let Ok(message) = error_v6(header, payload) else {
-        return None;
+    let message = icmpv6::Repr::DstUnreachable {
+        reason: icmpv6::DstUnreachable::PortUnreachable,
+        header,
+        data: payload,
     };
     let len = message.buffer_len();
     if out.len() < len {
@@ -104,15 +105,6 @@ fn write_error_v6(
     let caps = ChecksumCapabilities::default();
     message.emit_into(own, &header.src_addr, &mut out[..len], &caps);
     Some(len)
-}
-
-// The error. It is a Result so that the toolchain learns what other messages hold.
-fn error_v6(header: Ipv6Repr, payload: &[u8]) -> Result<icmpv6::Repr<'_>> {
-    Ok(icmpv6::Repr::DstUnreachable {
-        reason: icmpv6::DstUnreachable::PortUnreachable,
-        header,
-        data: payload,
-    })
 }
 
 #[cfg(test)]

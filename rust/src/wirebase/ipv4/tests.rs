@@ -2,6 +2,7 @@
 
 use super::{Ipv4Address, Ipv4Packet, Ipv4Repr};
 use crate::wirebase::capabilities::{Checksum, ChecksumCapabilities};
+use crate::wirebase::checksum::{self, pseudo_header_v4};
 use crate::wirebase::ip::IpProtocol;
 use crate::wirebase::testing::{prints, same, same_of, takes_writes};
 use byteorder::{BigEndian, ByteOrder};
@@ -84,8 +85,12 @@ const PACKET: [u8; 20] = [
 #[test]
 fn fields_of_a_packet() {
     let packet = Ipv4Packet::new_unchecked(&PACKET[..]);
+    same(packet.version(), 4);
     same(packet.header_len(), 24);
     same(packet.total_len(), 0x011c);
+    same(packet.ident(), 0x1234);
+    same(packet.more_frags(), true);
+    same(packet.frag_offset(), 8);
     same(packet.hop_limit(), 7);
     same(packet.next_header(), IpProtocol::Igmp);
 }
@@ -95,6 +100,120 @@ fn addresses_of_a_packet() {
     let packet = Ipv4Packet::new_unchecked(&PACKET[..]);
     same(packet.src_addr(), Ipv4Address::new(192, 168, 0, 1));
     same(packet.dst_addr(), Ipv4Address::new(224, 0, 0, 251));
+}
+
+#[test]
+fn fragments_of_a_packet() {
+    // The third and the fourth word of a header, and what they say: whether it must not be fragmented, whether more
+    // fragments follow, and its place in bytes. The first two rows are the fragments of RFC 791 appendix A, example 2.
+    const ROWS: &[([u8; 4], bool, bool, u16)] = &[
+        ([0x00, 0x6f, 0x20, 0x00], false, true, 0),
+        ([0x00, 0x6f, 0x00, 0x20], false, false, 256),
+        ([0x00, 0x6f, 0x40, 0x00], true, false, 0),
+        ([0x00, 0x6f, 0x80, 0x00], false, false, 0),
+        ([0x00, 0x6f, 0x9f, 0xff], false, false, 65_528),
+        ([0x00, 0x6f, 0xbf, 0xfe], false, true, 65_520),
+        ([0x00, 0x6f, 0xff, 0xff], true, true, 65_528),
+    ];
+    for (words, dont_frag, more_frags, offset) in ROWS {
+        let mut octets = PACKET;
+        octets[4..8].copy_from_slice(words);
+        let packet = Ipv4Packet::new_unchecked(&octets[..]);
+        same_of(words, packet.ident(), 111);
+        same_of(words, packet.dont_frag(), *dont_frag);
+        same_of(words, packet.more_frags(), *more_frags);
+        same_of(words, packet.frag_offset(), *offset);
+    }
+}
+
+// A header without options from 192.168.0.1 to 192.168.0.199 with the checksum of RFC 1071, and five octets behind it.
+const SUMMED: [u8; 25] = [
+    0x45, 0x00, 0x00, 0x73, 0x00, 0x00, 0x40, 0x00, 0x40, 0x11, 0xb8, 0x61, 192, 168, 0, 1, 192,
+    168, 0, 199, 1, 2, 3, 4, 5,
+];
+
+// A header with the option of RFC 2113 from 192.168.0.1 to 224.0.0.251, and no payload.
+const ALERT: [u8; 24] = [
+    0x46, 0xc0, 0x00, 0x18, 0x00, 0x00, 0x40, 0x00, 0x01, 0x02, 0x42, 0x7b, 192, 168, 0, 1, 224, 0,
+    0, 251, 0x94, 0x04, 0x00, 0x00,
+];
+
+// Whether octets that hold a header of at least 20 carry its checksum.
+fn is_good(octets: &[u8]) -> bool {
+    let packet = Ipv4Packet::new_unchecked(octets);
+    octets.len() >= 60 && packet.verify_checksum()
+}
+
+#[test]
+fn any_other_bit_of_a_header_is_noticed() {
+    for place in 0..25 {
+        let mut octets = [0; 60];
+        octets[..25].copy_from_slice(&SUMMED);
+        same(is_good(&octets), true);
+        octets[place] ^= 0x20;
+        same_of(place, is_good(&octets), place >= 20);
+    }
+}
+
+#[test]
+fn options_belong_to_the_header() {
+    let mut octets = [0xff; 60];
+    octets[..24].copy_from_slice(&ALERT);
+    same(is_good(&octets), true);
+    octets[23] = 1;
+    same(is_good(&octets), false);
+    // A header of no word has no sum.
+    octets[0] = 0x40;
+    same(is_good(&octets), false);
+}
+
+// The payload, where the octets begin with a whole packet.
+fn payload_of(octets: &[u8]) -> Option<&[u8]> {
+    let packet = Ipv4Packet::new_checked(octets).ok()?;
+    Some(packet.payload())
+}
+
+#[test]
+fn the_payload_stands_between_the_two_lengths() {
+    // The first octet, the total length, and which of 28 octets are the payload.
+    const ROWS: &[(u8, u8, Option<(usize, usize)>)] = &[
+        (0x45, 25, Some((20, 25))),
+        (0x45, 20, Some((20, 20))),
+        (0x46, 28, Some((24, 28))),
+        (0x40, 25, Some((0, 25))),
+        (0x46, 23, None),
+        (0x45, 29, None),
+    ];
+    let mut octets = [0; 28];
+    for (place, octet) in octets.iter_mut().enumerate() {
+        *octet = place as u8;
+    }
+    octets[2] = 0;
+    for &(first, total_len, wanted) in ROWS {
+        octets[0] = first;
+        octets[3] = total_len;
+        let wanted = wanted.map(|(start, end)| &octets[start..end]);
+        same_of((first, total_len), payload_of(&octets), wanted);
+    }
+}
+
+#[test]
+fn a_datagram_is_summed_behind_its_pseudo_header() {
+    // UDP from port 48896 to port 53 with four octets (RFC 768), which carries its checksum from 192.168.1.1 to
+    // 192.168.1.2.
+    let udp = [
+        0xbf, 0x00, 0x00, 0x35, 0x00, 0x0c, 0x12, 0x4d, 0xaa, 0x00, 0x00, 0xff,
+    ];
+    let source = Ipv4Address::new(192, 168, 1, 1);
+    let destination = Ipv4Address::new(192, 168, 1, 2);
+    let sum = pseudo_header_v4(&source, &destination, IpProtocol::Udp, 12);
+    same(sum, 0x8371);
+    same(checksum::is_good(&udp, sum), true);
+    // The lower 16 bits of the length count.
+    let long = pseudo_header_v4(&source, &destination, IpProtocol::Udp, 0x1_000c);
+    same(long, sum);
+    let other = pseudo_header_v4(&source, &source, IpProtocol::Tcp, 11);
+    same(other, 0x8364);
 }
 
 #[test]

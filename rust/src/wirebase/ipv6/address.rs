@@ -1,7 +1,6 @@
 // Made from crates/wirebase/src/ipv6/address.rt by rust/erase.
 //! IPv6 addresses (RFC 4291).
 
-use byteorder::{BigEndian, ByteOrder};
 use core::fmt;
 
 /// An IPv6 address, sixteen octets (RFC 4291 section 2).
@@ -15,10 +14,29 @@ impl Ipv6Address {
     pub const UNSPECIFIED: Ipv6Address = Ipv6Address { octets: [0; 16] };
 
     /// The address of these eight groups of 16 bits, the highest first.
-    pub fn new(a: u16, b: u16, c: u16, d: u16, e: u16, f: u16, g: u16, h: u16) -> Ipv6Address {
-        let mut octets = [0; 16];
-        BigEndian::write_u16_into(&[a, b, c, d, e, f, g, h], &mut octets);
-        Ipv6Address { octets }
+    pub const fn new(
+        a: u16,
+        b: u16,
+        c: u16,
+        d: u16,
+        e: u16,
+        f: u16,
+        g: u16,
+        h: u16,
+    ) -> Ipv6Address {
+        let [a0, a1] = a.to_be_bytes();
+        let [b0, b1] = b.to_be_bytes();
+        let [c0, c1] = c.to_be_bytes();
+        let [d0, d1] = d.to_be_bytes();
+        let [e0, e1] = e.to_be_bytes();
+        let [f0, f1] = f.to_be_bytes();
+        let [g0, g1] = g.to_be_bytes();
+        let [h0, h1] = h.to_be_bytes();
+        Ipv6Address {
+            octets: [
+                a0, a1, b0, b1, c0, c1, d0, d1, e0, e1, f0, f1, g0, g1, h0, h1,
+            ],
+        }
     }
 
     /// The address of these octets, the highest first. Addresses are equal exactly when their octets are.

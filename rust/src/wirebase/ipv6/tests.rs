@@ -56,6 +56,15 @@ fn addresses_that_have_a_name_in_hexadecimal() {
     prints(&IPV6_LINK_LOCAL_ALL_ROUTERS, "ff02::2");
 }
 
+#[test]
+fn groups_of_all_nodes_and_of_all_routers_of_a_link() {
+    // RFC 4291 section 2.7.1: FF02:0:0:0:0:0:0:1 and FF02:0:0:0:0:0:0:2.
+    let nodes = [0xff, 0x02, 0, 0, 0, 0, 0, 0, 0, 0, 0, 0, 0, 0, 0, 1];
+    same(IPV6_LINK_LOCAL_ALL_NODES.octets(), nodes);
+    let routers = [0xff, 0x02, 0, 0, 0, 0, 0, 0, 0, 0, 0, 0, 0, 0, 0, 2];
+    same(IPV6_LINK_LOCAL_ALL_ROUTERS.octets(), routers);
+}
+
 // A run of groups that are zero, in a text that begins and ends with a colon; the longest first.
 const RUNS: &[&str] = &[
     ":0:0:0:0:0:0:0:0:",
@@ -205,6 +214,7 @@ fn headers_are_read() {
     let packet = Ipv6Packet::new_unchecked(&PACKET[..]);
     same(packet.src_addr(), first());
     same(packet.dst_addr(), second());
+    same(packet.as_ref(), PACKET.as_slice());
     same(Ipv6Repr::parse(&packet), Ok(quoted()));
 }
 

@@ -1,0 +1,13 @@
+// Made from crates/capture/src/lib.rt by rust/erase.
+//! Capture files: what a pcap or a pcapng file holds, read as records in bounded memory.
+
+mod ending;
+mod order;
+pub mod pcap;
+pub mod pcapng;
+mod reader;
+mod time;
+
+pub use ending::{Ending, Fault};
+pub use order::Order;
+pub use time::Time;

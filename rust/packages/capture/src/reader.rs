@@ -1,0 +1,44 @@
+// Made from crates/capture/src/reader.rt by rust/erase.
+//! Bytes of an input, so many at a time.
+
+use crate::ending::Fault;
+use rattle_std::io::{BufRead, ErrorKind};
+#[allow(unused_imports)]
+use rattle_std::prelude::*;
+
+/// Reads until there are so many octets, or the input has ended.
+pub fn fill<R: BufRead>(input: &mut R, octets: &mut Vec<u8>, count: usize) -> Result<(), Fault> {
+    for _ in 0..u64::MAX {
+        let missing = count - octets.as_slice().len();
+        let ended = take_part(input, octets, missing)?;
+        if ended {
+            return Ok(());
+        }
+    }
+    Err(Fault::Read)
+}
+
+// Takes what is at hand of so many octets, and answers whether these are all or the input has ended.
+fn take_part<R: BufRead>(
+    input: &mut R,
+    octets: &mut Vec<u8>,
+    missing: usize,
+) -> Result<bool, Fault> {
+    let shown = match input.fill_buf() {
+        Ok(shown) => shown,
+        Err(error) => {
+            return if error.kind() == ErrorKind::Interrupted {
+                Ok(false)
+            } else {
+                Err(Fault::Read)
+            };
+        }
+    };
+    let count = shown.len().min(missing);
+    let Ok(()) = octets.extend_from_slice(&shown[..count]) else {
+        return Err(Fault::Memory);
+    };
+    let ended = count == missing || shown.is_empty();
+    input.consume(count);
+    Ok(ended)
+}

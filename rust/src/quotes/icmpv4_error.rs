@@ -1,0 +1,186 @@
+// Made from crates/quote_wire/src/icmpv4_error.rt by rust/erase.
+//! ICMPv4 errors with the bytes that they quote (RFC 792), and the error about a datagram.
+
+use super::field;
+use super::writing::write_error;
+use crate::wirebase::{ChecksumCapabilities, Error, Octets, Result, checksum};
+use core::fmt;
+
+/// The bytes of a datagram that an error quotes at most: with the error's own headers they are 576, which every host
+/// takes (RFC 1812 section 4.3.2.3).
+pub const MAX_QUOTED: usize = 548;
+
+// The bytes of an IPv4 header without options.
+const IPV4_HEADER_LEN: usize = 20;
+
+// The bytes that stand at least behind the quoted header (RFC 792).
+const MIN_QUOTED_DATA: usize = 8;
+
+/// The types of error (RFC 792).
+#[derive(Debug, PartialEq, Eq, Clone, Copy)]
+pub enum Kind {
+    /// Type 3: the datagram could not be delivered; the code says why (`icmpv4::DstUnreachable`).
+    DstUnreachable,
+    /// Type 4: the source is to send less. Obsolete (RFC 6633).
+    SourceQuench,
+    /// Type 5: another gateway is better; the code says for which datagrams (`icmpv4::Redirect`).
+    Redirect,
+    /// Type 11: the datagram lived too long, or its fragments did; the code says which (`icmpv4::TimeExceeded`).
+    TimeExceeded,
+    /// Type 12: a parameter of the header is wrong (`icmpv4::ParamProblem`).
+    ParamProblem,
+}
+
+impl Kind {
+    /// The number of the type.
+    pub fn number(self) -> u8 {
+        match self {
+            Kind::DstUnreachable => 3,
+            Kind::SourceQuench => 4,
+            Kind::Redirect => 5,
+            Kind::TimeExceeded => 11,
+            Kind::ParamProblem => 12,
+        }
+    }
+
+    /// The type of this number; None exactly where it is not that of an error.
+    pub fn from_number(number: u8) -> Option<Kind> {
+        match number {
+            3 => Some(Kind::DstUnreachable),
+            4 => Some(Kind::SourceQuench),
+            5 => Some(Kind::Redirect),
+            11 => Some(Kind::TimeExceeded),
+            12 => Some(Kind::ParamProblem),
+            _ => None,
+        }
+    }
+}
+
+/// An error about a datagram (RFC 792).
+#[derive(Debug, PartialEq, Eq, Clone, Copy)]
+pub struct Repr<'a> {
+    /// The type.
+    pub kind: Kind,
+    /// The code, by the type.
+    pub code: u8,
+    /// The four bytes behind the checksum: of a redirect the gateway's address, of a parameter problem the pointer in
+    /// the first of them, and of a datagram that had to be fragmented the next hop's MTU in the last two; else unused.
+    pub rest: u32,
+    /// What is quoted: the datagram from its header on, of version 4, with at least 8 bytes behind the header. An error
+    /// that is written quotes at most the first 548 bytes.
+    pub quoted: &'a [u8],
+}
+
+impl<'a> Repr<'a> {
+    /// The error in the octets. Refused where they are fewer than 8, where their checksum is to be verified and is not
+    /// good, where the type is not that of an error, and where what stands behind the header is not the front of an
+    /// IPv4 datagram: a header of version 4 and of 20 bytes or more by its own length, and 8 bytes or more behind it.
+    /// The datagram's total length is not looked at.
+    pub fn parse(octets: &'a [u8], checksum_caps: &ChecksumCapabilities) -> Result<Repr<'a>> {
+        Repr::read(octets, checksum_caps)
+    }
+
+    // The error in the octets.
+    fn read(octets: &'a [u8], checksum_caps: &ChecksumCapabilities) -> Result<Repr<'a>> {
+        if octets.len() < field::HEADER_END {
+            return Err(Error);
+        }
+        if checksum_caps.icmpv4.rx() && !checksum::is_good(octets, 0) {
+            return Err(Error);
+        }
+        let quoted = &octets[field::HEADER_END..];
+        if !is_datagram(quoted) {
+            return Err(Error);
+        }
+        match Kind::from_number(octets.u8_at(field::TYPE)) {
+            Some(kind) => Ok(Repr {
+                kind,
+                code: octets.u8_at(field::CODE),
+                rest: octets.u32_at(field::REST),
+                quoted,
+            }),
+            None => Err(Error),
+        }
+    }
+
+    /// The MTU of the next link, in bytes, of a datagram that had to be fragmented and was not to be (RFC 1191 section
+    /// 4). None for every other error, and where the router did not tell it, which is 0.
+    pub fn next_hop_mtu(&self) -> Option<u16> {
+        let mtu = (self.rest % (1 << 16)) as u16;
+        match (self.kind, self.code) {
+            (Kind::DstUnreachable, 4) if mtu != 0 => Some(mtu),
+            _ => None,
+        }
+    }
+
+    /// The bytes that the error takes, at most 556.
+    pub fn buffer_len(&self) -> usize {
+        field::HEADER_END + self.quotable().len()
+    }
+
+    /// Writes the error over the front of the octets, as far as they go, and then, where the capabilities have it
+    /// computed, the checksum of all of them; the others stay. Requires at least 8 bytes. Of what is quoted at most 548
+    /// bytes are written.
+    pub fn emit_into(&self, octets: &mut [u8], checksum_caps: &ChecksumCapabilities) {
+        self.write(octets);
+        seal(octets, checksum_caps);
+    }
+
+    // Writes the error, with the checksum zero.
+    fn write(&self, octets: &mut [u8]) {
+        write_error(
+            octets,
+            self.kind.number(),
+            self.code,
+            self.rest,
+            self.quotable(),
+        );
+    }
+
+    // What is quoted where the error is written.
+    fn quotable(&self) -> &'a [u8] {
+        &self.quoted[..self.quoted.len().min(MAX_QUOTED)]
+    }
+}
+
+/// The type by its name, the code, and the number of bytes that are quoted.
+impl fmt::Display for Repr<'_> {
+    fn fmt(&self, f: &mut fmt::Formatter<'_>) -> fmt::Result {
+        let name = kind_name(self.kind);
+        let code = self.code;
+        let len = self.quoted.len();
+        write!(f, "ICMPv4 {name} code={code} quoted={len}")
+    }
+}
+
+// The name of a type.
+fn kind_name(kind: Kind) -> &'static str {
+    match kind {
+        Kind::DstUnreachable => "destination unreachable",
+        Kind::SourceQuench => "source quench",
+        Kind::Redirect => "redirect",
+        Kind::TimeExceeded => "time exceeded",
+        Kind::ParamProblem => "parameter problem",
+    }
+}
+
+// Whether the octets are the front of an IPv4 datagram: a header of version 4, and 8 bytes or more behind it.
+pub(crate) fn is_datagram(octets: &[u8]) -> bool {
+    let Some(first) = octets.first() else {
+        return false;
+    };
+    let header_len = 4 * (*first % 16) as usize;
+    *first / 16 == 4
+        && header_len >= IPV4_HEADER_LEN
+        && octets.len() >= header_len + MIN_QUOTED_DATA
+}
+
+// Writes the checksum, where it is computed.
+fn seal(octets: &mut [u8], checksum_caps: &ChecksumCapabilities) {
+    if checksum_caps.icmpv4.tx() {
+        checksum::fill(octets, field::CHECKSUM, 0);
+    }
+}
+
+#[cfg(test)]
+mod tests;

@@ -1,0 +1,202 @@
+// Made from crates/quote_wire/src/icmpv6_error.rt by rust/erase.
+//! ICMPv6 errors with the bytes that they quote (RFC 4443 section 3), and the error about a packet.
+
+use super::field;
+use super::writing::write_error;
+use crate::wirebase::{
+    ChecksumCapabilities, Error, IPV6_HEADER_LEN, IpProtocol, Ipv6Address, Octets, Result, checksum,
+};
+use core::fmt;
+
+/// The bytes of a packet that an error quotes at most: with the error's own headers they are 1,280, which every link
+/// carries (RFC 4443 section 2.4(c)).
+pub const MAX_QUOTED: usize = 1232;
+
+/// The types of error (RFC 4443 section 2.1).
+#[derive(Debug, PartialEq, Eq, Clone, Copy)]
+pub enum Kind {
+    /// Type 1: the packet could not be delivered; the code says why (`icmpv6::DstUnreachable`).
+    DstUnreachable,
+    /// Type 2: the packet is larger than the next link carries.
+    PktTooBig,
+    /// Type 3: the packet lived too long, or its fragments did; the code says which (`icmpv6::TimeExceeded`).
+    TimeExceeded,
+    /// Type 4: a field of a header is wrong; the code says how (`icmpv6::ParamProblem`).
+    ParamProblem,
+}
+
+impl Kind {
+    /// The number of the type.
+    pub fn number(self) -> u8 {
+        match self {
+            Kind::DstUnreachable => 1,
+            Kind::PktTooBig => 2,
+            Kind::TimeExceeded => 3,
+            Kind::ParamProblem => 4,
+        }
+    }
+
+    /// The type of this number; None exactly where it is not that of an error.
+    pub fn from_number(number: u8) -> Option<Kind> {
+        match number {
+            1 => Some(Kind::DstUnreachable),
+            2 => Some(Kind::PktTooBig),
+            3 => Some(Kind::TimeExceeded),
+            4 => Some(Kind::ParamProblem),
+            _ => None,
+        }
+    }
+}
+
+/// An error about a packet (RFC 4443 section 3).
+#[derive(Debug, PartialEq, Eq, Clone, Copy)]
+pub struct Repr<'a> {
+    /// The type.
+    pub kind: Kind,
+    /// The code, by the type.
+    pub code: u8,
+    /// The four bytes behind the checksum: of a packet that is too big the next link's MTU, of a parameter problem the
+    /// place of the field, in bytes from the packet's first on; else unused.
+    pub rest: u32,
+    /// What is quoted: the packet from its header on, of version 6. An error that is written quotes at most the first
+    /// 1,232 bytes.
+    pub quoted: &'a [u8],
+}
+
+impl<'a> Repr<'a> {
+    /// The error in the octets of a message from `src_addr` to `dst_addr`. Refused where they are fewer than 8, where
+    /// their checksum is to be verified and is not good, where the type is not that of an error, and where what stands
+    /// behind the header does not begin with a header of version 6, 40 bytes. Its payload length is not looked at.
+    pub fn parse(
+        src_addr: &Ipv6Address,
+        dst_addr: &Ipv6Address,
+        octets: &'a [u8],
+        checksum_caps: &ChecksumCapabilities,
+    ) -> Result<Repr<'a>> {
+        Repr::read(src_addr, dst_addr, octets, checksum_caps)
+    }
+
+    // The error in the octets.
+    fn read(
+        src_addr: &Ipv6Address,
+        dst_addr: &Ipv6Address,
+        octets: &'a [u8],
+        checksum_caps: &ChecksumCapabilities,
+    ) -> Result<Repr<'a>> {
+        if octets.len() < field::HEADER_END {
+            return Err(Error);
+        }
+        if checksum_caps.icmpv6.rx() && !is_good(octets, src_addr, dst_addr) {
+            return Err(Error);
+        }
+        let quoted = &octets[field::HEADER_END..];
+        if !is_packet_front(quoted) {
+            return Err(Error);
+        }
+        match Kind::from_number(octets.u8_at(field::TYPE)) {
+            Some(kind) => Ok(Repr {
+                kind,
+                code: octets.u8_at(field::CODE),
+                rest: octets.u32_at(field::REST),
+                quoted,
+            }),
+            None => Err(Error),
+        }
+    }
+
+    /// The MTU of the next link, in bytes, of a packet that is too big for it (RFC 4443 section 3.2). None for every
+    /// other error.
+    pub fn mtu(&self) -> Option<u32> {
+        match self.kind {
+            Kind::PktTooBig => Some(self.rest),
+            _ => None,
+        }
+    }
+
+    /// The bytes that the error takes, at most 1,240.
+    pub fn buffer_len(&self) -> usize {
+        field::HEADER_END + self.quotable().len()
+    }
+
+    /// Writes the error over the front of the octets, as far as they go, and then, where the capabilities have it
+    /// computed, the checksum of all of them as a message from `src_addr` to `dst_addr`; the others stay. Requires at
+    /// least 8 bytes. Of what is quoted at most 1,232 bytes are written.
+    pub fn emit_into(
+        &self,
+        src_addr: &Ipv6Address,
+        dst_addr: &Ipv6Address,
+        octets: &mut [u8],
+        checksum_caps: &ChecksumCapabilities,
+    ) {
+        self.write(octets);
+        seal(octets, src_addr, dst_addr, checksum_caps);
+    }
+
+    // Writes the error, with the checksum zero.
+    fn write(&self, octets: &mut [u8]) {
+        write_error(
+            octets,
+            self.kind.number(),
+            self.code,
+            self.rest,
+            self.quotable(),
+        );
+    }
+
+    // What is quoted where the error is written.
+    fn quotable(&self) -> &'a [u8] {
+        &self.quoted[..self.quoted.len().min(MAX_QUOTED)]
+    }
+}
+
+/// The type by its name, the code, and the number of bytes that are quoted.
+impl fmt::Display for Repr<'_> {
+    fn fmt(&self, f: &mut fmt::Formatter<'_>) -> fmt::Result {
+        let name = kind_name(self.kind);
+        let code = self.code;
+        let len = self.quoted.len();
+        write!(f, "ICMPv6 {name} code={code} quoted={len}")
+    }
+}
+
+// The name of a type.
+fn kind_name(kind: Kind) -> &'static str {
+    match kind {
+        Kind::DstUnreachable => "destination unreachable",
+        Kind::PktTooBig => "packet too big",
+        Kind::TimeExceeded => "time exceeded",
+        Kind::ParamProblem => "parameter problem",
+    }
+}
+
+// Whether the octets begin with a header of version 6.
+pub(crate) fn is_packet_front(octets: &[u8]) -> bool {
+    octets.len() >= IPV6_HEADER_LEN && octets[0] / 16 == 6
+}
+
+// Whether the octets carry their checksum, as a message from the one address to the other.
+fn is_good(octets: &[u8], src_addr: &Ipv6Address, dst_addr: &Ipv6Address) -> bool {
+    checksum::is_good(octets, sum_before(octets, src_addr, dst_addr))
+}
+
+// Writes the checksum, where it is computed.
+fn seal(
+    octets: &mut [u8],
+    src_addr: &Ipv6Address,
+    dst_addr: &Ipv6Address,
+    checksum_caps: &ChecksumCapabilities,
+) {
+    if checksum_caps.icmpv6.tx() {
+        let sum = sum_before(octets, src_addr, dst_addr);
+        checksum::fill(octets, field::CHECKSUM, sum);
+    }
+}
+
+// The sum of the pseudo header that stands before these octets.
+fn sum_before(octets: &[u8], src_addr: &Ipv6Address, dst_addr: &Ipv6Address) -> u16 {
+    let len = octets.len() as u64 % (1 << 32);
+    checksum::pseudo_header_v6(src_addr, dst_addr, IpProtocol::Icmpv6, len as u32)
+}
+
+#[cfg(test)]
+mod tests;

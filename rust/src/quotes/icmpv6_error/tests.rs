@@ -1,0 +1,142 @@
+// Made from crates/quote_wire/src/icmpv6_error/tests.rt by rust/erase.
+//! Errors of ICMPv6: what a path MTU discovery gets, and what a host sends.
+
+use super::{Kind, MAX_QUOTED, Repr};
+use crate::quotes::quote::Ipv6Quote;
+use crate::quotes::testing::{prints, same, same_of};
+use crate::wirebase::capabilities::Checksum;
+use crate::wirebase::{ChecksumCapabilities, Error, IpProtocol, Ipv6Address};
+
+// The addresses that the error is sent from and to.
+fn from() -> Ipv6Address {
+    Ipv6Address::new(0xfe80, 0, 0, 0, 0, 0, 0, 1)
+}
+
+fn to() -> Ipv6Address {
+    Ipv6Address::new(0xfe80, 0, 0, 0, 0, 0, 0, 2)
+}
+
+// A packet that is too big for a link of 1,280 bytes: a header with a traffic class and a flow label, and four bytes of
+// TCP behind it.
+const PACKET_TOO_BIG: &[u8] = &[
+    0x02, 0x00, 0x8f, 0x1c, 0x00, 0x00, 0x05, 0x00, 0x6b, 0xb1, 0x23, 0x45, 0x05, 0xb4, 0x06, 0x3f,
+    0xfe, 0x80, 0x00, 0x00, 0x00, 0x00, 0x00, 0x00, 0x00, 0x00, 0x00, 0x00, 0x00, 0x00, 0x00, 0x02,
+    0xfe, 0x80, 0x00, 0x00, 0x00, 0x00, 0x00, 0x00, 0x00, 0x00, 0x00, 0x00, 0x00, 0x00, 0x00, 0x01,
+    0xd4, 0x31, 0x00, 0x50,
+];
+
+const ALL: ChecksumCapabilities = ChecksumCapabilities {
+    ipv4: Checksum::Both,
+    udp: Checksum::Both,
+    tcp: Checksum::Both,
+    icmpv4: Checksum::Both,
+    icmpv6: Checksum::Both,
+};
+
+// An error of this kind, with this in the four bytes behind the checksum.
+fn about(kind: Kind, code: u8, rest: u32, quoted: &[u8]) -> Repr<'_> {
+    Repr {
+        kind,
+        code,
+        rest,
+        quoted,
+    }
+}
+
+#[test]
+fn packet_too_big_is_read_with_its_quote() {
+    let error = about(Kind::PktTooBig, 0, 1280, &PACKET_TOO_BIG[8..]);
+    same(Repr::parse(&from(), &to(), PACKET_TOO_BIG, &ALL), Ok(error));
+    same(
+        Repr::parse(&from(), &from(), PACKET_TOO_BIG, &ALL),
+        Err(Error),
+    );
+    same(error.mtu(), Some(1280));
+    same(about(Kind::ParamProblem, 0, 1280, &[]).mtu(), None);
+    let packet = Ipv6Quote {
+        traffic_class: 0xbb,
+        flow_label: 0x12345,
+        payload_len: 1460,
+        next_header: IpProtocol::Tcp,
+        hop_limit: 63,
+        src_addr: to(),
+        dst_addr: from(),
+        payload: &[0xd4, 0x31, 0x00, 0x50],
+    };
+    same(Ipv6Quote::parse(error.quoted), Ok(packet));
+}
+
+#[test]
+fn error_is_refused_where_its_quote_has_no_header_of_version_6() {
+    let caps = ChecksumCapabilities::ignored();
+    for len in 0..48 {
+        same_of(
+            len,
+            Repr::parse(&from(), &to(), &PACKET_TOO_BIG[..len], &caps),
+            Err(Error),
+        );
+    }
+    let mut octets = [0; 52];
+    octets.copy_from_slice(PACKET_TOO_BIG);
+    octets[8] = 0x4b;
+    same(Repr::parse(&from(), &to(), &octets, &caps), Err(Error));
+    same(Ipv6Quote::parse(&octets[8..]), Err(Error));
+    octets[8] = 0x6b;
+    for kind in [0, 5, 128, 135, 255] {
+        octets[0] = kind;
+        same_of(
+            kind,
+            Repr::parse(&from(), &to(), &octets, &caps),
+            Err(Error),
+        );
+    }
+}
+
+#[test]
+fn error_is_written_over_other_octets() {
+    for before in [0x00, 0x2a, 0xff] {
+        let mut octets = [before; 52];
+        let error = about(Kind::PktTooBig, 0, 1280, &PACKET_TOO_BIG[8..]);
+        same_of(before, error.buffer_len(), 52);
+        error.emit_into(&from(), &to(), &mut octets, &ALL);
+        same_of(before, &octets[..], PACKET_TOO_BIG);
+    }
+}
+
+#[test]
+fn error_quotes_at_most_1_232_bytes() {
+    let mut packet = [0x2a; 1500];
+    packet[..44].copy_from_slice(&PACKET_TOO_BIG[8..]);
+    let error = about(Kind::TimeExceeded, 0, 0, &packet);
+    same(error.buffer_len(), 1240);
+    let mut octets = [0xa5; 1240];
+    error.emit_into(&from(), &to(), &mut octets, &ALL);
+    let written = about(Kind::TimeExceeded, 0, 0, &packet[..MAX_QUOTED]);
+    same(Repr::parse(&from(), &to(), &octets, &ALL), Ok(written));
+}
+
+#[test]
+fn what_errors_print() {
+    let rows: &[(Kind, u8, &str)] = &[
+        (
+            Kind::DstUnreachable,
+            4,
+            "ICMPv6 destination unreachable code=4 quoted=44",
+        ),
+        (Kind::PktTooBig, 0, "ICMPv6 packet too big code=0 quoted=44"),
+        (
+            Kind::TimeExceeded,
+            1,
+            "ICMPv6 time exceeded code=1 quoted=44",
+        ),
+        (
+            Kind::ParamProblem,
+            2,
+            "ICMPv6 parameter problem code=2 quoted=44",
+        ),
+    ];
+    for &(kind, code, text) in rows {
+        prints(&about(kind, code, 0, &PACKET_TOO_BIG[8..]), text);
+        same_of(code, Kind::from_number(kind.number()), Some(kind));
+    }
+}

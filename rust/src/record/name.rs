@@ -1,0 +1,98 @@
+// Made from crates/record_wire/src/name.rt by rust/erase.
+//! Whole names: read from a message or from text, and written as text (RFC 1035 sections 2.3.4, 3.1 and 5.1).
+
+mod label;
+mod text;
+
+use crate::dns_wire::dns::{NameIter, Packet};
+use crate::record::name::label::{is_label, push_label, split_label};
+use crate::record::name::text::{LabelText, is_root, read_labels};
+use crate::wirebase::{Error, Result};
+use arrayvec::ArrayVec;
+use core::fmt;
+
+/// The most octets that a name has (RFC 1035 section 2.3.4).
+pub const MAX_NAME_LEN: usize = 255;
+
+/// A whole name, by its octets: each label of 1 to 63 bytes behind its length, and then byte 0; 255 octets at most.
+pub struct Name {
+    octets: ArrayVec<u8, MAX_NAME_LEN>,
+}
+
+impl Name {
+    /// The name that begins in `bytes`, a part of the message or not, and goes on where its pointers lead in the
+    /// message. Refused where there is none, or where it has more than 255 octets.
+    pub fn read<'a, B: AsRef<[u8]> + ?Sized>(
+        packet: &Packet<&'a B>,
+        bytes: &'a [u8],
+    ) -> Result<Name> {
+        Name::finish(given_labels(packet.parse_name(bytes))?)
+    }
+
+    /// The name of this text: labels with dots between them, a last dot allowed, and a dot alone for the root. A visible
+    /// character stands for itself, but `"`, `$`, `(`, `)`, `.`, `;`, `@` and `\` stand behind a backslash; three digits
+    /// behind a backslash are the number of a byte. Refused where the text is none, where a label is empty or has more
+    /// than 63 bytes, and where the name has more than 255 octets.
+    pub fn from_text(text: &[u8]) -> Result<Name> {
+        if is_root(text) {
+            return Name::finish(ArrayVec::new());
+        }
+        Name::finish(read_labels(text)?)
+    }
+
+    /// The octets: each label behind its length, and then byte 0.
+    pub fn octets(&self) -> &[u8] {
+        self.octets.as_slice()
+    }
+
+    // Ends the octets of a name.
+    fn finish(mut octets: ArrayVec<u8, MAX_NAME_LEN>) -> Result<Name> {
+        if octets.try_push(0).is_err() {
+            return Err(Error);
+        }
+        Ok(Name { octets })
+    }
+}
+
+// The octets of the labels that a walk gives. Refused where it gives an error, and where they have more than 255 octets.
+fn given_labels(mut walk: NameIter<'_>) -> Result<ArrayVec<u8, MAX_NAME_LEN>> {
+    let mut octets = ArrayVec::new();
+    while let Some(item) = walk.next() {
+        let label = match item {
+            Ok(label) => label,
+            Err(_) => return Err(Error),
+        };
+        if !is_label(label) {
+            return Err(Error);
+        }
+        push_label(&mut octets, label)?;
+    }
+    Ok(octets)
+}
+
+/// Labels with dots between them, and a dot alone for the root.
+impl fmt::Display for Name {
+    fn fmt(&self, f: &mut fmt::Formatter<'_>) -> fmt::Result {
+        match split_label(self.octets.as_slice()) {
+            Some((label, rest)) => write!(f, "{}{}", LabelText(label), BehindDots(rest)),
+            None => write!(f, "."),
+        }
+    }
+}
+
+// The labels in octets, each behind a dot.
+struct BehindDots<'a>(&'a [u8]);
+
+impl fmt::Display for BehindDots<'_> {
+    fn fmt(&self, f: &mut fmt::Formatter<'_>) -> fmt::Result {
+        let mut left = self.0;
+        while let Some((label, rest)) = split_label(left) {
+            write!(f, ".{}", LabelText(label))?;
+            left = rest;
+        }
+        Ok(())
+    }
+}
+
+#[cfg(test)]
+mod tests;

@@ -1,0 +1,36 @@
+// Made from crates/record_wire/src/name/label.rt by rust/erase.
+//! The labels in the octets of a name (RFC 1035 section 3.1).
+
+use crate::record::name::MAX_NAME_LEN;
+use crate::wirebase::{Error, Result};
+use arrayvec::ArrayVec;
+
+/// The most bytes that a label has (RFC 1035 section 2.3.4).
+pub(super) const MAX_LABEL_LEN: usize = 63;
+
+/// The label at the front of octets, and what stands behind it. None at byte 0, and where no whole label stands.
+pub(super) fn split_label(octets: &[u8]) -> Option<(&[u8], &[u8])> {
+    match octets {
+        [len @ 1..=63, rest @ ..] if *len as usize <= rest.len() => {
+            let len = *len as usize;
+            Some((&rest[..len], &rest[len..]))
+        }
+        _ => None,
+    }
+}
+
+/// Whether these bytes may be a label.
+pub(super) fn is_label(bytes: &[u8]) -> bool {
+    !bytes.is_empty() && bytes.len() <= MAX_LABEL_LEN
+}
+
+/// Writes a label behind its length. Refused where there is no room; then less may be written.
+pub(super) fn push_label(octets: &mut ArrayVec<u8, MAX_NAME_LEN>, label: &[u8]) -> Result<()> {
+    if octets.try_push(label.len() as u8).is_err() {
+        return Err(Error);
+    }
+    if octets.try_extend_from_slice(label).is_err() {
+        return Err(Error);
+    }
+    Ok(())
+}

@@ -1,0 +1,137 @@
+// Made from crates/record_wire/src/name/text.rt by rust/erase.
+//! The characters and the labels of a name's text (RFC 1035 section 5.1).
+
+use crate::record::name::MAX_NAME_LEN;
+use crate::record::name::label::{MAX_LABEL_LEN, push_label};
+use crate::wirebase::{Error, Result};
+use arrayvec::ArrayVec;
+use core::fmt;
+
+/// Whether this is the text of the root, a dot alone.
+pub(super) fn is_root(text: &[u8]) -> bool {
+    matches!(text, [b'.'])
+}
+
+/// The octets of the labels of a text, with dots between them and a last dot allowed. Refused where the text is none,
+/// where a label is empty or has more than 63 bytes, and where they have more than 255 octets.
+pub(super) fn read_labels(text: &[u8]) -> Result<ArrayVec<u8, MAX_NAME_LEN>> {
+    let mut octets = ArrayVec::new();
+    let mut left = text;
+    loop {
+        let (label, rest) = read_label(left)?;
+        push_label(&mut octets, label.as_slice())?;
+        match read_behind(rest) {
+            Behind::End => return Ok(octets),
+            Behind::Label(next) => left = next,
+            Behind::Other => return Err(Error),
+        }
+    }
+}
+
+/// What stands behind the text of a label.
+#[derive(Clone, Copy)]
+pub(super) enum Behind<'a> {
+    /// The end, or a last dot.
+    End,
+    /// A dot, and then this text.
+    Label(&'a [u8]),
+    /// Something else.
+    Other,
+}
+
+// What stands behind the text of a label.
+fn read_behind(text: &[u8]) -> Behind<'_> {
+    match text {
+        [] => Behind::End,
+        [b'.'] => Behind::End,
+        [b'.', next @ ..] => Behind::Label(next),
+        _ => Behind::Other,
+    }
+}
+
+// Reads a label's text, up to where no more characters stand, and gives what stands there. Refused where the label
+// would be empty or has more than 63 bytes.
+fn read_label(text: &[u8]) -> Result<(ArrayVec<u8, MAX_LABEL_LEN>, &[u8])> {
+    let mut label = ArrayVec::new();
+    let mut left = text;
+    while let Some((byte, rest)) = read_byte(left) {
+        if label.try_push(byte).is_err() {
+            return Err(Error);
+        }
+        left = rest;
+    }
+    if label.is_empty() {
+        return Err(Error);
+    }
+    Ok((label, left))
+}
+
+// The byte that the first character of a text stands for, and what stands behind the character.
+fn read_byte(text: &[u8]) -> Option<(u8, &[u8])> {
+    match text {
+        [b'\\', rest @ ..] => read_quoted(rest),
+        [byte, rest @ ..] if byte.is_ascii_graphic() && !is_special(*byte) => Some((*byte, rest)),
+        _ => None,
+    }
+}
+
+// The same of what stands behind a backslash.
+fn read_quoted(text: &[u8]) -> Option<(u8, &[u8])> {
+    match text {
+        [digit, rest @ ..] if digit.is_ascii_digit() => read_number(*digit, rest),
+        [byte, rest @ ..] if byte.is_ascii_graphic() => Some((*byte, rest)),
+        _ => None,
+    }
+}
+
+// The same of what stands behind the first of three digits.
+fn read_number(first: u8, text: &[u8]) -> Option<(u8, &[u8])> {
+    match text {
+        [second, third, rest @ ..] if second.is_ascii_digit() && third.is_ascii_digit() => {
+            let number = 100 * digit_value(first) + 10 * digit_value(*second) + digit_value(*third);
+            match u8::try_from(number) {
+                Ok(byte) => Some((byte, rest)),
+                Err(_) => None,
+            }
+        }
+        _ => None,
+    }
+}
+
+// The value of a digit.
+fn digit_value(digit: u8) -> u16 {
+    (digit - b'0') as u16
+}
+
+// Whether a byte has a meaning of its own in a zone file.
+fn is_special(byte: u8) -> bool {
+    matches!(byte, b'"' | b'$' | b'(' | b')' | b'.' | b';' | b'@' | b'\\')
+}
+
+/// The text of a label.
+pub(super) struct LabelText<'a>(pub(super) &'a [u8]);
+
+impl fmt::Display for LabelText<'_> {
+    fn fmt(&self, f: &mut fmt::Formatter<'_>) -> fmt::Result {
+        for byte in self.0 {
+            write!(f, "{}", Character(*byte))?;
+        }
+        Ok(())
+    }
+}
+
+// The character that a byte is written as.
+struct Character(u8);
+
+impl fmt::Display for Character {
+    fn fmt(&self, f: &mut fmt::Formatter<'_>) -> fmt::Result {
+        let byte = self.0;
+        if is_special(byte) {
+            write!(f, "\\{}", char::from(byte))
+        } else if byte.is_ascii_graphic() {
+            write!(f, "{}", char::from(byte))
+        } else {
+            write!(f, "\\{}{}{}", byte / 100, byte / 10 % 10, byte % 10)
+        }
+    }
+}
