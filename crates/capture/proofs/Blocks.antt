@@ -4,13 +4,13 @@ use Rattle.std.proofs.Common.{IfOk, IsOkAnd, refl, sym, ap, subst, ◌∙◌, ar
 use Rattle.wirebase.specs.Bytes.{field, part}
 use Rattle.wirebase.specs.declared.error.Error.{Error}
 use Rattle.capture.specs.Order.{number_in}
-use Rattle.capture.specs.Packet.{PacketValue}
+use Rattle.capture.specs.Packet.{PacketValue, packet_in}
 use Rattle.capture.specs.Pcapng.{IsOption, IsResolution, option_end, TellsResolution, here, later, HasResolution, told}
-use Rattle.capture.specs.Pcapng.{microseconds, IsTimed, IsSimple, IsPacket, obsolete, simple, enhanced, packet_in}
+use Rattle.capture.specs.Pcapng.{microseconds, IsTimed, IsSimple, IsPacket, obsolete, simple, enhanced}
 use Rattle.capture.specs.Pcapng.{IsInterface, link_type_field, snap_len_field}
 use Rattle.capture.specs.declared.order.Order.{Order}
 use Rattle.capture.specs.declared.pcapng.Interface.{Interface}
-use Rattle.capture.specs.declared.pcapng.Packet.{Packet}
+use Rattle.capture.specs.declared.packet.Packet.{Packet}
 
 -- ---- resolutions
 

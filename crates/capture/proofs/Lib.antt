@@ -1,2 +1,4 @@
 pub mod Blocks
+pub mod Filling
 pub mod Reading
+pub mod Records

@@ -1,11 +1,12 @@
 -- Bytes are taken off a reader, a part at a time.
 use Rattle.std.proofs.Common.{◌≡◌, ◌≢◌, ℕ, ◌+◌, ◌-◌, ◌<◌, ◌≤◌, Bool, true, false, List, [], ◌∷◌, ◌++◌}
 use Rattle.std.proofs.Common.{length, take, drop, Option, None, Some, OnSome, refl, ap, sym, ◌∙◌, arith}
-use Rattle.std.proofs.Common.{append_assoc, length-append}
-use Rattle.std.proofs.lemmas.List.{append-nil}
+use Rattle.std.proofs.Common.{append_assoc, length-append, min, eqb-true, nat_eq}
+use Rattle.std.proofs.lemmas.Bool.{eqb-false}
+use Rattle.std.proofs.lemmas.List.{append-nil, length-take}
 use Rattle.std.proofs.KnownBytes.{Consumes-nil, Consumes-trans, Consumes-kept}
 use Rattle.std.specs.Io.KnownBytes.{Consumes, IsAtEnd, Keeps}
-use Rattle.capture.specs.Reader.{Takes, TakesPart}
+use Rattle.capture.specs.Reader.{Takes, TakesPart, Skips, SkipsPart}
 
 -- the bytes that were taken so far
 pub record SoFar (old new : Option (List ℕ)) (before now : List ℕ) (count : ℕ) : Type 0 where
@@ -55,3 +56,51 @@ so_far-ended old mid new before now next count missing ended so is part told =
             (part.all told (omega (arith, short, long, is, ap length part.appended, length-append now part.taken)));
       },
     )
+
+-- ---- bytes that are passed over
+
+-- so many of the bytes are still to be passed over
+pub record SkipsSoFar (old new : Option (List ℕ)) (count missing : ℕ) : Type 0 where
+  pub passed : List ℕ
+  pub consumed : Consumes old new passed
+  pub counted : length passed + missing ≡ count
+
+pub skips-init : (old : Option (List ℕ)) (count : ℕ) → SkipsSoFar old old count count
+skips-init old count = record { passed = []; consumed = Consumes-nil old; counted = omega arith }
+
+pub skips-more : (old mid new : Option (List ℕ)) (count missing skipped : ℕ) (ended : Bool)
+    → SkipsSoFar old mid count missing → SkipsPart mid new missing skipped ended
+    → SkipsSoFar old new count (missing - skipped)
+skips-more old mid new count missing skipped ended so part = record {
+  passed = so.passed ++ part.passed;
+  consumed = Consumes-trans old mid new so.passed part.passed so.consumed part.consumed;
+  counted = omega (arith, so.counted, part.counted, part.few, length-append so.passed part.passed);
+}
+
+pub skips-ended : (old mid new : Option (List ℕ)) (count missing skipped : ℕ) (ended whole : Bool)
+    → SkipsSoFar old mid count missing → SkipsPart mid new missing skipped ended → ended ≡ true
+    → whole ≡ nat_eq (missing - skipped) 0 → Skips old new count whole
+skips-ended old mid new count missing skipped ended whole so part told is =
+    let all = skips-more old mid new count missing skipped ended so part in
+    record {
+      passed = all.passed;
+      consumed = all.consumed;
+      all = λ yes'. omega (arith, all.counted, eqb-true _ _ (sym is ∙ yes'));
+      fewer = λ no'. let some = eqb-false _ _ (sym is ∙ no') in omega (arith, all.counted, some);
+      ended = λ no'. let some = eqb-false _ _ (sym is ∙ no') in
+          at_end-through old mid new so.passed so.consumed (part.all told (omega (arith, some, part.few)));
+    }
+
+-- what was shown is passed over, as far as it is wanted
+pub skips-shown : (old new : Option (List ℕ)) (shown : List ℕ) (missing count : ℕ) (ended : Bool)
+    → count ≡ min (length shown) missing → Consumes old new (take count shown)
+    → (length shown ≡ 0 → OnSome old (IsAtEnd new))
+    → (ended ≡ true → count < missing → length shown ≡ 0)
+    → SkipsPart old new missing count ended
+skips-shown old new shown missing count ended is consumed at_end told = record {
+  passed = take count shown;
+  consumed = consumed;
+  counted = omega (arith, is, length-take count shown);
+  few = omega (arith, is);
+  all = λ e short. at_end (told e short);
+}

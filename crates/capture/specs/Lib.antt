@@ -1,6 +1,8 @@
+pub mod Capture
 pub mod Order
 pub mod Packet
 pub mod Pcap
 pub mod Pcapng
 pub mod Reader
+pub mod Taken
 pub mod Time

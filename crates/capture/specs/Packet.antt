@@ -1,8 +1,25 @@
--- A packet by its content.
-use Rattle.std.specs.Prelude.{ℕ, List}
+-- The packets that a capture holds.
+use Rattle.std.specs.Prelude.{ℕ, ◌+◌, ◌*◌, ◌<◌, ◌≤◌, List, length}
+use Rattle.wirebase.specs.Bytes.{part}
+use Rattle.capture.specs.declared.packet.Packet.{Packet}
 
+-- a packet by its content
 pub record PacketValue : Type 0 where
   pub nanoseconds : ℕ
   pub link_type : ℕ
   pub original_len : ℕ
   pub octets : List ℕ
+
+-- the packet at a place in the bytes of a record or a block
+abbrev pub packet_in : Packet → List ℕ → PacketValue
+packet_in p bytes = record {
+  nanoseconds = p.time.seconds * 1000000000 + p.time.nanoseconds;
+  link_type = p.link_type;
+  original_len = p.original_len;
+  octets = part bytes p.start (p.start + p.captured_len);
+}
+
+-- it is within the bytes, and its time is in order
+pub record IsPlace (p : Packet) (bytes : List ℕ) : Type 0 where
+  pub within : p.start + p.captured_len ≤ length bytes
+  pub nanoseconds_ : p.time.nanoseconds < 1000000000

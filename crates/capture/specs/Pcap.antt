@@ -25,11 +25,13 @@
 -- +---------------------------------------------------------------+
 -- |  the packet, as many bytes as the captured length counts
 -- +- - - - - - - - - - - - - - - -
-use Rattle.std.specs.Prelude.{◌≡◌, ℕ, ◌%◌, ◌<◌, ◌≤◌, List, length}
-use Rattle.wirebase.specs.Bytes.{Field, field, Reaches}
+use Rattle.std.specs.Prelude.{◌≡◌, ℕ, ◌≢◌, ◌+◌, ◌*◌, ◌%◌, ◌<◌, ◌≤◌, List, [], length, take}
+use Rattle.wirebase.specs.Bytes.{Field, field, Reaches, part}
 use Rattle.capture.specs.Order.{number_in}
+use Rattle.capture.specs.Packet.{PacketValue}
+use Rattle.capture.specs.Time.{fraction_of}
 use Rattle.capture.specs.declared.ending.Ending.{Ending}
-use Rattle.capture.specs.declared.ending.Ending.TheVariants.{Cut, Version, NotACapture}
+use Rattle.capture.specs.declared.ending.Ending.TheVariants.{Whole, Cut, TooLarge, Version, NotACapture}
 use Rattle.capture.specs.declared.order.Order.{Order}
 use Rattle.capture.specs.declared.order.Order.TheVariants.{Big, Little}
 use Rattle.capture.specs.declared.pcap.FileHeader.{FileHeader}
@@ -100,3 +102,23 @@ pub record IsRecordHeader (order : Order) (bytes : List ℕ) (r : RecordHeader) 
   pub fraction_ : r.fraction ≡ number_in order fraction_field bytes
   pub captured_len_ : r.captured_len ≡ number_in order captured_len_field bytes
   pub original_len_ : r.original_len ≡ number_in order original_len_field bytes
+
+-- The grammar of a record of at most so many bytes, in a file with a header.
+pub record IsRecord (most : ℕ) (h : FileHeader) (bytes : List ℕ) (p : PacketValue) : Type 0 where
+  pub head : RecordHeader
+  pub is_head : IsRecordHeader h.order (take 16 bytes) head
+  pub whole : length bytes ≡ 16 + head.captured_len
+  pub few : head.captured_len ≤ most
+  pub time : p.nanoseconds ≡ head.seconds * 1000000000 + fraction_of h.precision head.fraction
+  pub link_type_ : p.link_type ≡ h.link_type
+  pub original_len_ : p.original_len ≡ head.original_len
+  pub octets_ : p.octets ≡ part bytes 16 (16 + head.captured_len)
+
+-- what ends a file that goes on with these bytes, and so with no record of at most so many bytes
+pub data RecordEnds (most : ℕ) (h : FileHeader) (bytes : List ℕ) : Ending → Type 0 where
+  whole_ : bytes ≡ [] → RecordEnds most h bytes Whole
+  head_cut : bytes ≢ [] → length bytes < 16 → RecordEnds most h bytes Cut
+  cut : (head : RecordHeader) → IsRecordHeader h.order (take 16 bytes) head → head.captured_len ≤ most
+      → length bytes < 16 + head.captured_len → RecordEnds most h bytes Cut
+  large : (head : RecordHeader) → IsRecordHeader h.order (take 16 bytes) head → most < head.captured_len
+      → RecordEnds most h bytes TooLarge

@@ -57,7 +57,6 @@ use Rattle.capture.specs.declared.order.Order.{Order}
 use Rattle.capture.specs.declared.order.Order.TheVariants.{Big, Little}
 use Rattle.capture.specs.declared.pcapng.Head.{Head}
 use Rattle.capture.specs.declared.pcapng.Interface.{Interface}
-use Rattle.capture.specs.declared.pcapng.Packet.{Packet}
 
 -- ---- any block
 
@@ -235,17 +234,3 @@ pub data IsPacket (order : Order) (interfaces : List Interface) (bytes : List �
   simple : kind ≡ 3 → IsSimple order interfaces bytes p → IsPacket order interfaces bytes p kind
   enhanced : kind ≡ 6 → IsTimed order interfaces (number_in order (field 8 12) bytes) bytes p
       → IsPacket order interfaces bytes p kind
-
--- the packet that a place in a block's bytes tells
-abbrev pub packet_in : Packet → List ℕ → PacketValue
-packet_in p bytes = record {
-  nanoseconds = p.time.seconds * 1000000000 + p.time.nanoseconds;
-  link_type = p.link_type;
-  original_len = p.original_len;
-  octets = part bytes p.start (p.start + p.captured_len);
-}
-
--- it is within the block, and its time is in order
-pub record IsPlace (p : Packet) (bytes : List ℕ) : Type 0 where
-  pub within : p.start + p.captured_len ≤ length bytes
-  pub nanoseconds_ : p.time.nanoseconds < 1000000000

@@ -1,5 +1,5 @@
 -- What is read of an input.
-use Rattle.std.specs.Prelude.{◌≡◌, ℕ, Bool, true, ◌<◌, ◌≤◌, List, [], ◌++◌, length, take, drop, Option, Some, OnSome}
+use Rattle.std.specs.Prelude.{◌≡◌, ℕ, Bool, true, false, ◌<◌, ◌≤◌, List, [], ◌++◌, length, take, drop, Option, Some, OnSome}
 use Rattle.std.specs.Io.KnownBytes.{Consumes, IsAtEnd}
 
 -- bytes were taken off what a reader had left, at most so many, and fewer only at its end
@@ -20,3 +20,18 @@ pub record TakesPart (old new : Option (List ℕ)) (before after_ : List ℕ) (m
 pub record Reads (left : List ℕ) (now : Option (List ℕ)) (taken : List ℕ) (most : ℕ) : Type 0 where
   pub front : taken ≡ take most left
   pub rest : now ≡ Some (drop most left)
+
+-- bytes were passed over: so many, or fewer at the reader's end
+pub record Skips (old new : Option (List ℕ)) (count : ℕ) (whole : Bool) : Type 0 where
+  pub passed : List ℕ
+  pub consumed : Consumes old new passed
+  pub all : whole ≡ true → length passed ≡ count
+  pub fewer : whole ≡ false → length passed < count
+  pub ended : whole ≡ false → OnSome old (IsAtEnd new)
+
+pub record SkipsPart (old new : Option (List ℕ)) (missing count : ℕ) (ended : Bool) : Type 0 where
+  pub passed : List ℕ
+  pub consumed : Consumes old new passed
+  pub counted : length passed ≡ count
+  pub few : count ≤ missing
+  pub all : ended ≡ true → count < missing → OnSome old (IsAtEnd new)

@@ -1,12 +1,15 @@
 //! The headers of a pcap file and of its records (draft-ietf-opsawg-pcap sections 4 and 5).
 
-ghost use Rattle.std.specs.Prelude.{◌≡◌, ◌≤◌, IfOk, IfErr, IfSome, IsNone, IsOkAnd, length};
+ghost use Rattle.std.specs.Prelude.{◌≡◌, ◌≤◌, ◌+◌, ◌*◌, IfOk, IfErr, IfSome, IsNone, IsOkAnd, length};
+ghost use Rattle.capture.specs.Time.{IsTime, fraction_of};
 ghost use Rattle.capture.specs.Pcap.{HasMagic, IsFileHeader, FileEnds, IsRecordHeader};
 ghost use Rattle.capture.specs.declared.ending.Ending.{Ending};
 ghost use Rattle.capture.specs.declared.pcap.FileHeader.{FileHeader as Header};
 
 use crate::ending::Ending;
 use crate::order::Order;
+use crate::packet::Packet;
+use crate::time::Time;
 
 // The fields of both headers; their pictures are in specs/Pcap.antt.
 mod field {
@@ -123,5 +126,23 @@ impl RecordHeader {
             captured_len: order.u32_at(octets, field::CAPTURED_LEN),
             original_len: order.u32_at(octets, field::ORIGINAL_LEN),
         }
+    }
+}
+
+/// The packet of a record with this header, whose bytes stand behind it.
+pub fn packet(file: &FileHeader, head: &RecordHeader) -> Packet
+    ensures place { result.start ≡ 16 }
+    ensures captured_len { result.captured_len ≡ head.now.captured_len }
+    ensures original_len { result.original_len ≡ head.now.original_len }
+    ensures link_type { result.link_type ≡ file.now.link_type }
+    ensures time { IsTime result.time (head.now.seconds * 1000000000
+        + fraction_of file.now.precision head.now.fraction) }
+{
+    Packet {
+        time: Time::of_fraction(head.seconds, head.fraction, file.precision),
+        link_type: file.link_type,
+        original_len: head.original_len,
+        start: RECORD_HEADER_LEN,
+        captured_len: head.captured_len,
     }
 }

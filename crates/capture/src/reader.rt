@@ -1,7 +1,7 @@
 //! Bytes of an input, so many at a time.
 
 ghost use Rattle.std.specs.Prelude.{◌≡◌, ◌≤◌, ◌-◌, ◌++◌, ◌⊎◌, ℕ, List, IfOk, IfErr, OnOk, length};
-ghost use Rattle.capture.specs.Reader.{Takes, TakesPart};
+ghost use Rattle.capture.specs.Reader.{Takes, TakesPart, Skips, SkipsPart};
 
 use crate::ending::Fault;
 use std::io::{BufRead, ErrorKind};
@@ -46,4 +46,42 @@ fn take_part<R: BufRead>(input: &mut R, octets: &mut Vec<u8>, missing: usize) ->
     let ended = count == missing || shown.is_empty();
     input.consume(count);
     Ok(ended)
+}
+
+/// Passes over so many octets, or over all where there are fewer, and answers whether there were as many.
+pub fn skip<R: BufRead>(input: &mut R, count: usize) -> Result<bool, Fault>
+    ensures skips { IfOk result (λ whole. Skips (R.remaining input.old) (R.remaining input.new) count whole) }
+    ensures fault { IfErr result (λ fault. fault ≡ Fault.Read) }
+{
+    let mut missing = count;
+    'parts: for _ in 0..u64::MAX {
+        let (skipped, ended) = skip_part(input, missing)?;
+        missing -= skipped;
+        if ended {
+            return Ok(missing == 0);
+        }
+    }
+    Err(Fault::Read)
+}
+
+// Passes over what is at hand of so many octets; answers how many these are, and whether they are all or the input has
+// ended.
+fn skip_part<R: BufRead>(input: &mut R, missing: usize) -> Result<(usize, bool), Fault>
+    ensures part { IfOk result (λ answer. SkipsPart (R.remaining input.old) (R.remaining input.new) missing
+        answer.0 answer.1) }
+    ensures fault { IfErr result (λ fault. fault ≡ Fault.Read) }
+{
+    let shown = match input.fill_buf() {
+        Ok(shown) => shown.len(),
+        Err(error) => {
+            return if error.kind() == ErrorKind::Interrupted {
+                Ok((0, false))
+            } else {
+                Err(Fault::Read)
+            };
+        }
+    };
+    let count = shown.min(missing);
+    input.consume(count);
+    Ok((count, count == missing || shown == 0))
 }

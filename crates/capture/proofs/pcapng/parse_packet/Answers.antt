@@ -1,6 +1,6 @@
 -- A packet is one of its kind.
 use Rattle.capture.proofs.Blocks.{obsolete_sound, enhanced_sound, simple_sound, obsolete_timed, enhanced_timed}
-use Rattle.capture.proofs.pcapng.Packet.parse.Goals as goal
+use Rattle.capture.proofs.pcapng.parse_packet.Goals as goal
 
 pub returns-in-2-clause-sound : goal.returns-in-2-clause-sound
 returns-in-2-clause-sound c = obsolete_sound _ _ _ _ _ c.in-2.is c.u16_at-place.ensures _ c.timed.ensures.sound

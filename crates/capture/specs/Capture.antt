@@ -1,0 +1,159 @@
+-- What the bytes of a capture hold: packets one after another, and what ends them.
+use Rattle.std.specs.Prelude.{◌≡◌, ◌≢◌, ℕ, ◌+◌, ◌-◌, ◌*◌, ◌^◌, ◌<◌, ◌≤◌, min, List, [], ◌∷◌, ◌++◌, length, take, drop}
+use Rattle.std.specs.Prelude.{Option, None, Some}
+use Rattle.wirebase.specs.Bytes.{part}
+use Rattle.capture.specs.Order.{number_in}
+use Rattle.capture.specs.Packet.{PacketValue, packet_in, IsPlace}
+use Rattle.capture.specs.Pcap.{IsFileHeader, FileEnds, IsRecord, RecordEnds}
+use Rattle.capture.specs.Pcapng.{kind_field, section_kind, IsRead, IsHead, HeadEnds, IsClosed, IsSection, SectionEnds}
+use Rattle.capture.specs.Pcapng.{IsInterface, IsPacket}
+use Rattle.capture.specs.declared.capture.Capture.{Capture}
+use Rattle.capture.specs.declared.capture.Next.{Next}
+use Rattle.capture.specs.declared.capture.Next.TheVariants as next
+use Rattle.capture.specs.declared.capture.Record.{Record}
+use Rattle.capture.specs.declared.capture.Stage.{Stage}
+use Rattle.capture.specs.declared.capture.Stage.TheVariants as stage
+use Rattle.capture.specs.declared.ending.Ending.{Ending}
+use Rattle.capture.specs.declared.ending.Ending.TheVariants.{Cut, TooLarge, Malformed}
+use Rattle.capture.specs.declared.order.Order.{Order}
+use Rattle.capture.specs.declared.order.Order.TheVariants.{Big}
+use Rattle.capture.specs.declared.pcap.FileHeader.{FileHeader}
+use Rattle.capture.specs.declared.pcapng.Head.{Head}
+use Rattle.capture.specs.declared.pcapng.Interface.{Interface}
+
+-- the most bytes that are kept of a packet, and the most interfaces of a section
+abbrev pub most_octets : ℕ
+most_octets = 262144
+
+abbrev pub most_interfaces : ℕ
+most_interfaces = 65536
+
+-- how far a capture is read, and the interfaces that the section has described
+pub record State : Type 0 where
+  pub stage : Stage
+  pub interfaces : List Interface
+
+abbrev pub state : Stage → List Interface → State
+state s is = record { stage = s; interfaces = is }
+
+-- ---- one block
+
+-- The bytes are a block, in a section of an order with interfaces: what it leaves, and the packet that it holds.
+pub data IsBlock (section : Order) (interfaces : List Interface) (bytes : List ℕ) (new : State)
+    (packet : Option PacketValue) : Type 0 where
+  passed : (h : Head) → IsHead section (take 12 bytes) h → length bytes ≡ h.total_len → (IsRead h.kind → ⊥)
+      → new ≡ state (stage.Section section) interfaces → packet ≡ None → IsBlock section interfaces bytes new packet
+  header : (h : Head) → IsHead section (take 12 bytes) h → length bytes ≡ h.total_len → IsClosed h.order bytes
+      → h.kind ≡ section_kind → IsSection h.order bytes
+      → new ≡ state (stage.Section h.order) [] → packet ≡ None → IsBlock section interfaces bytes new packet
+  described : (h : Head) (i : Interface) → IsHead section (take 12 bytes) h → length bytes ≡ h.total_len
+      → IsClosed h.order bytes → h.kind ≡ 1 → IsInterface h.order bytes i → length interfaces < most_interfaces
+      → new ≡ state (stage.Section section) (interfaces ++ (i ∷ [])) → packet ≡ None
+      → IsBlock section interfaces bytes new packet
+  held : (h : Head) (p : PacketValue) → IsHead section (take 12 bytes) h → length bytes ≡ h.total_len
+      → IsClosed h.order bytes → IsPacket h.order interfaces bytes p h.kind → length p.octets ≤ most_octets
+      → new ≡ state (stage.Section section) interfaces → packet ≡ Some p → IsBlock section interfaces bytes new packet
+
+-- what ends a capture at a block that is there as a whole
+pub data Refused (h : Head) (interfaces : List Interface) (block : List ℕ) (ending : Ending) : Type 0 where
+  not_closed : (IsClosed h.order block → ⊥) → ending ≡ Malformed → Refused h interfaces block ending
+  no_section : h.kind ≡ section_kind → SectionEnds h.order block ending → Refused h interfaces block ending
+  no_interface : h.kind ≡ 1 → ((i : Interface) → IsInterface h.order block i → ⊥) → ending ≡ Malformed
+      → Refused h interfaces block ending
+  many : (i : Interface) → h.kind ≡ 1 → IsInterface h.order block i → most_interfaces ≤ length interfaces
+      → ending ≡ TooLarge → Refused h interfaces block ending
+  no_packet : h.kind ≢ section_kind → h.kind ≢ 1
+      → ((p : PacketValue) → IsPacket h.order interfaces block p h.kind → ⊥) → ending ≡ Malformed
+      → Refused h interfaces block ending
+  large : (p : PacketValue) → IsPacket h.order interfaces block p h.kind → most_octets < length p.octets
+      → ending ≡ TooLarge → Refused h interfaces block ending
+
+-- what ends a section that goes on with these bytes, and so with no block
+pub data BlockEnds (section : Order) (interfaces : List Interface) (bytes : List ℕ) (ending : Ending) : Type 0 where
+  no_head : HeadEnds section (take 12 bytes) ending → BlockEnds section interfaces bytes ending
+  cut : (h : Head) → IsHead section (take 12 bytes) h → length bytes < h.total_len → ending ≡ Cut
+      → BlockEnds section interfaces bytes ending
+  refused : (h : Head) → IsHead section (take 12 bytes) h → h.total_len ≤ length bytes → IsRead h.kind
+      → Refused h interfaces (take h.total_len bytes) ending → BlockEnds section interfaces bytes ending
+
+-- ---- the whole
+
+-- the bytes begin with the kind of a section header, and so a pcapng file
+abbrev pub BeginsSection : List ℕ → Type 0
+BeginsSection bytes = number_in Big kind_field (take 4 bytes) ≡ section_kind
+
+-- The bytes are the next that stands in a capture: a file's header, a record or a block.
+pub data IsUnit (old : State) (bytes : List ℕ) (new : State) (packet : Option PacketValue) : Type 0 where
+  file : (h : FileHeader) → old.stage ≡ stage.Start → length bytes ≡ 24 → IsFileHeader bytes h
+      → new.stage ≡ stage.File h → packet ≡ None → IsUnit old bytes new packet
+  kept : (h : FileHeader) (p : PacketValue) → old.stage ≡ stage.File h → IsRecord most_octets h bytes p
+      → new.stage ≡ stage.File h → packet ≡ Some p → IsUnit old bytes new packet
+  first : old.stage ≡ stage.Start → BeginsSection bytes → IsBlock Big old.interfaces bytes new packet
+      → IsUnit old bytes new packet
+  block : (section : Order) → old.stage ≡ stage.Section section → IsBlock section old.interfaces bytes new packet
+      → IsUnit old bytes new packet
+
+-- what ends a capture that goes on with these bytes
+pub data Ends (s : State) (bytes : List ℕ) (ending : Ending) : Type 0 where
+  ended : s.stage ≡ stage.End ending → Ends s bytes ending
+  no_file : s.stage ≡ stage.Start → (BeginsSection bytes → ⊥) → FileEnds (take 24 bytes) ending → Ends s bytes ending
+  no_record : (h : FileHeader) → s.stage ≡ stage.File h → RecordEnds most_octets h bytes ending → Ends s bytes ending
+  no_first : s.stage ≡ stage.Start → BeginsSection bytes → BlockEnds Big s.interfaces bytes ending
+      → Ends s bytes ending
+  no_block : (section : Order) → s.stage ≡ stage.Section section → BlockEnds section s.interfaces bytes ending
+      → Ends s bytes ending
+
+-- The definition of a capture: read as far as a state tells, it holds these packets in the bytes that are left, and
+-- then ends so.
+pub data Holds : State → List ℕ → List PacketValue → Ending → Type 0 where
+  ends : {s : State} {bytes : List ℕ} {ending : Ending} → Ends s bytes ending → Holds s bytes [] ending
+  passes : {s : State} {bytes : List ℕ} {packets : List PacketValue} {ending : Ending} (front rest : List ℕ)
+      (new : State) → bytes ≡ front ++ rest → IsUnit s front new None → Holds new rest packets ending
+      → Holds s bytes packets ending
+  packet : {s : State} {bytes : List ℕ} {packets : List PacketValue} {ending : Ending} (front rest : List ℕ)
+      (new : State) (p : PacketValue) → bytes ≡ front ++ rest → IsUnit s front new (Some p)
+      → Holds new rest packets ending → Holds s bytes (p ∷ packets) ending
+
+-- these bytes, a file from its first byte on, hold these packets
+abbrev pub IsCapture : List ℕ → List PacketValue → Ending → Type 0
+IsCapture bytes packets ending = Holds (state stage.Start []) bytes packets ending
+
+-- ---- the reader
+
+-- how far it is, the bytes of the packet that it read last, and how many packets it read
+abbrev pub state_of : Capture → State
+state_of c = state c.stage c.interfaces.items
+
+abbrev pub octets_of : Capture → List ℕ
+octets_of c = part c.octets.items c.start c.end
+
+abbrev pub count_of : Capture → ℕ
+count_of c = c.count
+
+-- a record's packet, of these bytes
+abbrev pub packet_of : Record → List ℕ → PacketValue
+packet_of r octets = record {
+  nanoseconds = r.time.seconds * 1000000000 + r.time.nanoseconds;
+  link_type = r.link_type;
+  original_len = r.original_len;
+  octets = octets;
+}
+
+-- What a call of `next` says of all bytes that were left, where `left` are left behind it: the first packet that they
+-- hold, or what ends them where they hold none.
+abbrev pub GivesNext : State → List ℕ → Next → List ℕ → State → Option (List ℕ) → Type 0
+GivesNext old bytes (next.Record r) octets new left =
+    (rest : List ℕ) × (left ≡ Some rest) × ((packets : List PacketValue) (ending : Ending)
+    → Holds new rest packets ending → Holds old bytes (packet_of r octets ∷ packets) ending)
+GivesNext old bytes (next.Ended ending) octets new left = Holds old bytes [] ending × (new.stage ≡ stage.End ending)
+
+-- a record is in order: its number, its time, and its captured length
+pub record IsInOrder (r : Record) (octets : List ℕ) (old new : ℕ) : Type 0 where
+  pub number_ : r.number ≡ min (old + 1) (2 ^ 64 - 1)
+  pub count_ : new ≡ r.number
+  pub nanoseconds_ : r.time.nanoseconds < 1000000000
+  pub captured_len_ : r.captured_len ≡ length octets
+
+abbrev pub IfRecord : Next → (Record → Type 0) → Type 0
+IfRecord (next.Record r) P = P r
+IfRecord (next.Ended ending) P = Unit {0}
