@@ -4,7 +4,7 @@
     erase.py SOURCES OUT     writes OUT/src and the packages beside it (SOURCES is the repository)
     erase.py --rules         lists the rules
 
-What the rules do not know is refused, by file and line. `crates.txt` says which crate becomes what.
+What the rules do not know is refused, by file and line. `modules.txt` says which crate becomes what.
 """
 import collections
 import pathlib
@@ -80,13 +80,13 @@ def kinds_of(needs):
     kinds = collections.defaultdict(dict)
     for kind, crate, *name in table():
         if kind not in ("root", "module", "package", "example", "left"):
-            raise Refused(f"crates.txt: a row of the kind `{kind}`")
+            raise Refused(f"modules.txt: a row of the kind `{kind}`")
         if crate in needs:
             kinds[kind][crate] = name[0] if name else crate
     library = below(needs, [*kinds["root"], *kinds["module"]])
     for crate in needs:
         if crate not in library and not any(crate in rows for rows in kinds.values()):
-            raise Refused(f"crates.txt: no row for the crate {crate}")
+            raise Refused(f"modules.txt: no row for the crate {crate}")
     return kinds, library
 
 
