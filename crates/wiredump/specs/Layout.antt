@@ -1,7 +1,9 @@
 -- How the program lays out what it prints: lines and fields, and the values behind a field's name.
-use Rattle.std.specs.Prelude.{◌≡◌, ℕ, ◌/◌, ◌⊎◌, Bool, if◌then◌else◌, List, [], ◌∷◌, ◌++◌, Option, None, Some, codes}
+use Rattle.std.specs.Prelude.{◌≡◌, ℕ, ◌⊎◌, Bool, if◌then◌else◌, List, [], ◌∷◌, ◌++◌, Option, None, Some, codes}
 use Rattle.std.specs.Prelude.{decimal}
 use Rattle.hex.specs.Hex.{encode_lower}
+use Rattle.wirebase.specs.Duration.{millis_of}
+use Rattle.wirebase.specs.declared.duration.Duration.{Duration}
 
 -- ---- lines and fields
 
@@ -24,9 +26,9 @@ abbrev pub octets_text : List ℕ → List ℕ
 octets_text [] = codes "-"
 octets_text (octet ∷ rest) = encode_lower (octet ∷ rest)
 
--- a time, from its microseconds: its whole milliseconds
-abbrev pub millis_text : ℕ → List ℕ
-millis_text micros = decimal (micros / 1000)
+-- a time: its whole milliseconds
+abbrev pub millis_text : Duration → List ℕ
+millis_text time = decimal (millis_of time)
 
 -- a truth value
 abbrev pub truth_text : Bool → List ℕ

@@ -1,5 +1,6 @@
 -- What a message of neighbor discovery prints.
 use Rattle.std.specs.Prelude.{ℕ, List, ◌++◌, Option, None, Some, codes, decimal}
+use Rattle.wirebase.specs.declared.duration.Duration.{Duration}
 use Rattle.wirebase.specs.declared.ipv6.Ipv6Repr.{Ipv6Repr}
 use Rattle.opt_wire.specs.declared.ndiscoption.repr.PrefixInformation.{PrefixInformation}
 use Rattle.icmp6_wire.specs.Ndisc.{NdiscValue, router_solicit, router_advert, neighbor_solicit, neighbor_advert}
@@ -25,7 +26,7 @@ abbrev pub lladdr_listing : Option (List ℕ) → List ℕ
 lladdr_listing address = field (codes "lladdr") (text_or_none octets_text address)
 
 -- what a router advertises of itself
-abbrev pub router_listing : ℕ → RouterFlags → ℕ → ℕ → ℕ → List ℕ
+abbrev pub router_listing : ℕ → RouterFlags → Duration → Duration → Duration → List ℕ
 router_listing hops flags lifetime reachable retrans =
     line (codes "RouterAdvert")
     ++ field (codes "hop_limit") (decimal hops)

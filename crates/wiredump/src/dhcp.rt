@@ -4,6 +4,7 @@
 
 ghost use Rattle.std.specs.Prelude.{OnOk, codes};
 ghost use Rattle.std.specs.Option.{option_map};
+ghost use Rattle.wirebase.specs.HardwareAddress.{ethernet_of};
 ghost use Rattle.dhcp_wire.specs.Dhcpv4.{value_of};
 ghost use Rattle.wiredump.specs.Layout.{field as field_text, octets_text, text_or_none};
 ghost use Rattle.wiredump.specs.ListingDhcp.{DhcpPrints, dhcp_listing, sender_listing, addresses_listing};
@@ -113,7 +114,7 @@ fn show_limits<W: Write>(output: &mut W, packet: &Repr<'_>) -> io::Result<()>
 
 // The octets of an address.
 impl Value for EthernetAddress {
-    ghost text = { hardware_text };
+    ghost text = { λ address. hardware_text (ethernet_of address) };
 
     fn write_to<W: Write>(self, output: &mut W) -> io::Result<()> {
         self.as_bytes().write_to(output)

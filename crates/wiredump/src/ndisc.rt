@@ -6,7 +6,7 @@ ghost use Rattle.std.specs.Prelude.{OnOk};
 ghost use Rattle.std.specs.Option.{option_map};
 ghost use Rattle.icmp6_wire.specs.Ndisc.{neighbor_advert, neighbor_solicit, redirect, router_advert};
 ghost use Rattle.icmp6_wire.specs.Ndisc.{router_solicit, value_of};
-ghost use Rattle.icmp6_wire.specs.NdiscFound.{packet_of};
+ghost use Rattle.icmp6_wire.specs.NdiscFound.{link_of, packet_of};
 ghost use Rattle.wiredump.specs.ListingNdisc.{ndisc_listing, router_listing, lladdr_listing};
 ghost use Rattle.wiredump.specs.ListingNdisc.{prefix_info_listing, redirected_hdr_listing};
 ghost use Rattle.wiredump.specs.Output.{Gains};
@@ -70,7 +70,7 @@ fn show_router_solicit<W: Write>(
     lladdr: Option<RawHardwareAddress>,
 ) -> io::Result<()>
     ensures { OnOk result (Gains (W.contents output.old) (W.contents output.new)
-        (ndisc_listing (router_solicit lladdr))) }
+        (ndisc_listing (router_solicit (link_of lladdr)))) }
 {
     line(output, "RouterSolicit")?;
     show_lladdr(output, lladdr)
@@ -89,7 +89,7 @@ fn show_router_advert<W: Write>(
 ) -> io::Result<()>
     ensures { OnOk result (Gains (W.contents output.old) (W.contents output.new)
         (ndisc_listing (router_advert hop_limit flags router_lifetime reachable_time retrans_time
-        lladdr mtu prefix_info.now))) }
+        (link_of lladdr) mtu prefix_info.now))) }
 {
     show_router(
         output,
@@ -129,7 +129,7 @@ fn show_neighbor_solicit<W: Write>(
     lladdr: Option<RawHardwareAddress>,
 ) -> io::Result<()>
     ensures { OnOk result (Gains (W.contents output.old) (W.contents output.new)
-        (ndisc_listing (neighbor_solicit target_addr lladdr))) }
+        (ndisc_listing (neighbor_solicit target_addr (link_of lladdr)))) }
 {
     line(output, "NeighborSolicit")?;
     field(output, "target_addr", target_addr)?;
@@ -143,7 +143,7 @@ fn show_neighbor_advert<W: Write>(
     lladdr: Option<RawHardwareAddress>,
 ) -> io::Result<()>
     ensures { OnOk result (Gains (W.contents output.old) (W.contents output.new)
-        (ndisc_listing (neighbor_advert flags target_addr lladdr))) }
+        (ndisc_listing (neighbor_advert flags target_addr (link_of lladdr)))) }
 {
     line(output, "NeighborAdvert")?;
     field(output, "flags", flags.bits())?;
@@ -159,7 +159,7 @@ fn show_redirect<W: Write>(
     redirected_hdr: &Option<RedirectedHeader<'_>>,
 ) -> io::Result<()>
     ensures { OnOk result (Gains (W.contents output.old) (W.contents output.new)
-        (ndisc_listing (redirect target_addr dest_addr lladdr
+        (ndisc_listing (redirect target_addr dest_addr (link_of lladdr)
         (option_map packet_of redirected_hdr.now)))) }
 {
     line(output, "Redirect")?;
@@ -171,7 +171,7 @@ fn show_redirect<W: Write>(
 
 fn show_lladdr<W: Write>(output: &mut W, address: Option<RawHardwareAddress>) -> io::Result<()>
     ensures { OnOk result (Gains (W.contents output.old) (W.contents output.new)
-        (lladdr_listing address)) }
+        (lladdr_listing (link_of address))) }
 {
     match address {
         Some(address) => field(output, "lladdr", address.as_bytes()),
