@@ -1,7 +1,7 @@
 // What messages of all three protocols are written with.
 
 ghost use Rattle.std.specs.Prelude.{◌≡◌, ◌≤◌, ◌+◌, [], ◌∷◌, length};
-ghost use Rattle.wirebase.specs.ByteWriter.{free, Puts, the_slice, be8, be16};
+ghost use Rattle.wirebase.specs.ByteWriter.{free, Puts, be8, be16};
 ghost use Rattle.wirebase.specs.Ipv6Address.{octets_of};
 ghost use Rattle.icmp6_wire.specs.Icmpv6Tables.{message_number};
 
@@ -13,7 +13,6 @@ pub(crate) fn put_type(w: &mut ByteWriter<'_>, kind: Message)
     requires room { 4 ≤ length (free w.old) }
     ensures puts { Puts w.old w.new (be8 (message_number kind) ∷ be8 0 ∷ be16 0 ∷ []) }
     ensures room { length (free w.old) ≡ 4 + length (free w.new) }
-    ensures same_slice { the_slice w.new ≡ the_slice w.old }
 {
     w.put_u8(kind.into());
     w.put_u8(0);
@@ -25,7 +24,6 @@ pub(crate) fn put_address(w: &mut ByteWriter<'_>, address: &Ipv6Address)
     requires room { 16 ≤ length (free w.old) }
     ensures puts { Puts w.old w.new (octets_of address.now ∷ []) }
     ensures room { length (free w.old) ≡ 16 + length (free w.new) }
-    ensures same_slice { the_slice w.new ≡ the_slice w.old }
 {
     w.put_bytes(&address.octets());
 }

@@ -3,7 +3,7 @@
 ghost use Rattle.std.specs.Prelude.{◌≡◌, ◌≢◌, ◌+◌, ◌≤◌, ◌<◌, ◌↔◌, ◌++◌, [], ◌∷◌, List, length, map, IsOk, IfOk};
 ghost use Rattle.std.specs.Prelude.{⊤, IsOkAnd};
 ghost use Rattle.std.specs.Borrow.{sem, Lends, Array, u8 as byte};
-ghost use Rattle.wirebase.specs.ByteWriter.{free, Puts, the_slice};
+ghost use Rattle.wirebase.specs.ByteWriter.{free, Puts};
 ghost use Rattle.wirebase.specs.Format.{Rewrites, SameText};
 ghost use Rattle.opt_wire.specs.Ipv6Option.{OptionValue, value_of as option_value, pad_n, router_alert, HasData};
 ghost use Rattle.opt_wire.specs.Ipv6Option.{text as option_text, text_len as option_len};
@@ -204,8 +204,7 @@ impl<'a> Repr<'a> {
 fn put_options(w: &mut ByteWriter<'_>, options: &[ipv6option::Repr<'_>])
     requires enough { HaveData (map option_value options.now) }
     requires room { text_len (map option_value options.now) ≤ length (free w.old) }
-    ensures puts { Puts w.old w.new (header_fields (map option_value options.now)) }
-    ensures same_slice { the_slice w.new ≡ the_slice w.old }
+    ensures { Puts w.old w.new (header_fields (map option_value options.now)) }
 {
     for option in options {
         put_option(w, option);
@@ -219,7 +218,6 @@ fn put_option(w: &mut ByteWriter<'_>, option: &ipv6option::Repr<'_>)
     requires room { option_len (option_value option.now) ≤ length (free w.old) }
     ensures puts { Puts w.old w.new (option_text (option_value option.now) ∷ []) }
     ensures room { length (free w.old) ≡ option_len (option_value option.now) + length (free w.new) }
-    ensures same_slice { the_slice w.new ≡ the_slice w.old }
 {
     option.emit_into(w.part(option.buffer_len()));
 }

@@ -5,7 +5,7 @@ ghost use Rattle.std.specs.Prelude.{IsOkAnd};
 ghost use Rattle.std.specs.Borrow.{sem, Lends, Array, u8 as byte};
 ghost use Rattle.std.specs.Fmt.{WritesOnOk};
 ghost use Rattle.wirebase.specs.Bytes.{Reaches, bytes_of, byte_of, with_field};
-ghost use Rattle.wirebase.specs.ByteWriter.{be8, free, Puts, the_slice};
+ghost use Rattle.wirebase.specs.ByteWriter.{be8, free, Puts};
 ghost use Rattle.wirebase.specs.Format.{Rewrites, SameText};
 ghost use Rattle.opt_wire.specs.Ipv6Option.{inner, with_inner, view_octets, Sets, KeepsLen, option_type_field};
 ghost use Rattle.opt_wire.specs.Ipv6Option.{opt_data_len_field, option_data_field, BeginsWhole, OptionValue, value_of};
@@ -329,8 +329,7 @@ impl<'a> Repr<'a> {
     fn put(&self, w: &mut ByteWriter<'_>)
         requires enough { HasData (value_of self.now) }
         requires room { text_len (value_of self.now) ≤ length (free w.old) }
-        ensures puts { Puts w.old w.new (option_fields (value_of self.now)) }
-        ensures same_slice { the_slice w.new ≡ the_slice w.old }
+        ensures { Puts w.old w.new (option_fields (value_of self.now)) }
     {
         match *self {
             Repr::Pad1 => w.put_u8(Type::Pad1.into()),
@@ -359,7 +358,6 @@ fn put_counted(w: &mut ByteWriter<'_>, kind: Type, data_len: u8)
     requires { 2 ≤ length (free w.old) }
     ensures puts { Puts w.old w.new (be8 (type_number kind) ∷ be8 data_len ∷ []) }
     ensures room { length (free w.old) ≡ 2 + length (free w.new) }
-    ensures same_slice { the_slice w.new ≡ the_slice w.old }
 {
     w.put_u8(kind.into());
     w.put_u8(data_len);

@@ -2,7 +2,7 @@
 
 ghost use Rattle.std.specs.Prelude.{◌≡◌, ◌≤◌, ◌+◌, ◌<◌, ◌^◌, List, ℕ, ◌∷◌, [], length, IfOk, IsOkAnd};
 ghost use Rattle.wirebase.specs.Bytes.{over};
-ghost use Rattle.wirebase.specs.ByteWriter.{free, Puts, the_slice};
+ghost use Rattle.wirebase.specs.ByteWriter.{free, Puts};
 ghost use Rattle.wirebase.specs.Format.{Rewrites, SameText};
 ghost use Rattle.dns_wire.specs.DnsQuestion.{QuestionValue, value_of, IsQuestion, question_fields, text, text_len};
 ghost use Rattle.dns_wire.specs.DnsQuestion.{format, Emits};
@@ -97,8 +97,7 @@ impl<'a> Question<'a> {
     // Writes each field of the question.
     pub(crate) fn put(&self, w: &mut ByteWriter<'_>)
         requires { text_len (value_of self.now) ≤ length (free w.old) }
-        ensures puts { Puts w.old w.new (question_fields (value_of self.now)) }
-        ensures same_slice { the_slice w.new ≡ the_slice w.old }
+        ensures { Puts w.old w.new (question_fields (value_of self.now)) }
     {
         w.put_bytes(self.name);
         w.put_u16(self.type_.into());

@@ -2,7 +2,7 @@
 
 ghost use Rattle.std.specs.Prelude.{◌≡◌, ◌≤◌, ◌<◌, ◌^◌, List, ℕ, ◌∷◌, [], length};
 ghost use Rattle.wirebase.specs.Bytes.{over};
-ghost use Rattle.wirebase.specs.ByteWriter.{free, Puts, the_slice};
+ghost use Rattle.wirebase.specs.ByteWriter.{free, Puts};
 ghost use Rattle.wirebase.specs.Format.{SameText};
 ghost use Rattle.dns_wire.specs.DnsTables.{opcode_number, flag_bits, IsKnown};
 ghost use Rattle.dns_wire.specs.DnsPacket.{inner};
@@ -76,8 +76,7 @@ impl<'a> Repr<'a> {
         requires known { IsKnown (flag_bits self.now.flags) }
         requires four_bits { opcode_number self.now.opcode < 16 }
         requires room { text_len (value_of self.now) ≤ length (free w.old) }
-        ensures puts { Puts w.old w.new (query_fields (value_of self.now)) }
-        ensures same_slice { the_slice w.new ≡ the_slice w.old }
+        ensures { Puts w.old w.new (query_fields (value_of self.now)) }
     {
         w.put_u16(self.transaction_id);
         w.put_u16(word_of(self.flags, self.opcode));

@@ -2,7 +2,7 @@
 
 ghost use Rattle.std.specs.Prelude.{◌≡◌, ◌≤◌, ◌<◌, ◌+◌, ◌^◌, ℕ, List, length, IfOk, IsOkAnd, Some};
 ghost use Rattle.wirebase.specs.Bytes.{byte_of, over, Reaches};
-ghost use Rattle.wirebase.specs.ByteWriter.{free, Puts, the_slice};
+ghost use Rattle.wirebase.specs.ByteWriter.{free, Puts};
 ghost use Rattle.wirebase.specs.Format.{Rewrites, SameText};
 ghost use Rattle.wirebase.specs.Icmp.{type_field, checksum_field, header, echo_fields};
 ghost use Rattle.wirebase.specs.declared.capabilities.ChecksumCapabilities.{ChecksumCapabilities};
@@ -219,8 +219,7 @@ impl<'a> Repr<'a> {
     // The same with this writer.
     fn put(&self, w: &mut ByteWriter<'_>, checksum_caps: &ChecksumCapabilities)
         requires { CanEmit (value_of self.now) (free w.old) }
-        ensures puts { Puts w.old w.new (message_fields checksum_caps.now (value_of self.now)) }
-        ensures same_slice { the_slice w.new ≡ the_slice w.old }
+        ensures { Puts w.old w.new (message_fields checksum_caps.now (value_of self.now)) }
     {
         match *self {
             Repr::EchoRequest {
@@ -325,8 +324,7 @@ fn seal(octets: &mut [u8], checksum_caps: &ChecksumCapabilities)
 // Writes an echo of this type, as much of its data as there is room for.
 fn put_echo(w: &mut ByteWriter<'_>, kind: Message, ident: u16, seq_no: u16, data: &[u8])
     requires { 8 ≤ length (free w.old) }
-    ensures puts { Puts w.old w.new (echo_fields (message_number kind) ident seq_no «data».now) }
-    ensures same_slice { the_slice w.new ≡ the_slice w.old }
+    ensures { Puts w.old w.new (echo_fields (message_number kind) ident seq_no «data».now) }
 {
     w.put_u8(kind.into());
     w.put_u8(0);
@@ -348,9 +346,8 @@ fn put_error(
 )
     requires room { length (free w.old) ≡ 28 + length «data».now }
     requires count { quoted.now.payload_len ≤ 65515 }
-    ensures puts { Puts w.old w.new
+    ensures { Puts w.old w.new
         (error_fields checksum_caps.now (message_number kind) code quoted.now «data».now) }
-    ensures same_slice { the_slice w.new ≡ the_slice w.old }
 {
     w.put_u8(kind.into());
     w.put_u8(code);

@@ -2,7 +2,7 @@
 
 ghost use Rattle.std.specs.Prelude.{◌≡◌, ◌≤◌, ◌↔◌, length, IsTrue, IfOk, Some};
 ghost use Rattle.wirebase.specs.Bytes.{Reaches, over};
-ghost use Rattle.wirebase.specs.ByteWriter.{free, Puts, the_slice};
+ghost use Rattle.wirebase.specs.ByteWriter.{free, Puts};
 ghost use Rattle.wirebase.specs.Format.{Rewrites, SameText};
 ghost use Rattle.icmp4_wire.specs.Igmp.{message_number, inner, view_octets, group_field, IsGroup, query_of};
 ghost use Rattle.icmp4_wire.specs.Igmp.{message_fields, text, format, IsMessage, Emits};
@@ -212,8 +212,7 @@ fn version_name(version: IgmpVersion) -> &'static str
 // Writes each field of a message, with a checksum of zero.
 fn put_message(w: &mut ByteWriter<'_>, message: Message, code: u8, group: Ipv4Address)
     requires { 8 ≤ length (free w.old) }
-    ensures puts { Puts w.old w.new (message_fields (message_number message) code group) }
-    ensures same_slice { the_slice w.new ≡ the_slice w.old }
+    ensures { Puts w.old w.new (message_fields (message_number message) code group) }
 {
     w.put_u8(message.into());
     w.put_u8(code);

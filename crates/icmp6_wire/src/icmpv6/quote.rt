@@ -3,7 +3,7 @@
 
 ghost use Rattle.std.specs.Prelude.{◌≡◌, ◌≤◌, min, length, drop};
 ghost use Rattle.wirebase.specs.Bytes.{over};
-ghost use Rattle.wirebase.specs.ByteWriter.{free, Puts, the_slice, fields};
+ghost use Rattle.wirebase.specs.ByteWriter.{free, Puts, fields};
 ghost use Rattle.wirebase.specs.Ipv6.{IsHeader, header_text};
 ghost use Rattle.icmp6_wire.specs.Icmpv6.{quoted_data, error_fields, error_len};
 ghost use Rattle.icmp6_wire.specs.Icmpv6Tables.{message_number};
@@ -49,9 +49,8 @@ fn put_error(
 )
     requires room { error_len «data».now ≤ length (free w.old) }
     requires count { quoted.now.payload_len ≤ 65535 }
-    ensures puts { Puts w.old w.new
+    ensures { Puts w.old w.new
         (error_fields (message_number kind) code word quoted.now «data».now) }
-    ensures same_slice { the_slice w.new ≡ the_slice w.old }
 {
     w.put_u8(kind.into());
     w.put_u8(code);

@@ -2,7 +2,7 @@
 
 ghost use Rattle.std.specs.Prelude.{◌≡◌, ◌≤◌, ◌<◌, ◌+◌, ◌^◌, length, IsOk, IfOk, IsOkAnd};
 ghost use Rattle.wirebase.specs.Bytes.{Reaches, over};
-ghost use Rattle.wirebase.specs.ByteWriter.{free, Puts, the_slice, fields};
+ghost use Rattle.wirebase.specs.ByteWriter.{free, Puts, fields};
 ghost use Rattle.wirebase.specs.Format.{Rewrites, SameText};
 ghost use Rattle.wirebase.specs.Icmp.{header, checksum_field, echo_fields};
 ghost use Rattle.wirebase.specs.declared.capabilities.ChecksumCapabilities.{ChecksumCapabilities};
@@ -315,8 +315,7 @@ fn write_echo(octets: &mut [u8], kind: Message, ident: u16, seq_no: u16, data: &
 // Writes an echo of this type, as much of its data as there is room for.
 fn put_echo(w: &mut ByteWriter<'_>, kind: Message, ident: u16, seq_no: u16, data: &[u8])
     requires { 8 ≤ length (free w.old) }
-    ensures puts { Puts w.old w.new (echo_fields (message_number kind) ident seq_no «data».now) }
-    ensures same_slice { the_slice w.new ≡ the_slice w.old }
+    ensures { Puts w.old w.new (echo_fields (message_number kind) ident seq_no «data».now) }
 {
     put_type(w, kind);
     w.put_u16(ident);

@@ -2,7 +2,7 @@
 
 ghost use Rattle.std.specs.Prelude.{◌≡◌, ◌≤◌, ◌<◌, ◌+◌, ◌*◌, ◌^◌, length, [], ◌∷◌, IsOk, IfOk, IsOkAnd};
 ghost use Rattle.wirebase.specs.Bytes.{byte_of, over};
-ghost use Rattle.wirebase.specs.ByteWriter.{free, Puts, the_slice};
+ghost use Rattle.wirebase.specs.ByteWriter.{free, Puts};
 ghost use Rattle.wirebase.specs.Format.{Rewrites, SameText};
 ghost use Rattle.wirebase.specs.Icmp.{type_field};
 ghost use Rattle.wirebase.specs.Ipv6Address.{IsMulticast};
@@ -146,8 +146,7 @@ impl<'a> Repr<'a> {
     // The same with this writer.
     fn put(&self, w: &mut ByteWriter<'_>)
         requires { CanEmit (value_of self.now) (free w.old) }
-        ensures puts { Puts w.old w.new (message_fields (value_of self.now)) }
-        ensures same_slice { the_slice w.new ≡ the_slice w.old }
+        ensures { Puts w.old w.new (message_fields (value_of self.now)) }
     {
         match *self {
             Repr::Query {
@@ -207,9 +206,8 @@ fn put_query(
 )
     requires room { 28 + length «data».now ≤ length (free w.old) }
     requires small { qrv < 8 }
-    ensures puts { Puts w.old w.new
+    ensures { Puts w.old w.new
         (query_fields max_resp_code mcast_addr s_flag qrv qqic num_srcs «data».now) }
-    ensures same_slice { the_slice w.new ≡ the_slice w.old }
 {
     put_type(w, Message::MldQuery);
     w.put_u16(max_resp_code);
@@ -225,8 +223,7 @@ fn put_query(
 // Writes a report of so many records, which the data holds.
 fn put_report(w: &mut ByteWriter<'_>, count: u16, data: &[u8])
     requires room { 8 + length «data».now ≤ length (free w.old) }
-    ensures puts { Puts w.old w.new (report_fields count («data».now ∷ [])) }
-    ensures same_slice { the_slice w.new ≡ the_slice w.old }
+    ensures { Puts w.old w.new (report_fields count («data».now ∷ [])) }
 {
     put_report_header(w, count);
     w.put_bytes(data);
@@ -238,9 +235,8 @@ fn put_list(w: &mut ByteWriter<'_>, records: &[AddressRecordRepr<'_>])
     requires room { 8 + 20 * length records.now ≤ length (free w.old) }
     requires few { length records.now ≤ 65535 }
     requires groups { AreGroups (values_of records.now) }
-    ensures puts { Puts w.old w.new
+    ensures { Puts w.old w.new
         (report_fields (length records.now) (record_texts (values_of records.now))) }
-    ensures same_slice { the_slice w.new ≡ the_slice w.old }
 {
     put_report_header(w, records.len() as u16);
     put_records(w, records);
@@ -251,7 +247,6 @@ fn put_report_header(w: &mut ByteWriter<'_>, count: u16)
     requires room { 8 ≤ length (free w.old) }
     ensures puts { Puts w.old w.new (report_fields count []) }
     ensures room { length (free w.old) ≡ 8 + length (free w.new) }
-    ensures same_slice { the_slice w.new ≡ the_slice w.old }
 {
     put_type(w, Message::MldReport);
     w.put_u16(0);
@@ -262,8 +257,7 @@ fn put_report_header(w: &mut ByteWriter<'_>, count: u16)
 fn put_records(w: &mut ByteWriter<'_>, records: &[AddressRecordRepr<'_>])
     requires room { 20 * length records.now ≤ length (free w.old) }
     requires groups { AreGroups (values_of records.now) }
-    ensures puts { Puts w.old w.new (record_texts (values_of records.now)) }
-    ensures same_slice { the_slice w.new ≡ the_slice w.old }
+    ensures { Puts w.old w.new (record_texts (values_of records.now)) }
 {
     for record in records {
         put_record(w, record);
@@ -276,7 +270,6 @@ fn put_record(w: &mut ByteWriter<'_>, repr: &AddressRecordRepr<'_>)
     requires group { IsMulticast repr.now.mcast_addr }
     ensures puts { Puts w.old w.new (record_text (record_value repr.now) ∷ []) }
     ensures room { length (free w.old) ≡ 20 + length (free w.new) }
-    ensures same_slice { the_slice w.new ≡ the_slice w.old }
 {
     repr.emit_into(w.part(repr.buffer_len()));
 }

@@ -2,7 +2,7 @@
 
 ghost use Rattle.std.specs.Prelude.{◌≡◌, ◌+◌, ◌<◌, ◌≤◌, ◌^◌, [], ◌∷◌, length};
 ghost use Rattle.std.specs.Option.{option_map};
-ghost use Rattle.wirebase.specs.ByteWriter.{free, Puts, the_slice};
+ghost use Rattle.wirebase.specs.ByteWriter.{free, Puts};
 ghost use Rattle.opt_wire.specs.NdiscOptionRepr.{value_of as option_value, text as text_of_option};
 ghost use Rattle.opt_wire.specs.NdiscOptionRepr.{text_len as len_of_option, CanEmit as CanEmitOption};
 ghost use Rattle.icmp6_wire.specs.Ndisc.{sources, targets, mtus, prefixes, packets};
@@ -102,7 +102,6 @@ pub(super) fn put_option(w: &mut ByteWriter<'_>, option: &Option<ndiscoption::Re
     ensures puts { Puts w.old w.new (option_text (option_map option_value option.now) ∷ []) }
     ensures room { length (free w.old)
         ≡ option_len (option_map option_value option.now) + length (free w.new) }
-    ensures same_slice { the_slice w.new ≡ the_slice w.old }
 {
     match option {
         Some(option) => put_some(w, option),
@@ -117,7 +116,6 @@ pub(super) fn put_source(w: &mut ByteWriter<'_>, lladdr: &Option<RawHardwareAddr
     requires room { option_len (sources (link_of lladdr.now)) ≤ length (free w.old) }
     ensures puts { Puts w.old w.new (option_text (sources (link_of lladdr.now)) ∷ []) }
     ensures room { length (free w.old) ≡ option_len (sources (link_of lladdr.now)) + length (free w.new) }
-    ensures same_slice { the_slice w.new ≡ the_slice w.old }
 {
     put_option(w, &source_option(lladdr));
 }
@@ -129,7 +127,6 @@ pub(super) fn put_target(w: &mut ByteWriter<'_>, lladdr: &Option<RawHardwareAddr
     requires room { option_len (targets (link_of lladdr.now)) ≤ length (free w.old) }
     ensures puts { Puts w.old w.new (option_text (targets (link_of lladdr.now)) ∷ []) }
     ensures room { length (free w.old) ≡ option_len (targets (link_of lladdr.now)) + length (free w.new) }
-    ensures same_slice { the_slice w.new ≡ the_slice w.old }
 {
     put_option(w, &target_option(lladdr));
 }
@@ -143,7 +140,6 @@ fn put_some(w: &mut ByteWriter<'_>, option: &ndiscoption::Repr<'_>)
     ensures puts { Puts w.old w.new (text_of_option (option_value option.now) ∷ []) }
     ensures room { length (free w.old)
         ≡ len_of_option (option_value option.now) + length (free w.new) }
-    ensures same_slice { the_slice w.new ≡ the_slice w.old }
 {
     option.emit_into(w.part(option.buffer_len()));
 }

@@ -2,7 +2,7 @@
 
 ghost use Rattle.std.specs.Prelude.{◌≡◌, ◌+◌, ◌<◌, ◌≤◌, ◌^◌, [], ◌∷◌, length, IfOk, IsOk, IsOkAnd};
 ghost use Rattle.std.specs.Option.{option_map};
-ghost use Rattle.wirebase.specs.ByteWriter.{free, Puts, the_slice, be8, be16, be32};
+ghost use Rattle.wirebase.specs.ByteWriter.{free, Puts, be8, be16, be32};
 ghost use Rattle.wirebase.specs.Duration.{millis_of, seconds_of};
 ghost use Rattle.wirebase.specs.Format.{Rewrites, SameText};
 ghost use Rattle.opt_wire.specs.NdiscOptionRepr.{CanEmit as CanEmitOption};
@@ -228,8 +228,7 @@ impl<'a> Repr<'a> {
     fn put(&self, w: &mut ByteWriter<'_>)
         requires sound { CanEmit (value_of self.now) }
         requires room { text_len (value_of self.now) ≤ length (free w.old) }
-        ensures puts { Puts w.old w.new (message_fields (value_of self.now)) }
-        ensures same_slice { the_slice w.new ≡ the_slice w.old }
+        ensures { Puts w.old w.new (message_fields (value_of self.now)) }
     {
         self.put_header(w);
         self.put_options(w);
@@ -242,7 +241,6 @@ impl<'a> Repr<'a> {
         ensures puts { Puts w.old w.new (header_fields (value_of self.now) []) }
         ensures room { length (free w.old)
             ≡ header_len (value_of self.now) + length (free w.new) }
-        ensures same_slice { the_slice w.new ≡ the_slice w.old }
     {
         match self {
             Repr::RouterSolicit { .. } => put_reserved(w, Message::RouterSolicit),
@@ -285,8 +283,7 @@ impl<'a> Repr<'a> {
     fn put_options(&self, w: &mut ByteWriter<'_>)
         requires sound { Each CanEmitOption (options_of (value_of self.now)) }
         requires room { option_lens (options_of (value_of self.now)) ≤ length (free w.old) }
-        ensures puts { Puts w.old w.new (option_texts (options_of (value_of self.now))) }
-        ensures same_slice { the_slice w.new ≡ the_slice w.old }
+        ensures { Puts w.old w.new (option_texts (options_of (value_of self.now))) }
     {
         match self {
             Repr::RouterSolicit { lladdr } => put_source(w, lladdr),
@@ -359,7 +356,6 @@ fn put_router(w: &mut ByteWriter<'_>, hop_limit: u8, flags: RouterFlags)
     ensures puts { Puts w.old w.new
         (be8 0x86 ∷ be8 0 ∷ be16 0 ∷ be8 hop_limit ∷ be8 (router_bits flags) ∷ []) }
     ensures room { length (free w.old) ≡ 6 + length (free w.new) }
-    ensures same_slice { the_slice w.new ≡ the_slice w.old }
 {
     put_type(w, Message::RouterAdvert);
     w.put_u8(hop_limit);
@@ -377,9 +373,8 @@ fn put_router_options(
         (sources (link_of lladdr.now) ∷ mtus mtu.now ∷ prefixes prefix_info.now ∷ []) }
     requires room { option_lens (sources (link_of lladdr.now) ∷ mtus mtu.now ∷ prefixes prefix_info.now ∷ [])
         ≤ length (free w.old) }
-    ensures puts { Puts w.old w.new
+    ensures { Puts w.old w.new
         (option_texts (sources (link_of lladdr.now) ∷ mtus mtu.now ∷ prefixes prefix_info.now ∷ [])) }
-    ensures same_slice { the_slice w.new ≡ the_slice w.old }
 {
     put_source(w, lladdr);
     put_option(w, &mtu_option(mtu));
@@ -397,9 +392,8 @@ fn put_redirect_options(
     requires room { option_lens
         (targets (link_of lladdr.now) ∷ packets (option_map packet_of header.now) ∷ [])
         ≤ length (free w.old) }
-    ensures puts { Puts w.old w.new
+    ensures { Puts w.old w.new
         (option_texts (targets (link_of lladdr.now) ∷ packets (option_map packet_of header.now) ∷ [])) }
-    ensures same_slice { the_slice w.new ≡ the_slice w.old }
 {
     put_target(w, lladdr);
     put_option(w, &redirected_option(header));
@@ -411,7 +405,6 @@ fn put_neighbor(w: &mut ByteWriter<'_>, flags: NeighborFlags)
     ensures puts { Puts w.old w.new
         (be8 0x88 ∷ be8 0 ∷ be16 0 ∷ be8 (neighbor_bits flags) ∷ be8 0 ∷ be16 0 ∷ []) }
     ensures room { length (free w.old) ≡ 8 + length (free w.new) }
-    ensures same_slice { the_slice w.new ≡ the_slice w.old }
 {
     put_type(w, Message::NeighborAdvert);
     w.put_u8(flags.bits());
@@ -424,7 +417,6 @@ fn put_reserved(w: &mut ByteWriter<'_>, kind: Message)
     requires room { 8 ≤ length (free w.old) }
     ensures puts { Puts w.old w.new (be8 (message_number kind) ∷ be8 0 ∷ be16 0 ∷ be32 0 ∷ []) }
     ensures room { length (free w.old) ≡ 8 + length (free w.new) }
-    ensures same_slice { the_slice w.new ≡ the_slice w.old }
 {
     put_type(w, kind);
     w.put_u32(0);
@@ -439,7 +431,6 @@ fn put_times(w: &mut ByteWriter<'_>, lifetime: &Duration, reachable: &Duration, 
     ensures puts { Puts w.old w.new (be16 (seconds_of lifetime.now)
         ∷ be32 (millis_of reachable.now) ∷ be32 (millis_of retrans.now) ∷ []) }
     ensures room { length (free w.old) ≡ 10 + length (free w.new) }
-    ensures same_slice { the_slice w.new ≡ the_slice w.old }
 {
     w.put_u16(lifetime.secs() as u16);
     w.put_u32(reachable.total_millis() as u32);

@@ -4,7 +4,7 @@ ghost use Rattle.std.specs.Prelude.{◌≡◌, ◌+◌, ◌*◌, ◌≤◌, ◌<
 ghost use Rattle.std.specs.Prelude.{IsOkAnd, Some};
 ghost use Rattle.std.specs.Fmt.{WritesOnOk};
 ghost use Rattle.wirebase.specs.Bytes.{bytes_of};
-ghost use Rattle.wirebase.specs.ByteWriter.{free, Puts, the_slice};
+ghost use Rattle.wirebase.specs.ByteWriter.{free, Puts};
 ghost use Rattle.wirebase.specs.Format.{Rewrites, SameText};
 ghost use Rattle.wirebase.specs.HardwareAddress.{raw_bytes};
 ghost use Rattle.wirebase.specs.Ipv6.{IsPacket, payload_field, header_text};
@@ -189,8 +189,7 @@ impl<'a> Repr<'a> {
     fn put(&self, w: &mut ByteWriter<'_>)
         requires sound { CanEmit (value_of self.now) }
         requires room { text_len (value_of self.now) ≤ length (free w.old) }
-        ensures puts { Puts w.old w.new (option_fields (value_of self.now)) }
-        ensures same_slice { the_slice w.new ≡ the_slice w.old }
+        ensures { Puts w.old w.new (option_fields (value_of self.now)) }
     {
         match *self {
             Repr::SourceLinkLayerAddr(addr) => put_link(w, Type::SourceLinkLayerAddr, addr),
@@ -256,8 +255,7 @@ fn units_of(count: usize) -> usize
 // Writes a link-layer address as an option of this type.
 fn put_link(w: &mut ByteWriter<'_>, kind: Type, addr: RawHardwareAddress)
     requires room { 8 * units (2 + length (raw_bytes addr)) ≤ length (free w.old) }
-    ensures puts { Puts w.old w.new (link_fields (type_number kind) (raw_bytes addr)) }
-    ensures same_slice { the_slice w.new ≡ the_slice w.old }
+    ensures { Puts w.old w.new (link_fields (type_number kind) (raw_bytes addr)) }
 {
     let len = 2 + addr.len();
     let units = units_of(len);
@@ -272,8 +270,7 @@ fn put_prefix(w: &mut ByteWriter<'_>, info: &PrefixInformation)
     requires room { 32 ≤ length (free w.old) }
     requires valid { HasSeconds info.now.valid_lifetime }
     requires preferred { HasSeconds info.now.preferred_lifetime }
-    ensures puts { Puts w.old w.new (prefix_fields info.now) }
-    ensures same_slice { the_slice w.new ≡ the_slice w.old }
+    ensures { Puts w.old w.new (prefix_fields info.now) }
 {
     w.put_u8(Type::PrefixInformation.into());
     w.put_u8(4);
@@ -290,8 +287,7 @@ fn put_redirected(w: &mut ByteWriter<'_>, header: &Ipv6Repr, data: &[u8])
     requires room { 8 * units (48 + length «data».now) ≤ length (free w.old) }
     requires payload { header.now.payload_len ≡ length «data».now }
     requires small { length «data».now ≤ 1992 }
-    ensures puts { Puts w.old w.new (redirected_fields header.now «data».now) }
-    ensures same_slice { the_slice w.new ≡ the_slice w.old }
+    ensures { Puts w.old w.new (redirected_fields header.now «data».now) }
 {
     let len = 48 + data.len();
     let units = units_of(len);
@@ -310,7 +306,6 @@ fn put_packet(w: &mut ByteWriter<'_>, header: &Ipv6Repr, data: &[u8])
     requires count { header.now.payload_len ≤ 65535 }
     ensures puts { Puts w.old w.new (header_text header.now ∷ «data».now ∷ []) }
     ensures room { length (free w.old) ≡ 40 + length «data».now + length (free w.new) }
-    ensures same_slice { the_slice w.new ≡ the_slice w.old }
 {
     write_header(header, w.part(header.buffer_len()));
     w.put_bytes(data);

@@ -6,8 +6,8 @@ use Rattle.opt_wire.specs.Ipv6Option.{value_of}
 use Rattle.opt_wire.specs.Ipv6Hbh.{header_fields}
 use Rattle.opt_wire.proofs.ipv6hbh.put_options.Goals as goal
 
-pub returns-clause-puts : goal.returns-clause-puts
-returns-clause-puts c =
+pub returns : goal.returns
+returns c =
     let none = drop_all c.loop-option.option-index c.args.options.now (omega arith) in
     record {
       puts = ap (λ (l : List Repr). put_all (sheet c.loop-option.w) (header_fields (map value_of l))) (sym none)

@@ -4,13 +4,13 @@ use Rattle.icmp6_wire.specs.Ndisc.{value_of, options_of, option_texts}
 use Rattle.icmp6_wire.proofs.NdiscTexts.{put_all-header}
 use Rattle.icmp6_wire.proofs.ndisc.repr.Repr.put.Goals as goal
 
-pub returns-clause-puts : goal.returns-clause-puts
-returns-clause-puts c =
+pub returns : goal.returns
+returns c =
     let v = value_of c.args.self.now in
     let behind = option_texts (options_of v) in
     record {
-      puts = c.put_options.ensures.puts.puts
+      puts = c.put_options.ensures.puts
           ∙ ap (λ (s : Sheet). put_all s behind) c.put_header.ensures.puts.puts
           ∙ sym (put_all-header v behind (sheet c.args.w.now));
-      same_slice = c.put_options.ensures.same_slice ∙ c.put_header.ensures.same_slice;
+      same_slice = c.put_options.ensures.same_slice ∙ c.put_header.ensures.puts.same_slice;
     }
