@@ -1,6 +1,7 @@
 // Made from crates/dhcp_wire/src/dhcpv4.rt by rust/erase.
 //! The Dynamic Host Configuration Protocol (RFC 2131) with its options (RFC 2132).
 
+mod data;
 mod emission;
 mod found;
 mod kinds;

@@ -3,10 +3,9 @@
 // where it stands, and through a call of these in a sixth of the time. They take the test's runtime, so that they
 // can't stand once in a library: the gate refuses a public function that may end the process.
 
-use crate::wirebase::failing_writer::FailingWriter;
 #[allow(unused_imports)]
 use rattle_std::prelude::*;
-use std::fmt::{Debug, Display, Write};
+use std::fmt::{self, Debug, Display, Write};
 
 // Ends the test where the two differ.
 pub(crate) fn same<T: PartialEq + Debug>(left: T, right: T) {
@@ -27,6 +26,21 @@ pub(crate) fn holds_of(of: impl Debug, is_so: bool) {
 pub(crate) fn prints(value: &impl Display, text: &str) {
     let printed = value.to_string_in().ok();
     same(printed.as_deref(), Some(text));
+}
+
+// A writer that takes so many writes, and fails at the one after them.
+struct FailingWriter {
+    left: u32,
+}
+
+impl Write for FailingWriter {
+    fn write_str(&mut self, _text: &str) -> fmt::Result {
+        if self.left == 0 {
+            return Err(fmt::Error);
+        }
+        self.left -= 1;
+        Ok(())
+    }
 }
 
 // Whether the value is printed by a writer that takes so many writes.

@@ -1,13 +1,17 @@
 // Made from crates/capture/src/lib.rt by rust/erase.
 //! Capture files: what a pcap or a pcapng file holds, read as records in bounded memory.
 
+mod capture;
 mod ending;
 mod order;
+mod packet;
 pub mod pcap;
 pub mod pcapng;
 mod reader;
 mod time;
 
+pub use capture::{Capture, MOST_INTERFACES, MOST_OCTETS, Next, Record};
 pub use ending::{Ending, Fault};
 pub use order::Order;
+pub use packet::Packet;
 pub use time::Time;

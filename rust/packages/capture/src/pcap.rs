@@ -3,6 +3,8 @@
 
 use crate::ending::Ending;
 use crate::order::Order;
+use crate::packet::Packet;
+use crate::time::Time;
 
 // The fields of both headers; their pictures are in specs/Pcap.antt.
 mod field {
@@ -108,5 +110,16 @@ impl RecordHeader {
             captured_len: order.u32_at(octets, field::CAPTURED_LEN),
             original_len: order.u32_at(octets, field::ORIGINAL_LEN),
         }
+    }
+}
+
+/// The packet of a record with this header, whose bytes stand behind it.
+pub fn packet(file: &FileHeader, head: &RecordHeader) -> Packet {
+    Packet {
+        time: Time::of_fraction(head.seconds, head.fraction, file.precision),
+        link_type: file.link_type,
+        original_len: head.original_len,
+        start: RECORD_HEADER_LEN,
+        captured_len: head.captured_len,
     }
 }

@@ -3,6 +3,7 @@
 
 use crate::ending::Ending;
 use crate::order::Order;
+use crate::packet::Packet;
 use crate::time::Time;
 use control_wire::{Error, Octets};
 
@@ -63,6 +64,9 @@ mod field {
     // The bytes of the length that ends a block.
     pub const TRAILER: usize = 4;
 }
+
+/// The bytes of a block's kind, the first of it.
+pub const KIND_LEN: usize = field::KIND.end;
 
 /// The bytes that each block has in front: its kind, its length, and four more.
 pub const HEAD_LEN: usize = field::HEAD_END;
@@ -143,6 +147,11 @@ fn order_of(section: Order, kind: u32, octets: &[u8]) -> Option<Order> {
     }
 }
 
+/// Whether the octets, of which 4 or more are the first of a file, begin with the kind of a section header.
+pub fn begins_section(octets: &[u8]) -> bool {
+    octets.len() >= KIND_LEN && Order::Big.u32_at(octets, field::KIND) == SECTION
+}
+
 /// Whether blocks of this kind are read, and not passed over.
 pub fn is_read(kind: u32) -> bool {
     matches!(
@@ -214,105 +223,84 @@ fn resolution(order: Order, options: &[u8]) -> u8 {
     MICROSECONDS
 }
 
-/// A packet, by its place in a block.
-#[derive(Debug, PartialEq, Eq, Clone, Copy)]
-pub struct Packet {
-    /// When it was captured.
-    pub time: Time,
-    /// The type of the link.
-    pub link_type: u16,
-    /// The bytes that it had.
-    pub original_len: u32,
-    /// Where its bytes begin in the block.
-    pub start: usize,
-    /// How many of them the block keeps.
-    pub captured_len: u32,
+/// The packet that a block of a kind holds, in a section with these interfaces. Refused where the block is too
+/// short for it, names an interface that is not described, or is of no kind of packet.
+pub fn parse_packet(
+    order: Order,
+    kind: u32,
+    interfaces: &[Interface],
+    block: &[u8],
+) -> control_wire::Result<Packet> {
+    if block.len() < field::HEAD_END {
+        return Err(Error);
+    }
+    match kind {
+        OBSOLETE_PACKET => {
+            let place = order.u16_at(block, field::SHORT_INTERFACE) as usize;
+            timed(order, interfaces, place, block)
+        }
+        SIMPLE_PACKET => simple(order, interfaces, block),
+        ENHANCED_PACKET => {
+            let place = order.u32_at(block, field::INTERFACE) as usize;
+            timed(order, interfaces, place, block)
+        }
+        _ => Err(Error),
+    }
 }
 
-impl Packet {
-    /// The packet that a block of a kind holds, in a section with these interfaces. Refused where the block is too
-    /// short for it, names an interface that is not described, or is of no kind of packet.
-    pub fn parse(
-        order: Order,
-        kind: u32,
-        interfaces: &[Interface],
-        block: &[u8],
-    ) -> control_wire::Result<Packet> {
-        if block.len() < field::HEAD_END {
-            return Err(Error);
-        }
-        match kind {
-            OBSOLETE_PACKET => {
-                let place = order.u16_at(block, field::SHORT_INTERFACE) as usize;
-                Packet::timed(order, interfaces, place, block)
-            }
-            SIMPLE_PACKET => Packet::simple(order, interfaces, block),
-            ENHANCED_PACKET => {
-                let place = order.u32_at(block, field::INTERFACE) as usize;
-                Packet::timed(order, interfaces, place, block)
-            }
-            _ => Err(Error),
-        }
+// An enhanced or an obsolete packet, of the interface at a place.
+fn timed(
+    order: Order,
+    interfaces: &[Interface],
+    place: usize,
+    block: &[u8],
+) -> control_wire::Result<Packet> {
+    let Some(interface) = interfaces.get(place) else {
+        return Err(Error);
+    };
+    let len = block.len();
+    if len < field::PACKET + field::TRAILER {
+        return Err(Error);
     }
+    let captured_len = order.u32_at(block, field::CAPTURED_LEN);
+    if captured_len as u64 > (len - field::PACKET - field::TRAILER) as u64 {
+        return Err(Error);
+    }
+    let high = order.u32_at(block, field::TICKS_HIGH);
+    let low = order.u32_at(block, field::TICKS_LOW);
+    Ok(Packet {
+        time: Time::of_ticks(
+            high as u64 * 4_294_967_296 + low as u64,
+            interface.resolution,
+        ),
+        link_type: interface.link_type,
+        original_len: order.u32_at(block, field::ORIGINAL_LEN),
+        start: field::PACKET,
+        captured_len,
+    })
+}
 
-    // An enhanced or an obsolete packet, of the interface at a place.
-    fn timed(
-        order: Order,
-        interfaces: &[Interface],
-        place: usize,
-        block: &[u8],
-    ) -> control_wire::Result<Packet> {
-        let Some(interface) = interfaces.get(place) else {
-            return Err(Error);
-        };
-        let len = block.len();
-        if len < field::PACKET + field::TRAILER {
-            return Err(Error);
-        }
-        let captured_len = order.u32_at(block, field::CAPTURED_LEN);
-        if captured_len as u64 > (len - field::PACKET - field::TRAILER) as u64 {
-            return Err(Error);
-        }
-        let high = order.u32_at(block, field::TICKS_HIGH);
-        let low = order.u32_at(block, field::TICKS_LOW);
-        Ok(Packet {
-            time: Time::of_ticks(
-                high as u64 * 4_294_967_296 + low as u64,
-                interface.resolution,
-            ),
-            link_type: interface.link_type,
-            original_len: order.u32_at(block, field::ORIGINAL_LEN),
-            start: field::PACKET,
-            captured_len,
-        })
+// A simple packet, which belongs to the first interface and has no time.
+fn simple(order: Order, interfaces: &[Interface], block: &[u8]) -> control_wire::Result<Packet> {
+    let Some(interface) = interfaces.get(0) else {
+        return Err(Error);
+    };
+    let len = block.len();
+    if len < field::SIMPLE_PACKET + field::TRAILER {
+        return Err(Error);
     }
-
-    // A simple packet, which belongs to the first interface and has no time.
-    fn simple(
-        order: Order,
-        interfaces: &[Interface],
-        block: &[u8],
-    ) -> control_wire::Result<Packet> {
-        let Some(interface) = interfaces.get(0) else {
-            return Err(Error);
-        };
-        let len = block.len();
-        if len < field::SIMPLE_PACKET + field::TRAILER {
-            return Err(Error);
-        }
-        let original_len = order.u32_at(block, field::SIMPLE_ORIGINAL_LEN);
-        let captured_len = kept_len(interface.snap_len, original_len);
-        if captured_len as u64 > (len - field::SIMPLE_PACKET - field::TRAILER) as u64 {
-            return Err(Error);
-        }
-        Ok(Packet {
-            time: Time::ZERO,
-            link_type: interface.link_type,
-            original_len,
-            start: field::SIMPLE_PACKET,
-            captured_len,
-        })
+    let original_len = order.u32_at(block, field::SIMPLE_ORIGINAL_LEN);
+    let captured_len = kept_len(interface.snap_len, original_len);
+    if captured_len as u64 > (len - field::SIMPLE_PACKET - field::TRAILER) as u64 {
+        return Err(Error);
     }
+    Ok(Packet {
+        time: Time::ZERO,
+        link_type: interface.link_type,
+        original_len,
+        start: field::SIMPLE_PACKET,
+        captured_len,
+    })
 }
 
 // How many bytes of a packet are kept, where so many are at most, or all for 0.

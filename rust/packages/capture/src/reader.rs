@@ -42,3 +42,34 @@ fn take_part<R: BufRead>(
     input.consume(count);
     Ok(ended)
 }
+
+/// Passes over so many octets, or over all where there are fewer, and answers whether there were as many.
+pub fn skip<R: BufRead>(input: &mut R, count: usize) -> Result<bool, Fault> {
+    let mut missing = count;
+    for _ in 0..u64::MAX {
+        let (skipped, ended) = skip_part(input, missing)?;
+        missing -= skipped;
+        if ended {
+            return Ok(missing == 0);
+        }
+    }
+    Err(Fault::Read)
+}
+
+// Passes over what is at hand of so many octets; answers how many these are, and whether they are all or the input has
+// ended.
+fn skip_part<R: BufRead>(input: &mut R, missing: usize) -> Result<(usize, bool), Fault> {
+    let shown = match input.fill_buf() {
+        Ok(shown) => shown.len(),
+        Err(error) => {
+            return if error.kind() == ErrorKind::Interrupted {
+                Ok((0, false))
+            } else {
+                Err(Fault::Read)
+            };
+        }
+    };
+    let count = shown.min(missing);
+    input.consume(count);
+    Ok((count, count == missing || shown == 0))
+}

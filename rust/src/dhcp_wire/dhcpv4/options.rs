@@ -1,8 +1,9 @@
 // Made from crates/dhcp_wire/src/dhcpv4/options.rt by rust/erase.
 //! Options, read in turn and written in turn (RFC 2132 section 2).
 
+use super::data::Data;
 use super::kinds::{OPT_END, OPT_PAD};
-use crate::wirebase::{Error, Result};
+use crate::wirebase::{ByteWriter, Error, Result};
 
 // The greatest number of bytes of data: an option counts them in one byte.
 const MAX_DATA_LEN: usize = 255;
@@ -75,20 +76,7 @@ impl<'a> DhcpOptionWriter<'a> {
     /// Writes an option: its kind, the number of bytes of its data, and the data. Refused where the data has more than
     /// 255 bytes, and where fewer bytes are free than that takes; then nothing changes.
     pub fn emit(&mut self, option: DhcpOption<'_>) -> Result<()> {
-        let data = option.data;
-        let count = data.len();
-        if count > MAX_DATA_LEN {
-            return Err(Error);
-        }
-        let start = self.position;
-        if self.buffer.len() - start < 2 + count {
-            return Err(Error);
-        }
-        self.buffer[start] = option.kind;
-        self.buffer[start + 1] = count as u8;
-        self.buffer[start + 2..start + 2 + count].copy_from_slice(data);
-        self.position = start + 2 + count;
-        Ok(())
+        self.emit_data(option.kind, option.data)
     }
 
     /// Writes the end mark. After that no byte is free. Refused where none is; then nothing changes.
@@ -97,8 +85,42 @@ impl<'a> DhcpOptionWriter<'a> {
         if start == self.buffer.len() {
             return Err(Error);
         }
-        self.buffer[start] = OPT_END;
+        write_end(&mut self.buffer[start..]);
         self.position = self.buffer.len();
         Ok(())
     }
+
+    // Writes an option of this kind with the data that a field of a value gives, where it is there.
+    pub(super) fn put<D: Data>(&mut self, kind: u8, field: Option<D>) -> Result<()> {
+        match field {
+            Some(data) => self.emit_data(kind, data),
+            None => Ok(()),
+        }
+    }
+
+    // Writes an option of this kind with these data, or refuses it, as `emit`.
+    fn emit_data<D: Data>(&mut self, kind: u8, data: D) -> Result<()> {
+        let start = self.position;
+        let len = data.len();
+        if len > MAX_DATA_LEN || self.buffer.len() - start < 2 + len {
+            return Err(Error);
+        }
+        let end = start + 2 + len;
+        write_option(&mut self.buffer[start..end], kind, len as u8, data);
+        self.position = end;
+        Ok(())
+    }
+}
+
+// Writes an option over octets of its length.
+fn write_option<D: Data>(octets: &mut [u8], kind: u8, len: u8, data: D) {
+    let mut w = ByteWriter::new(octets);
+    w.put_u8(kind);
+    w.put_u8(len);
+    data.put(&mut w);
+}
+
+// Writes the end mark over the first octet.
+fn write_end(octets: &mut [u8]) {
+    ByteWriter::new(octets).put_u8(OPT_END);
 }

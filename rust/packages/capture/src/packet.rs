@@ -1,0 +1,19 @@
+// Made from crates/capture/src/packet.rt by rust/erase.
+//! Packets that a capture holds.
+
+use crate::time::Time;
+
+/// A packet, by its place in a record or a block.
+#[derive(Debug, PartialEq, Eq, Clone, Copy)]
+pub struct Packet {
+    /// When it was captured.
+    pub time: Time,
+    /// The type of the link.
+    pub link_type: u16,
+    /// The bytes that it had.
+    pub original_len: u32,
+    /// Where its bytes begin in the record or block.
+    pub start: usize,
+    /// How many of them are kept.
+    pub captured_len: u32,
+}
