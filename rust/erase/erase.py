@@ -31,7 +31,7 @@ class Unit:
         return self.folder == pathlib.Path()
 
 
-def table(path=HERE / "crates.txt"):
+def table(path=HERE / "modules.txt"):
     lines = (line.split("#")[0].split() for line in path.read_text().splitlines())
     return [line for line in lines if line]
 
