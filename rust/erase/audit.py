@@ -1,6 +1,6 @@
 #!/usr/bin/env python3
 """Audits what the rules did: every token of the source is in the output, in its order, or was taken away by a rule in
-a shape that the table below allows it; and nothing else was put in.
+a shape that the table of shapes.py allows it; and nothing else was put in.
 
     audit.py SOURCES OUT     SOURCES is the repository, OUT the folder with the crate
 
@@ -14,120 +14,8 @@ import re
 import sys
 
 import erase
-import flag_sets
-from tokens import PAIRS, Refused, tokens_of
-
-
-def skeleton(texts):
-    """The texts with each bracket and what is in it as one: `fn f ( .. ) { .. }`. None where brackets do not fit."""
-    out, open_ = [], []
-    for text in texts:
-        if text in PAIRS:
-            if not open_:
-                out += [text, "..", PAIRS[text]]
-            open_.append(PAIRS[text])
-        elif text in PAIRS.values():
-            if not open_ or open_.pop() != text:
-                return None
-        elif not open_:
-            out.append(text)
-    return None if open_ else " ".join(out)
-
-
-ATTRIBUTES = r"(# \[ \.\. \] )*(pub )?(\( \.\. \) )?(const )?"
-
-# What each rule may take away, as a skeleton, and what it may put in, as texts.
-SHAPES = {
-    "ghost": (ATTRIBUTES + r"ghost [^;,]*[;,]?", ""),
-    "clause": (r"(requires|ensures)( \*)?( \w+)? \{ \.\. \}", ""),
-    "tactic": (r"#( !)? \[ \.\. \]", ""),
-    "final": (r"final", ""),
-    "model": (r"impl [^{};]*Model for [^{};]*\{ \.\. \}", ""),
-    "drop": (r"# \[ \.\. \]|, Drop|Drop ,|\+ Drop|Drop \+|: Drop", ""),
-    "clone": (r"impl Clone for [^{};]*\{ \.\. \}|", r"(, Clone)?"),
-    "cloned": (ATTRIBUTES + r"fn \w+ [^{};]*AllocError[^{};]*\{ \.\. \}", ""),
-    "nothing": (ATTRIBUTES + r"fn \w+ [^{};]*\{ \.\. \}|(\w+ :: )*\w+ \( \.\. \) ;|, \w+|\w+ ,", ""),
-    "formatter": (r"W|< W : fmt :: Write >", r"('_)?"),
-    "hex_groups": (r"Ipv6Addr :: from|\. hex_groups \( \.\. \)", r"(crate :: by_hand :: HexGroups)?"),
-    "from_utf8": (r"str", r"core :: str"),
-    "label": (r"'\w+ :", ""),
-    "flag_set": (r"# \[ \.\. \] pub struct \w+ \( \.\. \) ;|impl [^{};]*\{ \.\. \}",
-                 r"(bitflags :: bitflags ! \{.*\})?"),
-    "flags_trait": (r"use bitflags :: Flags( as \w+)? ;", ""),
-    "lender": (r"impl Octets(Mut)? for & (mut )?\[ \.\. \] \{ \.\. \}", ""),
-    "lends_from_any": (r"\[ \.\. \]|", r"B|(, |< )?B : AsRef < \[ u8 \] > \+ \? Sized( >)?|\. as_ref \( \)"),
-    "reads_from_any": (r"\[ \.\. \]|", r"B|(, |< )?B : AsRef < \[ u8 \] > \+ \? Sized( >)?|\. as_ref \( \)"),
-    "handle": (r"rt ;", ""),
-    "prints": (r"rt ;|e?println", r"(rattle_std :: e?println)?"),
-    "takes_alloc": (r"to_string|concat|to_vec|repeat|clone|vec|in [^;]* ;",
-                    r"to_string_in|concat_in|to_vec_in|repeat_in|try_clone|rattle_std :: vec|"),
-    "reader": (r"rt \. reader", r"io :: reader"),
-    "handed": (r"let alloc = rt \. alloc \( \.\. \) ;|(, )?&? ?(rt|alloc)"
-               r"( : &? ?(impl \w+|\( \.\. \)|HostRuntime|Global))?( \. alloc \( \.\. \))?( ,)?", ""),
-    "std_module": (r"std|hex", r"rattle_std( :: hex)?"),
-    "imports": (r"use [\w: ]*(\{ \.\. \})?( as \w+)? ;|, [\w:]+( as \w+)?|[\w:]+( as \w+)? ,", ""),
-    "paths": (r"\w+", r"core|std|control_wire( :: \w+)?|crate( :: \w+)?"),
-    "prelude": (r"", r"# \[ allow \( unused_imports \) \] use rattle_std :: prelude :: \* ;"),
-}
-
-
-def is_allowed(source, kept, edit):
-    """Whether an edit has a shape that its rule may make. Between what it takes away, nothing may stay."""
-    taken = [source[origin] for origin in edit.taken]
-    outline, put = skeleton(taken), " ".join(edit.put)
-    if edit.rule not in SHAPES or outline is None:
-        return False
-    if taken and any(origin in kept for origin in range(edit.taken[0], edit.taken[-1])):
-        return False
-    if edit.rule in FIRST_OF_A_PATH and source[edit.taken[-1] + 1] != "::":
-        return False
-    takes, puts = SHAPES[edit.rule]
-    is_inside = INSIDE.get(edit.rule, lambda taken: True)
-    return bool(re.fullmatch(takes, outline) and re.fullmatch(puts, put, re.S) and is_inside(taken))
-
-
-# The rules that exchange the first word of a path.
-FIRST_OF_A_PATH = ("from_utf8", "paths", "std_module")
-
-
-def is_tactic(taken):
-    return taken[taken.index("[") + 1] in ("tactic", "cycle")
-
-
-def is_drop(taken):
-    return "[" not in taken or taken == ["#", "[", "derive", "(", "Drop", ")", "]"]
-
-
-def is_nothing(taken):
-    """Of a function: that its body is empty and that it has no result."""
-    return "fn" not in taken or taken[-2:] == ["{", "}"] and "->" not in taken
-
-
-def is_slice(taken):
-    return taken in ([], ["[", "u8", "]"])
-
-
-# What is looked at inside of the brackets.
-INSIDE = {"tactic": is_tactic, "drop": is_drop, "nothing": is_nothing, "lends_from_any": is_slice,
-          "reads_from_any": is_slice}
-
-
-# Where something may be put in that stands for nothing: the token before it, `^`, and the one behind it.
-PLACES = {
-    "clone": r".+ \^ \)",
-    "lends_from_any": r"buffer \^ .+|.+ \^ >|impl \^ \w+",
-    "reads_from_any": r"buffer \^ .+|.+ \^ >|\w+ \^ \(",
-    "prelude": r" \^ .+",
-}
-
-
-def is_in_place(file, edit, at):
-    """Whether what an edit put in stands where it took something away, or else where its rule may put something."""
-    before = next((token for token in reversed(file.tokens[:at]) if token.origin is not None), None)
-    behind = next((token for token in file.tokens[at:] if token.origin is not None), None)
-    if edit.taken:
-        return (before is None or before.origin < edit.taken[0]) and behind.origin > edit.taken[-1]
-    return bool(re.fullmatch(PLACES.get(edit.rule, ""), f"{file.text(at - 1)} ^ {behind.text}"))
+from shapes import is_allowed, is_in_place
+from tokens import Refused, tokens_of
 
 
 # ---------------------------------------------------------------- files

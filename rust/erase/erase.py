@@ -212,7 +212,7 @@ def text_of(unit, kinds, target, file):
     return made + LIB_HEAD.format(modules=modules.strip()) + text[at:]
 
 
-MANIFEST = """# Made from {path} and crates.txt by rust/erase.
+MANIFEST = """# Made from {path} and the repository's crates.txt by rust/erase.
 [package]
 name = "{name}"
 version = "0.14.0-1"

@@ -108,6 +108,26 @@ def exchanges_statements(file, i):
     return None
 
 
+@named("imports")
+def takes_an_argument(file, i):
+    return file.remove(i, i + 2) if file.texts(i, ",", "c") else None
+
+
+@named("flag_set")
+def takes_an_operator(file, i):
+    return file.remove(i, file.close(file.body(i)) + 1) if file.texts(i, "impl", "Not") else None
+
+
+@named("clone")
+def takes_a_clone(file, i):
+    return file.remove(i, file.close(file.body(i)) + 1) if file.texts(i, "impl", "Clone") else None
+
+
+@named("nothing")
+def takes_a_part_of_an_expression(file, i):
+    return file.remove(i, file.close(i + 1) + 2) if file.texts(i, "facts", "(") else None
+
+
 @named("told")
 def has_another_name(file, i):
     return file.remove(i, i + 7) if file.texts(i, "a", ".", "set") else None
@@ -123,6 +143,16 @@ class Audit(unittest.TestCase):
                         has_another_name):
             with self.subTest(rule=changed):
                 self.assertNotEqual(problems_with(changed), [])
+
+    def test_changed_rules_over_other_code(self):
+        for changed, source in (
+                (takes_an_argument, "fn f() -> u8 { g(b, c) }"),
+                (takes_an_operator, "impl Not for A { type Output = A; fn not(self) -> A { A(0x7f & !self.0) } } "
+                                    "impl Not for B { type Output = B; fn not(self) -> B { B(!self.0) } }"),
+                (takes_a_clone, "impl Clone for A { fn clone(&self) -> A { A(self.0) } }"),
+                (takes_a_part_of_an_expression, "fn f() { let a = facts(1); }")):
+            with self.subTest(rule=changed):
+                self.assertNotEqual(problems_with(changed, source=source), [])
 
     def test_calls_that_do_something(self):
         unit = unit_of("fn facts(a: u8) { b(); } fn f() -> u8 { facts(1); 2 }")

@@ -2,6 +2,7 @@
 import pathlib
 import sys
 import unittest
+from unittest import mock
 
 HERE = pathlib.Path(__file__).resolve().parents[1]
 sys.path.insert(0, str(HERE))
@@ -64,7 +65,8 @@ impl Set {
 ROWS = {
     "ghost": ("ghost use Rattle.std.{◌≡◌}; struct S { a: u8, pub ghost whole: { length a ≡ 2 }, }",
               "struct S { a: u8, }"),
-    "clause": ("fn f(a: u8) -> u8 requires { a ≤ 2 } ensures value { result ≡ «a» } ensures* lends { λ w. w } { a }",
+    "clause": ("fn f(a: u8) -> u8 requires { a ≤ 2 } ensures value { result ≡ «a» } "
+               "ensures* lends { λ w. w } { a }",
                "fn f(a: u8) -> u8 { a }"),
     "tactic": ("#![tactic(auto)] #[tactic(auto, using(crate::proofs::Pieces::pieces))] #[inline] fn f() -> u8 { 1 }",
                "#[inline] fn f() -> u8 { 1 }"),
@@ -199,6 +201,27 @@ class Rules(unittest.TestCase):
     def test_a_function_that_does_nothing_in_another_file(self):
         left = erased("fn f() -> u8 { facts(1); 2 }", above="pub fn facts(a: u8) {}")
         self.assertEqual(left, words_of("fn f() -> u8 { 2 }"))
+
+
+class Table(unittest.TestCase):
+    NEEDS = {"base": ["kit"], "root": ["base"], "above": ["base"], "program": ["root"]}
+
+    def kinds(self, rows):
+        with mock.patch.object(erase, "table", lambda: [row.split() for row in rows]):
+            return erase.kinds_of(self.NEEDS)
+
+    def test_rows(self):
+        kinds, library = self.kinds(["root root", "module above parts", "package program", "package other x"])
+        self.assertEqual(library, ["base", "root", "above"])
+        self.assertEqual(kinds["module"], {"above": "parts"})
+        self.assertEqual(kinds["package"], {"program": "program"})
+
+    def test_refused(self):
+        for rows, why in ((["root root", "module above"], "no row for the crate program"),
+                          (["root root", "modules above"], "a row of the kind `modules`")):
+            with self.assertRaises(Refused) as refused:
+                self.kinds(rows)
+            self.assertIn(why, str(refused.exception))
 
 
 if __name__ == "__main__":
