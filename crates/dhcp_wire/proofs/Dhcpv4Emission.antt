@@ -1,19 +1,14 @@
 -- Options written one after another, as far as there is room.
 use Rattle.std.proofs.Common.{◌≡◌, ℕ, ◌+◌, ◌-◌, ◌≤◌, ◌<◌, ◌↔◌, Bool, true, false, ◌&&◌, cond, List, [], ◌∷◌}
-use Rattle.std.proofs.Common.{◌++◌, length, take, drop, IsOk, OnOk, OnErr, is_ok, Option, None, Some, Result, Ok, Err}
+use Rattle.std.proofs.Common.{◌++◌, length, drop, IsOk, OnOk, OnErr, is_ok, Option, None, Some, Result, Ok, Err}
 use Rattle.std.proofs.Common.{refl, sym, ap, subst, ◌∙◌, arith, length-append, length-drop}
 use Rattle.std.proofs.lemmas.Bool.Decides.{nat_tests}
 use Rattle.std.proofs.lemmas.Grind.{common_steps}
-use Rattle.std.proofs.lemmas.List.{append_assoc, append-nil, drop-drop, drop_all, take_all}
-use Rattle.wirebase.specs.ByteWriter.{Writer, Sheet, sheet, written, free as free_bytes, blank, put, put_all, be8, be16}
-use Rattle.wirebase.specs.ByteWriter.{be32, fields, Puts, IsBlank, after_part}
-use Rattle.wirebase.proofs.Chains.{part-free, put-fields, sheet-part, whole-sheet}
+use Rattle.std.proofs.lemmas.List.{append_assoc, append-nil, drop-drop}
 use Rattle.wirebase.specs.declared.error.Error.{Error}
-use Rattle.wirebase.specs.Bytes.{over}
 use Rattle.wirebase.proofs.Pieces.{over-fits}
 use Rattle.dhcp_wire.specs.declared.dhcpv4.options.DhcpOptionWriter.{DhcpOptionWriter}
 use Rattle.dhcp_wire.specs.Dhcpv4.{Value, Slot, slot, of_slot, of_slots, slots_of, options_of, options_text}
-use Rattle.dhcp_wire.specs.Dhcpv4.{header_fields, header_text}
 use Rattle.dhcp_wire.specs.Dhcpv4Format.{fits, texts_before, AllShort}
 use Rattle.dhcp_wire.specs.Dhcpv4Emission.{Progress, at, progress, WritesOptions, fitted, step}
 use Rattle.dhcp_wire.specs.Dhcpv4Emission.{slot_step, step_slot, steps, step_all}

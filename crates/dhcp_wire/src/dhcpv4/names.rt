@@ -50,7 +50,7 @@ fn text_in(octets: &[u8]) -> Result<&str>
     if count == 0 {
         return Err(Error);
     }
-    match str::from_utf8(&octets[..count]) {
+    match std::str::from_utf8(&octets[..count]) {
         Ok(text) => Ok(text),
         Err(_) => Err(Error),
     }

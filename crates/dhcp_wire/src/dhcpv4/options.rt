@@ -157,38 +157,38 @@ impl<'a> DhcpOptionWriter<'a> {
     }
 
     // Writes an option of this kind with these data, or refuses it, as `emit`.
-    fn emit_data<D: Data>(&mut self, kind: u8, data: D) -> Result<()>
+    fn emit_data<D: Data>(&mut self, kind: u8, body: D) -> Result<()>
         ensures accepts { IsOk result
-            ↔ Fits (length (free self.old)) (option kind (D.bytes «data»)) }
+            ↔ Fits (length (free self.old)) (option kind (D.bytes body)) }
         ensures settled { OnOk result
-            (settled self.new ≡ settled self.old ++ option_text (option kind (D.bytes «data»))) }
+            (settled self.new ≡ settled self.old ++ option_text (option kind (D.bytes body))) }
         ensures free { OnOk result
-            (free self.new ≡ drop (2 + length (D.bytes «data»)) (free self.old)) }
+            (free self.new ≡ drop (2 + length (D.bytes body)) (free self.old)) }
         ensures refused { OnErr result (IsUnchanged self.old self.new) }
         ensures same_slice { the_slice self.new ≡ the_slice self.old }
     {
         let start = self.position;
-        let len = data.len();
+        let len = body.len();
         if len > MAX_DATA_LEN || self.buffer.len() - start < 2 + len {
             return Err(Error);
         }
         let end = start + 2 + len;
-        write_option(&mut self.buffer[start..end], kind, len as u8, data);
+        write_option(&mut self.buffer[start..end], kind, len as u8, body);
         self.position = end;
         Ok(())
     }
 }
 
 // Writes an option over octets of its length.
-fn write_option<D: Data>(octets: &mut [u8], kind: u8, len: u8, data: D)
-    requires counted { len ≡ length (D.bytes «data») }
-    requires room { length octets.old ≡ 2 + length (D.bytes «data») }
-    ensures { octets.new ≡ option_text (option kind (D.bytes «data»)) }
+fn write_option<D: Data>(octets: &mut [u8], kind: u8, len: u8, body: D)
+    requires counted { len ≡ length (D.bytes body) }
+    requires room { length octets.old ≡ 2 + length (D.bytes body) }
+    ensures { octets.new ≡ option_text (option kind (D.bytes body)) }
 {
     let mut w = ByteWriter::new(octets);
     w.put_u8(kind);
     w.put_u8(len);
-    data.put(&mut w);
+    body.put(&mut w);
 }
 
 // Writes the end mark over the first octet.

@@ -1,11 +1,11 @@
 //! The numbers of DHCP: operations, types of message, flags, and kinds of option (RFC 2131, RFC 2132).
 
-ghost use Rattle.std.specs.Prelude.{⊤, ◌≡◌};
+ghost use Rattle.std.specs.Prelude.{⊤, ◌≡◌, map};
 ghost use Rattle.std.specs.Int.RustNames.{bit_and, bit_or, bit_xor};
 ghost use Rattle.bitflags.specs.Sets.{without};
 ghost use Rattle.wirebase.specs.Numbered.{IsProper, IsTable};
 ghost use Rattle.dhcp_wire.specs.Dhcpv4Tables.{opcode_number, opcode_rows, opcode_of, message_number, message_rows};
-ghost use Rattle.dhcp_wire.specs.Dhcpv4Tables.{message_of, operation_of, flag_table};
+ghost use Rattle.dhcp_wire.specs.Dhcpv4Tables.{message_of, operation_of, flag_table, flag_bits};
 
 use bitflags::Flag;
 use std::ops::{BitAnd, BitOr, BitXor, Not, Sub};
@@ -167,7 +167,10 @@ impl bitflags::Flags for Flags {
 
     ghost set_of = { λ flags. flags.0 };
 
-    fn flags<'a>() -> &'a [Flag<Flags>] {
+    fn flags<'a>() -> &'a [Flag<Flags>]
+        ensures table { map (λ flag. (flag.name.now, flag_bits flag.value)) result.now ≡ flag_table }
+        ensures constants { flag_bits Flags.BROADCAST ≡ 0x8000 }
+    {
         Flags::NAMED
     }
 

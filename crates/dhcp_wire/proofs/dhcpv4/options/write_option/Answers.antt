@@ -7,7 +7,7 @@ use Rattle.dhcp_wire.proofs.dhcpv4.options.write_option.Goals as goal
 
 pub returns : goal.returns
 returns g c =
-    let body = g.D.Data.bytes c.args.data in
+    let body = g.D.Data.bytes c.args.body in
     let puts : sheet c.put.new.w ≡ put_all (sheet c.new-w.result) (be8 c.args.kind ∷ be8 (length body) ∷ body ∷ [])
     = grind (arith, common_steps) in
     let left : c.put.new.w.buffer.now ≡ option_text (option c.args.kind body) =
