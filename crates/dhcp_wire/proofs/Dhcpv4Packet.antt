@@ -4,9 +4,9 @@ use Rattle.std.proofs.Common.{Result, Ok, Err, refl, sym, ap, subst, ◌∙◌, 
 use Rattle.std.proofs.lemmas.List.{append_assoc, append-nil, drop-drop, drop_all, take_all}
 use Rattle.wirebase.specs.Bytes.{over}
 use Rattle.wirebase.specs.ByteWriter.{Writer, Sheet, sheet, written, free as free_bytes, blank, put, put_all, be8, be16}
-use Rattle.wirebase.specs.ByteWriter.{be32, fields, Puts, IsBlank, after_part}
+use Rattle.wirebase.specs.ByteWriter.{be32, fields, Puts, IsBlank}
 use Rattle.wirebase.specs.declared.error.Error.{Error}
-use Rattle.wirebase.proofs.Chains.{part-free, put-fields, sheet-part, whole-sheet}
+use Rattle.wirebase.proofs.Chains.{put-fields, whole-sheet}
 use Rattle.wirebase.proofs.Pieces.{over-fits}
 use Rattle.dhcp_wire.specs.Dhcpv4.{Value, options_of, options_text, header_fields, header_text}
 use Rattle.dhcp_wire.specs.Dhcpv4Emission.{WritesOptions}
@@ -96,24 +96,17 @@ behind h old rest mine n os (Err x) e room is w =
     }
 
 -- what writing a value leaves where the header was written, and then the options into all that was free behind it
-pub laid_behind : (v : Value) (old mine new : List ℕ) (w u : Writer) (n : ℕ) (part : List ℕ)
-    (result : Result (Unit {0}) Error) → 240 ≤ length old
-    → IsBlank w old → Puts w u (header_fields v) → n ≡ length (free_bytes u) → part ≡ take n (drop u.position u.buffer.now)
-    → WritesOptions (options_of v) part result mine → length mine ≡ length part
-    → new ≡ (after_part u n mine).buffer.now
+pub laid_behind : (v : Value) (old part mine new : List ℕ) (w u x : Writer) (n : ℕ) (result : Result (Unit {0}) Error)
+    → 240 ≤ length old → IsBlank w old → Puts w u (header_fields v) → n ≡ length (free_bytes u)
+    → part ≡ take n (free_bytes u) → WritesOptions (options_of v) part result mine → length mine ≡ n
+    → sheet x ≡ put (sheet u) mine → new ≡ x.buffer.now
     → Emitted (header_text v) (options_text (options_of v) ++ 255 ∷ []) 240 (options_of v) old result new
-laid_behind v old mine new w u n part result room fresh puts all is written_ long left =
+laid_behind v old part mine new w u x n result room fresh puts all is written_ long behind_ left =
     let h : List ℕ = header_text v in
-    let t : List ℕ = options_text (options_of v) ++ 255 ∷ [] in
     let two = header-sheet v old w u room fresh puts in
-    let rest : part ≡ drop 240 old =
-    is ∙ ap (λ (l : List ℕ). take n l) (part-free u) ∙ take_all n (free_bytes u) (omega (arith, all)) ∙ two.1 in
-    let count : length mine ≡ n = long ∙ ap length (is ∙ ap (λ (l : List ℕ). take n l) (part-free u)
-    ∙ take_all n (free_bytes u) (omega (arith, all))) ∙ sym all in
-    let sheet_ : sheet (after_part u n mine) ≡ put (sheet u) mine = sheet-part u n mine (omega (arith, all)) count in
+    let rest : part ≡ drop 240 old = is ∙ take_all n (free_bytes u) (omega (arith, all)) ∙ two.1 in
     let whole : new ≡ h ++ mine =
-    left ∙ sym (whole-sheet (after_part u n mine))
-    ∙ ap (λ (s : Sheet). s.written ++ s.free) sheet_ ∙ put-all (sheet u) mine (count ∙ all)
-    ∙ ap (λ (l : List ℕ). l ++ mine) two.0 in
-    subst (λ (l : List ℕ). Emitted h t 240 (options_of v) old result l) (sym whole)
-    (behind h old part mine 240 (options_of v) result (header_len-240 v) room rest written_)
+    left ∙ sym (whole-sheet x) ∙ ap (λ (s : Sheet). s.written ++ s.free) behind_
+    ∙ put-all (sheet u) mine (long ∙ all) ∙ ap (λ (l : List ℕ). l ++ mine) two.0 in
+    subst (λ (l : List ℕ). Emitted h (options_text (options_of v) ++ 255 ∷ []) 240 (options_of v) old result l)
+    (sym whole) (behind h old part mine 240 (options_of v) result (header_len-240 v) room rest written_)

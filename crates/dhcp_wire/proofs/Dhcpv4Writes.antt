@@ -5,8 +5,8 @@ use Rattle.std.proofs.lemmas.Grind.{common_steps}
 use Rattle.std.proofs.lemmas.List.{append-nil}
 use Rattle.std.proofs.lemmas.Slice.{take-put_mid, drop-put_mid}
 use Rattle.wirebase.specs.Bytes.{over}
-use Rattle.wirebase.specs.ByteWriter.{Writer, be8, fields, IsBlank, Puts, put_all, sheet}
-use Rattle.wirebase.proofs.Chains.{over-puts, whole-sheet}
+use Rattle.wirebase.specs.ByteWriter.{Writer, be8, fields, IsBlank, Puts}
+use Rattle.wirebase.proofs.Chains.{over-puts}
 use Rattle.wirebase.proofs.Pieces.{over-exact, over-fits}
 use Rattle.dhcp_wire.specs.Dhcpv4Options.{OptionValue, option_text}
 
@@ -20,11 +20,9 @@ option-len o = omega arith
 
 -- octets of its length hold just the option
 pub option-whole : (old : List ℕ) (w v : Writer) (o : OptionValue) → IsBlank w old → length old ≡ 2 + length o.body
-    → sheet v ≡ put_all (sheet w) (be8 o.kind ∷ be8 (length o.body) ∷ o.body ∷ [])
-    → v.buffer.now ≡ option_text o
+    → Puts w v (be8 o.kind ∷ be8 (length o.body) ∷ o.body ∷ []) → v.buffer.now ≡ option_text o
 option-whole old w v o fresh long puts =
-    over-puts old w v (be8 o.kind ∷ be8 (length o.body) ∷ o.body ∷ []) fresh
-    (record { puts = puts; whole = sym (whole-sheet v) })
+    over-puts old w v (be8 o.kind ∷ be8 (length o.body) ∷ o.body ∷ []) fresh puts
     ∙ ap (λ (text : List ℕ). over old text) (option-fields o)
     ∙ over-exact old (option_text o) (long ∙ sym (option-len o))
 

@@ -2,7 +2,7 @@
 #![tactic(auto, using(crate::proofs::Dhcpv4Data::lengths))]
 
 ghost use Rattle.std.specs.Prelude.{◌≡◌, ◌≤◌, ◌+◌, ◌∷◌, [], List, ℕ, length, flat_map};
-ghost use Rattle.wirebase.specs.ByteWriter.{Puts, free, the_slice};
+ghost use Rattle.wirebase.specs.ByteWriter.{Puts, free};
 
 use super::MAX_DNS_SERVER_COUNT;
 use super::tables::MessageType;
@@ -22,8 +22,7 @@ pub(super) trait Data: Drop {
     fn put(&self, w: &mut ByteWriter<'_>)
         requires { length (bytes self.now) ≤ length (free w.old) }
         ensures puts { Puts w.old w.new (bytes self.now ∷ []) }
-        ensures room { length (free w.old) ≡ length (bytes self.now) + length (free w.new) }
-        ensures same_slice { the_slice w.new ≡ the_slice w.old };
+        ensures room { length (free w.old) ≡ length (bytes self.now) + length (free w.new) };
 }
 
 impl Data for &[u8] {
@@ -99,8 +98,9 @@ impl Data for Ipv4Address {
 impl Data for EthernetAddress {
     ghost use Rattle.std.specs.Prelude.{◌∷◌};
     ghost use Rattle.wirebase.specs.Ethernet.{octets_of};
+    ghost use Rattle.wirebase.specs.HardwareAddress.{ethernet_of};
 
-    ghost bytes = { λ address. 1 ∷ octets_of address };
+    ghost bytes = { λ address. 1 ∷ octets_of (ethernet_of address) };
 
     fn len(&self) -> usize {
         7

@@ -1,21 +1,18 @@
 //! Values as they are written.
 
-ghost use Rattle.std.specs.Prelude.{◌≡◌, ◌≤◌, ◌<◌, ◌+◌, ◌^◌, ◌∷◌, [], Ok, Some, length, map, flat_map};
-ghost use Rattle.std.specs.Prelude.{take, drop};
+ghost use Rattle.std.specs.Prelude.{◌≡◌, ◌≤◌, ◌+◌, ◌∷◌, [], Ok, length, map, take, drop};
 ghost use Rattle.std.specs.Option.{option_map};
-ghost use Rattle.wirebase.specs.Bytes.{Reaches, over};
-ghost use Rattle.wirebase.specs.ByteWriter.{Puts, be8, be16, be32, free as free_bytes, the_slice as the_bytes};
+ghost use Rattle.wirebase.specs.Bytes.{Reaches};
+ghost use Rattle.wirebase.specs.ByteWriter.{Puts, free as free_bytes};
 ghost use Rattle.wirebase.specs.Format.{SameText};
 ghost use Rattle.wirebase.specs.Ethernet.{octets_of as ethernet_octets};
 ghost use Rattle.wirebase.specs.HardwareAddress.{ethernet_of};
 ghost use Rattle.wirebase.specs.Ipv4.{octets_of};
-ghost use Rattle.dhcp_wire.specs.Dhcpv4.{value_of, slot, slots_of, options_of, header_fields, header_text, text};
-ghost use Rattle.dhcp_wire.specs.Dhcpv4Emission.{WritesOptions, progress, steps, step_all};
-ghost use Rattle.dhcp_wire.specs.Dhcpv4Format.{data_len, fields_len, text_len};
-ghost use Rattle.dhcp_wire.specs.Dhcpv4Format.{format, Emits};
+ghost use Rattle.dhcp_wire.specs.Dhcpv4.{value_of, slot, slots_of, options_of, header_fields, text};
+ghost use Rattle.dhcp_wire.specs.Dhcpv4Emission.{WritesOptions, progress, step_slot, steps, step_all};
+ghost use Rattle.dhcp_wire.specs.Dhcpv4Format.{data_len, fields_len, text_len, format, Emits};
 ghost use Rattle.dhcp_wire.specs.Dhcpv4Options.{value_of_option};
 ghost use Rattle.dhcp_wire.specs.Dhcpv4Packet.{inner, magic_field};
-ghost use Rattle.dhcp_wire.specs.Dhcpv4Tables.{message_number};
 ghost use Rattle.dhcp_wire.specs.Dhcpv4Writer.{the_slice};
 
 use super::data::Data;
@@ -27,7 +24,7 @@ use super::kinds::{
 use super::options::{DhcpOption, DhcpOptionWriter};
 use super::packet::{Packet, field};
 use super::repr::{ETHERNET_LEN, MAGIC_NUMBER, Repr};
-use wirebase::{ByteWriter, Ipv4Address, OctetsMut, Result};
+use wirebase::{ByteWriter, EthernetAddress, Ipv4Address, OctetsMut, Result};
 
 impl Repr<'_> {
     /// The bytes that the packet takes: header, options and end mark. Requires that a `usize` holds their number.
@@ -99,7 +96,6 @@ impl Repr<'_> {
     fn put_header(&self, w: &mut ByteWriter<'_>)
         requires { 240 ≤ length (free_bytes w.old) }
         ensures puts { Puts w.old w.new (header_fields (value_of self.now)) }
-        ensures same_slice { the_bytes w.new ≡ the_bytes w.old }
     {
         self.put_numbers(w);
         self.put_header_addresses(w);
@@ -110,7 +106,6 @@ impl Repr<'_> {
         requires { 240 ≤ length (free_bytes w.old) }
         ensures puts { Puts w.old w.new (take 7 (header_fields (value_of self.now))) }
         ensures room { length (free_bytes w.old) ≡ 12 + length (free_bytes w.new) }
-        ensures same_slice { the_bytes w.new ≡ the_bytes w.old }
     {
         let flags = if self.broadcast { 0x8000 } else { 0 };
         w.put_u8(self.message_type.opcode().into());
@@ -126,7 +121,6 @@ impl Repr<'_> {
     fn put_header_addresses(&self, w: &mut ByteWriter<'_>)
         requires { 228 ≤ length (free_bytes w.old) }
         ensures puts { Puts w.old w.new (drop 7 (header_fields (value_of self.now))) }
-        ensures same_slice { the_bytes w.new ≡ the_bytes w.old }
     {
         put_octets(w, self.client_ip);
         put_octets(w, self.your_ip);
@@ -164,7 +158,7 @@ impl Repr<'_> {
         ensures same_slice { the_slice w.new ≡ the_slice w.old }
     {
         w.put(OPT_DHCP_MESSAGE_TYPE, Some(self.message_type))?;
-        w.put(OPT_CLIENT_ID, self.client_identifier)?;
+        put_identifier(w, self.client_identifier)?;
         w.put(OPT_SERVER_IDENTIFIER, self.server_identifier)?;
         w.put(OPT_ROUTER, self.router)?;
         w.put(OPT_SUBNET_MASK, self.subnet_mask)?;
@@ -176,6 +170,15 @@ impl Repr<'_> {
         w.put(OPT_PARAMETER_REQUEST_LIST, self.parameter_request_list)?;
         w.put(OPT_DOMAIN_NAME_SERVER, self.dns_servers.as_ref())
     }
+}
+
+// Writes a client's identifier, where there is one.
+fn put_identifier(w: &mut DhcpOptionWriter<'_>, identifier: Option<EthernetAddress>) -> Result<()>
+    ensures step { progress w.new result ≡ step_slot (progress w.old (Ok tt))
+        (slot 61 (option_map (λ address. 1 ∷ ethernet_octets address) (option_map ethernet_of identifier))) }
+    ensures same_slice { the_slice w.new ≡ the_slice w.old }
+{
+    w.put(OPT_CLIENT_ID, identifier)
 }
 
 // Writes these options, up to the first that is refused.
@@ -196,7 +199,6 @@ fn put_octets(w: &mut ByteWriter<'_>, address: Ipv4Address)
     requires { 4 ≤ length (free_bytes w.old) }
     ensures puts { Puts w.old w.new (octets_of address ∷ []) }
     ensures room { length (free_bytes w.old) ≡ 4 + length (free_bytes w.new) }
-    ensures same_slice { the_bytes w.new ≡ the_bytes w.old }
 {
     w.put_bytes(&address.octets());
 }
