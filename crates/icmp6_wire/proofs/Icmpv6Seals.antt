@@ -1,16 +1,29 @@
 -- Sealing a message keeps its length, and all of its bytes but the checksum.
-use Rattle.std.proofs.Common.{◌≡◌, ℕ, ◌≤◌, List, ◌∷◌, length, refl}
+use Rattle.std.proofs.Common.{◌≡◌, ℕ, ◌≤◌, true, List, ◌∷◌, length, refl}
 use Rattle.wirebase.specs.Bytes.{splice}
-use Rattle.wirebase.specs.Capabilities.{sealed_where}
-use Rattle.wirebase.specs.Checksum.{sealed}
+use Rattle.wirebase.specs.Capabilities.{is_computed, sealed_where}
+use Rattle.wirebase.specs.Checksum.{IsGood, sealed}
 use Rattle.wirebase.specs.Icmp.{checksum_field}
 use Rattle.wirebase.specs.declared.capabilities.Checksum.{Checksum}
 use Rattle.wirebase.specs.declared.capabilities.Checksum.TheVariants.{Both, Rx, Tx, None}
-use Rattle.wirebase.proofs.ChecksumSeals.{length-sealed}
+use Rattle.wirebase.proofs.CapabilitySeals.{length-sealed_where}
+use Rattle.wirebase.proofs.ChecksumSeals.{length-sealed, IsGood-sealed}
 
 pub length-sealed_message : (bytes : List ℕ) (extra : ℕ) → 4 ≤ length bytes
     → length (sealed checksum_field bytes extra) ≡ length bytes
 length-sealed_message bytes extra some = length-sealed checksum_field bytes extra refl some
+
+pub length-seal : (checksum : Checksum) (bytes : List ℕ) (extra : ℕ) → 4 ≤ length bytes
+    → length (sealed_where checksum checksum_field bytes extra) ≡ length bytes
+length-seal checksum bytes extra some = length-sealed_where checksum_field bytes extra refl some checksum
+
+-- what is computed is good
+pub good-seal : (checksum : Checksum) (bytes : List ℕ) (extra : ℕ) → 4 ≤ length bytes → is_computed checksum ≡ true
+    → IsGood (sealed_where checksum checksum_field bytes extra) extra
+good-seal Both bytes extra some computed = IsGood-sealed checksum_field bytes extra refl some refl
+good-seal Rx bytes extra some computed = cc
+good-seal Tx bytes extra some computed = IsGood-sealed checksum_field bytes extra refl some refl
+good-seal None bytes extra some computed = cc
 
 pub ruleset lengths = (length-sealed_message)
 

@@ -22,7 +22,7 @@ use Rattle.icmp6_wire.specs.Icmpv6Tables.{param_problem_rows, param_problem_of, 
 use Rattle.icmp6_wire.specs.Icmpv6Tables.{time_exceeded_rows, time_exceeded_of}
 use Rattle.icmp6_wire.specs.Icmpv6.{MessageValue, unreachable, too_big, time_exceeded, param_problem, echo_request}
 use Rattle.icmp6_wire.specs.Icmpv6.{echo_reply, mld, ndisc, quoted_data, error_fields, text, error_len, text_len, seal}
-use Rattle.icmp6_wire.specs.Icmpv6.{packet_text, IsError, IsContent, IsMessage, CanQuote, IsCanonical, Fills, norm}
+use Rattle.icmp6_wire.specs.Icmpv6.{packet_text, CanEmit, IsError, IsContent, IsMessage, CanQuote, IsCanonical, Fills, norm}
 use Rattle.icmp6_wire.specs.declared.icmpv6.tables.DstUnreachable.{DstUnreachable}
 use Rattle.icmp6_wire.specs.declared.icmpv6.tables.DstUnreachable.TheVariants as reasons
 use Rattle.icmp6_wire.specs.declared.icmpv6.tables.ParamProblem.{ParamProblem}
@@ -101,6 +101,19 @@ text_some (echo_request ident seq_no d) = omega arith
 text_some (echo_reply ident seq_no d) = omega arith
 text_some (ndisc m) = ndisc_some m
 text_some (mld m) = mld_some m
+
+-- what a message is written into has room for a header
+pub room_some : (v : MessageValue) (bytes : List ℕ) → CanEmit v bytes → 8 ≤ length bytes
+room_some (unreachable reason quoted d) bytes c = omega (arith, c.0)
+room_some (too_big mtu quoted d) bytes c = omega (arith, c.0)
+room_some (time_exceeded reason quoted d) bytes c = omega (arith, c.0)
+room_some (param_problem reason pointer quoted d) bytes c = omega (arith, c.0)
+room_some (echo_request ident seq_no d) bytes c = c
+room_some (echo_reply ident seq_no d) bytes c = c
+room_some (ndisc m) bytes c = omega (arith, ndisc_some m, c.1)
+room_some (mld (listeners.query code group flag qrv qqic sources d)) bytes c = omega (arith, c.0)
+room_some (mld (listeners.report count d)) bytes c = omega (arith, c)
+room_some (mld (listeners.records rs)) bytes c = omega (arith, c.0)
 
 pub length-packet_text : (capabilities : ChecksumCapabilities) (source destination : Ipv6Address) (v : MessageValue)
     → length (packet_text capabilities source destination v) ≡ text_len v

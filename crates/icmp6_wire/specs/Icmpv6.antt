@@ -6,7 +6,7 @@ use Rattle.wirebase.specs.declared.capabilities.ChecksumCapabilities.{ChecksumCa
 use Rattle.wirebase.specs.declared.capabilities.Checksum.TheVariants.{Rx}
 use Rattle.wirebase.specs.Bytes.{Reaches, byte_of, number_of, over}
 use Rattle.wirebase.specs.ByteWriter.{be8, be16, be32, fields}
-use Rattle.wirebase.specs.Capabilities.{is_verified, sealed_where}
+use Rattle.wirebase.specs.Capabilities.{is_verified, is_computed, sealed_where}
 use Rattle.wirebase.specs.Checksum.{IsGood}
 use Rattle.wirebase.specs.Format.{Format, RoundTrips}
 use Rattle.wirebase.specs.Icmp.{type_field, code_field, checksum_field, header, data_in, IsEcho, echo_fields}
@@ -225,11 +225,13 @@ format capabilities source destination =
       IsCut = IsCut;
     }
 
--- What writing a message leaves where `old` stood. Where there is just the message's length, its packet is all that is
--- left, and a canonical value is read back from it as its normal form.
+-- What writing a message leaves where `old` stood. Where the checksum is computed, that of all the octets is good,
+-- however many there are. Where there is just the message's length, its packet is all that is left, and a canonical
+-- value is read back from it as its normal form.
 pub record Emits (capabilities : ChecksumCapabilities) (source destination : Ipv6Address) (v : MessageValue)
     (old new : List ℕ) : Type 0 where
   pub text_ : new ≡ emitted capabilities source destination v old
+  pub good : is_computed capabilities.icmpv6 ≡ true → IsGood new (message_sum source destination (length new))
   pub exact : length old ≡ text_len v → new ≡ packet_text capabilities source destination v
   pub reads_back : length old ≡ text_len v → Fills capabilities → IsCanonical v
       → IsMessage capabilities source destination new (norm v)

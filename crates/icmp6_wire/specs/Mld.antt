@@ -76,12 +76,13 @@ told_len v = text_len v
 abbrev pub AreGroups : List RecordValue → Type 0
 AreGroups rs = AllByRecursion (λ r. IsMulticast (group_of r)) rs
 
--- What is asked of a message and of the octets that it is written into: they are just its length; a query's robustness
--- variable has three bits; records are of groups, and their number has two bytes.
+-- What is asked of a message and of the octets that it is written into: they are just its length, and of a list of
+-- records its length or more; a query's robustness variable has three bits; records are of groups, and their number has
+-- two bytes.
 abbrev pub CanEmit : MldValue → List ℕ → Type 0
 CanEmit (query code group flag qrv qqic sources d) bytes = (length bytes ≡ 28 + length d) × (qrv < 8)
 CanEmit (report count d) bytes = length bytes ≡ 8 + length d
-CanEmit (records rs) bytes = (length bytes ≡ 8 + 20 * length rs) × (length rs ≤ 65535) × AreGroups rs
+CanEmit (records rs) bytes = (8 + 20 * length rs ≤ length bytes) × (length rs ≤ 65535) × AreGroups rs
 
 -- ---- the grammar
 
@@ -136,8 +137,8 @@ format =
       IsCut = λ v. ⊥;
     }
 
--- What writing a message leaves where `old` stood, which is as long as the message: its text alone. A canonical value
--- is read back from it as its normal form.
+-- What writing a message leaves where `old` stood: its text over the front. Where there is just its length, its text is
+-- all that is left, and a canonical value is read back from it as its normal form.
 pub record Emits (v : MldValue) (old new : List ℕ) : Type 0 where
   pub text_ : new ≡ over old (text v)
   pub exact : length old ≡ text_len v → new ≡ text v

@@ -100,8 +100,9 @@ impl<'a> Header<&'a [u8]> {
     #[tactic(auto, using(wirebase::proofs::Pieces::pieces), unfolding(wirebase::specs::Bytes::part))]
     pub fn payload(&self) -> &'a [u8]
         requires whole { Reaches (payload_field (view_octets self.now)) (view_octets self.now) }
-        ensures { result.now ≡ bytes_of (payload_field (view_octets self.now))
+        ensures value { result.now ≡ bytes_of (payload_field (view_octets self.now))
             (view_octets self.now) }
+        ensures len { length result.now ≡ header_end (view_octets self.now) - 2 }
     {
         let octets: &'a [u8] = self.buffer;
         &octets[field::PAYLOAD..end_of(self.header_len())]
@@ -137,6 +138,7 @@ impl<T: OctetsMut> Header<T> {
             (splice (T.bytes (inner self.old)) 2 (header_end (T.bytes (inner self.old))) w)))) }
         ensures value { result.now
             ≡ bytes_of (payload_field (T.bytes (inner self.old))) (T.bytes (inner self.old)) }
+        ensures len { length result.now ≡ header_end (T.bytes (inner self.old)) - 2 }
     {
         let end = end_of(self.header_len());
         self.buffer.range_mut(field::PAYLOAD, end)

@@ -337,6 +337,6 @@ pub(crate) fn fill(octets: &mut [u8], src_addr: &Ipv6Address, dst_addr: &Ipv6Add
 fn sum_before(octets: &[u8], src_addr: &Ipv6Address, dst_addr: &Ipv6Address) -> u16
     ensures { result ≡ fold (message_sum src_addr.now dst_addr.now (length octets.now)) }
 {
-    let len = octets.len() % (1 << 32);
+    let len = octets.len() as u64 % (1 << 32);
     checksum::pseudo_header_v6(src_addr, dst_addr, IpProtocol::Icmpv6, len as u32)
 }

@@ -109,8 +109,9 @@ impl<'a> Repr<'a> {
         }
     }
 
-    /// Writes the message, with the checksum zero. Requires octets of just its length, a robustness variable below 8,
-    /// and of records that they are of groups and at most 65,535.
+    /// Writes the message over the front of the octets, with the checksum zero; the others stay. Requires octets of just
+    /// its length, and of a list of records of its length or more; a robustness variable below 8; and of records that
+    /// they are of groups and at most 65,535.
     pub fn emit<T: OctetsMut>(&self, packet: &mut Packet<T>)
         requires { CanEmit (value_of self.now) (T.bytes (inner packet.old)) }
         ensures place { inner packet.new ≡ T.put (inner packet.old) (T.bytes (inner packet.new)) }
@@ -133,7 +134,7 @@ impl<'a> Repr<'a> {
         ensures { SameText format (value_of a.now) (value_of b.now) }
     {}
 
-    // Writes the message into octets of just its length.
+    // Writes the message over the front of the octets.
     #[tactic(auto, using(wirebase::proofs::Chains::chain))]
     fn write(&self, octets: &mut [u8])
         requires { CanEmit (value_of self.now) octets.old }

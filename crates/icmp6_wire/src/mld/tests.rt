@@ -1,4 +1,4 @@
-ghost use Rattle.std.specs.Prelude.{◌≡◌, ℕ, List, length};
+ghost use Rattle.std.specs.Prelude.{◌≡◌, ◌≤◌, ℕ, List, length};
 ghost use Rattle.wirebase.specs.Ipv6Address.{IsMulticast};
 ghost use Rattle.icmp6_wire.specs.Mld.{CanEmit, value_of, values_of, records, text_len, told_len};
 
@@ -57,6 +57,22 @@ fn check_list<const N: usize>(rt: &impl Abort, list: &[AddressRecordRepr<'_>], w
     let report = Repr::ReportRecordReprs(list);
     same(rt, [report.buffer_len(), report.packet_len()], [8, N]);
     check_written(rt, &report, wanted);
+}
+
+// Writes a report of these records over the front of 64 octets that are all the same, and checks that it is those which
+// are wanted, and that the octets behind it stay.
+fn check_front(rt: &impl Abort, list: &[AddressRecordRepr<'_>], wanted: &[u8])
+    requires can { (bytes : List ℕ) → length bytes ≡ 64
+        → CanEmit (records (values_of list.now)) bytes }
+    requires short { length wanted.now ≤ 64 }
+{
+    for &fill in FILLS {
+        let mut octets = [fill; 64];
+        Repr::ReportRecordReprs(list).emit_into(&mut octets);
+        let len = wanted.len();
+        same_of(rt, fill, &octets[..len], wanted);
+        same_of(rt, fill, &octets[len..], &[fill; 64][len..]);
+    }
 }
 
 // Checks that these octets are read as this message.
@@ -238,11 +254,13 @@ fn records_are_written_in_their_order(rt: HostRuntime) {
         AddressRecordRepr::new(RecordType::Unknown(7), IPV6_LINK_LOCAL_ALL_ROUTERS),
     ];
     check_list(&rt, &records, &TWO_RECORDS);
+    check_front(&rt, &records, &TWO_RECORDS);
 }
 
 #[test]
 fn an_empty_list_of_records_is_written(rt: HostRuntime) {
     check_list(&rt, &[], &[0x8f, 0, 0, 0, 0, 0, 0, 0]);
+    check_front(&rt, &[], &[0x8f, 0, 0, 0, 0, 0, 0, 0]);
 }
 
 // Checks that these octets count 300 records, and that each of them is this one.

@@ -1,9 +1,9 @@
 //! The flags of router and neighbor advertisements (RFC 4861 sections 4.2 and 4.4).
 
-ghost use Rattle.std.specs.Prelude.{⊤, ◌≡◌};
+ghost use Rattle.std.specs.Prelude.{⊤, ◌≡◌, map};
 ghost use Rattle.std.specs.Int.RustNames.{bit_and, bit_or, bit_xor};
 ghost use Rattle.bitflags.specs.Sets.{without};
-ghost use Rattle.icmp6_wire.specs.NdiscTables.{router_rows, neighbor_rows};
+ghost use Rattle.icmp6_wire.specs.NdiscTables.{router_rows, neighbor_rows, router_bits, neighbor_bits};
 
 use bitflags::Flag;
 use std::ops::{BitAnd, BitOr, BitXor, Not, Sub};
@@ -40,7 +40,11 @@ impl bitflags::Flags for RouterFlags {
 
     ghost set_of = { λ flags. flags.0 };
 
-    fn flags<'a>() -> &'a [Flag<RouterFlags>] {
+    fn flags<'a>() -> &'a [Flag<RouterFlags>]
+        ensures table { map (λ f. (f.name.now, router_bits f.value)) result.now ≡ router_rows }
+        ensures constants { (router_bits RouterFlags.MANAGED ≡ 0x80)
+            × (router_bits RouterFlags.OTHER ≡ 0x40) }
+    {
         RouterFlags::NAMED
     }
 
@@ -142,7 +146,13 @@ impl bitflags::Flags for NeighborFlags {
 
     ghost set_of = { λ flags. flags.0 };
 
-    fn flags<'a>() -> &'a [Flag<NeighborFlags>] {
+    fn flags<'a>() -> &'a [Flag<NeighborFlags>]
+        ensures table { map (λ f. (f.name.now, neighbor_bits f.value)) result.now
+            ≡ neighbor_rows }
+        ensures constants { (neighbor_bits NeighborFlags.ROUTER ≡ 0x80)
+            × (neighbor_bits NeighborFlags.SOLICITED ≡ 0x40)
+            × (neighbor_bits NeighborFlags.OVERRIDE ≡ 0x20) }
+    {
         NeighborFlags::NAMED
     }
 

@@ -1,10 +1,10 @@
 //! The types of neighbor discovery options, and the flags of a prefix (RFC 4861 section 4.6).
 
-ghost use Rattle.std.specs.Prelude.{⊤, ◌≡◌, Some};
+ghost use Rattle.std.specs.Prelude.{⊤, ◌≡◌, Some, map};
 ghost use Rattle.std.specs.Int.RustNames.{bit_and, bit_or, bit_xor};
 ghost use Rattle.bitflags.specs.Sets.{without};
 ghost use Rattle.wirebase.specs.Numbered.{IsProper, IsTable};
-ghost use Rattle.opt_wire.specs.NdiscOptionTables.{type_number, type_rows, type_of, type_text, flag_rows};
+ghost use Rattle.opt_wire.specs.NdiscOptionTables.{type_number, type_rows, type_of, type_text, flag_rows, flag_bits};
 
 use bitflags::Flag;
 use std::fmt;
@@ -120,7 +120,11 @@ impl bitflags::Flags for PrefixInfoFlags {
 
     ghost set_of = { λ flags. flags.0 };
 
-    fn flags<'a>() -> &'a [Flag<PrefixInfoFlags>] {
+    fn flags<'a>() -> &'a [Flag<PrefixInfoFlags>]
+        ensures table { map (λ f. (f.name.now, flag_bits f.value)) result.now ≡ flag_rows }
+        ensures constants { (flag_bits PrefixInfoFlags.ON_LINK ≡ 0x80)
+            × (flag_bits PrefixInfoFlags.ADDRCONF ≡ 0x40) }
+    {
         PrefixInfoFlags::NAMED
     }
 

@@ -1,9 +1,13 @@
-use Rattle.std.proofs.Common.{◌≡◌, ℕ, List, length, sym, ap, subst, ◌∙◌}
+use Rattle.std.proofs.Common.{◌≡◌, ◌≤◌, ℕ, List, length, sym, ap, subst, ◌∙◌, arith}
+use Rattle.wirebase.specs.Bytes.{over}
+use Rattle.wirebase.specs.Checksum.{IsGood}
 use Rattle.wirebase.proofs.Format.{round_trips}
-use Rattle.wirebase.proofs.Pieces.{over-exact}
+use Rattle.wirebase.proofs.Pieces.{length-over, over-exact}
 use Rattle.icmp6_wire.specs.Icmpv6.{value_of, text, text_len, packet_text, seal, norm, IsMessage, format}
 use Rattle.icmp6_wire.proofs.Icmpv6Format.{icmpv6_format}
-use Rattle.icmp6_wire.proofs.Icmpv6Texts.{length-text, message_text}
+use Rattle.icmp6_wire.specs.Icmpv6Packet.{message_sum}
+use Rattle.icmp6_wire.proofs.Icmpv6Seals.{length-seal, good-seal}
+use Rattle.icmp6_wire.proofs.Icmpv6Texts.{length-text, message_text, room_some}
 use Rattle.icmp6_wire.proofs.icmpv6.repr.Repr.emit_into.Goals as goal
 
 pub returns : goal.returns
@@ -17,8 +21,18 @@ returns c =
     ≡ packet_text capabilities source destination v =
     λ long. left ∙ ap (λ (l : List ℕ). seal capabilities source destination l)
     (over-exact c.args.octets.now (text v) (long ∙ sym (length-text v))) in
+    let bytes = over c.args.octets.now (text v) in
+    let some : 4 ≤ length bytes =
+    omega (arith, length-over c.args.octets.now (text v), room_some v c.args.octets.now c.requires) in
     record {
       text_ = left;
+      good = λ computed.
+          let sum = message_sum source destination (length bytes) in
+          let long = length-seal capabilities.icmpv6 bytes sum some in
+          let good = good-seal capabilities.icmpv6 bytes sum some computed in
+          subst (λ (l : List ℕ). IsGood l (message_sum source destination (length l))) (sym left)
+          (subst (λ (n : ℕ). IsGood (seal capabilities source destination bytes) (message_sum source destination n))
+          (sym long) good);
       exact = exact;
       reads_back = λ long fills canonical.
           subst (λ (bytes : List ℕ). IsMessage capabilities source destination bytes (norm v)) (sym (exact long))
