@@ -2,3 +2,5 @@ pub mod Blocks
 pub mod Filling
 pub mod Reading
 pub mod Records
+pub mod Sections
+pub mod Units

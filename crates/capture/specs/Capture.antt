@@ -2,10 +2,9 @@
 use Rattle.std.specs.Prelude.{◌≡◌, ◌≢◌, ℕ, ◌+◌, ◌-◌, ◌*◌, ◌^◌, ◌<◌, ◌≤◌, min, List, [], ◌∷◌, ◌++◌, length, take, drop}
 use Rattle.std.specs.Prelude.{Option, None, Some}
 use Rattle.wirebase.specs.Bytes.{part}
-use Rattle.capture.specs.Order.{number_in}
 use Rattle.capture.specs.Packet.{PacketValue, packet_in, IsPlace}
 use Rattle.capture.specs.Pcap.{IsFileHeader, FileEnds, IsRecord, RecordEnds}
-use Rattle.capture.specs.Pcapng.{kind_field, section_kind, IsRead, IsHead, HeadEnds, IsClosed, IsSection, SectionEnds}
+use Rattle.capture.specs.Pcapng.{IsSectionKind, section_kind, IsRead, IsHead, HeadEnds, IsClosed, IsSection, SectionEnds}
 use Rattle.capture.specs.Pcapng.{IsInterface, IsPacket}
 use Rattle.capture.specs.declared.capture.Capture.{Capture}
 use Rattle.capture.specs.declared.capture.Next.{Next}
@@ -78,9 +77,9 @@ pub data BlockEnds (section : Order) (interfaces : List Interface) (bytes : List
 
 -- ---- the whole
 
--- the bytes begin with the kind of a section header, and so a pcapng file
+-- the bytes begin with the kind of a section header, and so as a pcapng file does
 abbrev pub BeginsSection : List ℕ → Type 0
-BeginsSection bytes = number_in Big kind_field (take 4 bytes) ≡ section_kind
+BeginsSection bytes = IsSectionKind (take 4 bytes)
 
 -- The bytes are the next that stands in a capture: a file's header, a record or a block.
 pub data IsUnit (old : State) (bytes : List ℕ) (new : State) (packet : Option PacketValue) : Type 0 where

@@ -73,6 +73,11 @@ byte_order_field = field 8 12
 abbrev pub section_kind : ℕ
 section_kind = 0x0a0d0d0a
 
+-- the bytes of a section header's kind
+pub record IsSectionKind (bytes : List ℕ) : Type 0 where
+  pub there : 4 ≤ length bytes
+  pub kind : number_in Big kind_field bytes ≡ section_kind
+
 -- the kinds that are read: section headers, interface descriptions, and obsolete, simple and enhanced packets
 pub data IsRead (kind : ℕ) : Type 0 where
   section_header : kind ≡ 0x0a0d0d0a → IsRead kind

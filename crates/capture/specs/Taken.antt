@@ -76,7 +76,7 @@ InterfaceTakes order old octets (step.Ended ending) new =
 abbrev pub PacketTakes : Order → ℕ → List Interface → List ℕ → Step → Type 0
 PacketTakes order kind interfaces octets step.Passed = ⊥
 PacketTakes order kind interfaces octets (step.Packet k) =
-    IsPacket order interfaces octets (packet_in k octets) kind × (k.captured_len ≤ most_octets)
+    IsPacket order interfaces octets (packet_in k octets) kind × (k.captured_len ≤ most_octets) × IsPlace k octets
 PacketTakes order kind interfaces octets (step.Ended ending) =
     (((p : PacketValue) → IsPacket order interfaces octets p kind → ⊥) × (ending ≡ Malformed))
     ⊎ ((k : Packet) × IsPacket order interfaces octets (packet_in k octets) kind × (most_octets < k.captured_len)

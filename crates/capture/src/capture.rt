@@ -212,7 +212,8 @@ impl Capture {
         ensures count { count_of self.new ≡ count_of self.old }
         ensures fault { IfErr result (λ fault. (fault ≡ Fault.Read) ⊎ (fault ≡ Fault.Memory)) }
     {
-        match read_octets(input, &mut self.octets, section)? {
+        let block = read_octets(input, &mut self.octets, section)?;
+        match block {
             Block::Passed(_) => {
                 self.stage = Stage::Section(section);
                 Ok(Step::Passed)

@@ -2,7 +2,7 @@
 
 ghost use Rattle.std.specs.Prelude.{◌≡◌, ◌≤◌, ◌↔◌, IfOk, IfErr, IfSome, IsOk, IsOkAnd, IsSomeAnd, IsTrue, length};
 ghost use Rattle.capture.specs.Order.{number_in};
-ghost use Rattle.capture.specs.Pcapng.{kind_field, section_kind, HasOrder, IsRead, IsHead, HeadEnds, IsClosed, IsSection, SectionEnds};
+ghost use Rattle.capture.specs.Pcapng.{kind_field, IsSectionKind, HasOrder, IsRead, IsHead, HeadEnds, IsClosed, IsSection, SectionEnds};
 ghost use Rattle.capture.specs.Pcapng.{HasResolution, IsInterface, IsTimed, IsSimple, IsPacket};
 ghost use Rattle.capture.specs.Pcapng.{kept_len};
 ghost use Rattle.capture.specs.Packet.{PacketValue, packet_in, IsPlace};
@@ -165,9 +165,9 @@ fn order_of(section: Order, kind: u32, octets: &[u8]) -> Option<Order>
     }
 }
 
-/// Whether the octets, of which 4 or more are the first of a file, begin with the kind of a section header.
+/// Whether the octets begin with the kind of a section header, as those of a pcapng file do.
 pub fn begins_section(octets: &[u8]) -> bool
-    ensures { IsTrue result ↔ (number_in AnOrder.Big kind_field octets.now ≡ section_kind) }
+    ensures { IsTrue result ↔ IsSectionKind octets.now }
 {
     octets.len() >= KIND_LEN && Order::Big.u32_at(octets, field::KIND) == SECTION
 }

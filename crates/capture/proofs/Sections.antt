@@ -1,0 +1,130 @@
+-- A block of a pcapng file is read.
+use Rattle.std.proofs.Common.{◌≡◌, ◌≢◌, ℕ, ◌+◌, ◌-◌, ◌*◌, ◌<◌, ◌≤◌, ◌⊎◌, inl, inr, true, false, List, [], ◌∷◌, ◌++◌}
+use Rattle.std.proofs.Common.{length, take, drop, Option, None, Some, refl, ap, sym, subst, ◌∙◌, arith, length-append}
+use Rattle.std.proofs.Common.{Result, Ok, Err, IfOk, Bool, IsTrue, ◌↔◌}
+use Rattle.std.proofs.lemmas.List.{length-take, take-take, take_at, take-append-drop}
+use Rattle.wirebase.specs.Bytes.{part}
+use Rattle.wirebase.proofs.Pieces.{length-part}
+use Rattle.capture.specs.Capture.{State, state, most_octets, IsBlock, passed, header, described, held, BlockEnds, no_head}
+use Rattle.capture.specs.Capture.{cut, refused, Refused, no_section, no_interface, many, no_packet, large}
+use Rattle.capture.specs.Packet.{packet_in, IsPlace}
+use Rattle.capture.specs.Pcapng.{IsHead, IsRead, IsClosed, section_kind}
+use Rattle.capture.specs.Reader.{Reads, Skips, Takes}
+use Rattle.capture.specs.Taken.{Splits, SectionTakes, InterfaceTakes, PacketTakes, BlockTakes, BlockGives, IsWholeBlock}
+use Rattle.capture.specs.declared.capture.Stage.TheVariants.{Section}
+use Rattle.capture.specs.declared.capture.Step.{Step}
+use Rattle.capture.specs.declared.capture.Step.TheVariants as step
+use Rattle.capture.specs.declared.ending.Ending.TheVariants.{Cut}
+use Rattle.capture.specs.declared.ending.Fault.{Fault}
+use Rattle.capture.specs.declared.order.Order.{Order}
+use Rattle.capture.specs.declared.pcapng.Head.{Head}
+use Rattle.capture.specs.declared.pcapng.Interface.{Interface}
+use Rattle.capture.proofs.Filling.{reads_splits, reads_length, reads_fits, skips_reads, skips_short}
+
+pub if_ok : {T E : Type 0} (P Q : T → Type 0) (r : Result T E) → ((x : T) → P x → Q x) → IfOk r P → IfOk r Q
+if_ok P Q (Ok x) f h = f x h
+if_ok P Q (Err e) f h = tt
+
+pub told : {P : Type 0} (b : Bool) → (IsTrue b ↔ P) → b ≡ true → P
+told b is yes' = is.0 yes'
+
+pub told_not : {P : Type 0} (b : Bool) → (IsTrue b ↔ P) → b ≡ false → P → ⊥
+told_not b is no' p = let both : true ≡ false = sym (is.1 p) ∙ no' in cc
+
+-- ---- the bytes of a block
+
+module _ (section : Order) (all octets : List ℕ) (old new : Option (List ℕ)) (h : Head)
+    (is : IsHead section (take 12 all) h) where
+  head_fits : Reads all old octets 12 → 12 ≤ length octets
+  head_fits reads = omega (arith, is.whole, ap length reads.front)
+
+  pub passed_over : Reads all old octets 12 → Skips old new (h.total_len - 12) true
+      → (h.total_len ≤ length all) × (new ≡ Some (drop h.total_len all))
+  passed_over reads skips =
+      let known = skips_reads all octets old new 12 (h.total_len - 12) reads skips (head_fits reads) in
+      let sum : 12 + (h.total_len - 12) ≡ h.total_len = omega (arith, is.length_.least) in
+      (subst (λ n. n ≤ length all) sum known.1, subst (λ n. new ≡ Some (drop n all)) sum known.0)
+
+  pub cut_passed : (interfaces : List Interface) → Reads all old octets 12 → Skips old new (h.total_len - 12) false
+      → BlockEnds section interfaces all Cut
+  cut_passed interfaces reads skips =
+      cut h is (omega (arith, is.length_.least,
+        skips_short all octets old new 12 (h.total_len - 12) reads skips (head_fits reads))) refl
+
+  pub cut_read : (interfaces : List Interface) → Reads all new octets h.total_len → length octets < h.total_len
+      → BlockEnds section interfaces all Cut
+  cut_read interfaces reads short =
+      cut h is (reads_length all octets new h.total_len h.total_len reads (omega arith) short) refl
+
+-- unread as the bytes before may be, the block itself is whole
+pub whole_block : (section : Order) (h : Head) (start mid end : Option (List ℕ)) (a b c : List ℕ) → length a ≤ 12
+    → ((taken : List ℕ) × (b ≡ a ++ taken) × Takes start mid taken (12 - length a)) → IsHead section b h
+    → IsRead h.kind → ((taken : List ℕ) × (c ≡ b ++ taken) × Takes mid end taken (h.total_len - length b))
+    → h.total_len ≤ length c → IsWholeBlock section c h
+whole_block section h start mid end a b c few first is read second fits =
+    let long : length b ≡ 12 =
+    omega (arith, few, ap length first.1, length-append a first.0, first.2.few, is.whole) in
+    let front : take 12 c ≡ b = ap (take 12) second.1 ∙ take_at b second.0 12 long in
+    record {
+      head = subst (λ l. IsHead section l h) (sym front) is;
+      whole = omega (arith, fits, ap length second.1, length-append b second.0, second.2.few, long, is.length_.least);
+      read = read;
+    }
+
+-- ---- what a block is
+
+module _ (section : Order) (h : Head) (interfaces : List Interface) (octets : List ℕ)
+    (w : IsWholeBlock section octets h) (closed : IsClosed h.order octets) where
+  pub section_takes : h.kind ≡ section_kind → (s : Step) (new : State) → SectionTakes h.order octets s new
+      → BlockTakes section h interfaces octets s new
+  section_takes kind step.Passed new t = header h w.head w.whole closed kind t.0 t.1 refl
+  section_takes kind (step.Packet k) new t = absurd t
+  section_takes kind (step.Ended e) new t = no_section kind t
+
+  pub interface_takes : h.kind ≡ 1 → (s : Step) (new : State)
+      → InterfaceTakes h.order (state (Section section) interfaces) octets s new
+      → BlockTakes section h interfaces octets s new
+  interface_takes kind step.Passed new t = described h t.0 w.head w.whole closed kind t.1 t.2 t.3 refl
+  interface_takes kind (step.Packet k) new t = absurd t
+  interface_takes kind (step.Ended e) new (inl t) = no_interface kind t.0 t.1
+  interface_takes kind (step.Ended e) new (inr t) = many t.0 kind t.1 t.2 t.3
+
+  pub packet_takes : h.kind ≢ section_kind → h.kind ≢ 1 → (s : Step) → PacketTakes h.order h.kind interfaces octets s
+      → BlockTakes section h interfaces octets s (state (Section section) interfaces)
+  packet_takes no_section' no_interface' step.Passed t = absurd t
+  packet_takes no_section' no_interface' (step.Packet k) t =
+      held h (packet_in k octets) w.head w.whole closed t.0
+      (omega (arith, t.1, length-part octets k.start (k.start + k.captured_len) (omega arith) t.2.within)) refl refl
+  packet_takes no_section' no_interface' (step.Ended e) (inl t) = no_packet no_section' no_interface' t.0 t.1
+  packet_takes no_section' no_interface' (step.Ended e) (inr t) =
+      large (packet_in t.0 octets) t.1
+      (omega (arith, t.2, length-part octets t.0.start (t.0.start + t.0.captured_len) (omega arith) t.3.within)) t.4
+
+-- ---- a block that was read, or passed over
+
+module _ (section : Order) (interfaces : List Interface) (all : List ℕ) (left : Option (List ℕ)) (h : Head)
+    (is : IsHead section (take 12 all) h) (fits : h.total_len ≤ length all)
+    (behind : left ≡ Some (drop h.total_len all)) where
+  front_length : length (take h.total_len all) ≡ h.total_len
+  front_length = omega (arith, length-take h.total_len all, fits)
+
+  pub front_splits : Splits all (take h.total_len all) left
+  front_splits = record {
+    rest = drop h.total_len all;
+    split = sym (take-append-drop h.total_len all);
+    left_ = behind;
+  }
+
+  pub block_passed : (IsRead h.kind → ⊥)
+      → (front : List ℕ) × Splits all front left
+      × IsBlock section interfaces front (state (Section section) interfaces) None
+  block_passed other =
+      let head : take 12 (take h.total_len all) ≡ take 12 all = take-take 12 h.total_len all is.length_.least in
+      (take h.total_len all, front_splits, passed h (subst (λ l. IsHead section l h) (sym head) is) front_length other refl refl)
+
+  pub block_read : (octets : List ℕ) → octets ≡ take h.total_len all → IsRead h.kind → (s : Step) (new : State)
+      → BlockTakes section h interfaces octets s new → BlockGives section interfaces all s octets new left
+  block_read octets e read step.Passed new t = (octets, subst (λ l. Splits all l left) (sym e) front_splits, t)
+  block_read octets e read (step.Packet k) new t = (subst (λ l. Splits all l left) (sym e) front_splits, t)
+  block_read octets e read (step.Ended ending) new t =
+      refused h is fits read (subst (λ l. Refused h interfaces l ending) e t)

@@ -1,0 +1,89 @@
+-- A capture is read one header, record or block after another.
+use Rattle.std.proofs.Common.{◌≡◌, ◌≢◌, ℕ, ◌+◌, ◌<◌, ◌≤◌, true, false, List, [], ◌∷◌, ◌++◌, length, take, drop, Option}
+use Rattle.std.proofs.Common.{None, Some, IfSome, refl, ap, sym, subst, ◌∙◌, arith, length-append}
+use Rattle.std.proofs.lemmas.List.{length-take, take-take, take-append-le}
+use Rattle.capture.specs.Capture.{State, state, most_octets, IsBlock, passed, header, described, held, BlockEnds, IsUnit}
+use Rattle.capture.specs.Capture.{file, kept, first, block, Ends, no_file, no_record, no_first, no_block, BeginsSection}
+use Rattle.capture.specs.Capture.{Holds, ends, passes, packet}
+use Rattle.capture.specs.Packet.{PacketValue, packet_in}
+use Rattle.capture.specs.Pcap.{IsFileHeader, FileEnds}
+use Rattle.capture.specs.Pcapng.{IsHead, IsSectionKind}
+use Rattle.capture.specs.Reader.{Reads}
+use Rattle.capture.specs.Taken.{Splits, RecordGives, BlockGives, StepGives}
+use Rattle.capture.specs.declared.capture.Stage.{Stage}
+use Rattle.capture.specs.declared.capture.Stage.TheVariants as stage
+use Rattle.capture.specs.declared.capture.Step.{Step}
+use Rattle.capture.specs.declared.capture.Step.TheVariants as step
+use Rattle.capture.specs.declared.ending.Ending.{Ending}
+use Rattle.capture.specs.declared.order.Order.{Order}
+use Rattle.capture.specs.declared.order.Order.TheVariants.{Big}
+use Rattle.capture.specs.declared.pcap.FileHeader.{FileHeader}
+use Rattle.capture.specs.declared.pcapng.Head.{Head}
+use Rattle.capture.specs.declared.pcapng.Interface.{Interface}
+use Rattle.capture.proofs.Filling.{reads_splits, reads_fits}
+
+-- a block has twelve bytes at least
+head_long : (section : Order) (bytes : List ℕ) (h : Head) → IsHead section (take 12 bytes) h → 12 ≤ length bytes
+head_long section bytes h is = omega (arith, is.whole, length-take 12 bytes)
+
+block_long : (section : Order) (interfaces : List Interface) (bytes : List ℕ) (new : State) (p : Option PacketValue)
+    → IsBlock section interfaces bytes new p → 12 ≤ length bytes
+block_long section interfaces bytes new p (passed h is total other e none) = head_long section bytes h is
+block_long section interfaces bytes new p (header h is total closed kind good e none) = head_long section bytes h is
+block_long section interfaces bytes new p (described h i is total closed kind good few e none) =
+    head_long section bytes h is
+block_long section interfaces bytes new p (held h v is total closed good few e some) = head_long section bytes h is
+
+front_begins : (all front : List ℕ) (left : Option (List ℕ)) → Splits all front left → 12 ≤ length front
+    → BeginsSection all → BeginsSection front
+front_begins all front left s long begins =
+    let fits : 4 ≤ length front = omega (arith, long) in
+    subst IsSectionKind (ap (take 4) s.split ∙ take-append-le 4 front s.rest fits) begins
+
+-- ---- what was read, by how far the capture was read before
+
+module _ (old : State) (all octets : List ℕ) (new : State) (left : Option (List ℕ)) where
+  pub first_gives : old.stage ≡ stage.Start → BeginsSection all → (s : Step)
+      → BlockGives Big old.interfaces all s octets new left → StepGives old all s octets new left
+  first_gives start begins step.Passed t =
+      (t.0, t.1, first start (front_begins all t.0 left t.1 (block_long _ _ _ _ _ t.2) begins) t.2)
+  first_gives start begins (step.Packet k) t =
+      (t.0, first start (front_begins all octets left t.0 (block_long _ _ _ _ _ t.1) begins) t.1)
+  first_gives start begins (step.Ended ending) t = no_first start begins t
+
+  pub block_gives : (section : Order) → old.stage ≡ stage.Section section → (s : Step)
+      → BlockGives section old.interfaces all s octets new left → StepGives old all s octets new left
+  block_gives section at step.Passed t = (t.0, t.1, block section at t.2)
+  block_gives section at (step.Packet k) t = (t.0, block section at t.1)
+  block_gives section at (step.Ended ending) t = no_block section at t
+
+  pub record_gives : (h : FileHeader) → old.stage ≡ stage.File h → new.stage ≡ stage.File h → (s : Step)
+      → RecordGives h all s octets left → StepGives old all s octets new left
+  record_gives h at still step.Passed t = absurd t
+  record_gives h at still (step.Packet k) t = (t.0, kept h (packet_in k octets) at t.1 still refl)
+  record_gives h at still (step.Ended ending) t = no_record h at t
+
+  pub file_gives : (h : FileHeader) → old.stage ≡ stage.Start → new.stage ≡ stage.File h → Reads all left octets 24
+      → IsFileHeader octets h → (front : List ℕ) × Splits all front left × IsUnit old front new None
+  file_gives h start then reads is =
+      (octets, reads_splits all octets left 24 reads,
+       file h start ((reads_fits all octets left 24 reads is.whole).0) is then refl)
+
+  pub file_ends : old.stage ≡ stage.Start → (front : List ℕ) → front ≡ take 4 all → (IsSectionKind front → ⊥)
+      → Reads all left octets 24 → (ending : Ending) → FileEnds octets ending → Ends old all ending
+  file_ends start front e other reads ending is =
+      no_file start (λ begins. other (subst IsSectionKind (sym e) begins))
+      (subst (λ l. FileEnds l ending) reads.front is)
+
+-- ---- how far a call of `next` came
+
+-- what is held from here on was held from the first on
+pub record SoFar (before now : State) (all : List ℕ) (left : Option (List ℕ)) : Type 0 where
+  pub rest : List ℕ
+  pub left_ : left ≡ Some rest
+  pub holds : (packets : List PacketValue) (ending : Ending) → Holds now rest packets ending
+      → Holds before all packets ending
+
+pub so_far-init : (s : State) (left : Option (List ℕ)) → IfSome left (λ all. SoFar s s all left)
+so_far-init s None = tt
+so_far-init s (Some all) = record { rest = all; left_ = refl; holds = λ packets ending h. h }

@@ -1,0 +1,15 @@
+-- A block is passed over, or taken.
+use Rattle.capture.proofs.Sections.{block_passed, block_read, if_ok}
+use Rattle.capture.proofs.capture.Capture.read_block.Goals as goal
+
+pub returns-in-Passed-clause-gives : goal.returns-in-Passed-clause-gives
+returns-in-Passed-clause-gives g c all done order before =
+    let read = rw c.in-Passed.is at c.in_ok-block.ensures.reads all done order before in
+    block_passed _ _ all _ _ read.0 read.2 read.3 read.1
+
+pub returns-in-Read-clause-gives : goal.returns-in-Read-clause-gives
+returns-in-Read-clause-gives g c = ?
+
+pub returns-in-Ended-clause-gives : goal.returns-in-Ended-clause-gives
+returns-in-Ended-clause-gives g c all done order before =
+    (rw c.in-Ended.is at c.in_ok-block.ensures.reads all done order before) _
