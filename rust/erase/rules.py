@@ -117,6 +117,21 @@ def cloned(file, i):
     return file.remove(file.start(i), file.close(body) + 1)
 
 
+# Types whose Debug is by hand.
+SHOWN_AS_TEXT = {"Ipv4Address", "Ipv6Address"}
+
+
+@rule(VALUES)
+def debug(file, i):
+    """The derived `Debug` of an IP address goes: by hand it prints the address's text, as that of `core::net` does."""
+    if not file.texts(i, "#", "[", "derive", "(", "Debug", ","):
+        return None
+    struct = file.close(i + 1) + 2
+    if not file.texts(struct - 1, "pub", "struct") or file.text(struct + 1) not in SHOWN_AS_TEXT:
+        return None
+    return file.remove(i + 4, i + 6, comment=False)
+
+
 # Functions that are there for their contracts alone.
 NOTHING = set()
 

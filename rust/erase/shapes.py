@@ -32,6 +32,7 @@ SHAPES = {
     "drop": (r"# \[ \.\. \]|, Drop|Drop ,|\+ Drop|Drop \+|: Drop", ""),
     "clone": (r"impl Clone for [^{};]*\{ \.\. \}|", r"(, Clone)?"),
     "cloned": (ATTRIBUTES + r"fn \w+ [^{};]*AllocError[^{};]*\{ \.\. \}", ""),
+    "debug": (r"Debug ,", ""),
     "nothing": (ATTRIBUTES + r"fn \w+ [^{};]*\{ \.\. \}|(\w+ :: )*\w+ \( \.\. \) ;|, \w+|\w+ ,", ""),
     "formatter": (r"W|< W : fmt :: Write >", r"('_)?"),
     "hex_groups": (r"Ipv6Addr :: from|\. hex_groups \( \.\. \)", r"(crate :: by_hand :: HexGroups)?"),

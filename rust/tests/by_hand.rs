@@ -3,7 +3,7 @@
 use control_wire::icmpv4::{Packet, Repr};
 use control_wire::{
     ChecksumCapabilities, Duration, Error, EthernetAddress, Ipv4Address, Ipv6Address,
-    RawHardwareAddress, dns, ndisc,
+    RawHardwareAddress, dns, igmp, ndisc,
 };
 use std::collections::HashSet;
 use std::hash::{BuildHasher, RandomState};
@@ -45,6 +45,21 @@ fn addresses_of_ipv6_print_as_those_of_std_but_for_a_dotted_part() {
     }
     let mapped = Ipv6Address::new(0, 0, 0, 0, 0, 0xffff, 0x0102, 0x0304);
     assert_eq!(mapped.to_string(), "::ffff:102:304");
+}
+
+#[test]
+fn addresses_of_ip_are_debugged_by_their_text() {
+    let group = igmp::Repr::LeaveGroup {
+        group_addr: Ipv4Address::new(224, 0, 6, 150),
+    };
+    assert_eq!(
+        format!("{group:?}"),
+        "LeaveGroup { group_addr: 224.0.6.150 }"
+    );
+    assert_eq!(
+        format!("{:?}", Ipv6Address::new(0xff02, 0, 0, 0, 0, 0, 0, 2)),
+        "ff02::2"
+    );
 }
 
 #[test]

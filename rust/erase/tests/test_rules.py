@@ -79,6 +79,8 @@ ROWS = {
               "impl Clone for S { fn clone(&self) -> Result<S, AllocError> { Ok(S(self.0)) } }",
               "#[derive(Debug, Clone)] struct S(u8);"),
     "cloned": ("fn cloned(a: &A) -> Result<A, AllocError> { a.clone() } fn f() -> u8 { 1 }", "fn f() -> u8 { 1 }"),
+    "debug": ("#[derive(Debug, Clone)] pub struct Ipv4Address; #[derive(Debug, Clone)] pub struct Ipv4Repr;",
+              "#[derive(Clone)] pub struct Ipv4Address; #[derive(Debug, Clone)] pub struct Ipv4Repr;"),
     "nothing": ("use wirebase::{Error, are_facts}; fn are_facts(a: u8) ensures { a ≡ a } {} "
                 "fn f() -> Error { are_facts(1); R::are_facts(2); Error }",
                 "use crate::wirebase::{Error}; fn f() -> Error { Error }"),

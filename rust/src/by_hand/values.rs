@@ -1,7 +1,9 @@
-//! What a Rust programmer expects of a value: errors are errors, and addresses have an order and a hash.
+//! What a Rust programmer expects of a value: errors are errors, and addresses have an order, a hash, and a Debug that
+//! can be read.
 
 use crate::{Error, EthernetAddress, Ipv4Address, Ipv6Address, RawHardwareAddress};
 use core::cmp::Ordering;
+use core::fmt;
 use core::hash::{Hash, Hasher};
 
 impl core::error::Error for Error {}
@@ -34,4 +36,16 @@ by_octets! {
     Ipv4Address: octets,
     Ipv6Address: octets,
     RawHardwareAddress: as_bytes,
+}
+
+impl fmt::Debug for Ipv4Address {
+    fn fmt(&self, f: &mut fmt::Formatter<'_>) -> fmt::Result {
+        fmt::Display::fmt(self, f)
+    }
+}
+
+impl fmt::Debug for Ipv6Address {
+    fn fmt(&self, f: &mut fmt::Formatter<'_>) -> fmt::Result {
+        fmt::Display::fmt(self, f)
+    }
 }

@@ -12,7 +12,7 @@ use core::fmt;
 /// An IPv4 address, four octets: `a.b.c.d` (RFC 791 section 3.2).
 ///
 /// The octets are fields of their own, and so every contract knows that there are four.
-#[derive(Debug, PartialEq, Eq, Clone, Copy)]
+#[derive(PartialEq, Eq, Clone, Copy)]
 pub struct Ipv4Address {
     a: u8,
     b: u8,

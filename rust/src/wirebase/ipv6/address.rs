@@ -4,7 +4,7 @@
 use core::fmt;
 
 /// An IPv6 address, sixteen octets (RFC 4291 section 2).
-#[derive(Debug, PartialEq, Eq, Clone, Copy)]
+#[derive(PartialEq, Eq, Clone, Copy)]
 pub struct Ipv6Address {
     octets: [u8; 16],
 }
