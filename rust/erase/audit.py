@@ -57,6 +57,7 @@ SHAPES = {
     "lends_from_any": (r"\[ \.\. \]|", r"B|(, |< )?B : AsRef < \[ u8 \] > \+ \? Sized( >)?|\. as_ref \( \)"),
     "reads_from_any": (r"\[ \.\. \]|", r"B|(, |< )?B : AsRef < \[ u8 \] > \+ \? Sized( >)?|\. as_ref \( \)"),
     "handle": (r"rt ;", ""),
+    "prints": (r"rt ;|e?println", r"(rattle_std :: e?println)?"),
     "takes_alloc": (r"to_string|concat|to_vec|repeat|clone|vec|in [^;]* ;",
                     r"to_string_in|concat_in|to_vec_in|repeat_in|try_clone|rattle_std :: vec|"),
     "reader": (r"rt \. reader", r"io :: reader"),
@@ -187,10 +188,10 @@ def counted(texts):
     return collections.Counter(text for text in texts if text not in (",", "{", "}"))
 
 
-def compare(unit, public, target, file, out, problems):
+def compare(unit, kinds, target, file, out, problems):
     """The file that is there has the tokens that the rules left."""
     path = out / target
-    wanted = erase.text_of(unit, public, target, file)
+    wanted = erase.text_of(unit, kinds, target, file)
     if not path.exists():
         problems.append(f"{path}: is not there")
     elif counted(token.text for token in tokens_of(path.read_text())) != \
@@ -199,21 +200,21 @@ def compare(unit, public, target, file, out, problems):
 
 
 def main(sources, out):
-    units, public = erase.units_of(sources)
+    units, kinds = erase.units_of(sources)
     erase.erase(units)
     files = [file for unit in units for file in unit.files.values()]
     problems, rules = [], collections.Counter()
-    kinds = {"library": [0, 0, 0], "tests and programs": [0, 0, 0]}
+    sums = {"library": [0, 0, 0], "tests and programs": [0, 0, 0]}
     for unit in units:
         for target, file in unit.files.items():
-            counts = kinds["tests and programs" if file.runtime else "library"]
+            counts = sums["tests and programs" if file.runtime else "library"]
             for k, count in enumerate(audit(file, problems)):
                 counts[k] += count
-            compare(unit, public, target, file, out, problems)
+            compare(unit, kinds, target, file, out, problems)
             rules.update(edit.rule for edit in file.edits)
     called_nothing(files, problems)
     sets(files, problems)
-    for kind, (kept, gone, put) in kinds.items():
+    for kind, (kept, gone, put) in sums.items():
         print(f"{kind}: {kept:,} tokens stay, {gone:,} go, {put:,} are put in")
     print(", ".join(f"{rule} {count:,}" for rule, count in sorted(rules.items())))
     for problem in problems:

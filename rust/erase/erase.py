@@ -20,11 +20,15 @@ HERE = pathlib.Path(__file__).resolve().parent
 
 
 class Unit:
-    """A package that is written: its crates, each with the module that it becomes, and its files by their targets."""
+    """A package that is written: its crates, the path that each crate of the repository has in it, its files by their
+    targets."""
 
-    def __init__(self, folder, crates, own, root):
-        self.folder, self.crates, self.own, self.root = folder, crates, own, root
+    def __init__(self, folder, crates, paths, root):
+        self.folder, self.crates, self.paths, self.root = folder, crates, paths, root
         self.files = {}
+
+    def is_library(self):
+        return self.folder == pathlib.Path()
 
 
 def table(path=HERE / "crates.txt"):
@@ -71,35 +75,50 @@ def read(source, target, shown, files, runs=False):
             read(path, under / f"{name}.rs", at / f"{name}.rt", files, runs or for_tests)
 
 
+def kinds_of(needs):
+    """The rows of the table by their kinds. Each crate of the repository that is not below a root or a module has one."""
+    kinds = collections.defaultdict(dict)
+    for kind, crate, *name in table():
+        if kind not in ("root", "module", "package", "example", "left"):
+            raise Refused(f"crates.txt: a row of the kind `{kind}`")
+        if crate in needs:
+            kinds[kind][crate] = name[0] if name else crate
+    library = below(needs, [*kinds["root"], *kinds["module"]])
+    for crate in needs:
+        if crate not in library and not any(crate in rows for rows in kinds.values()):
+            raise Refused(f"crates.txt: no row for the crate {crate}")
+    return kinds, library
+
+
 def units_of(sources):
     """The packages, with the files of each as they are."""
-    rows, needs = table(), needs_of(sources)
-    kinds = collections.defaultdict(list)
-    for kind, *row in rows:
-        kinds[kind].append(row)
-    [[root]] = kinds["root"]
-    public = {crate: name for crate, name in kinds["module"]}
-    library = below(needs, [root, *public])
+    needs = needs_of(sources)
+    kinds, library = kinds_of(needs)
+    [root], public = kinds["root"], kinds["module"]
     modules = {crate: "crate" if crate == root else f"crate::{public.get(crate, crate)}" for crate in library}
-    units = [Unit(pathlib.Path(), library, modules, root)]
     outside = {crate: f"control_wire::{public[crate]}" if crate in public else "control_wire" for crate in library}
-    for crate, folder in kinds["package"]:
-        units.append(Unit(pathlib.Path(folder), [crate], outside, crate))
+    units = [Unit(pathlib.Path(), library, modules, root)]
+    for crate in library:
+        read_crate(sources, units[0], crate, public.get(crate, crate), False)
+    for crate, name in kinds["package"].items():
+        units.append(Unit(pathlib.Path("packages") / name, [crate], outside, crate))
+        read_crate(sources, units[-1], crate, crate, True)
+    for crate, name in kinds["example"].items():
+        units.append(Unit(pathlib.Path("examples"), [crate], outside, crate))
+        read(sources / f"crates/{crate}/src/main.rt", pathlib.Path(f"examples/{name}.rs"),
+             pathlib.Path(f"crates/{crate}/src/main.rt"), units[-1].files, True)
     for unit in units:
-        for crate in unit.crates:
-            read_crate(sources, unit, crate, public, runs=unit.own is outside)
-    return units, public
+        for file in unit.files.values():
+            file.crate = file.path.parts[1]
+    return units, kinds
 
 
-def read_crate(sources, unit, crate, public, runs):
+def read_crate(sources, unit, crate, module, runs):
+    """Reads a crate as the root of a package, or as a module of it."""
     folder = pathlib.Path("crates") / crate / "src"
     name = "lib" if (sources / folder / "lib.rt").exists() else "main"
-    target = name if crate == unit.root else public.get(crate, crate)
-    files = {}
-    read(sources / folder / f"{name}.rt", unit.folder / "src" / f"{target}.rs", folder / f"{name}.rt", files, runs)
-    for path, file in files.items():
-        file.crate = crate
-        unit.files[path] = file
+    target = unit.folder / "src" / f"{name if crate == unit.root else module}.rs"
+    read(sources / folder / f"{name}.rt", target, folder / f"{name}.rt", unit.files, runs)
 
 
 # ---------------------------------------------------------------- rules
@@ -150,14 +169,13 @@ def erase_rest(unit, file):
         apply(file, runtime.RUNTIME)
     else:
         apply(file, rules.VIEWS)
-    own = unit.own[file.crate].removeprefix("crate").removeprefix("::") if unit.root != file.crate else ""
-    crates = {crate: path for crate, path in unit.own.items() if path != crate}
+    own = unit.paths[file.crate].removeprefix("crate").removeprefix("::") if unit.root != file.crate else ""
     file.rule = "imports"
     rules.imports(file, file.used)
     if file.runtime:
         apply(file, runtime.PATHS)
     file.rule = "paths"
-    rules.paths(file, crates, own)
+    rules.paths(file, unit.paths, own)
     file.rule = "prelude"
     if file.runtime:
         runtime.prelude(file)
@@ -180,16 +198,51 @@ pub use by_hand::smoltcp;
 """
 
 
-def text_of(unit, public, target, file):
+def text_of(unit, kinds, target, file):
     """What is written of a file: a line that says what made it, and its text. The root of the library has a head of its
     own in the place of its documentation."""
-    text = str(file)
-    if unit.own.get(unit.root) != "crate" or target.name != "lib.rs":
-        return f"// Made from {file.path} by rust/erase.\n{text}"
+    made, text = f"// Made from {file.path} by rust/erase.\n", str(file)
+    if not unit.is_library() or target.name != "lib.rs":
+        return made + text
+    public = kinds["module"]
     modules = "".join(f"pub mod {public[crate]};\n" if crate in public else f"mod {crate};\n"
                       for crate in sorted(unit.crates) if crate != unit.root)
     at = re.search(r"^(?!//!)", text, re.M).start()
-    return f"// Made from {file.path} by rust/erase.\n" + LIB_HEAD.format(modules=modules.strip()) + text[at:]
+    return made + LIB_HEAD.format(modules=modules.strip()) + text[at:]
+
+
+MANIFEST = """# Made from {path} and crates.txt by rust/erase.
+[package]
+name = "{name}"
+version = "0.14.0-1"
+edition.workspace = true
+rust-version.workspace = true
+license.workspace = true
+description = "{description}"
+publish = false
+
+[dependencies]
+{needs}
+
+[lints]
+workspace = true
+"""
+
+
+def manifest_of(unit, kinds, needs):
+    """The manifest of a package: its description is the first sentence of its documentation."""
+    root = next(iter(unit.files.values()))
+    docs = re.match(r"(?://! .*\n)+", root.source).group()
+    description = re.match(r"(.+?)\.( |$)", docs.replace("//! ", "").replace("\n", " ")).group(1)
+    lines = {"control_wire": 'control_wire = { path = "../.." }', "rattle_std": 'rattle_std = { path = "../../rattle_std" }'}
+    for need in needs[unit.root]:
+        if need in kinds["package"]:
+            lines[need] = f'{kinds["package"][need]} = {{ path = "../{kinds["package"][need]}" }}'
+        elif need not in needs and need != "hex":
+            lines[need] = f"{need}.workspace = true"
+    text = MANIFEST.format(path=root.path, name=unit.folder.name, description=description.replace('"', "'"),
+                           needs="\n".join(lines[need] for need in sorted(lines)))
+    return text
 
 
 def sets_test(sets):
@@ -213,17 +266,17 @@ def public_path(file):
     return f"control_wire::{file.path.parts[3].removesuffix('.rt')}"
 
 
-def write(out, units, public):
-    """Writes all files; answers their paths."""
-    written = {}
+def write(sources, out, units, kinds):
+    """Writes all files."""
+    written = {out / "tests" / "flags.rs": sets_test(flag_sets.SETS)}
     for unit in units:
         for target, file in unit.files.items():
-            written[out / target] = text_of(unit, public, target, file)
-    written[out / "tests" / "flags.rs"] = sets_test(flag_sets.SETS)
+            written[out / target] = text_of(unit, kinds, target, file)
+        if unit.folder.parent.name == "packages":
+            written[out / unit.folder / "Cargo.toml"] = manifest_of(unit, kinds, needs_of(sources))
     for path, text in written.items():
         path.parent.mkdir(parents=True, exist_ok=True)
         path.write_text(text)
-    return list(written)
 
 
 def main(arguments):
@@ -232,9 +285,9 @@ def main(arguments):
             print(f"{one.__name__:16} {one.__doc__.splitlines()[0]}")
         return
     sources, out = map(pathlib.Path, arguments)
-    units, public = units_of(sources)
+    units, kinds = units_of(sources)
     erase(units)
-    write(out, units, public)
+    write(sources, out, units, kinds)
 
 
 if __name__ == "__main__":

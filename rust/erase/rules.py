@@ -289,24 +289,16 @@ def reads_from_any(file, i):
 
 # ---------------------------------------------------------------- at the end
 
-def prelude_words(crates, own, runtime):
-    """What each first word of a path becomes: a crate a module or a crate, and `std` `core`."""
-    words = {name: path for name, path in crates.items()}
-    words["crate"] = f"crate::{own}" if own else "crate"
-    words["std"] = "std" if runtime else "core"
-    return words
-
-
 def paths(file, crates, own):
     """The crates of the library become modules of one, and std is core."""
-    words = prelude_words(crates, own, file.runtime)
+    words = {**crates, "crate": f"crate::{own}" if own else "crate", "std": "std" if file.runtime else "core"}
     i = 0
     while i < len(file.tokens):
-        token = file.tokens[i]
-        is_first = token.kind == "word" and file.text(i + 1) == "::" and file.text(i - 1) != "::"
-        is_own = token.origin is None and token.text != "std"
-        if is_first and not is_own and words.get(token.text, token.text) != token.text:
-            i = file.replace(i, i + 1, words[token.text])
+        word = file.text(i)
+        is_first = file.is_word(i) and file.text(i + 1) == "::" and file.text(i - 1) != "::"
+        # In what a rule has put in, paths are those of the crate already.
+        if is_first and file.tokens[i].origin is not None and words.get(word, word) != word:
+            i = file.replace(i, i + 1, words[word])
         else:
             i += 1
 

@@ -3,7 +3,8 @@ the crate `rattle_std`, over Rust's."""
 
 RUNTIME, PATHS = [], []
 HANDED = {"rt", "alloc"}
-MACROS = {"assert", "assert_eq", "assert_ne", "panic", "println", "eprintln", "print", "eprint"}
+MACROS = {"assert", "assert_eq", "assert_ne", "panic"}
+PRINTS = {"println", "eprintln"}
 TAKE_ALLOC = {"to_string", "concat", "to_vec", "repeat"}
 MODULES = {"alloc", "test", "io", "env"}
 PRELUDE = {"Vec", "String", "try_clone"} | {f"{word}_in" for word in TAKE_ALLOC}
@@ -19,6 +20,15 @@ def handle(file, i):
     if file.text(i) not in MACROS or not file.texts(i + 1, "!", "(", "rt", ";"):
         return None
     return file.remove(i + 3, i + 5, comment=False)
+
+
+@rule(RUNTIME)
+def prints(file, i):
+    """`println!(rt; ..)`, which answers a Result, is that of `rattle_std`."""
+    if file.text(i) not in PRINTS or not file.texts(i + 1, "!", "(", "rt", ";"):
+        return None
+    file.remove(i + 3, i + 5, comment=False)
+    return file.replace(i, i + 1, f"rattle_std::{file.text(i)}")
 
 
 @rule(RUNTIME)

@@ -2,6 +2,7 @@
 use Rattle.std.specs.Prelude.{◌≡◌, ℕ, false, List, [], ◌∷◌, Option, None, Some}
 use Rattle.std.specs.Option.{option_map}
 use Rattle.control_wire.specs.Ethernet.{Ethernet}
+use Rattle.control_wire.specs.HardwareAddress.{ethernet_of}
 use Rattle.control_wire.specs.Ipv4AddressType.{Ipv4Address}
 use Rattle.control_wire.specs.Dhcpv4.{Value, IsPacket}
 use Rattle.control_wire.specs.Dhcpv4ReprType.{Repr}
@@ -90,7 +91,7 @@ lease_of v server = record {
 -- a packet's value is of this type, exchange and client
 abbrev pub IsFor : Repr → MessageType → ℕ → Ethernet → Type 0
 IsFor repr kind id client =
-    (repr.message_type ≡ kind) × (repr.transaction_id ≡ id) × (repr.client_hardware_address ≡ client)
+    (repr.message_type ≡ kind) × (repr.transaction_id ≡ id) × (ethernet_of repr.client_hardware_address ≡ client)
 
 -- The bytes are a packet of this type, exchange and client, which says that this is given and by which server.
 pub record Gives (bytes : List ℕ) (kind : MessageType) (id : ℕ) (client : Ethernet) (lease : LeaseValue) : Type 0 where

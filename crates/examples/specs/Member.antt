@@ -1,6 +1,7 @@
 -- What a host that is a member of multicast groups sends, and when.
 use Rattle.std.specs.Prelude.{◌≡◌, ◌⊎◌, ℕ, List, [], ◌∷◌}
 use Rattle.control_wire.specs.Checksum.{IsGood}
+use Rattle.control_wire.specs.DurationType.{Duration}
 use Rattle.control_wire.specs.Ipv4.{octets_of}
 use Rattle.control_wire.specs.Ipv4AddressType.{Ipv4Address}
 use Rattle.control_wire.specs.Capabilities.{all_of}
@@ -24,7 +25,7 @@ abbrev pub AsksFor : Ipv4Address → Ipv4Address → Type 0
 AsksFor asked group = (asked ≡ group) ⊎ (octets_of asked ≡ 0 ∷ 0 ∷ 0 ∷ 0 ∷ [])
 
 -- a good query for a group, to be answered within this time
-abbrev pub IsQueryFor : List ℕ → Ipv4Address → ℕ → IgmpVersion → Type 0
+abbrev pub IsQueryFor : List ℕ → Ipv4Address → Duration → IgmpVersion → Type 0
 IsQueryFor bytes group time version =
     (asked : Ipv4Address) × IsGoodMessage bytes (MembershipQuery time asked version) × AsksFor asked group
 

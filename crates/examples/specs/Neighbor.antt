@@ -7,6 +7,7 @@ use Rattle.control_wire.specs.Ipv6Address.{octets_of}
 use Rattle.control_wire.specs.Ipv6AddressType.{Ipv6Address}
 use Rattle.control_wire.specs.Icmpv6.{ndisc, packet_text}
 use Rattle.control_wire.specs.Ndisc.{NdiscValue, router_advert, neighbor_solicit, neighbor_advert}
+use Rattle.control_wire.specs.NdiscNeighborFlagsType.{NeighborFlags}
 use Rattle.control_wire.specs.NdiscTables.{neighbor_bits}
 use Rattle.examples.specs.Ping.{IsGoodMessageV6}
 use Rattle.examples.specs.declared.neighbor.RouterInformation.{RouterInformation}
@@ -20,11 +21,16 @@ abbrev pub Solicits : Ipv6Address → Ipv6Address → Ipv6Address → List ℕ �
 Solicits peer asked own bytes =
     (sender : Option (List ℕ)) × IsGoodMessage peer asked bytes (neighbor_solicit own sender)
 
+-- a message is the solicitation of the neighbor that has this address
+abbrev pub LooksFor : Ipv6Address → NdiscValue → Type 0
+LooksFor own (neighbor_solicit t l) = octets_of t ≡ octets_of own
+LooksFor own v = ⊥
+
 -- The advertisement that answers it, with its checksum: from this address to the one that asked, solicited, and to take
 -- the place of what is known of the address.
 abbrev pub IsAnswer : Ipv6Address → Ipv6Address → List ℕ → List ℕ → Type 0
 IsAnswer own peer address bytes =
-    (flags : _) × (neighbor_bits flags ≡ 0x60)
+    (flags : NeighborFlags) × (neighbor_bits flags ≡ 0x60)
     × (bytes ≡ packet_text (all_of Both) own peer (ndisc (neighbor_advert flags own (Some address))))
 
 -- a message is the advertisement of a neighbor, with this address of it on the link

@@ -5,6 +5,7 @@ ghost use Rattle.std.specs.Prelude.{◌≡◌, ◌≤◌, ◌↔◌, ℕ, length
 ghost use Rattle.std.specs.Prelude.{None, Some};
 ghost use Rattle.control_wire.specs.Dhcpv4.{text};
 ghost use Rattle.control_wire.specs.Dhcpv4Format.{text_len};
+ghost use Rattle.control_wire.specs.HardwareAddress.{ethernet_of};
 ghost use Rattle.examples.specs.Lease.{LeaseValue, value_of, IsFor, Gives, asking, discovery, asking_for};
 
 use arrayvec::ArrayVec;
@@ -38,9 +39,9 @@ const ASKED: [u8; 3] = [1, 3, 6];
 /// Writes the message that looks for servers over the front of the octets, and says how many bytes it takes. None
 /// exactly where they have no room; then they are as they were.
 pub fn discover(transaction_id: u32, client: EthernetAddress, out: &mut [u8]) -> Option<usize>
-    ensures written { IfSome result (λ n. take n out.new ≡ text (discovery transaction_id client)) }
-    ensures len { IfSome result (λ n. n ≡ text_len (discovery transaction_id client)) }
-    ensures room { text_len (discovery transaction_id client) ≤ length out.old → IsSome result }
+    ensures written { IfSome result (λ n. take n out.new ≡ text (discovery transaction_id (ethernet_of client))) }
+    ensures len { IfSome result (λ n. n ≡ text_len (discovery transaction_id (ethernet_of client))) }
+    ensures room { text_len (discovery transaction_id (ethernet_of client)) ≤ length out.old → IsSome result }
     ensures rest { IfSome result (λ n. drop n out.new ≡ drop n out.old) }
     ensures unwritten { result ≡ None → out.new ≡ out.old }
 {
@@ -63,10 +64,10 @@ pub fn request(
     out: &mut [u8],
 ) -> Option<usize>
     ensures written { IfSome result (λ n. take n out.new
-        ≡ text (asking_for transaction_id client server address)) }
+        ≡ text (asking_for transaction_id (ethernet_of client) server address)) }
     ensures len { IfSome result (λ n. n
-        ≡ text_len (asking_for transaction_id client server address)) }
-    ensures room { text_len (asking_for transaction_id client server address) ≤ length out.old
+        ≡ text_len (asking_for transaction_id (ethernet_of client) server address)) }
+    ensures room { text_len (asking_for transaction_id (ethernet_of client) server address) ≤ length out.old
         → IsSome result }
     ensures rest { IfSome result (λ n. drop n out.new ≡ drop n out.old) }
     ensures unwritten { result ≡ None → out.new ≡ out.old }
@@ -92,10 +93,10 @@ fn write(
     out: &mut [u8],
 ) -> Option<usize>
     ensures written { IfSome result (λ n. take n out.new
-        ≡ text (asking message_type transaction_id client server address)) }
+        ≡ text (asking message_type transaction_id (ethernet_of client) server address)) }
     ensures len { IfSome result (λ n. n
-        ≡ text_len (asking message_type transaction_id client server address)) }
-    ensures room { text_len (asking message_type transaction_id client server address)
+        ≡ text_len (asking message_type transaction_id (ethernet_of client) server address)) }
+    ensures room { text_len (asking message_type transaction_id (ethernet_of client) server address)
         ≤ length out.old → IsSome result }
     ensures rest { IfSome result (λ n. drop n out.new ≡ drop n out.old) }
     ensures unwritten { result ≡ None → out.new ≡ out.old }
@@ -143,8 +144,8 @@ pub fn read_lease(
     client: EthernetAddress,
 ) -> Option<Lease>
     ensures given { IfSome result (λ lease.
-        Gives octets.now message_type transaction_id client (value_of lease)) }
-    ensures all { (lease : LeaseValue) → Gives octets.now message_type transaction_id client lease
+        Gives octets.now message_type transaction_id (ethernet_of client) (value_of lease)) }
+    ensures all { (lease : LeaseValue) → Gives octets.now message_type transaction_id (ethernet_of client) lease
         → IsSomeAnd result (λ read. value_of read ≡ lease) }
 {
     let repr = match Repr::parse(&Packet::new_unchecked(octets)) {
@@ -176,7 +177,7 @@ fn is_for(
     transaction_id: u32,
     client: EthernetAddress,
 ) -> bool
-    ensures { IsTrue result ↔ IsFor repr.now message_type transaction_id client }
+    ensures { IsTrue result ↔ IsFor repr.now message_type transaction_id (ethernet_of client) }
 {
     repr.message_type == message_type
         && repr.transaction_id == transaction_id

@@ -2,22 +2,21 @@
 //! routers (RFC 4861 sections 6.3.4, 7.2.4 and 7.2.5). That a message came with hop limit 255, and that a
 //! solicitation did not come from ::, is the caller's to see.
 
-ghost use Rattle.std.specs.Prelude.{◌≡◌, ◌≤◌, ◌↔◌, ℕ, List, length, take, drop, IfSome, IsOkAnd, IsTrue};
+ghost use Rattle.std.specs.Prelude.{◌≡◌, ◌≤◌, ◌↔◌, ℕ, List, length, take, drop, IfSome, IsSomeAnd, IsTrue};
 ghost use Rattle.std.specs.Prelude.{None, Some};
 ghost use Rattle.control_wire.specs.Ethernet.{octets_of};
+ghost use Rattle.control_wire.specs.HardwareAddress.{ethernet_of, raw_bytes};
 ghost use Rattle.control_wire.specs.Ipv6Address.{octets_of as octets_in};
-ghost use Rattle.control_wire.specs.Icmpv6.{value_of, ndisc as neighbor_message};
-ghost use Rattle.control_wire.specs.Ndisc.{neighbor_advert, value_of as content_of};
-ghost use Rattle.control_wire.specs.NdiscTables.{neighbor_bits};
+ghost use Rattle.control_wire.specs.Ndisc.{value_of as content_of};
 ghost use Rattle.examples.specs.Neighbor.{Solicits, IsAnswer, TellsLinkAddress, TellsRouter};
-ghost use Rattle.examples.specs.Neighbor.{LinkAddressIn, RouterIn};
+ghost use Rattle.examples.specs.Neighbor.{LooksFor, LinkAddressIn, RouterIn};
 ghost use Rattle.examples.specs.declared.neighbor.RouterInformation.{RouterInformation as RouterInfoValue};
 
 use control_wire::icmpv6::{Packet, Repr};
 use control_wire::ndisc::{self, NeighborFlags};
 use control_wire::ndiscoption::PrefixInformation;
 use control_wire::{
-    ChecksumCapabilities, Duration, EthernetAddress, Ipv6Address, RawHardwareAddress, Result,
+    ChecksumCapabilities, Duration, EthernetAddress, Ipv6Address, RawHardwareAddress,
 };
 
 /// The bytes of an answer.
@@ -38,7 +37,7 @@ pub fn answer(
     ensures answers { Solicits peer.now asked.now own.now solicitation.now → 32 ≤ length reply.old
         → result ≡ Some 32 }
     ensures answered { IfSome result (λ n. Solicits peer.now asked.now own.now solicitation.now
-        × IsAnswer own.now peer.now (octets_of lladdr) (take n reply.new)) }
+        × IsAnswer own.now peer.now (octets_of (ethernet_of lladdr)) (take n reply.new)) }
     ensures fits { IfSome result (λ n. n ≤ length reply.new) }
     ensures rest { IfSome result (λ n. drop n reply.new ≡ drop n reply.old) }
     ensures unanswered { result ≡ None → reply.new ≡ reply.old }
@@ -59,7 +58,17 @@ fn solicits(peer: &Ipv6Address, asked: &Ipv6Address, own: &Ipv6Address, octets: 
         return false;
     };
     match &message {
-        Repr::Ndisc(ndisc::Repr::NeighborSolicit { target_addr, .. }) => *target_addr == *own,
+        Repr::Ndisc(message) => looks_for(message, own),
+        _ => false,
+    }
+}
+
+// Whether a message is a solicitation for this address.
+fn looks_for(message: &ndisc::Repr<'_>, own: &Ipv6Address) -> bool
+    ensures { IsTrue result ↔ LooksFor own.now (content_of message.now) }
+{
+    match message {
+        ndisc::Repr::NeighborSolicit { target_addr, .. } => is_same(target_addr, own),
         _ => false,
     }
 }
@@ -67,26 +76,15 @@ fn solicits(peer: &Ipv6Address, asked: &Ipv6Address, own: &Ipv6Address, octets: 
 // Writes the answer.
 fn write_answer(own: &Ipv6Address, peer: &Ipv6Address, lladdr: EthernetAddress, out: &mut [u8])
     requires { length out.old ≡ 32 }
-    ensures { IsAnswer own.now peer.now (octets_of lladdr) out.new }
+    ensures { IsAnswer own.now peer.now (octets_of (ethernet_of lladdr)) out.new }
 {
     let caps = ChecksumCapabilities::default();
-    let Ok(message) = answer_of(own, lladdr) else {
-        return;
-    };
-    message.emit_into(own, peer, out, &caps);
-}
-
-// The answer. It is a Result so that the toolchain learns what other messages hold.
-fn answer_of(own: &Ipv6Address, lladdr: EthernetAddress) -> Result<Repr<'static>>
-    ensures { IsOkAnd result (λ message. (flags : _) × (neighbor_bits flags ≡ 0x60)
-        × (value_of message
-        ≡ neighbor_message (neighbor_advert flags own.now (Some (octets_of lladdr))))) }
-{
-    Ok(Repr::Ndisc(ndisc::Repr::NeighborAdvert {
+    let message = Repr::Ndisc(ndisc::Repr::NeighborAdvert {
         flags: NeighborFlags::SOLICITED | NeighborFlags::OVERRIDE,
         target_addr: *own,
         lladdr: Some(RawHardwareAddress::from(lladdr)),
-    }))
+    });
+    message.emit_into(own, peer, out, &caps);
 }
 
 /// The address on the link that an advertisement tells of a neighbor, which came from `source` to `destination`. None
@@ -98,10 +96,10 @@ pub fn link_address(
     octets: &[u8],
 ) -> Option<RawHardwareAddress>
     ensures told { IfSome result (λ address.
-        TellsLinkAddress source.now destination.now octets.now neighbor.now address) }
+        TellsLinkAddress source.now destination.now octets.now neighbor.now (raw_bytes address)) }
     ensures all { (address : List ℕ)
         → TellsLinkAddress source.now destination.now octets.now neighbor.now address
-        → result ≡ Some address }
+        → IsSomeAnd result (λ told. raw_bytes told ≡ address) }
 {
     let caps = ChecksumCapabilities::default();
     let Ok(message) = Repr::parse(source, destination, &Packet::new_unchecked(octets), &caps) else {
@@ -115,10 +113,10 @@ pub fn link_address(
 
 // The address on the link that a message tells of this neighbor.
 fn link_address_in(message: &ndisc::Repr<'_>, neighbor: &Ipv6Address) -> Option<RawHardwareAddress>
-    ensures sound { IfSome result (λ address. LinkAddressIn neighbor.now address
+    ensures sound { IfSome result (λ address. LinkAddressIn neighbor.now (raw_bytes address)
         (content_of message.now)) }
     ensures complete { (address : List ℕ) → LinkAddressIn neighbor.now address
-        (content_of message.now) → result ≡ Some address }
+        (content_of message.now) → IsSomeAnd result (λ told. raw_bytes told ≡ address) }
 {
     match message {
         ndisc::Repr::NeighborAdvert {

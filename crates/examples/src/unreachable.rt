@@ -2,7 +2,7 @@
 //! 4443 section 3.1). No error is sent for a datagram to many receivers, or for an error (RFC 1122 section 3.2.2, RFC
 //! 4443 section 2.4): that is the caller's to see.
 
-ghost use Rattle.std.specs.Prelude.{◌≡◌, ◌≤◌, ◌+◌, List, ℕ, length, take, drop, min, IfSome, IsSome, IsOkAnd};
+ghost use Rattle.std.specs.Prelude.{◌≡◌, ◌≤◌, ◌+◌, List, ℕ, length, take, drop, min, IfSome, IsSome};
 ghost use Rattle.std.specs.Prelude.{None};
 ghost use Rattle.control_wire.specs.Capabilities.{all_of};
 ghost use Rattle.control_wire.specs.ChecksumType.TheVariants.{Both};
@@ -11,13 +11,12 @@ ghost use Rattle.control_wire.specs.Icmpv4DstUnreachableType.TheVariants.{PortUn
 ghost use Rattle.control_wire.specs.Ipv4ReprType.{Ipv4Repr};
 ghost use Rattle.control_wire.specs.Ipv6ReprType.{Ipv6Repr};
 ghost use Rattle.control_wire.specs.Icmpv6.{packet_text as packet_text_v6, unreachable as unreachable_v6};
-ghost use Rattle.control_wire.specs.Icmpv6.{value_of as value_of_v6};
 ghost use Rattle.control_wire.specs.Icmpv6DstUnreachableType.TheVariants.{PortUnreachable as PortUnreachableV6};
 ghost use Rattle.examples.specs.Unreachable.{IsDatagram, quoted, Tells, IsDatagramV6, TellsV6};
 
 use control_wire::{
-    ChecksumCapabilities, Ipv4Packet, Ipv4Repr, Ipv6Address, Ipv6Packet, Ipv6Repr, Result,
-    are_bytes, icmpv4, icmpv6,
+    ChecksumCapabilities, Ipv4Packet, Ipv4Repr, Ipv6Address, Ipv6Packet, Ipv6Repr, are_bytes,
+    icmpv4, icmpv6,
 };
 
 // The bytes of an IPv4 header without options.
@@ -154,8 +153,10 @@ fn write_error_v6(
     ensures rest { IfSome result (λ n. drop n out.new ≡ drop n out.old) }
     ensures unwritten { result ≡ None → out.new ≡ out.old }
 {
-    let Ok(message) = error_v6(header, payload) else {
-        return None;
+    let message = icmpv6::Repr::DstUnreachable {
+        reason: icmpv6::DstUnreachable::PortUnreachable,
+        header,
+        data: payload,
     };
     let len = message.buffer_len();
     if out.len() < len {
@@ -164,18 +165,6 @@ fn write_error_v6(
     let caps = ChecksumCapabilities::default();
     message.emit_into(own, &header.src_addr, &mut out[..len], &caps);
     Some(len)
-}
-
-// The error. It is a Result so that the toolchain learns what other messages hold.
-fn error_v6(header: Ipv6Repr, payload: &[u8]) -> Result<icmpv6::Repr<'_>>
-    ensures { IsOkAnd result (λ message.
-        value_of_v6 message ≡ unreachable_v6 PortUnreachableV6 header payload.now) }
-{
-    Ok(icmpv6::Repr::DstUnreachable {
-        reason: icmpv6::DstUnreachable::PortUnreachable,
-        header,
-        data: payload,
-    })
 }
 
 #[cfg(test)]

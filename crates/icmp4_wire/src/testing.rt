@@ -5,10 +5,9 @@
 ghost use Rattle.std.specs.Prelude.{◌≡◌, true};
 
 use std::alloc::Global;
-use std::fmt::{Debug, Display, Write};
+use std::fmt::{self, Debug, Display, Write};
 use std::process::Abort;
 use wirebase::Result;
-use wirebase::failing_writer::FailingWriter;
 
 // Ends the test where the two differ.
 pub(crate) fn same<T: PartialEq + Debug + Drop>(rt: &impl Abort, left: T, right: T)
@@ -61,6 +60,22 @@ pub(crate) fn prints_each<T: From<u8> + Display + Drop>(
 ) {
     for &(number, text) in rows {
         prints(rt, alloc, &T::from(number), text);
+    }
+}
+
+// A writer that takes so many writes, and fails at the one after them.
+#[derive(Drop)]
+struct FailingWriter {
+    left: u32,
+}
+
+impl Write for FailingWriter {
+    fn write_str(&mut self, _text: &str) -> fmt::Result {
+        if self.left == 0 {
+            return Err(fmt::Error);
+        }
+        self.left -= 1;
+        Ok(())
     }
 }
 

@@ -5,10 +5,9 @@
 ghost use Rattle.std.specs.Prelude.{◌≡◌, true};
 
 use std::alloc::Global;
-use std::fmt::{Debug, Display, Write};
+use std::fmt::{self, Debug, Display, Write};
 use std::process::Abort;
 use wirebase::Result;
-use wirebase::failing_writer::FailingWriter;
 
 // Ends the test where the two differ.
 pub(crate) fn same<T: PartialEq + Debug + Drop>(rt: &impl Abort, left: T, right: T)
@@ -51,6 +50,22 @@ pub(crate) fn differ<T: PartialEq + Debug>(rt: &impl Abort, of: &str, left: &T, 
 pub(crate) fn prints(rt: &impl Abort, alloc: Global, value: &impl Display, text: &str) {
     let printed = value.to_string(alloc).ok();
     same(rt, printed.as_deref(), Some(text));
+}
+
+// A writer that takes so many writes, and fails at the one after them.
+#[derive(Drop)]
+struct FailingWriter {
+    left: u32,
+}
+
+impl Write for FailingWriter {
+    fn write_str(&mut self, _text: &str) -> fmt::Result {
+        if self.left == 0 {
+            return Err(fmt::Error);
+        }
+        self.left -= 1;
+        Ok(())
+    }
 }
 
 // Whether the value is printed by a writer that takes so many writes.

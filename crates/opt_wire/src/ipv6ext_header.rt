@@ -99,7 +99,6 @@ impl<'a> Header<&'a [u8]> {
     /// The payload, for as long as the octets live. Requires the bytes that the length counts.
     #[tactic(auto, using(wirebase::proofs::Pieces::pieces), unfolding(wirebase::specs::Bytes::part))]
     pub fn payload(&self) -> &'a [u8]
-        requires counted { Reaches length_field (view_octets self.now) }
         requires whole { Reaches (payload_field (view_octets self.now)) (view_octets self.now) }
         ensures { result.now ≡ bytes_of (payload_field (view_octets self.now))
             (view_octets self.now) }
@@ -131,7 +130,6 @@ impl<T: OctetsMut> Header<T> {
 
     /// Lends the payload for writing; the other octets stay. Requires the bytes that the length counts.
     pub fn payload_mut(&mut self) -> &mut [u8]
-        requires counted { Reaches length_field (T.bytes (inner self.old)) }
         requires whole { Reaches (payload_field (T.bytes (inner self.old)))
             (T.bytes (inner self.old)) }
         ensures* lends { sem 𝓛 (Lends (the_row T.row) (Array byte 0) self.entry result

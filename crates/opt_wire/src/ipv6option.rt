@@ -118,7 +118,6 @@ impl<'a> Ipv6Option<&'a [u8]> {
     /// The data, for as long as the octets live. Requires the bytes that the option counts.
     #[tactic(auto, using(wirebase::proofs::Pieces::pieces), unfolding(wirebase::specs::Bytes::part))]
     pub fn data(&self) -> &'a [u8]
-        requires counted { Reaches opt_data_len_field (view_octets self.now) }
         requires whole { Reaches (option_data_field (view_octets self.now)) (view_octets self.now) }
         ensures value { result.now
             ≡ bytes_of (option_data_field (view_octets self.now)) (view_octets self.now) }
@@ -151,7 +150,6 @@ impl<T: OctetsMut> Ipv6Option<T> {
 
     /// Lends the data for writing; the other octets stay. Requires the bytes that the option counts.
     pub fn data_mut(&mut self) -> &mut [u8]
-        requires counted { Reaches opt_data_len_field (T.bytes (inner self.old)) }
         requires whole { Reaches (option_data_field (T.bytes (inner self.old)))
             (T.bytes (inner self.old)) }
         ensures* lends { sem 𝓛 (Lends (the_row T.row) (Array byte 0) self.entry result

@@ -159,7 +159,6 @@ impl<T: Octets> NdiscOption<T> {
     /// those bytes, and that the option counts one unit or more.
     #[tactic(auto, using(wirebase::proofs::Pieces::pieces))]
     pub fn link_layer_addr(&self) -> RawHardwareAddress
-        requires counted { Reaches length_field (T.bytes (inner self.now)) }
         requires some { 1 ≤ units_in (T.bytes (inner self.now)) }
         requires whole { Reaches (link_addr_field (T.bytes (inner self.now)))
             (T.bytes (inner self.now)) }
@@ -225,7 +224,6 @@ impl<'a> NdiscOption<&'a [u8]> {
     /// The data, for as long as the octets live. Requires the units that the option counts, one or more.
     #[tactic(auto, using(wirebase::proofs::Pieces::pieces), unfolding(wirebase::specs::Bytes::part))]
     pub fn data(&self) -> &'a [u8]
-        requires counted { Reaches length_field (view_octets self.now) }
         requires some { 1 ≤ units_in (view_octets self.now) }
         requires whole { Reaches (data_field (view_octets self.now)) (view_octets self.now) }
         ensures value { result.now ≡ bytes_of (data_field (view_octets self.now))
@@ -352,7 +350,6 @@ impl<T: OctetsMut> NdiscOption<T> {
 
     /// Lends the data for writing; the other octets stay. Requires the units that the option counts, one or more.
     pub fn data_mut(&mut self) -> &mut [u8]
-        requires counted { Reaches length_field (T.bytes (inner self.old)) }
         requires some { 1 ≤ units_in (T.bytes (inner self.old)) }
         requires whole { Reaches (data_field (T.bytes (inner self.old)))
             (T.bytes (inner self.old)) }

@@ -5,9 +5,8 @@
 ghost use Rattle.std.specs.Prelude.{◌≡◌, true};
 
 use std::alloc::Global;
-use std::fmt::{Debug, Display, Write};
+use std::fmt::{self, Debug, Display, Write};
 use std::process::Abort;
-use wirebase::failing_writer::FailingWriter;
 
 // What octets hold before a test writes over them.
 pub(crate) const FILLERS: &[u8] = &[0x00, 0xff, 0x2a, 0xa5];
@@ -49,6 +48,22 @@ pub(crate) fn ascend<T: PartialOrd + Debug>(rt: &impl Abort, values: &[T]) {
 pub(crate) fn prints(rt: &impl Abort, alloc: Global, value: &impl Display, text: &str) {
     let printed = value.to_string(alloc).ok();
     same(rt, printed.as_deref(), Some(text));
+}
+
+// A writer that takes so many writes, and fails at the one after them.
+#[derive(Drop)]
+struct FailingWriter {
+    left: u32,
+}
+
+impl Write for FailingWriter {
+    fn write_str(&mut self, _text: &str) -> fmt::Result {
+        if self.left == 0 {
+            return Err(fmt::Error);
+        }
+        self.left -= 1;
+        Ok(())
+    }
 }
 
 // Whether the value is printed by a writer that takes so many writes.

@@ -4,9 +4,8 @@
 
 ghost use Rattle.std.specs.Prelude.{◌≡◌, true};
 
-use crate::failing_writer::FailingWriter;
 use std::alloc::Global;
-use std::fmt::{Debug, Display, Write};
+use std::fmt::{self, Debug, Display, Write};
 use std::process::Abort;
 
 // Ends the test where the two differ.
@@ -39,6 +38,22 @@ pub(crate) fn holds_of(rt: &impl Abort, of: impl Debug + Drop, is_so: bool)
 pub(crate) fn prints(rt: &impl Abort, alloc: Global, value: &impl Display, text: &str) {
     let printed = value.to_string(alloc).ok();
     same(rt, printed.as_deref(), Some(text));
+}
+
+// A writer that takes so many writes, and fails at the one after them.
+#[derive(Drop)]
+struct FailingWriter {
+    left: u32,
+}
+
+impl Write for FailingWriter {
+    fn write_str(&mut self, _text: &str) -> fmt::Result {
+        if self.left == 0 {
+            return Err(fmt::Error);
+        }
+        self.left -= 1;
+        Ok(())
+    }
 }
 
 // Whether the value is printed by a writer that takes so many writes.

@@ -135,14 +135,14 @@ class Audit(unittest.TestCase):
     def test_files_that_were_changed_by_hand(self):
         for change, told in ((lambda text: text, 0), (lambda text: text.replace("2", "3"), 1),
                              (lambda text: text.replace("a.set(2);", ""), 1), (lambda text: text.replace("{", "{\n"), 0)):
-            unit, public, problems = unit_of(SOURCE), {}, []
+            unit, kinds, problems = unit_of(SOURCE), {"module": {}}, []
             unit.root = "other"
             erase.erase([unit])
             file = unit.files[pathlib.Path("one.rs")]
             with tempfile.TemporaryDirectory() as folder:
                 path = pathlib.Path(folder) / "one.rs"
-                path.write_text(change(erase.text_of(unit, public, pathlib.Path("one.rs"), file)))
-                audit.compare(unit, public, pathlib.Path("one.rs"), file, pathlib.Path(folder), problems)
+                path.write_text(change(erase.text_of(unit, kinds, pathlib.Path("one.rs"), file)))
+                audit.compare(unit, kinds, pathlib.Path("one.rs"), file, pathlib.Path(folder), problems)
             self.assertEqual(len(problems), told)
 
     def test_the_lexer_loses_nothing(self):

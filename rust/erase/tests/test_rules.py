@@ -15,8 +15,8 @@ PATH = pathlib.Path("crates/one_wire/src/one.rt")
 
 def unit_of(source, runtime=False, above=""):
     """A package of one file, in the place of one_wire/src/one.rt."""
-    unit = erase.Unit(pathlib.Path(), ["wirebase", "one_wire"], {"wirebase": "crate::wirebase", "one_wire": "crate::one"},
-                      "control_wire")
+    paths = {"wirebase": "crate::wirebase", "one_wire": "crate::one"}
+    unit = erase.Unit(pathlib.Path(), list(paths), paths, "control_wire")
     for name, text, runs in (("one.rs", source, runtime), ("base.rs", above, False)):
         file = File(PATH if name == "one.rs" else PATH.with_name("base.rt"), text, runs)
         file.crate = "one_wire"
@@ -106,6 +106,8 @@ ROWS = {
 # The same of tests and programs.
 RUNTIME_ROWS = {
     "handle": ("fn f(rt: &impl Abort) { assert!(rt; a == b, \"{a}\"); }", "fn f() { assert!(a == b, \"{a}\"); }"),
+    "prints": ("fn main(rt: HostRuntime) -> io::Result<()> { println!(rt; \"a\") }",
+               "fn main() -> io::Result<()> { rattle_std::println!(\"a\") }"),
     "takes_alloc": ("fn f(alloc: Global) -> u8 { g(a.to_string(alloc), b.clone(), vec![in alloc; 0; 3]) }",
                     "use_prelude fn f() -> u8 { g(a.to_string_in(), b.try_clone(), rattle_std::vec![0; 3]) }"),
     "reader": ("fn f(rt: &(impl A + B)) -> u8 { run(rt.alloc(), rt.reader(), io::writer(&rt)) }",

@@ -63,3 +63,19 @@ impl<W: Write> Write for BufWriter<W> {
         self.0.flush()
     }
 }
+
+/// Prints a line, and answers whether it could be written.
+#[macro_export]
+macro_rules! println {
+    ($($argument:tt)*) => {
+        std::io::Write::write_fmt(&mut std::io::stdout(), format_args!("{}\n", format_args!($($argument)*)))
+    };
+}
+
+/// The same on standard error.
+#[macro_export]
+macro_rules! eprintln {
+    ($($argument:tt)*) => {
+        std::io::Write::write_fmt(&mut std::io::stderr(), format_args!("{}\n", format_args!($($argument)*)))
+    };
+}

@@ -81,7 +81,7 @@ fn a_message_of_icmpv6_is_one_of_either_icmp(rt: HostRuntime) {
         seq_no: 0xabcd,
         data: &REQUEST[8..],
     };
-    let is_kept = match icmp::Repr::from(&message) {
+    let is_kept = match icmp::Repr::from(message) {
         icmp::Repr::Ipv6(kept) => kept == message,
         icmp::Repr::Ipv4(_) => false,
     };

@@ -237,13 +237,12 @@ impl<'a> Repr<'a> {
 }
 
 impl<'a> NdiscOption<&'a [u8]> {
-    ghost use Rattle.opt_wire.specs.NdiscOption.{length_field, units_in};
+    ghost use Rattle.opt_wire.specs.NdiscOption.{units_in};
     ghost use Rattle.wirebase.specs.Bytes.{Reaches};
 
     // The redirected packet.
     #[tactic(auto, using(wirebase::proofs::Pieces::pieces), unfolding(wirebase::specs::Bytes::part))]
     fn redirected(&self) -> &'a [u8]
-        requires counted { Reaches length_field (view_octets self.now) }
         requires some { 1 ≤ units_in (view_octets self.now) }
         requires whole { Reaches (redirected_field (view_octets self.now)) (view_octets self.now) }
         ensures { result.now ≡ bytes_of (redirected_field (view_octets self.now))

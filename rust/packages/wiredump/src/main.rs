@@ -50,14 +50,14 @@ fn has_arguments() -> Result<bool, Fault> {
 fn main() -> ExitCode {
     let answer = match has_arguments() {
         Ok(true) => {
-            let _ = eprintln!("usage: wiredump");
+            let _ = rattle_std::eprintln!("usage: wiredump");
             return ExitCode::from(USAGE_STATUS);
         }
         Ok(false) => run(io::reader(), io::writer()),
         Err(fault) => Err(fault),
     };
     if answer.is_err() {
-        let _ = eprintln!("wiredump: failed");
+        let _ = rattle_std::eprintln!("wiredump: failed");
     }
     ExitCode::from(status(&answer))
 }

@@ -1,0 +1,102 @@
+-- pcap files: a header, and records one after another (draft-ietf-opsawg-pcap sections 4 and 5).
+--
+--  0                   1                   2                   3
+--  0 1 2 3 4 5 6 7 8 9 0 1 2 3 4 5 6 7 8 9 0 1 2 3 4 5 6 7 8 9 0 1
+-- +---------------------------------------------------------------+
+-- |                         magic number                          |
+-- +-------------------------------+-------------------------------+
+-- |     major version             |     minor version             |
+-- +-------------------------------+-------------------------------+
+-- |                     reserved, eight bytes                     |
+-- +---------------------------------------------------------------+
+-- |                    most bytes of a packet                     |
+-- +-----------------------+-------+-------------------------------+
+-- | of the frame's end    |   0   |       link type               |
+-- +-----------------------+-------+-------------------------------+
+--
+-- +---------------------------------------------------------------+
+-- |                            seconds                            |
+-- +---------------------------------------------------------------+
+-- |                 microseconds or nanoseconds                   |
+-- +---------------------------------------------------------------+
+-- |                       captured length                         |
+-- +---------------------------------------------------------------+
+-- |                       original length                         |
+-- +---------------------------------------------------------------+
+-- |  the packet, as many bytes as the captured length counts
+-- +- - - - - - - - - - - - - - - -
+use Rattle.std.specs.Prelude.{◌≡◌, ℕ, ◌%◌, ◌<◌, ◌≤◌, List, length}
+use Rattle.wirebase.specs.Bytes.{Field, field, Reaches}
+use Rattle.capture.specs.Order.{number_in}
+use Rattle.capture.specs.declared.ending.Ending.{Ending}
+use Rattle.capture.specs.declared.ending.Ending.TheVariants.{Cut, Version, NotACapture}
+use Rattle.capture.specs.declared.order.Order.{Order}
+use Rattle.capture.specs.declared.order.Order.TheVariants.{Big, Little}
+use Rattle.capture.specs.declared.pcap.FileHeader.{FileHeader}
+use Rattle.capture.specs.declared.pcap.Precision.{Precision}
+use Rattle.capture.specs.declared.pcap.Precision.TheVariants.{Micro, Nano}
+use Rattle.capture.specs.declared.pcap.RecordHeader.{RecordHeader}
+
+-- ---- the header of a file
+
+abbrev pub magic_field : Field
+magic_field = field 0 4
+
+abbrev pub major_field : Field
+major_field = field 4 6
+
+abbrev pub minor_field : Field
+minor_field = field 6 8
+
+abbrev pub link_type_field : Field
+link_type_field = field 20 24
+
+-- the magic number, its highest byte first, of each order of bytes and precision of times
+abbrev pub magic_of : Order → Precision → ℕ
+magic_of Big Micro = 0xa1b2c3d4
+magic_of Big Nano = 0xa1b23c4d
+magic_of Little Micro = 0xd4c3b2a1
+magic_of Little Nano = 0x4d3cb2a1
+
+-- the bytes begin with the magic number of an order and a precision
+pub record HasMagic (bytes : List ℕ) (order : Order) (precision : Precision) : Type 0 where
+  pub there : Reaches magic_field bytes
+  pub magic : number_in Big magic_field bytes ≡ magic_of order precision
+
+-- The grammar of a header, of version 2.4; the upper half of the link type tells of the frames' ends.
+pub record IsFileHeader (bytes : List ℕ) (h : FileHeader) : Type 0 where
+  pub whole : Reaches link_type_field bytes
+  pub magic : HasMagic bytes h.order h.precision
+  pub major : number_in h.order major_field bytes ≡ 2
+  pub minor : number_in h.order minor_field bytes ≡ 4
+  pub link_type_ : h.link_type ≡ number_in h.order link_type_field bytes % 65536
+
+-- what ends a capture whose bytes begin with no header: another magic number, fewer bytes, another version
+abbrev pub FileEnds : List ℕ → Ending → Type 0
+FileEnds bytes NotACapture = (order : Order) (precision : Precision) → HasMagic bytes order precision → ⊥
+FileEnds bytes Cut = (length bytes < 24) × ((order : Order) × (precision : Precision) × HasMagic bytes order precision)
+FileEnds bytes Version = (24 ≤ length bytes) × ((h : FileHeader) → IsFileHeader bytes h → ⊥)
+    × ((order : Order) × (precision : Precision) × HasMagic bytes order precision)
+FileEnds bytes _ = ⊥
+
+-- ---- the header of a record
+
+abbrev pub seconds_field : Field
+seconds_field = field 0 4
+
+abbrev pub fraction_field : Field
+fraction_field = field 4 8
+
+abbrev pub captured_len_field : Field
+captured_len_field = field 8 12
+
+abbrev pub original_len_field : Field
+original_len_field = field 12 16
+
+-- The grammar of a record's header.
+pub record IsRecordHeader (order : Order) (bytes : List ℕ) (r : RecordHeader) : Type 0 where
+  pub whole : Reaches original_len_field bytes
+  pub seconds_ : r.seconds ≡ number_in order seconds_field bytes
+  pub fraction_ : r.fraction ≡ number_in order fraction_field bytes
+  pub captured_len_ : r.captured_len ≡ number_in order captured_len_field bytes
+  pub original_len_ : r.original_len ≡ number_in order original_len_field bytes

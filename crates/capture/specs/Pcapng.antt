@@ -1,0 +1,251 @@
+-- The blocks of a pcapng file (draft-ietf-opsawg-pcapng sections 3 and 4).
+--
+--  0                   1                   2                   3
+--  0 1 2 3 4 5 6 7 8 9 0 1 2 3 4 5 6 7 8 9 0 1 2 3 4 5 6 7 8 9 0 1
+-- +---------------------------------------------------------------+
+-- |                         kind of block                         |   any block
+-- +---------------------------------------------------------------+
+-- |                         total length                          |
+-- +---------------------------------------------------------------+
+-- |  the block's content, and in its last four bytes the total length again
+-- +- - - - - - - - - - - - - - - -
+--
+-- +---------------------------------------------------------------+
+-- |                 0x1a2b3c4d: the order of bytes                |   a section header, from byte 8 on
+-- +-------------------------------+-------------------------------+
+-- |         major version         |         minor version         |
+-- +-------------------------------+-------------------------------+
+-- |       length of the section, eight bytes, and options
+-- +- - - - - - - - - - - - - - - -
+--
+-- +-------------------------------+-------------------------------+
+-- |           link type           |           reserved            |   an interface description
+-- +-------------------------------+-------------------------------+
+-- |                    most bytes of a packet                     |
+-- +---------------------------------------------------------------+
+-- |  options
+-- +- - - - - - - - - - - - - - - -
+--
+-- +---------------------------------------------------------------+
+-- |  interface; of an obsolete packet the first two bytes alone   |   an enhanced or an obsolete packet
+-- +---------------------------------------------------------------+
+-- |                    time, the higher four bytes                |
+-- +---------------------------------------------------------------+
+-- |                    time, the lower four bytes                 |
+-- +---------------------------------------------------------------+
+-- |                        captured length                        |
+-- +---------------------------------------------------------------+
+-- |                        original length                        |
+-- +---------------------------------------------------------------+
+-- |  the packet, padded to four bytes, and options
+-- +- - - - - - - - - - - - - - - -
+--
+-- +---------------------------------------------------------------+
+-- |                        original length                        |   a simple packet
+-- +---------------------------------------------------------------+
+-- |  the packet, padded to four bytes
+-- +- - - - - - - - - - - - - - - -
+use Rattle.std.specs.Prelude.{◌≡◌, ◌≢◌, ℕ, ◌+◌, ◌-◌, ◌*◌, ◌/◌, ◌%◌, ◌^◌, ◌<◌, ◌≤◌, ◌⊎◌, ◌==◌, min, List, [], length}
+use Rattle.std.specs.Prelude.{drop, slice_index, slice_get, Option, None, Some, if◌then◌else◌}
+use Rattle.wirebase.specs.Bytes.{Field, field, part}
+use Rattle.capture.specs.Order.{number, number_in}
+use Rattle.capture.specs.Packet.{PacketValue}
+use Rattle.capture.specs.Time.{nanoseconds_of}
+use Rattle.capture.specs.declared.ending.Ending.{Ending}
+use Rattle.capture.specs.declared.ending.Ending.TheVariants.{Whole, Cut, TooLarge, Malformed, Version}
+use Rattle.capture.specs.declared.order.Order.{Order}
+use Rattle.capture.specs.declared.order.Order.TheVariants.{Big, Little}
+use Rattle.capture.specs.declared.pcapng.Head.{Head}
+use Rattle.capture.specs.declared.pcapng.Interface.{Interface}
+use Rattle.capture.specs.declared.pcapng.Packet.{Packet}
+
+-- ---- any block
+
+abbrev pub kind_field : Field
+kind_field = field 0 4
+
+abbrev pub total_len_field : Field
+total_len_field = field 4 8
+
+abbrev pub byte_order_field : Field
+byte_order_field = field 8 12
+
+-- the kind of a section header; its bytes are the same in both orders
+abbrev pub section_kind : ℕ
+section_kind = 0x0a0d0d0a
+
+-- the kinds that are read: section headers, interface descriptions, and obsolete, simple and enhanced packets
+pub data IsRead (kind : ℕ) : Type 0 where
+  section_header : kind ≡ 0x0a0d0d0a → IsRead kind
+  interface_description : kind ≡ 1 → IsRead kind
+  obsolete_packet : kind ≡ 2 → IsRead kind
+  simple_packet : kind ≡ 3 → IsRead kind
+  enhanced_packet : kind ≡ 6 → IsRead kind
+
+-- the number that tells the order of a section's bytes, its highest byte first
+abbrev pub byte_order_of : Order → ℕ
+byte_order_of Big = 0x1a2b3c4d
+byte_order_of Little = 0x4d3c2b1a
+
+-- the order of a block's bytes: that of its section, or where it is a section header, the one that it tells
+pub record HasOrder (section : Order) (bytes : List ℕ) (order : Order) : Type 0 where
+  pub told : number_in section kind_field bytes ≡ section_kind
+      → number_in Big byte_order_field bytes ≡ byte_order_of order
+  pub kept : number_in section kind_field bytes ≢ section_kind → order ≡ section
+
+-- the length that a head tells is that of a block
+pub record IsLength (n : ℕ) : Type 0 where
+  pub least : 12 ≤ n
+  pub words : n % 4 ≡ 0
+
+-- The grammar of a head, in a section of an order.
+pub record IsHead (section : Order) (bytes : List ℕ) (h : Head) : Type 0 where
+  pub whole : 12 ≤ length bytes
+  pub order_ : HasOrder section bytes h.order
+  pub kind_ : h.kind ≡ number_in section kind_field bytes
+  pub total_len_ : h.total_len ≡ number_in h.order total_len_field bytes
+  pub length_ : IsLength h.total_len
+  pub small : IsRead h.kind → h.total_len ≤ 524288
+
+-- what ends a capture that goes on with these bytes, and so with no head
+abbrev pub HeadEnds : Order → List ℕ → Ending → Type 0
+HeadEnds section bytes Whole = bytes ≡ []
+HeadEnds section bytes Cut = (bytes ≢ []) × (length bytes < 12)
+HeadEnds section bytes Malformed = (12 ≤ length bytes)
+    × ((order : Order) → HasOrder section bytes order → IsLength (number_in order total_len_field bytes) → ⊥)
+HeadEnds section bytes TooLarge = (12 ≤ length bytes) × IsRead (number_in section kind_field bytes)
+    × ((order : Order) × HasOrder section bytes order × (524288 < number_in order total_len_field bytes))
+HeadEnds section bytes _ = ⊥
+
+-- the last four bytes are the length again
+abbrev pub IsClosed : Order → List ℕ → Type 0
+IsClosed order bytes = number order 4 (part bytes (length bytes - 4) (length bytes)) ≡ length bytes
+
+-- ---- section headers
+
+abbrev pub major_field : Field
+major_field = field 12 14
+
+abbrev pub minor_field : Field
+minor_field = field 14 16
+
+-- The grammar of a section header, of version 1.0 or 1.2; its length and its options are not looked at.
+pub record IsSection (order : Order) (bytes : List ℕ) : Type 0 where
+  pub whole : 28 ≤ length bytes
+  pub major : number_in order major_field bytes ≡ 1
+  pub minor : (number_in order minor_field bytes ≡ 0) ⊎ (number_in order minor_field bytes ≡ 2)
+
+-- what ends a capture at a section header that is not read
+abbrev pub SectionEnds : Order → List ℕ → Ending → Type 0
+SectionEnds order bytes Malformed = length bytes < 28
+SectionEnds order bytes Version = (28 ≤ length bytes) × (IsSection order bytes → ⊥)
+SectionEnds order bytes _ = ⊥
+
+-- ---- interface descriptions
+
+abbrev pub link_type_field : Field
+link_type_field = field 8 10
+
+abbrev pub snap_len_field : Field
+snap_len_field = field 12 16
+
+-- the bytes of an option whose value has so many, which is padded to four
+abbrev pub option_end : ℕ → ℕ
+option_end n = 4 + (n + 3) / 4 * 4
+
+-- the bytes begin with an option of a code, whose value has so many bytes
+pub record IsOption (order : Order) (bytes : List ℕ) (code n : ℕ) : Type 0 where
+  pub there : 4 ≤ length bytes
+  pub code_ : number_in order (field 0 2) bytes ≡ code
+  pub length_ : number_in order (field 2 4) bytes ≡ n
+  pub whole : option_end n ≤ length bytes
+
+-- an option that is read: if_tsresol, of one byte
+abbrev pub IsResolution : ℕ → ℕ → Type 0
+IsResolution code n = (code ≡ 9) × (n ≡ 1)
+
+-- The first option that tells a resolution tells this one; option 0 ends the list, and so does one that is cut short.
+pub data TellsResolution (order : Order) : List ℕ → ℕ → Type 0 where
+  here : {bytes : List ℕ} {resolution : ℕ} → IsOption order bytes 9 1 → resolution ≡ slice_index bytes 4
+      → TellsResolution order bytes resolution
+  later : {bytes : List ℕ} {resolution : ℕ} (code n : ℕ) → IsOption order bytes code n → code ≢ 0
+      → (IsResolution code n → ⊥) → TellsResolution order (drop (option_end n) bytes) resolution
+      → TellsResolution order bytes resolution
+
+-- the resolution that options tell, or else microseconds
+pub data HasResolution (order : Order) (options : List ℕ) (resolution : ℕ) : Type 0 where
+  told : TellsResolution order options resolution → HasResolution order options resolution
+  microseconds : ((other : ℕ) → TellsResolution order options other → ⊥) → resolution ≡ 6
+      → HasResolution order options resolution
+
+-- The grammar of an interface description.
+pub record IsInterface (order : Order) (bytes : List ℕ) (i : Interface) : Type 0 where
+  pub whole : 20 ≤ length bytes
+  pub link_type_ : i.link_type ≡ number_in order link_type_field bytes
+  pub snap_len_ : i.snap_len ≡ number_in order snap_len_field bytes
+  pub resolution_ : HasResolution order (part bytes 16 (length bytes - 4)) i.resolution
+
+-- ---- packets
+
+abbrev pub ticks_high_field : Field
+ticks_high_field = field 12 16
+
+abbrev pub ticks_low_field : Field
+ticks_low_field = field 16 20
+
+abbrev pub captured_len_field : Field
+captured_len_field = field 20 24
+
+abbrev pub original_len_field : Field
+original_len_field = field 24 28
+
+-- The grammar of an enhanced or an obsolete packet, of the interface at a place.
+pub record IsTimed (order : Order) (interfaces : List Interface) (place : ℕ) (bytes : List ℕ) (p : PacketValue)
+    : Type 0 where
+  pub whole : 32 ≤ length bytes
+  pub interface : Interface
+  pub described : slice_get interfaces place ≡ Some interface
+  pub fits : 32 + number_in order captured_len_field bytes ≤ length bytes
+  pub time : p.nanoseconds ≡ nanoseconds_of interface.resolution
+      (number_in order ticks_high_field bytes * 4294967296 + number_in order ticks_low_field bytes)
+  pub link_type_ : p.link_type ≡ interface.link_type
+  pub original_len_ : p.original_len ≡ number_in order original_len_field bytes
+  pub octets_ : p.octets ≡ part bytes 28 (28 + number_in order captured_len_field bytes)
+
+-- the bytes that are kept of a packet, where an interface keeps so many, or all for 0
+abbrev pub kept_len : ℕ → ℕ → ℕ
+kept_len most original = if most == 0 then original else min most original
+
+-- The grammar of a simple packet, which belongs to the first interface and has no time.
+pub record IsSimple (order : Order) (interfaces : List Interface) (bytes : List ℕ) (p : PacketValue) : Type 0 where
+  pub whole : 16 ≤ length bytes
+  pub interface : Interface
+  pub described : slice_get interfaces 0 ≡ Some interface
+  pub fits : 16 + kept_len interface.snap_len (number_in order (field 8 12) bytes) ≤ length bytes
+  pub time : p.nanoseconds ≡ 0
+  pub link_type_ : p.link_type ≡ interface.link_type
+  pub original_len_ : p.original_len ≡ number_in order (field 8 12) bytes
+  pub octets_ : p.octets ≡ part bytes 12 (12 + kept_len interface.snap_len (number_in order (field 8 12) bytes))
+
+-- The grammar of a packet, by the kind of its block.
+pub data IsPacket (order : Order) (interfaces : List Interface) (bytes : List ℕ) (p : PacketValue) (kind : ℕ)
+    : Type 0 where
+  obsolete : kind ≡ 2 → IsTimed order interfaces (number_in order (field 8 10) bytes) bytes p
+      → IsPacket order interfaces bytes p kind
+  simple : kind ≡ 3 → IsSimple order interfaces bytes p → IsPacket order interfaces bytes p kind
+  enhanced : kind ≡ 6 → IsTimed order interfaces (number_in order (field 8 12) bytes) bytes p
+      → IsPacket order interfaces bytes p kind
+
+-- the packet that a place in a block's bytes tells
+abbrev pub packet_in : Packet → List ℕ → PacketValue
+packet_in p bytes = record {
+  nanoseconds = p.time.seconds * 1000000000 + p.time.nanoseconds;
+  link_type = p.link_type;
+  original_len = p.original_len;
+  octets = part bytes p.start (p.start + p.captured_len);
+}
+
+-- it is within the block, and its time is in order
+pub record IsPlace (p : Packet) (bytes : List ℕ) : Type 0 where
+  pub within : p.start + p.captured_len ≤ length bytes
+  pub nanoseconds_ : p.time.nanoseconds < 1000000000

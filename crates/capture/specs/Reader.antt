@@ -1,0 +1,22 @@
+-- What is read of an input.
+use Rattle.std.specs.Prelude.{◌≡◌, ℕ, Bool, true, ◌<◌, ◌≤◌, List, [], ◌++◌, length, take, drop, Option, Some, OnSome}
+use Rattle.std.specs.Io.KnownBytes.{Consumes, IsAtEnd}
+
+-- bytes were taken off what a reader had left, at most so many, and fewer only at its end
+pub record Takes (old new : Option (List ℕ)) (taken : List ℕ) (most : ℕ) : Type 0 where
+  pub consumed : Consumes old new taken
+  pub few : length taken ≤ most
+  pub ended : length taken < most → OnSome old (IsAtEnd new)
+
+-- what was at hand of so many bytes was taken off what a reader had left; these are all where it has ended
+pub record TakesPart (old new : Option (List ℕ)) (before after_ : List ℕ) (missing : ℕ) (ended : Bool) : Type 0 where
+  pub taken : List ℕ
+  pub appended : after_ ≡ before ++ taken
+  pub consumed : Consumes old new taken
+  pub few : length taken ≤ missing
+  pub all : ended ≡ true → length taken < missing → OnSome old (IsAtEnd new)
+
+-- so many bytes were read of what was left, or all where there are fewer
+pub record Reads (left : List ℕ) (now : Option (List ℕ)) (taken : List ℕ) (most : ℕ) : Type 0 where
+  pub front : taken ≡ take most left
+  pub rest : now ≡ Some (drop most left)

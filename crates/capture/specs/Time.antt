@@ -1,0 +1,24 @@
+-- The time of a packet, as the number of nanoseconds since 1970-01-01 00:00:00 UTC.
+use Rattle.std.specs.Prelude.{◌≡◌, ℕ, ◌+◌, ◌-◌, ◌*◌, ◌/◌, ◌^◌, ◌<◌, nat_lt, if◌then◌else◌}
+use Rattle.capture.specs.declared.pcap.Precision.{Precision}
+use Rattle.capture.specs.declared.pcap.Precision.TheVariants.{Micro, Nano}
+use Rattle.capture.specs.declared.time.Time.{Time}
+
+-- a time of so many nanoseconds
+pub record IsTime (t : Time) (nanoseconds : ℕ) : Type 0 where
+  pub sum_ : t.seconds * 1000000000 + t.nanoseconds ≡ nanoseconds
+  pub part_ : t.nanoseconds < 1000000000
+
+-- the units in a second of a resolution: a power of 10, or one of 2 where the highest bit is set
+-- (draft-ietf-opsawg-pcapng section 4.2, if_tsresol)
+unfoldable pub units : ℕ → ℕ
+units resolution = if nat_lt resolution 128 then 10 ^ resolution else 2 ^ (resolution - 128)
+
+-- the whole nanoseconds in so many units of a resolution
+abbrev pub nanoseconds_of : ℕ → ℕ → ℕ
+nanoseconds_of resolution ticks = ticks * 1000000000 / units resolution
+
+-- the nanoseconds in a fraction of a second
+abbrev pub fraction_of : Precision → ℕ → ℕ
+fraction_of Micro fraction = fraction * 1000
+fraction_of Nano fraction = fraction

@@ -1,0 +1,45 @@
+//! The order of the bytes of a number.
+
+ghost use Rattle.std.specs.Prelude.{◌≡◌, ◌≤◌, ◌+◌, length};
+ghost use Rattle.wirebase.specs.Bytes.{part};
+ghost use Rattle.capture.specs.Order.{number};
+
+use byteorder::{BigEndian, ByteOrder, LittleEndian};
+use wirebase::{Field, Octets};
+
+/// The order in which the machine that wrote a file keeps the bytes of a number.
+#[derive(Debug, PartialEq, Eq, Clone, Copy)]
+pub enum Order {
+    /// The highest byte first.
+    Big,
+    /// The lowest byte first.
+    Little,
+}
+
+impl Order {
+    /// The number in a field of two bytes. Requires that they are there.
+    pub fn u16_at(self, octets: &[u8], field: Field) -> u16
+        requires two { field.end ≡ field.start + 2 }
+        requires room { field.end ≤ length octets.now }
+        ensures { result ≡ number self 2 (part octets.now field.start field.end) }
+    {
+        let bytes = octets.range(field.start, field.end);
+        match self {
+            Order::Big => BigEndian::read_u16(bytes),
+            Order::Little => LittleEndian::read_u16(bytes),
+        }
+    }
+
+    /// The number in a field of four bytes. Requires that they are there.
+    pub fn u32_at(self, octets: &[u8], field: Field) -> u32
+        requires four { field.end ≡ field.start + 4 }
+        requires room { field.end ≤ length octets.now }
+        ensures { result ≡ number self 4 (part octets.now field.start field.end) }
+    {
+        let bytes = octets.range(field.start, field.end);
+        match self {
+            Order::Big => BigEndian::read_u32(bytes),
+            Order::Little => LittleEndian::read_u32(bytes),
+        }
+    }
+}

@@ -1,0 +1,127 @@
+//! The headers of a pcap file and of its records (draft-ietf-opsawg-pcap sections 4 and 5).
+
+ghost use Rattle.std.specs.Prelude.{◌≡◌, ◌≤◌, IfOk, IfErr, IfSome, IsNone, IsOkAnd, length};
+ghost use Rattle.capture.specs.Pcap.{HasMagic, IsFileHeader, FileEnds, IsRecordHeader};
+ghost use Rattle.capture.specs.declared.ending.Ending.{Ending};
+ghost use Rattle.capture.specs.declared.pcap.FileHeader.{FileHeader as Header};
+
+use crate::ending::Ending;
+use crate::order::Order;
+
+// The fields of both headers; their pictures are in specs/Pcap.antt.
+mod field {
+    use wirebase::Field;
+
+    pub const MAGIC: Field = 0..4;
+
+    pub const MAJOR: Field = 4..6;
+
+    pub const MINOR: Field = 6..8;
+
+    pub const LINK_TYPE: Field = 20..24;
+
+    pub const SECONDS: Field = 0..4;
+
+    pub const FRACTION: Field = 4..8;
+
+    pub const CAPTURED_LEN: Field = 8..12;
+
+    pub const ORIGINAL_LEN: Field = 12..16;
+}
+
+/// The bytes of a file's header.
+pub const FILE_HEADER_LEN: usize = field::LINK_TYPE.end;
+
+/// The bytes of a record's header.
+pub const RECORD_HEADER_LEN: usize = field::ORIGINAL_LEN.end;
+
+/// What the fractions of the seconds count.
+#[derive(Debug, PartialEq, Eq, Clone, Copy)]
+pub enum Precision {
+    /// Microseconds.
+    Micro,
+    /// Nanoseconds.
+    Nano,
+}
+
+/// The header of a file.
+#[derive(Debug, PartialEq, Eq, Clone, Copy)]
+pub struct FileHeader {
+    /// The order of the bytes of the numbers behind the magic number.
+    pub order: Order,
+    /// What the fractions of the seconds count.
+    pub precision: Precision,
+    /// The type of the link that each packet was captured on.
+    pub link_type: u16,
+}
+
+impl FileHeader {
+    /// The header at the front of the octets, of version 2.4. Refused where they begin with no magic number
+    /// (`NotACapture`), are fewer than 24 (`Cut`), or are of another version (`Version`).
+    pub fn parse(octets: &[u8]) -> Result<FileHeader, Ending>
+        ensures sound { IfOk result (λ h. IsFileHeader octets.now h) }
+        ensures complete { (h : Header) → IsFileHeader octets.now h
+            → IsOkAnd result (λ header. header ≡ h) }
+        ensures ends { IfErr result (λ ending. FileEnds octets.now ending) }
+    {
+        let Some((order, precision)) = magic(octets) else {
+            return Err(Ending::NotACapture);
+        };
+        if octets.len() < FILE_HEADER_LEN {
+            return Err(Ending::Cut);
+        }
+        if order.u16_at(octets, field::MAJOR) != 2 || order.u16_at(octets, field::MINOR) != 4 {
+            return Err(Ending::Version);
+        }
+        Ok(FileHeader {
+            order,
+            precision,
+            link_type: (order.u32_at(octets, field::LINK_TYPE) % 65536) as u16,
+        })
+    }
+}
+
+// The order and the precision that the magic number tells.
+fn magic(octets: &[u8]) -> Option<(Order, Precision)>
+    ensures some { IfSome result (λ told. HasMagic octets.now told.0 told.1) }
+    ensures none { IsNone result → FileEnds octets.now Ending.NotACapture }
+{
+    if octets.len() < field::MAGIC.end {
+        return None;
+    }
+    match Order::Big.u32_at(octets, field::MAGIC) {
+        0xa1b2c3d4 => Some((Order::Big, Precision::Micro)),
+        0xa1b23c4d => Some((Order::Big, Precision::Nano)),
+        0xd4c3b2a1 => Some((Order::Little, Precision::Micro)),
+        0x4d3cb2a1 => Some((Order::Little, Precision::Nano)),
+        _ => None,
+    }
+}
+
+/// The header of a record.
+#[derive(Debug, PartialEq, Eq, Clone, Copy)]
+pub struct RecordHeader {
+    /// The whole seconds since 1970-01-01 00:00:00 UTC.
+    pub seconds: u32,
+    /// The microseconds or nanoseconds past them.
+    pub fraction: u32,
+    /// The bytes of the packet that the file keeps.
+    pub captured_len: u32,
+    /// The bytes that the packet had.
+    pub original_len: u32,
+}
+
+impl RecordHeader {
+    /// The header at the front of the octets. Requires at least 16 bytes.
+    pub fn parse(order: Order, octets: &[u8]) -> RecordHeader
+        requires { 16 ≤ length octets.now }
+        ensures { IsRecordHeader order octets.now result }
+    {
+        RecordHeader {
+            seconds: order.u32_at(octets, field::SECONDS),
+            fraction: order.u32_at(octets, field::FRACTION),
+            captured_len: order.u32_at(octets, field::CAPTURED_LEN),
+            original_len: order.u32_at(octets, field::ORIGINAL_LEN),
+        }
+    }
+}

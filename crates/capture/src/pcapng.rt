@@ -1,0 +1,369 @@
+//! The blocks of a pcapng file (draft-ietf-opsawg-pcapng sections 3 and 4).
+
+ghost use Rattle.std.specs.Prelude.{◌≡◌, ◌≤◌, ◌↔◌, IfOk, IfErr, IfSome, IsOk, IsOkAnd, IsSomeAnd, IsTrue, length};
+ghost use Rattle.capture.specs.Order.{number_in};
+ghost use Rattle.capture.specs.Pcapng.{kind_field, HasOrder, IsRead, IsHead, HeadEnds, IsClosed, IsSection, SectionEnds};
+ghost use Rattle.capture.specs.Pcapng.{HasResolution, IsInterface, IsTimed, IsSimple, IsPacket, packet_in, IsPlace};
+ghost use Rattle.capture.specs.Pcapng.{kept_len};
+ghost use Rattle.capture.specs.Packet.{PacketValue};
+ghost use Rattle.capture.specs.declared.order.Order.{Order as AnOrder};
+ghost use Rattle.capture.specs.declared.pcapng.Head.{Head as AHead};
+ghost use Rattle.capture.specs.declared.pcapng.Interface.{Interface as AnInterface};
+
+use crate::ending::Ending;
+use crate::order::Order;
+use crate::time::Time;
+use wirebase::{Error, Octets};
+
+// The fields of the blocks; their pictures are in specs/Pcapng.antt.
+mod field {
+    use wirebase::Field;
+
+    pub const KIND: Field = 0..4;
+
+    pub const TOTAL_LEN: Field = 4..8;
+
+    // What all blocks have in front.
+    pub const HEAD_END: usize = 12;
+
+    // Of a section header.
+    pub const BYTE_ORDER: Field = 8..12;
+
+    pub const MAJOR: Field = 12..14;
+
+    pub const MINOR: Field = 14..16;
+
+    pub const SECTION_END: usize = 28;
+
+    // Of an interface description.
+    pub const LINK_TYPE: Field = 8..10;
+
+    pub const SNAP_LEN: Field = 12..16;
+
+    pub const OPTIONS: usize = 16;
+
+    // Of an option.
+    pub const CODE: Field = 0..2;
+
+    pub const LENGTH: Field = 2..4;
+
+    pub const VALUE: usize = 4;
+
+    // Of a packet.
+    pub const INTERFACE: Field = 8..12;
+
+    pub const SHORT_INTERFACE: Field = 8..10;
+
+    pub const TICKS_HIGH: Field = 12..16;
+
+    pub const TICKS_LOW: Field = 16..20;
+
+    pub const CAPTURED_LEN: Field = 20..24;
+
+    pub const ORIGINAL_LEN: Field = 24..28;
+
+    pub const PACKET: usize = 28;
+
+    // Of a simple packet.
+    pub const SIMPLE_ORIGINAL_LEN: Field = 8..12;
+
+    pub const SIMPLE_PACKET: usize = 12;
+
+    // The bytes of the length that ends a block.
+    pub const TRAILER: usize = 4;
+}
+
+/// The bytes that each block has in front: its kind, its length, and four more.
+pub const HEAD_LEN: usize = field::HEAD_END;
+
+/// The most bytes of a block that is read.
+pub const MOST_BLOCK_OCTETS: u32 = 524_288;
+
+/// The kind of a section header, the same in both orders of bytes.
+pub const SECTION: u32 = 0x0a0d_0d0a;
+
+/// The kind of an interface description.
+pub const INTERFACE: u32 = 1;
+
+/// The kind of an obsolete packet.
+pub const OBSOLETE_PACKET: u32 = 2;
+
+/// The kind of a simple packet.
+pub const SIMPLE_PACKET: u32 = 3;
+
+/// The kind of an enhanced packet.
+pub const ENHANCED_PACKET: u32 = 6;
+
+// The code of the option that tells a resolution, and the resolution where none tells one: microseconds.
+const IF_TSRESOL: u16 = 9;
+
+const MICROSECONDS: u8 = 6;
+
+/// What stands in front of a block.
+#[derive(Debug, PartialEq, Eq, Clone, Copy)]
+pub struct Head {
+    /// The order of the bytes of its numbers: a section header has its own.
+    pub order: Order,
+    /// What kind of block it is.
+    pub kind: u32,
+    /// The bytes of the block: 12 or more, and four times a number.
+    pub total_len: u32,
+}
+
+impl Head {
+    /// The head at the front of the octets, in a section of this order. Refused where there are no octets (`Whole`),
+    /// fewer than 12 (`Cut`), where the order or the length can't be (`Malformed`), and where a block that is read has
+    /// more than `MOST_BLOCK_OCTETS` (`TooLarge`).
+    pub fn parse(section: Order, octets: &[u8]) -> Result<Head, Ending>
+        ensures sound { IfOk result (λ head. IsHead section octets.now head) }
+        ensures complete { (h : AHead) → IsHead section octets.now h → IsOkAnd result (λ head. head ≡ h) }
+        ensures ends { IfErr result (λ ending. HeadEnds section octets.now ending) }
+    {
+        if octets.is_empty() {
+            return Err(Ending::Whole);
+        }
+        if octets.len() < HEAD_LEN {
+            return Err(Ending::Cut);
+        }
+        let kind = section.u32_at(octets, field::KIND);
+        let Some(order) = order_of(section, kind, octets) else {
+            return Err(Ending::Malformed);
+        };
+        let total_len = order.u32_at(octets, field::TOTAL_LEN);
+        if total_len < 12 || total_len % 4 != 0 {
+            return Err(Ending::Malformed);
+        }
+        if is_read(kind) && total_len > MOST_BLOCK_OCTETS {
+            return Err(Ending::TooLarge);
+        }
+        Ok(Head {
+            order,
+            kind,
+            total_len,
+        })
+    }
+}
+
+// The order of the bytes of a block of this kind.
+fn order_of(section: Order, kind: u32, octets: &[u8]) -> Option<Order>
+    requires whole { 12 ≤ length octets.now }
+    requires kind { kind ≡ number_in section kind_field octets.now }
+    ensures some { IfSome result (λ order. HasOrder section octets.now order) }
+    ensures all { (order : AnOrder) → HasOrder section octets.now order → IsSomeAnd result (λ told. told ≡ order) }
+{
+    if kind != SECTION {
+        return Some(section);
+    }
+    match Order::Big.u32_at(octets, field::BYTE_ORDER) {
+        0x1a2b_3c4d => Some(Order::Big),
+        0x4d3c_2b1a => Some(Order::Little),
+        _ => None,
+    }
+}
+
+/// Whether blocks of this kind are read, and not passed over.
+pub fn is_read(kind: u32) -> bool
+    ensures { IsTrue result ↔ IsRead kind }
+{
+    matches!(
+        kind,
+        SECTION | INTERFACE | OBSOLETE_PACKET | SIMPLE_PACKET | ENHANCED_PACKET
+    )
+}
+
+/// Whether the last four bytes of a block are its length again. Requires at least 12 bytes.
+pub fn is_closed(order: Order, block: &[u8]) -> bool
+    requires { 12 ≤ length block.now }
+    ensures { IsTrue result ↔ IsClosed order block.now }
+{
+    let len = block.len();
+    order.u32_at(block, len - field::TRAILER..len) as usize == len
+}
+
+/// Accepts a section header of version 1.0 or 1.2. Refused where it is shorter than 28 bytes (`Malformed`) or of
+/// another version (`Version`).
+pub fn check_section(order: Order, block: &[u8]) -> Result<(), Ending>
+    ensures accepts { IsOk result ↔ IsSection order block.now }
+    ensures ends { IfErr result (λ ending. SectionEnds order block.now ending) }
+{
+    if block.len() < field::SECTION_END {
+        return Err(Ending::Malformed);
+    }
+    let minor = order.u16_at(block, field::MINOR);
+    if order.u16_at(block, field::MAJOR) != 1 || (minor != 0 && minor != 2) {
+        return Err(Ending::Version);
+    }
+    Ok(())
+}
+
+/// What an interface description says.
+#[derive(Debug, PartialEq, Eq, Clone, Copy)]
+pub struct Interface {
+    /// The type of the link.
+    pub link_type: u16,
+    /// The most bytes that are kept of a packet, or 0 where all are.
+    pub snap_len: u32,
+    /// What the times count: below 128 a number of decimal digits of a second, from 128 on of binary ones.
+    pub resolution: u8,
+}
+
+impl Interface {
+    /// The interface that a block describes. Refused where the block is shorter than 20 bytes.
+    pub fn parse(order: Order, block: &[u8]) -> wirebase::Result<Interface>
+        ensures sound { IfOk result (λ interface. IsInterface order block.now interface) }
+        ensures complete { (i : AnInterface) → IsInterface order block.now i → IsOkAnd result (λ interface. interface ≡ i) }
+    {
+        let len = block.len();
+        if len < field::OPTIONS + field::TRAILER {
+            return Err(Error);
+        }
+        Ok(Interface {
+            link_type: order.u16_at(block, field::LINK_TYPE),
+            snap_len: order.u32_at(block, field::SNAP_LEN),
+            resolution: resolution(order, block.range(field::OPTIONS, len - field::TRAILER)),
+        })
+    }
+}
+
+// The resolution that options tell, or else microseconds.
+fn resolution(order: Order, options: &[u8]) -> u8
+    ensures { HasResolution order options.now result }
+{
+    let mut rest = options;
+    'options: while rest.len() >= field::VALUE {
+        let code = order.u16_at(rest, field::CODE);
+        let len = order.u16_at(rest, field::LENGTH) as usize;
+        let end = field::VALUE + (len + 3) / 4 * 4;
+        if code == 0 || rest.len() < end {
+            return MICROSECONDS;
+        }
+        if code == IF_TSRESOL && len == 1 {
+            return rest[field::VALUE];
+        }
+        rest = &rest[end..];
+    }
+    MICROSECONDS
+}
+
+/// A packet, by its place in a block.
+#[derive(Debug, PartialEq, Eq, Clone, Copy)]
+pub struct Packet {
+    /// When it was captured.
+    pub time: Time,
+    /// The type of the link.
+    pub link_type: u16,
+    /// The bytes that it had.
+    pub original_len: u32,
+    /// Where its bytes begin in the block.
+    pub start: usize,
+    /// How many of them the block keeps.
+    pub captured_len: u32,
+}
+
+impl Packet {
+    /// The packet that a block of a kind holds, in a section with these interfaces. Refused where the block is too
+    /// short for it, names an interface that is not described, or is of no kind of packet.
+    pub fn parse(
+        order: Order,
+        kind: u32,
+        interfaces: &[Interface],
+        block: &[u8],
+    ) -> wirebase::Result<Packet>
+        ensures sound { IfOk result (λ packet. IsPacket order interfaces.now block.now (packet_in packet block.now) kind) }
+        ensures complete { (p : PacketValue) → IsPacket order interfaces.now block.now p kind
+            → IsOkAnd result (λ packet. packet_in packet block.now ≡ p) }
+        ensures place { IfOk result (λ packet. IsPlace packet block.now) }
+    {
+        if block.len() < field::HEAD_END {
+            return Err(Error);
+        }
+        match kind {
+            OBSOLETE_PACKET => {
+                let place = order.u16_at(block, field::SHORT_INTERFACE) as usize;
+                Packet::timed(order, interfaces, place, block)
+            }
+            SIMPLE_PACKET => Packet::simple(order, interfaces, block),
+            ENHANCED_PACKET => {
+                let place = order.u32_at(block, field::INTERFACE) as usize;
+                Packet::timed(order, interfaces, place, block)
+            }
+            _ => Err(Error),
+        }
+    }
+
+    // An enhanced or an obsolete packet, of the interface at a place.
+    fn timed(
+        order: Order,
+        interfaces: &[Interface],
+        place: usize,
+        block: &[u8],
+    ) -> wirebase::Result<Packet>
+        ensures sound { IfOk result (λ packet. IsTimed order interfaces.now place block.now (packet_in packet block.now)) }
+        ensures complete { (p : PacketValue) → IsTimed order interfaces.now place block.now p
+            → IsOkAnd result (λ packet. packet_in packet block.now ≡ p) }
+        ensures place { IfOk result (λ packet. IsPlace packet block.now) }
+    {
+        let Some(interface) = interfaces.get(place) else {
+            return Err(Error);
+        };
+        let len = block.len();
+        if len < field::PACKET + field::TRAILER {
+            return Err(Error);
+        }
+        let captured_len = order.u32_at(block, field::CAPTURED_LEN);
+        if captured_len as u64 > (len - field::PACKET - field::TRAILER) as u64 {
+            return Err(Error);
+        }
+        let high = order.u32_at(block, field::TICKS_HIGH);
+        let low = order.u32_at(block, field::TICKS_LOW);
+        Ok(Packet {
+            time: Time::of_ticks(
+                high as u64 * 4_294_967_296 + low as u64,
+                interface.resolution,
+            ),
+            link_type: interface.link_type,
+            original_len: order.u32_at(block, field::ORIGINAL_LEN),
+            start: field::PACKET,
+            captured_len,
+        })
+    }
+
+    // A simple packet, which belongs to the first interface and has no time.
+    fn simple(order: Order, interfaces: &[Interface], block: &[u8]) -> wirebase::Result<Packet>
+        ensures sound { IfOk result (λ packet. IsSimple order interfaces.now block.now (packet_in packet block.now)) }
+        ensures complete { (p : PacketValue) → IsSimple order interfaces.now block.now p
+            → IsOkAnd result (λ packet. packet_in packet block.now ≡ p) }
+        ensures place { IfOk result (λ packet. IsPlace packet block.now) }
+    {
+        let Some(interface) = interfaces.get(0) else {
+            return Err(Error);
+        };
+        let len = block.len();
+        if len < field::SIMPLE_PACKET + field::TRAILER {
+            return Err(Error);
+        }
+        let original_len = order.u32_at(block, field::SIMPLE_ORIGINAL_LEN);
+        let captured_len = kept_len(interface.snap_len, original_len);
+        if captured_len as u64 > (len - field::SIMPLE_PACKET - field::TRAILER) as u64 {
+            return Err(Error);
+        }
+        Ok(Packet {
+            time: Time::ZERO,
+            link_type: interface.link_type,
+            original_len,
+            start: field::SIMPLE_PACKET,
+            captured_len,
+        })
+    }
+}
+
+// How many bytes of a packet are kept, where so many are at most, or all for 0.
+fn kept_len(most: u32, original: u32) -> u32
+    ensures { result ≡ kept_len most original }
+{
+    if most == 0 {
+        original
+    } else {
+        most.min(original)
+    }
+}

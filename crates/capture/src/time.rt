@@ -1,0 +1,81 @@
+//! The times of packets.
+
+ghost use Rattle.std.specs.Prelude.{◌≡◌, ◌+◌, ◌*◌, ◌/◌, ◌^◌, ◌<◌};
+ghost use Rattle.capture.specs.Time.{IsTime, nanoseconds_of, fraction_of};
+
+use crate::pcap::Precision;
+
+// The nanoseconds in a second.
+const NANOS: u128 = 1_000_000_000;
+
+/// A time, since 1970-01-01 00:00:00 UTC.
+#[derive(Debug, PartialEq, Eq, Clone, Copy)]
+pub struct Time {
+    /// The whole seconds.
+    pub seconds: u64,
+    /// The nanoseconds past them, fewer than 1,000,000,000.
+    pub nanoseconds: u32,
+}
+
+impl Time {
+    /// 1970-01-01 00:00:00 UTC, the time of a packet of which none is told.
+    pub const ZERO: Time = Time {
+        seconds: 0,
+        nanoseconds: 0,
+    };
+
+    /// The time of a second and a fraction behind it, which may be more than a second.
+    pub fn of_fraction(seconds: u32, fraction: u32, precision: Precision) -> Time
+        ensures { IsTime result (seconds * 1000000000 + fraction_of precision fraction) }
+    {
+        let nanoseconds = match precision {
+            Precision::Micro => fraction as u128 * 1000,
+            Precision::Nano => fraction as u128,
+        };
+        Time::of_nanoseconds(seconds as u128 * NANOS + nanoseconds)
+    }
+
+    /// The time of so many units of a resolution, less what is below a nanosecond. A resolution below 128 is a number
+    /// of decimal digits, and one from 128 on is 128 more than a number of binary digits.
+    pub fn of_ticks(ticks: u64, resolution: u8) -> Time
+        ensures { IsTime result (nanoseconds_of resolution ticks) }
+    {
+        Time::of_nanoseconds(nanoseconds(ticks, resolution))
+    }
+
+    // The time of so many nanoseconds.
+    fn of_nanoseconds(nanoseconds: u128) -> Time
+        requires { nanoseconds < 2 ^ 64 * 1000000000 }
+        ensures { IsTime result nanoseconds }
+    {
+        Time {
+            seconds: (nanoseconds / NANOS) as u64,
+            nanoseconds: (nanoseconds % NANOS) as u32,
+        }
+    }
+}
+
+// The whole nanoseconds in so many units of a resolution.
+fn nanoseconds(ticks: u64, resolution: u8) -> u128
+    ensures value { result ≡ nanoseconds_of resolution ticks }
+    ensures small { result < 2 ^ 64 * 1000000000 }
+{
+    let scaled = ticks as u128 * NANOS;
+    if resolution < 128 {
+        divided(scaled, 10, resolution)
+    } else {
+        divided(scaled, 2, resolution - 128)
+    }
+}
+
+// The number divided by a power of a base.
+fn divided(number: u128, base: u128, exponent: u8) -> u128
+    requires { 1 < base }
+    ensures { result ≡ number / base ^ exponent }
+{
+    let mut quotient = number;
+    for _ in 0..exponent {
+        quotient /= base;
+    }
+    quotient
+}

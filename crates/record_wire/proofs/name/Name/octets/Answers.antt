@@ -1,0 +1,9 @@
+use Rattle.std.proofs.Common.{length, ap, arith}
+use Rattle.record_wire.proofs.LabelLists.{each_in}
+use Rattle.record_wire.proofs.name.Name.octets.Goals as goal
+
+pub returns-clause-name : goal.returns-clause-name
+returns-clause-name c = record {
+  each = each_in c.args.self.now.octets.items;
+  fits = omega (arith, ap length c.args.self.now.whole, ap length c.as_slice.ensures.value, c.as_slice.ensures.fits);
+}

@@ -1,0 +1,4 @@
+pub mod Labels
+pub mod NameText
+pub mod NameReading
+pub mod Name

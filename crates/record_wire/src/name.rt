@@ -1,0 +1,143 @@
+//! Whole names: read from a message or from text, and written as text (RFC 1035 sections 2.3.4, 3.1 and 5.1).
+
+mod label;
+mod text;
+
+ghost use Rattle.std.specs.Prelude.{◌≡◌, ◌≤◌, ◌<◌, ◌↔◌, ℕ, List, length, IfOk, IsOk, IsOkAnd};
+ghost use Rattle.std.specs.List.{AllByRecursion};
+ghost use Rattle.wirebase.specs.Bytes.{IsBytes};
+ghost use Rattle.dns_wire.specs.DnsName.{IsName, IsLabel};
+ghost use Rattle.dns_wire.specs.DnsNameWalk.{Gives};
+ghost use Rattle.dns_wire.specs.DnsPacket.{view_octets};
+ghost use Rattle.record_wire.specs.Labels.{wire, written_all, labels_in, AreOfName};
+ghost use Rattle.record_wire.specs.NameReading.{AreGiven};
+
+use crate::name::label::{is_label, push_label, split_label};
+use crate::name::text::{LabelText, is_root, read_labels};
+use arrayvec::ArrayVec;
+use dns_wire::dns::{NameIter, Packet};
+use std::fmt;
+use wirebase::{Error, Result};
+
+/// The most octets that a name has (RFC 1035 section 2.3.4).
+pub const MAX_NAME_LEN: usize = 255;
+
+/// A whole name, by its octets: each label of 1 to 63 bytes behind its length, and then byte 0; 255 octets at most.
+#[derive(Drop)]
+pub struct Name {
+    octets: ArrayVec<u8, MAX_NAME_LEN>,
+    pub ghost whole: { wire (labels_in octets.items) ≡ octets.items },
+}
+
+impl Name {
+    ghost use Rattle.record_wire.specs.Name.{labels_of};
+    ghost use Rattle.record_wire.specs.NameText.{IsNameText, name_text};
+
+    /// The name that begins in `bytes`, a part of the message or not, and goes on where its pointers lead in the
+    /// message. Refused where there is none, or where it has more than 255 octets.
+    pub fn read<'a>(packet: &Packet<&'a [u8]>, bytes: &'a [u8]) -> Result<Name>
+        ensures sound { IfOk result (λ name.
+            IsName bytes.entry.now (view_octets packet.entry.now) (labels_of name)) }
+        ensures complete { (labels : List (List ℕ))
+            → IsName bytes.entry.now (view_octets packet.entry.now) labels → AreOfName labels
+            → IsOkAnd result (λ name. labels_of name ≡ labels) }
+    {
+        Name::finish(given_labels(packet.parse_name(bytes))?)
+    }
+
+    /// The name of this text: labels with dots between them, a last dot allowed, and a dot alone for the root. A visible
+    /// character stands for itself, but `"`, `$`, `(`, `)`, `.`, `;`, `@` and `\` stand behind a backslash; three digits
+    /// behind a backslash are the number of a byte. Refused where the text is none, where a label is empty or has more
+    /// than 63 bytes, and where the name has more than 255 octets.
+    pub fn from_text(text: &[u8]) -> Result<Name>
+        ensures sound { IfOk result (λ name. IsNameText text.now (labels_of name)) }
+        ensures complete { (labels : List (List ℕ)) → IsNameText text.now labels
+            → IsOkAnd result (λ name. labels_of name ≡ labels) }
+        ensures reads_back { (labels : List (List ℕ)) → AreOfName labels → IsBytes (wire labels)
+            → text.now ≡ name_text labels → IsOkAnd result (λ name. labels_of name ≡ labels) }
+    {
+        if is_root(text) {
+            return Name::finish(ArrayVec::new());
+        }
+        Name::finish(read_labels(text)?)
+    }
+
+    /// The octets: each label behind its length, and then byte 0.
+    pub fn octets(&self) -> &[u8]
+        ensures value { result.now ≡ wire (labels_of self.now) }
+        ensures name { AreOfName (labels_of self.now) }
+    {
+        self.octets.as_slice()
+    }
+
+    // Ends the octets of a name.
+    fn finish(mut octets: ArrayVec<u8, MAX_NAME_LEN>) -> Result<Name>
+        requires { written_all (labels_in octets.items) ≡ octets.items }
+        ensures room { IsOk result ↔ (length octets.items < 255) }
+        ensures labels { IfOk result (λ name. labels_of name ≡ labels_in octets.items) }
+    {
+        if octets.try_push(0).is_err() {
+            return Err(Error);
+        }
+        Ok(Name { octets })
+    }
+}
+
+// The octets of the labels that a walk gives. Refused where it gives an error, and where they have more than 255 octets.
+fn given_labels(mut walk: NameIter<'_>) -> Result<ArrayVec<u8, MAX_NAME_LEN>>
+    ensures sound { IfOk result (λ octets. AreGiven walk.entry.ahead octets.items) }
+    ensures complete { (labels : List (List ℕ)) → Gives walk.entry.ahead labels → AreOfName labels
+        → IsOkAnd result (λ octets. octets.items ≡ written_all labels) }
+{
+    let mut octets = ArrayVec::new();
+    while let Some(item) = walk.next() {
+        let label = match item {
+            Ok(label) => label,
+            Err(_) => return Err(Error),
+        };
+        if !is_label(label) {
+            return Err(Error);
+        }
+        push_label(&mut octets, label)?;
+    }
+    Ok(octets)
+}
+
+/// Labels with dots between them, and a dot alone for the root.
+impl fmt::Display for Name {
+    ghost use Rattle.std.specs.Prelude.{Some};
+    ghost use Rattle.record_wire.specs.Name.{labels_of};
+    ghost use Rattle.record_wire.specs.NameText.{name_text};
+
+    ghost output = { λ name. Some (name_text (labels_of name)) };
+
+    fn fmt<W: fmt::Write>(&self, f: &mut fmt::Formatter<W>) -> fmt::Result {
+        match split_label(self.octets.as_slice()) {
+            Some((label, rest)) => write!(f, "{}{}", LabelText(label), BehindDots(rest)),
+            None => write!(f, "."),
+        }
+    }
+}
+
+// The labels in octets, each behind a dot.
+#[derive(Drop)]
+struct BehindDots<'a>(&'a [u8]);
+
+impl fmt::Display for BehindDots<'_> {
+    ghost use Rattle.std.specs.Prelude.{Some};
+    ghost use Rattle.record_wire.specs.NameText.{behind_dots};
+
+    ghost output = { λ octets. Some (behind_dots (labels_in octets.0.now)) };
+
+    fn fmt<W: fmt::Write>(&self, f: &mut fmt::Formatter<W>) -> fmt::Result {
+        let mut left = self.0;
+        while let Some((label, rest)) = split_label(left) {
+            write!(f, ".{}", LabelText(label))?;
+            left = rest;
+        }
+        Ok(())
+    }
+}
+
+#[cfg(test)]
+mod tests;

@@ -1,0 +1,48 @@
+//! The labels in the octets of a name (RFC 1035 section 3.1).
+
+ghost use Rattle.std.specs.Prelude.{◌≡◌, ◌↔◌, ◌+◌, ◌≤◌, ◌++◌, length, IsOk, IsTrue, OnOk};
+ghost use Rattle.dns_wire.specs.DnsName.{IsLabel, written};
+ghost use Rattle.record_wire.specs.Labels.{first_label};
+ghost use Rattle.record_wire.specs.NameReading.{seen_label};
+
+use crate::name::MAX_NAME_LEN;
+use arrayvec::ArrayVec;
+use wirebase::{Error, Result};
+
+/// The most bytes that a label has (RFC 1035 section 2.3.4).
+pub(super) const MAX_LABEL_LEN: usize = 63;
+
+/// The label at the front of octets, and what stands behind it. None at byte 0, and where no whole label stands.
+pub(super) fn split_label(octets: &[u8]) -> Option<(&[u8], &[u8])>
+    ensures { seen_label result ≡ first_label octets.now }
+{
+    match octets {
+        [len @ 1..=63, rest @ ..] if *len as usize <= rest.len() => {
+            let len = *len as usize;
+            Some((&rest[..len], &rest[len..]))
+        }
+        _ => None,
+    }
+}
+
+/// Whether these bytes may be a label.
+pub(super) fn is_label(bytes: &[u8]) -> bool
+    ensures { IsTrue result ↔ IsLabel bytes.now }
+{
+    !bytes.is_empty() && bytes.len() <= MAX_LABEL_LEN
+}
+
+/// Writes a label behind its length. Refused where there is no room; then less may be written.
+pub(super) fn push_label(octets: &mut ArrayVec<u8, MAX_NAME_LEN>, label: &[u8]) -> Result<()>
+    requires { length label.now ≤ 63 }
+    ensures room { IsOk result ↔ (length octets.old.items + length (written label.now) ≤ 255) }
+    ensures pushes { OnOk result (octets.new.items ≡ octets.old.items ++ written label.now) }
+{
+    if octets.try_push(label.len() as u8).is_err() {
+        return Err(Error);
+    }
+    if octets.try_extend_from_slice(label).is_err() {
+        return Err(Error);
+    }
+    Ok(())
+}

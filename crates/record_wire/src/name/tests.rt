@@ -1,0 +1,170 @@
+//! Names read from messages and from text, and written as text.
+
+use super::Name;
+use crate::testing::{prints, same, same_of, takes_writes};
+use arrayvec::ArrayString;
+use dns_wire::dns::Packet;
+use std::alloc::Global;
+use std::fmt::Write;
+use std::process::Abort;
+
+// The message of RFC 1035 section 4.1.4: F.ISI.ARPA at 20, FOO.F.ISI.ARPA at 40, ARPA at 64, the root at 92.
+const FOUR_NAMES: [u8; 93] = [
+    0, 0, 0, 0, 0, 0, 0, 0, 0, 0, 0, 0, 0, 0, 0, 0, 0, 0, 0, 0, 0x01, 0x46, 0x03, 0x49, 0x53, 0x49,
+    0x04, 0x41, 0x52, 0x50, 0x41, 0, 0, 0, 0, 0, 0, 0, 0, 0, 0x03, 0x46, 0x4f, 0x4f, 0xc0, 0x14, 0,
+    0, 0, 0, 0, 0, 0, 0, 0, 0, 0, 0, 0, 0, 0, 0, 0, 0, 0xc0, 0x1a, 0, 0, 0, 0, 0, 0, 0, 0, 0, 0, 0,
+    0, 0, 0, 0, 0, 0, 0, 0, 0, 0, 0, 0, 0, 0, 0, 0,
+];
+
+// The octets of the name of a text, none where it is refused.
+fn octets_are(rt: &impl Abort, text: &[u8], octets: Option<&[u8]>) {
+    match Name::from_text(text) {
+        Ok(name) => same_of(rt, text, Some(name.octets()), octets),
+        Err(_) => same_of(rt, text, None, octets),
+    }
+}
+
+// The text of the name at a place of a message, none where it is refused.
+fn text_is(rt: &impl Abort, alloc: Global, message: &[u8], place: usize, text: Option<&str>) {
+    let bytes = message.get(place..).unwrap_or(&[]);
+    match (Name::read(&Packet::new_unchecked(message), bytes), text) {
+        (Ok(name), Some(text)) => prints(rt, alloc, &name, text),
+        (read, text) => same_of(rt, place, read.is_ok(), text.is_some()),
+    }
+}
+
+#[test]
+fn names_of_a_message(rt: HostRuntime) {
+    const ROWS: &[(usize, Option<&str>)] = &[
+        (20, Some("F.ISI.ARPA")),
+        (22, Some("ISI.ARPA")),
+        (40, Some("FOO.F.ISI.ARPA")),
+        (64, Some("ARPA")),
+        (92, Some(".")),
+        (93, None),
+        (21, None),
+    ];
+    for &(place, text) in ROWS {
+        text_is(&rt, rt.alloc(), &FOUR_NAMES, place, text);
+    }
+}
+
+#[test]
+fn names_of_texts(rt: HostRuntime) {
+    // Names of RFC 1035 sections 4.1.4 and 8, and of RFC 4343 section 2.1.
+    const ROWS: &[(&[u8], &[u8])] = &[
+        (b".", b"\0"),
+        (b"F.ISI.ARPA", b"\x01F\x03ISI\x04ARPA\0"),
+        (b"F.ISI.ARPA.", b"\x01F\x03ISI\x04ARPA\0"),
+        (
+            b"Action\\.domains.ISI.EDU",
+            b"\x0eAction.domains\x03ISI\x03EDU\0",
+        ),
+        (
+            b"Donald\\032E\\.\\032Eastlake\\0323rd.example",
+            b"\x16Donald E. Eastlake 3rd\x07example\0",
+        ),
+        (b"a\\000\\\\\\255z.example", b"\x05a\0\\\xffz\x07example\0"),
+        (b"\\a\\.\\065", b"\x03a.A\0"),
+    ];
+    for &(text, octets) in ROWS {
+        octets_are(&rt, text, Some(octets));
+    }
+}
+
+#[test]
+fn texts_that_are_no_names(rt: HostRuntime) {
+    const ROWS: &[&[u8]] = &[
+        b"", b"..", b".a", b"a..", b"a..b", b"a b", b"a\\", b"\\25", b"\\256", b"\\1a0", b"\\ ",
+        b"a@b", b"a(b", b"a\"b", b"\xe9", b"a\n", b"a;", b"$",
+    ];
+    for &text in ROWS {
+        octets_are(&rt, text, None);
+    }
+}
+
+// Labels of 63 bytes, so many, and then the rest.
+fn long_name(labels: usize, rest: &str) -> ArrayString<300> {
+    let mut text = ArrayString::new();
+    for _ in 0..labels {
+        let _ = text.try_push_str(
+            "a23456789b23456789c23456789d23456789e23456789f23456789g23456789.",
+        );
+    }
+    let _ = text.try_push_str(rest);
+    text
+}
+
+#[test]
+fn names_of_255_octets_and_labels_of_63_bytes_at_the_most(rt: HostRuntime) {
+    // How many labels of 63 bytes, what stands behind them, and how many octets the name has.
+    const ROWS: &[(usize, &str, Option<usize>)] = &[
+        (1, "a", Some(67)),
+        (1, "", Some(65)),
+        (
+            3,
+            "a23456789b23456789c23456789d23456789e23456789f23456789g234567",
+            Some(255),
+        ),
+        (
+            3,
+            "a23456789b23456789c23456789d23456789e23456789f23456789g2345678",
+            None,
+        ),
+        (4, "", None),
+        (
+            0,
+            "a23456789b23456789c23456789d23456789e23456789f23456789g23456789h",
+            None,
+        ),
+    ];
+    for &(labels, rest, octets) in ROWS {
+        let text = long_name(labels, rest);
+        let len = match Name::from_text(text.as_str().as_bytes()) {
+            Ok(name) => Some(name.octets().len()),
+            Err(_) => None,
+        };
+        same_of(&rt, rest, len, octets);
+    }
+}
+
+// Ends the test unless the name of the first text prints the second, in so many writes.
+fn check_text(rt: &impl Abort, alloc: Global, text: &[u8], printed: &str, writes: u32) {
+    match Name::from_text(text) {
+        Ok(name) => {
+            prints(rt, alloc, &name, printed);
+            takes_writes(rt, &name, writes);
+        }
+        Err(_) => same(rt, "a name", "a refusal"),
+    }
+}
+
+#[test]
+fn texts_of_names(rt: HostRuntime) {
+    const ROWS: &[(&[u8], &str, u32)] = &[
+        (b".", ".", 1),
+        (b"isi.edu.", "isi.edu", 7),
+        (b"Action\\.domains.ISI.EDU", "Action\\.domains.ISI.EDU", 23),
+        (b"\\a\\032\\.\\065", "a\\032\\.A", 8),
+        (
+            b"\\000\\255.\\\\\\\"\\$\\(\\)\\;\\@",
+            "\\000\\255.\\\\\\\"\\$\\(\\)\\;\\@",
+            23,
+        ),
+        (b"\\033\\126\\127.a-_b", "!~\\127.a-_b", 11),
+    ];
+    for &(text, printed, writes) in ROWS {
+        check_text(&rt, rt.alloc(), text, printed, writes);
+    }
+}
+
+#[test]
+fn text_into_a_buffer_of_a_fixed_size(rt: HostRuntime) {
+    let mut text: ArrayString<1016> = ArrayString::new();
+    let written = match Name::from_text(b"www.Example.com.") {
+        Ok(name) => write!(text, "{name}").is_ok(),
+        Err(_) => false,
+    };
+    same(&rt, written, true);
+    same(&rt, text.as_str(), "www.Example.com");
+}

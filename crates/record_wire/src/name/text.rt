@@ -1,0 +1,183 @@
+//! The characters and the labels of a name's text (RFC 1035 section 5.1).
+
+ghost use Rattle.std.specs.Prelude.{◌≡◌, ◌↔◌, ◌≤◌, ◌<◌, ◌-◌, ◌∷◌, ℕ, List, length, codes};
+ghost use Rattle.std.specs.Prelude.{IfOk, IsOk, IsOkAnd, IsTrue};
+ghost use Rattle.std.specs.Char.{is_ascii_digit};
+ghost use Rattle.record_wire.specs.NameReading.{first_byte, quoted_in, numbered_at, seen_byte, IsSpelling};
+ghost use Rattle.record_wire.specs.NameReading.{AreSpelled, seen_behind, behind_in};
+ghost use Rattle.record_wire.specs.Labels.{written_all};
+ghost use Rattle.record_wire.specs.NameText.{is_special, IsNameText};
+
+use crate::name::MAX_NAME_LEN;
+use crate::name::label::{MAX_LABEL_LEN, push_label};
+use arrayvec::ArrayVec;
+use std::fmt;
+use wirebase::{Error, Result};
+
+/// Whether this is the text of the root, a dot alone.
+pub(super) fn is_root(text: &[u8]) -> bool
+    ensures { IsTrue result ↔ (text.now ≡ codes ".") }
+{
+    matches!(text, [b'.'])
+}
+
+/// The octets of the labels of a text, with dots between them and a last dot allowed. Refused where the text is none,
+/// where a label is empty or has more than 63 bytes, and where they have more than 255 octets.
+pub(super) fn read_labels(text: &[u8]) -> Result<ArrayVec<u8, MAX_NAME_LEN>>
+    ensures sound { IfOk result (λ octets. AreSpelled text.now octets.items) }
+    ensures complete { (label : List ℕ) (labels : List (List ℕ)) → IsNameText text.now (label ∷ labels)
+        → IsOkAnd result (λ octets. octets.items ≡ written_all (label ∷ labels)) }
+{
+    let mut octets = ArrayVec::new();
+    let mut left = text;
+    loop {
+        let (label, rest) = read_label(left)?;
+        push_label(&mut octets, label.as_slice())?;
+        match read_behind(rest) {
+            Behind::End => return Ok(octets),
+            Behind::Label(next) => left = next,
+            Behind::Other => return Err(Error),
+        }
+    }
+}
+
+/// What stands behind the text of a label.
+#[derive(Clone, Copy)]
+pub(super) enum Behind<'a> {
+    /// The end, or a last dot.
+    End,
+    /// A dot, and then this text.
+    Label(&'a [u8]),
+    /// Something else.
+    Other,
+}
+
+// What stands behind the text of a label.
+fn read_behind(text: &[u8]) -> Behind<'_>
+    ensures { seen_behind result ≡ behind_in text.now }
+{
+    match text {
+        [] => Behind::End,
+        [b'.'] => Behind::End,
+        [b'.', next @ ..] => Behind::Label(next),
+        _ => Behind::Other,
+    }
+}
+
+// Reads a label's text, up to where no more characters stand, and gives what stands there. Refused where the label
+// would be empty or has more than 63 bytes.
+fn read_label(text: &[u8]) -> Result<(ArrayVec<u8, MAX_LABEL_LEN>, &[u8])>
+    ensures sound { IfOk result (λ read. IsSpelling text.now read.0.items read.1.now) }
+    ensures some { IfOk result (λ read. 1 ≤ length read.0.items) }
+    ensures few { IfOk result (λ read. length read.0.items ≤ 63) }
+    ensures complete { (label rest : List ℕ) → IsSpelling text.now label rest → 1 ≤ length label
+        → length label ≤ 63 → IsOk result }
+{
+    let mut label = ArrayVec::new();
+    let mut left = text;
+    while let Some((byte, rest)) = read_byte(left) {
+        if label.try_push(byte).is_err() {
+            return Err(Error);
+        }
+        left = rest;
+    }
+    if label.is_empty() {
+        return Err(Error);
+    }
+    Ok((label, left))
+}
+
+// The byte that the first character of a text stands for, and what stands behind the character.
+fn read_byte(text: &[u8]) -> Option<(u8, &[u8])>
+    ensures { seen_byte result ≡ first_byte text.now }
+{
+    match text {
+        [b'\\', rest @ ..] => read_quoted(rest),
+        [byte, rest @ ..] if byte.is_ascii_graphic() && !is_special(*byte) => Some((*byte, rest)),
+        _ => None,
+    }
+}
+
+// The same of what stands behind a backslash.
+fn read_quoted(text: &[u8]) -> Option<(u8, &[u8])>
+    ensures { seen_byte result ≡ quoted_in text.now }
+{
+    match text {
+        [digit, rest @ ..] if digit.is_ascii_digit() => read_number(*digit, rest),
+        [byte, rest @ ..] if byte.is_ascii_graphic() => Some((*byte, rest)),
+        _ => None,
+    }
+}
+
+// The same of what stands behind the first of three digits.
+fn read_number(first: u8, text: &[u8]) -> Option<(u8, &[u8])>
+    requires { IsTrue (is_ascii_digit first) }
+    ensures { seen_byte result ≡ numbered_at first text.now }
+{
+    match text {
+        [second, third, rest @ ..] if second.is_ascii_digit() && third.is_ascii_digit() => {
+            let number = 100 * digit_value(first) + 10 * digit_value(*second) + digit_value(*third);
+            match u8::try_from(number) {
+                Ok(byte) => Some((byte, rest)),
+                Err(_) => None,
+            }
+        }
+        _ => None,
+    }
+}
+
+// The value of a digit.
+fn digit_value(digit: u8) -> u16
+    requires { IsTrue (is_ascii_digit digit) }
+    ensures value { result ≡ digit - 48 }
+    ensures small { result < 10 }
+{
+    (digit - b'0') as u16
+}
+
+// Whether a byte has a meaning of its own in a zone file.
+fn is_special(byte: u8) -> bool
+    ensures { result ≡ is_special byte }
+{
+    matches!(byte, b'"' | b'$' | b'(' | b')' | b'.' | b';' | b'@' | b'\\')
+}
+
+/// The text of a label.
+#[derive(Drop)]
+pub(super) struct LabelText<'a>(pub(super) &'a [u8]);
+
+impl fmt::Display for LabelText<'_> {
+    ghost use Rattle.std.specs.Prelude.{Some};
+    ghost use Rattle.record_wire.specs.NameText.{label_text};
+
+    ghost output = { λ label. Some (label_text label.0.now) };
+
+    fn fmt<W: fmt::Write>(&self, f: &mut fmt::Formatter<W>) -> fmt::Result {
+        for byte in self.0 {
+            write!(f, "{}", Character(*byte))?;
+        }
+        Ok(())
+    }
+}
+
+// The character that a byte is written as.
+#[derive(Drop)]
+struct Character(u8);
+
+impl fmt::Display for Character {
+    ghost use Rattle.std.specs.Prelude.{Some};
+    ghost use Rattle.record_wire.specs.NameText.{character};
+
+    ghost output = { λ byte. Some (character byte.0) };
+
+    fn fmt<W: fmt::Write>(&self, f: &mut fmt::Formatter<W>) -> fmt::Result {
+        let byte = self.0;
+        if is_special(byte) {
+            write!(f, "\\{}", char::from(byte))
+        } else if byte.is_ascii_graphic() {
+            write!(f, "{}", char::from(byte))
+        } else {
+            write!(f, "\\{}{}{}", byte / 100, byte / 10 % 10, byte % 10)
+        }
+    }
+}

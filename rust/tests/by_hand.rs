@@ -1,0 +1,152 @@
+//! What stands beside the proved text: conversions, order, hashes, errors, and views over what lends a slice.
+
+use control_wire::icmpv4::{Packet, Repr};
+use control_wire::{
+    ChecksumCapabilities, Duration, Error, EthernetAddress, Ipv4Address, Ipv6Address,
+    RawHardwareAddress, dns, ndisc,
+};
+use std::collections::HashSet;
+use std::hash::{BuildHasher, RandomState};
+use std::net::{Ipv4Addr, Ipv6Addr};
+
+const ECHO: [u8; 12] = [
+    0x08, 0x00, 0x8e, 0xfe, 0x12, 0x34, 0xab, 0xcd, 0xaa, 0x00, 0x00, 0xff,
+];
+
+#[test]
+fn addresses_of_ipv4_convert_both_ways() {
+    let ours = Ipv4Address::new(192, 0, 2, 1);
+    let theirs = Ipv4Addr::new(192, 0, 2, 1);
+    assert_eq!(Ipv4Addr::from(ours), theirs);
+    assert_eq!(Ipv4Address::from(theirs), ours);
+    assert_eq!(ours.to_string(), theirs.to_string());
+}
+
+#[test]
+fn addresses_of_ipv6_convert_both_ways() {
+    let ours = Ipv6Address::new(0xfe80, 0, 0, 0, 0x5054, 0xff, 0xfe12, 0x3456);
+    let theirs = Ipv6Addr::new(0xfe80, 0, 0, 0, 0x5054, 0xff, 0xfe12, 0x3456);
+    assert_eq!(Ipv6Addr::from(ours), theirs);
+    assert_eq!(Ipv6Address::from(theirs), ours);
+    assert_eq!(ours.to_string(), theirs.to_string());
+}
+
+// All patterns of zero groups, against std's own text, which has a dotted part for some that begin with zeros.
+#[test]
+fn addresses_of_ipv6_print_as_those_of_std_but_for_a_dotted_part() {
+    for pattern in 0..256_u16 {
+        let groups: [u16; 8] = std::array::from_fn(|i| (pattern >> i & 1) * (0xa0 + i as u16));
+        let address = Ipv6Addr::from(groups);
+        let text = Ipv6Address::from(address).to_string();
+        assert_eq!(text.parse(), Ok(address));
+        if !address.to_string().contains('.') {
+            assert_eq!(text, address.to_string());
+        }
+    }
+    let mapped = Ipv6Address::new(0, 0, 0, 0, 0, 0xffff, 0x0102, 0x0304);
+    assert_eq!(mapped.to_string(), "::ffff:102:304");
+}
+
+#[test]
+fn durations_become_those_of_core() {
+    let micros = std::time::Duration::from_micros(u64::MAX);
+    assert_eq!(
+        std::time::Duration::from(Duration::from_micros(u64::MAX)),
+        micros
+    );
+}
+
+#[test]
+fn addresses_have_the_order_of_their_octets() {
+    let mut addresses = [
+        Ipv4Address::new(10, 0, 1, 0),
+        Ipv4Address::new(9, 255, 255, 255),
+        Ipv4Address::new(10, 0, 0, 255),
+    ];
+    addresses.sort();
+    assert_eq!(addresses.map(|address| address.octets()[0]), [9, 10, 10]);
+    assert_eq!(addresses[1].octets()[3], 255);
+    assert!(
+        Ipv6Address::new(0xfe80, 0, 0, 0, 0, 0, 0, 2)
+            > Ipv6Address::new(0xfe80, 0, 0, 0, 0, 0, 0, 1)
+    );
+    assert!(EthernetAddress([2, 0, 0, 0, 0, 1]) < EthernetAddress([2, 0, 0, 0, 1, 0]));
+    assert!(RawHardwareAddress::from_bytes(&[1]) < RawHardwareAddress::from_bytes(&[1, 0]));
+}
+
+#[test]
+fn equal_addresses_have_equal_hashes() {
+    let state = RandomState::new();
+    let short = RawHardwareAddress::from_bytes(&[1, 2]);
+    assert_eq!(
+        state.hash_one(short),
+        state.hash_one(RawHardwareAddress::from_bytes(&[1, 2]))
+    );
+    let octets = [0x02, 0, 0, 0, 0, 1];
+    let held: HashSet<EthernetAddress> = [EthernetAddress(octets), EthernetAddress(octets)].into();
+    assert_eq!(held.len(), 1);
+    let held: HashSet<Ipv6Address> =
+        [Ipv6Address::UNSPECIFIED, Ipv6Address::from_octets([0; 16])].into();
+    assert_eq!(held.len(), 1);
+    assert_eq!(
+        state.hash_one(Ipv4Address::UNSPECIFIED),
+        state.hash_one(Ipv4Address::from_octets([0; 4]))
+    );
+}
+
+#[test]
+fn an_error_is_an_error() -> Result<(), Box<dyn std::error::Error>> {
+    let boxed: Box<dyn std::error::Error> = Error.into();
+    assert_eq!(boxed.to_string(), "wire::Error");
+    Packet::new_checked(&ECHO)?;
+    Ok(())
+}
+
+// One value, whatever lends its octets.
+#[test]
+fn views_over_what_lends_a_slice() {
+    fn ident<T: AsRef<[u8]> + ?Sized>(octets: &T) -> Option<u16> {
+        let packet = Packet::new_checked(octets).ok()?;
+        let caps = ChecksumCapabilities::default();
+        match Repr::parse(&packet, &caps).ok()? {
+            Repr::EchoRequest { ident, data, .. } if data == packet.data() => Some(ident),
+            _ => None,
+        }
+    }
+    assert_eq!(ident(&ECHO), Some(0x1234));
+    assert_eq!(ident(&ECHO[..]), Some(0x1234));
+    assert_eq!(ident(&Vec::from(ECHO)), Some(0x1234));
+    assert_eq!(ident(&Box::<[u8]>::from(ECHO)), Some(0x1234));
+    assert_eq!(ident(&arrayvec::ArrayVec::from(ECHO)), Some(0x1234));
+    assert_eq!(Packet::new_unchecked(ECHO).echo_seq_no(), 0xabcd);
+    assert_eq!(Packet::new_unchecked(Vec::from(ECHO)).into_inner(), ECHO);
+}
+
+#[test]
+fn views_over_what_lends_a_slice_for_writing() {
+    let mut array = Packet::new_unchecked(ECHO);
+    array.set_echo_ident(0x4321);
+    array.fill_checksum();
+    let mut vector = Packet::new_unchecked(Vec::from(ECHO));
+    vector.set_echo_ident(0x4321);
+    vector.fill_checksum();
+    let mut octets = ECHO;
+    let mut slice = Packet::new_unchecked(&mut octets[..]);
+    slice.set_echo_ident(0x4321);
+    slice.fill_checksum();
+    assert!(array.verify_checksum() && vector.verify_checksum());
+    assert_eq!(array.into_inner(), octets);
+    assert_eq!(vector.into_inner(), octets);
+}
+
+#[test]
+fn sets_of_flags_have_the_calls_of_bitflags() {
+    let mut flags = ndisc::NeighborFlags::SOLICITED;
+    flags |= ndisc::NeighborFlags::OVERRIDE;
+    assert!(flags.contains(ndisc::NeighborFlags::OVERRIDE) && !flags.is_all());
+    assert_eq!(format!("{flags:?}"), "NeighborFlags(SOLICITED | OVERRIDE)");
+    assert_eq!(format!("{flags:#x}"), "0x60");
+    assert_eq!(flags.iter().count(), 2);
+    assert_eq!(dns::Flags::all().bits(), 0x87b0);
+    assert_eq!(!dns::Flags::empty(), dns::Flags::all());
+}
