@@ -24,7 +24,6 @@ pub(super) struct Found<'a> {
 
 impl<'a> Found<'a> {
     // What the options of a payload say. Refused where it isn't blocks one after another.
-    #[inline(always)]
     pub(super) fn read(payload: &'a [u8]) -> Result<Found<'a>>
         ensures sound { IfOk result (λ found. Says payload.now (kept_of found)) }
         ensures reads { (options : List OptionValue) → AreBlocks payload.now options
@@ -41,7 +40,6 @@ impl<'a> Found<'a> {
     }
 
     // No option was seen.
-    #[inline(always)]
     fn nothing() -> Found<'a>
         ensures { kept_of result ≡ nothing }
     {
@@ -55,7 +53,6 @@ impl<'a> Found<'a> {
     }
 
     // The option in one more block, if there is one.
-    #[inline(always)]
     fn note_block(&mut self, block: &'a [u8])
         ensures { Notes block.now (kept_of self.old) (kept_of self.new) }
     {
@@ -66,7 +63,6 @@ impl<'a> Found<'a> {
     }
 
     // One more option.
-    #[inline(always)]
     fn note(&mut self, option: &ndiscoption::Repr<'a>)
         ensures { kept_of self.new ≡ keep (kept_of self.old) (value_of option.now) }
     {
@@ -82,7 +78,6 @@ impl<'a> Found<'a> {
 }
 
 // The block at the front, and what stands behind it. Refused where the octets don't begin with a block.
-#[inline(always)]
 fn split_block(octets: &[u8]) -> Result<(&[u8], &[u8])>
     ensures sound { IfOk result (λ parts. IsBlock parts.0.now
         × (octets.now ≡ parts.0.now ++ parts.1.now)) }

@@ -104,7 +104,6 @@ impl<'a> Repr<'a> {
     }
 
     // The message in the octets.
-    #[inline(always)]
     fn read(packet: &Packet<&'a [u8]>) -> Result<Repr<'a>>
         ensures sound { IfOk result (λ repr. IsMessage (view_octets packet.now) (value_of repr)) }
         ensures reads { (value : NdiscValue) → IsMessage (view_octets packet.now) value
@@ -118,7 +117,6 @@ impl<'a> Repr<'a> {
     }
 
     // The message in octets that begin with a whole header, whose options say this.
-    #[inline(always)]
     fn read_content(packet: &Packet<&'a [u8]>, found: &Found<'a>) -> Result<Repr<'a>>
         requires whole { BeginsWhole (view_octets packet.now) }
         requires says { Says (payload_in (view_octets packet.now)) (kept_of found.now) }
@@ -127,38 +125,26 @@ impl<'a> Repr<'a> {
             → IsOk result }
     {
         match packet.msg_type() {
-            Message::RouterSolicit => {
-                return Ok(Repr::RouterSolicit {
-                    lladdr: found.source,
-                });
-            }
-            Message::RouterAdvert => {
-                return Ok(read_router_advert(packet, found));
-            }
-            Message::NeighborSolicit => {
-                return Ok(Repr::NeighborSolicit {
-                    target_addr: packet.target_addr(),
-                    lladdr: found.source,
-                });
-            }
-            Message::NeighborAdvert => {
-                return Ok(Repr::NeighborAdvert {
-                    flags: packet.neighbor_flags(),
-                    target_addr: packet.target_addr(),
-                    lladdr: found.target,
-                });
-            }
-            Message::Redirect => {
-                return Ok(Repr::Redirect {
-                    target_addr: packet.target_addr(),
-                    dest_addr: packet.dest_addr(),
-                    lladdr: found.target,
-                    redirected_hdr: found.redirected_hdr,
-                });
-            }
-            _ => {
-                return Err(Error);
-            }
+            Message::RouterSolicit => Ok(Repr::RouterSolicit {
+                lladdr: found.source,
+            }),
+            Message::RouterAdvert => Ok(read_router_advert(packet, found)),
+            Message::NeighborSolicit => Ok(Repr::NeighborSolicit {
+                target_addr: packet.target_addr(),
+                lladdr: found.source,
+            }),
+            Message::NeighborAdvert => Ok(Repr::NeighborAdvert {
+                flags: packet.neighbor_flags(),
+                target_addr: packet.target_addr(),
+                lladdr: found.target,
+            }),
+            Message::Redirect => Ok(Repr::Redirect {
+                target_addr: packet.target_addr(),
+                dest_addr: packet.dest_addr(),
+                lladdr: found.target,
+                redirected_hdr: found.redirected_hdr,
+            }),
+            _ => Err(Error),
         }
     }
 
@@ -322,7 +308,6 @@ impl<'a> Repr<'a> {
 }
 
 // The router advertisement in octets of that type, whose options say this.
-#[inline(always)]
 fn read_router_advert<'a>(packet: &Packet<&'a [u8]>, found: &Found<'a>) -> Repr<'a>
     requires whole { BeginsWhole (view_octets packet.now) }
     requires kind { byte_of type_field (view_octets packet.now) ≡ 0x86 }
