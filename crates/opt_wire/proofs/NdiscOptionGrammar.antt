@@ -1,5 +1,5 @@
 -- Blocks of neighbor discovery options against what is read in them: bytes begin with one option at the most.
-use Rattle.std.proofs.Common.{◌≡◌, ◌≢◌, ℕ, List, refl, sym, ap, ◌∙◌, arith}
+use Rattle.std.proofs.Common.{◌≡◌, ℕ, List, refl, sym, ap, ◌∙◌, arith}
 use Rattle.std.specs.Prelude.{Result, Ok, Err}
 use Rattle.std.specs.Result.{IfOk, IsOkAnd, IsErr}
 use Rattle.wirebase.specs.Bytes.{byte_of, bytes_of}
@@ -10,7 +10,7 @@ use Rattle.wirebase.specs.declared.ipv6.Ipv6Repr.{Ipv6Repr}
 use Rattle.wirebase.proofs.Durations.{same_duration}
 use Rattle.wirebase.proofs.Numbered.{number-case_in}
 use Rattle.wirebase.proofs.Ipv6Header.{same_address, one_header}
-use Rattle.opt_wire.specs.NdiscOption.{type_field, units_in, redirected_field}
+use Rattle.opt_wire.specs.NdiscOption.{type_field, redirected_field}
 use Rattle.opt_wire.specs.NdiscOptionTables.{type_number, types, type_of}
 use Rattle.opt_wire.specs.NdiscOptionRepr.{OptionValue, source, target, prefix_, redirected, mtu, unknown, IsPrefix}
 use Rattle.opt_wire.specs.NdiscOptionRepr.{IsRedirected, IsReading, BeginsWith, value_of}
@@ -103,20 +103,6 @@ packet-reading bytes four none (redirected h d) b = none h b.packet
 packet-reading bytes four none (mtu n) b = omega (arith, four, b.kind)
 packet-reading bytes four none (unknown t n d) b = b.unnamed.3 (sym b.kind ∙ four)
 
--- a prefix counts 4 units, and an MTU 1
-units-reading : (bytes : List ℕ) (v : OptionValue) → IsReading bytes v
-    → (byte_of type_field bytes ≡ 3 → units_in bytes ≡ 4) × (byte_of type_field bytes ≡ 5 → units_in bytes ≡ 1)
-units-reading bytes (source address) b =
-    (λ e. absurd (omega (arith, e, b.kind)), λ e. absurd (omega (arith, e, b.kind)))
-units-reading bytes (target address) b =
-    (λ e. absurd (omega (arith, e, b.kind)), λ e. absurd (omega (arith, e, b.kind)))
-units-reading bytes (prefix_ p) b = (λ e. b.count, λ e. absurd (omega (arith, e, b.kind)))
-units-reading bytes (redirected h d) b =
-    (λ e. absurd (omega (arith, e, b.kind)), λ e. absurd (omega (arith, e, b.kind)))
-units-reading bytes (mtu n) b = (λ e. absurd (omega (arith, e, b.kind)), λ e. b.count)
-units-reading bytes (unknown t n d) b =
-    (λ e. absurd (b.unnamed.2 (sym b.kind ∙ e)), λ e. absurd (b.unnamed.4 (sym b.kind ∙ e)))
-
 pub one_option : (bytes : List ℕ) (v w : OptionValue) → BeginsWith bytes v → BeginsWith bytes w → v ≡ w
 one_option bytes v w a b =
     same_reading bytes v w a.reading b.reading (sym (type-reading bytes v a.reading) ∙ type-reading bytes w b.reading)
@@ -129,19 +115,6 @@ unfolding number_of_type
 redirected-packet bytes is none v b =
     let number = number-case_in type_number kind.Unknown (λ k. refl) types (byte_of type_field bytes) in
     packet-reading bytes (sym number ∙ ap type_number is) none v b.reading
-
--- a prefix that counts other than 4 units, and an MTU that counts other than 1, are read as nothing
-pub prefix-units : (bytes : List ℕ) → type_of (byte_of type_field bytes) ≡ kind.PrefixInformation → units_in bytes ≢ 4
-    → (v : OptionValue) → BeginsWith bytes v → ⊥
-prefix-units bytes is other v b =
-    let number = number-case_in type_number kind.Unknown (λ k. refl) types (byte_of type_field bytes) in
-    other ((units-reading bytes v b.reading).0 (sym number ∙ ap type_number is))
-
-pub mtu-units : (bytes : List ℕ) → type_of (byte_of type_field bytes) ≡ kind.Mtu → units_in bytes ≢ 1
-    → (v : OptionValue) → BeginsWith bytes v → ⊥
-mtu-units bytes is other v b =
-    let number = number-case_in type_number kind.Unknown (λ k. refl) types (byte_of type_field bytes) in
-    other ((units-reading bytes v b.reading).1 (sym number ∙ ap type_number is))
 
 -- what answers soundly, and refuses only what is nothing, is complete
 pub complete : {E : Type 0} (result : Result Repr E) (bytes : List ℕ) → IfOk result (λ r. BeginsWith bytes (value_of r))

@@ -26,16 +26,30 @@ pub(super) fn read_error<'a>(packet: &Packet<&'a [u8]>) -> Result<Repr<'a>>
     if payload.len() < IPV6_HEADER_LEN {
         return Err(Error);
     }
-    match (packet.msg_type(), packet.msg_code()) {
-        (Message::DstUnreachable, _) => Ok(read_unreachable(packet)),
-        (Message::PktTooBig, 0) => Ok(read_too_big(packet)),
-        (Message::TimeExceeded, _) => Ok(read_time_exceeded(packet)),
-        (Message::ParamProblem, _) => Ok(read_param_problem(packet)),
-        _ => Err(Error),
+    match packet.msg_type() {
+        Message::DstUnreachable => {
+            return Ok(read_unreachable(packet));
+        }
+        Message::PktTooBig => {
+            if packet.msg_code() != 0 {
+                return Err(Error);
+            }
+            return Ok(read_too_big(packet));
+        }
+        Message::TimeExceeded => {
+            return Ok(read_time_exceeded(packet));
+        }
+        Message::ParamProblem => {
+            return Ok(read_param_problem(packet));
+        }
+        _ => {
+            return Err(Error);
+        }
     }
 }
 
 // The error of an unreachable destination in octets of that type that hold a quoted header.
+#[inline(always)]
 fn read_unreachable<'a>(packet: &Packet<&'a [u8]>) -> Repr<'a>
     requires kind { byte_of type_field (view_octets packet.now) ≡ 1 }
     requires quote_ { 48 ≤ length (view_octets packet.now) }
@@ -50,6 +64,7 @@ fn read_unreachable<'a>(packet: &Packet<&'a [u8]>) -> Repr<'a>
 }
 
 // The same of a packet that is too big, whose code is 0.
+#[inline(always)]
 fn read_too_big<'a>(packet: &Packet<&'a [u8]>) -> Repr<'a>
     requires kind { byte_of type_field (view_octets packet.now) ≡ 2 }
     requires code { byte_of code_field (view_octets packet.now) ≡ 0 }
@@ -65,6 +80,7 @@ fn read_too_big<'a>(packet: &Packet<&'a [u8]>) -> Repr<'a>
 }
 
 // The same of a time that was exceeded.
+#[inline(always)]
 fn read_time_exceeded<'a>(packet: &Packet<&'a [u8]>) -> Repr<'a>
     requires kind { byte_of type_field (view_octets packet.now) ≡ 3 }
     requires quote_ { 48 ≤ length (view_octets packet.now) }
@@ -79,6 +95,7 @@ fn read_time_exceeded<'a>(packet: &Packet<&'a [u8]>) -> Repr<'a>
 }
 
 // The same of a parameter problem.
+#[inline(always)]
 fn read_param_problem<'a>(packet: &Packet<&'a [u8]>) -> Repr<'a>
     requires kind { byte_of type_field (view_octets packet.now) ≡ 4 }
     requires quote_ { 48 ≤ length (view_octets packet.now) }
@@ -94,6 +111,7 @@ fn read_param_problem<'a>(packet: &Packet<&'a [u8]>) -> Repr<'a>
 }
 
 // The echo request in octets of that type and of code 0.
+#[inline(always)]
 pub(super) fn read_echo_request<'a>(packet: &Packet<&'a [u8]>) -> Repr<'a>
     requires whole { BeginsWhole (view_octets packet.now) }
     requires kind { byte_of type_field (view_octets packet.now) ≡ 0x80 }
@@ -108,6 +126,7 @@ pub(super) fn read_echo_request<'a>(packet: &Packet<&'a [u8]>) -> Repr<'a>
 }
 
 // The same of an echo reply.
+#[inline(always)]
 pub(super) fn read_echo_reply<'a>(packet: &Packet<&'a [u8]>) -> Repr<'a>
     requires whole { BeginsWhole (view_octets packet.now) }
     requires kind { byte_of type_field (view_octets packet.now) ≡ 0x81 }
@@ -122,6 +141,7 @@ pub(super) fn read_echo_reply<'a>(packet: &Packet<&'a [u8]>) -> Repr<'a>
 }
 
 // The message of multicast listener discovery in octets of code 0.
+#[inline(always)]
 pub(super) fn read_listener<'a>(packet: &Packet<&'a [u8]>) -> Result<Repr<'a>>
     requires kind { is_mld (message_in (view_octets packet.now)) ≡ true }
     requires code { byte_of code_field (view_octets packet.now) ≡ 0 }
@@ -130,12 +150,17 @@ pub(super) fn read_listener<'a>(packet: &Packet<&'a [u8]>) -> Result<Repr<'a>>
         → IsOk result }
 {
     match mld::Repr::parse(packet) {
-        Ok(message) => Ok(Repr::Mld(message)),
-        Err(_) => Err(Error),
+        Ok(message) => {
+            return Ok(Repr::Mld(message));
+        }
+        Err(_) => {
+            return Err(Error);
+        }
     }
 }
 
 // The message of neighbor discovery in octets of such a type and of code 0.
+#[inline(always)]
 pub(super) fn read_neighbor<'a>(packet: &Packet<&'a [u8]>) -> Result<Repr<'a>>
     requires kind { is_ndisc (message_in (view_octets packet.now)) ≡ true }
     requires code { byte_of code_field (view_octets packet.now) ≡ 0 }
@@ -144,7 +169,11 @@ pub(super) fn read_neighbor<'a>(packet: &Packet<&'a [u8]>) -> Result<Repr<'a>>
         → IsOk result }
 {
     match ndisc::Repr::parse(packet) {
-        Ok(message) => Ok(Repr::Ndisc(message)),
-        Err(_) => Err(Error),
+        Ok(message) => {
+            return Ok(Repr::Ndisc(message));
+        }
+        Err(_) => {
+            return Err(Error);
+        }
     }
 }

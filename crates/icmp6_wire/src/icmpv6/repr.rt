@@ -121,6 +121,7 @@ impl<'a> Repr<'a> {
     }
 
     // The message in the octets.
+    #[inline(always)]
     fn read(
         src_addr: &Ipv6Address,
         dst_addr: &Ipv6Address,
@@ -141,6 +142,7 @@ impl<'a> Repr<'a> {
     }
 
     // The message in octets that begin with a whole header, whatever their checksum.
+    #[inline(always)]
     fn read_content(packet: &Packet<&'a [u8]>) -> Result<Repr<'a>>
         requires { BeginsWhole (view_octets packet.now) }
         ensures sound { IfOk result (λ repr. IsContent (view_octets packet.now) (value_of repr)) }
@@ -154,12 +156,23 @@ impl<'a> Repr<'a> {
         if packet.msg_code() != 0 {
             return Err(Error);
         }
+        // A return in each arm: the value is then written once, where the caller has room for it.
         match kind {
-            Message::EchoRequest => Ok(read_echo_request(packet)),
-            Message::EchoReply => Ok(read_echo_reply(packet)),
-            _ if kind.is_mld() => read_listener(packet),
-            _ if kind.is_ndisc() => read_neighbor(packet),
-            _ => Err(Error),
+            Message::EchoRequest => {
+                return Ok(read_echo_request(packet));
+            }
+            Message::EchoReply => {
+                return Ok(read_echo_reply(packet));
+            }
+            _ if kind.is_mld() => {
+                return read_listener(packet);
+            }
+            _ if kind.is_ndisc() => {
+                return read_neighbor(packet);
+            }
+            _ => {
+                return Err(Error);
+            }
         }
     }
 
