@@ -66,9 +66,10 @@ fn check_front(rt: &impl Abort, list: &[AddressRecordRepr<'_>], wanted: &[u8])
         → CanEmit (records (values_of list.now)) bytes }
     requires short { length wanted.now ≤ 64 }
 {
+    let report = Repr::ReportRecordReprs(list);
     for &fill in FILLS {
         let mut octets = [fill; 64];
-        Repr::ReportRecordReprs(list).emit_into(&mut octets);
+        report.emit_into(&mut octets);
         let len = wanted.len();
         same_of(rt, fill, &octets[..len], wanted);
         same_of(rt, fill, &octets[len..], &[fill; 64][len..]);
