@@ -1,16 +1,16 @@
 //! Lines of every shape, and at the limits of what a line may have.
 
-use super::{append, check_line, check_run, joined, repeated};
+use super::{append, check_input, check_line, check_run, joined, repeated};
 use crate::read_word;
 use crate::testing::{holds_of, same_of};
 use std::alloc::Global;
-use std::fmt::Write;
+use std::fmt::{Debug, Write};
 use std::process::Abort;
 
 // Each input prints this; its lines are known, or one of them is not.
 fn check_inputs(rt: &impl Abort, alloc: Global, rows: &[(&str, &str, bool)]) {
     for (input, want, known) in rows {
-        check_run(rt, alloc, input, input.as_bytes(), *known, want.as_bytes());
+        check_input(rt, alloc, input, input.as_bytes(), *known, want.as_bytes());
     }
 }
 
@@ -111,7 +111,23 @@ fn lines_that_are_no_text(rt: HostRuntime) {
         b"\xef\xbb\xbfhbh 00\n",
     ];
     for &input in INPUTS {
-        check_run(&rt, rt.alloc(), &input, input, false, b"bad line\n");
+        check_input(&rt, rt.alloc(), &input, input, false, b"bad line\n");
+    }
+}
+
+// An input whose words may be too long prints this; where none is, so says the plain printer, which takes any.
+fn check_length(
+    rt: &impl Abort,
+    alloc: Global,
+    of: &impl Debug,
+    input: &[u8],
+    is_known: bool,
+    want: &[u8],
+) {
+    if is_known {
+        check_input(rt, alloc, of, input, true, want);
+    } else {
+        check_run(rt, alloc, of, input, false, want);
     }
 }
 
@@ -126,7 +142,7 @@ fn check_digits(rt: &impl Abort, alloc: Global, digits: usize, length: Option<us
     same_of(rt, digits, octets_len, length);
     let line = joined(rt, alloc, &["hbh ", word.as_str()]);
     let (input, want) = (line.as_bytes(), want.as_bytes());
-    check_run(rt, alloc, &digits, input, length.is_some(), want);
+    check_length(rt, alloc, &digits, input, length.is_some(), want);
 }
 
 #[test]
@@ -157,7 +173,7 @@ fn check_repeated(
     append(rt, &mut input, "\nhbh 00", 1);
     let want = joined(rt, alloc, &[want, "Pad1\n"]);
     let (input, want) = (input.as_bytes(), want.as_bytes());
-    check_run(rt, alloc, &texts, input, known, want);
+    check_length(rt, alloc, &texts, input, known, want);
 }
 
 #[test]
@@ -228,4 +244,12 @@ fn octets_of_every_value(rt: HostRuntime) {
     let want = "Unknown\ntype_=17\nlength=255\ndata=";
     let want = joined(&rt, rt.alloc(), &[want, digits.as_str(), "\n"]);
     check_line(&rt, rt.alloc(), line.as_str(), want.as_str());
+}
+
+#[test]
+fn an_input_of_70_000_lines(rt: HostRuntime) {
+    let input = repeated(&rt, rt.alloc(), &[("hbh 00\nhbh 0100\n", 35_000)]);
+    let want = repeated(&rt, rt.alloc(), &[("Pad1\nPadN=0\n", 35_000)]);
+    let (input, want) = (input.as_bytes(), want.as_bytes());
+    check_input(&rt, rt.alloc(), &"70,000 lines", input, true, want);
 }
