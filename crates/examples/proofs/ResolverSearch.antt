@@ -1,9 +1,9 @@
 -- Searches through the answers of a response.
 use Rattle.std.proofs.Common.{◌≡◌, ℕ, ◌+◌, Bool, true, false, ◌↔◌, List, refl, sym, ap, ◌∙◌, subst, arith, IsTrue}
-use Rattle.control_wire.specs.DnsName.{HaveSameLabels}
+use Rattle.control_wire.specs.DnsTypeType.{«Type» as RecordType}
 use Rattle.control_wire.specs.DnsRecord.{RecordValue, IsRecord}
-use Rattle.examples.specs.Resolver.{Search, TurnValue, found, sought, said, Says, Finds, here, later}
-use Rattle.examples.specs.declared.resolver.Address.{Address}
+use Rattle.examples.specs.Resolver.{Search, TurnValue, found, sought, said_of, Says, Finds, here, later, AreSameName}
+use Rattle.examples.specs.declared.resolver.AddressRecord.{AddressRecord}
 
 same_test : (x y : Bool) (P : Type 0) → (IsTrue x ↔ P) → (IsTrue y ↔ P) → x ≡ y
 same_test true true P a b = refl
@@ -12,11 +12,11 @@ same_test true false P a b = sym (b.1 (a.0 refl))
 same_test false true P a b = a.1 (b.0 refl)
 
 -- a record says one thing
-pub says_one : (message name : List ℕ) (r : RecordValue) (t u : TurnValue) → Says message name r t
-    → Says message name r u → t ≡ u
-says_one message name r t u a b =
-    let e = same_test a.same b.same (HaveSameLabels message r.name name) a.same_ b.same_ in
-    a.is ∙ (ap (λ same. said same name r.holds) e ∙ sym b.is)
+pub says_one : (message : List ℕ) (asked : RecordType) (name : List ℕ) (r : RecordValue) (t u : TurnValue)
+    → Says message asked name r t → Says message asked name r u → t ≡ u
+says_one message asked name r t u a b =
+    let e = same_test a.same b.same (AreSameName message r.name name) a.same_ b.same_ in
+    a.is ∙ (ap (λ same. said_of same asked name r) e ∙ sym b.is)
 
 -- there is one record at the front of bytes
 abbrev pub IsOnly : List ℕ → RecordValue → List ℕ → Type 0
@@ -24,32 +24,33 @@ IsOnly bytes r rest = (other : RecordValue) (others : List ℕ) → IsRecord byt
     → (r ≡ other) × (rest ≡ others)
 
 -- what a search finds where its first record says for which name to go on
-pub later_found : (message : List ℕ) (address : Address) (after now : Search) (r : RecordValue) (name : List ℕ)
-    (left : ℕ) (rest : List ℕ) → now.left ≡ left + 1 → IsOnly now.bytes r rest
-    → Says message now.name r (sought name) → Finds message address after now
-    → Finds message address after (record { name = name; left = left; bytes = rest })
-later_found message address after now r name left rest e only says (here other f record_ also same) =
+pub later_found : (message : List ℕ) (asked : RecordType) (address : AddressRecord) (after now : Search)
+    (r : RecordValue) (name : List ℕ) (left : ℕ) (rest : List ℕ) → now.left ≡ left + 1 → IsOnly now.bytes r rest
+    → Says message asked now.name r (sought name) → Finds message asked address after now
+    → Finds message asked address after (record { name = name; left = left; bytes = rest })
+later_found message asked address after now r name left rest e only says (here other f record_ also same) =
     let one = only other after.bytes record_ in
-    let k = says_one message now.name r (sought name) (found address) says
-    (subst (λ x. Says message now.name x (found address)) (sym one.0) also) in
+    let k = says_one message asked now.name r (sought name) (found address) says
+    (subst (λ x. Says message asked now.name x (found address)) (sym one.0) also) in
     cc
-later_found message address after now r name left rest e only says (later other name' left' rest' f record_ also g) =
+later_found message asked address after now r name left rest e only says
+    (later other name' left' rest' f record_ also g) =
     let one = only other rest' record_ in
-    let k = says_one message now.name r (sought name) (sought name') says
-    (subst (λ x. Says message now.name x (sought name')) (sym one.0) also) in
+    let k = says_one message asked now.name r (sought name) (sought name') says
+    (subst (λ x. Says message asked now.name x (sought name')) (sym one.0) also) in
     let names : name' ≡ name = cc in
     let lefts : left' ≡ left = omega arith in
-    subst (λ x. Finds message address after (record { name = name; left = left; bytes = x })) (sym one.1)
-    (subst (λ x. Finds message address after (record { name = name; left = x; bytes = rest' })) lefts
-    (subst (λ x. Finds message address after (record { name = x; left = left'; bytes = rest' })) names g))
+    subst (λ x. Finds message asked address after (record { name = name; left = left; bytes = x })) (sym one.1)
+    (subst (λ x. Finds message asked address after (record { name = name; left = x; bytes = rest' })) lefts
+    (subst (λ x. Finds message asked address after (record { name = x; left = left'; bytes = rest' })) names g))
 
 -- a search with no record finds nothing
-pub none_left : (message : List ℕ) (address : Address) (after now : Search) → now.left ≡ 0
-    → Finds message address after now → ⊥
-none_left message address after now e (here r f record_ says same) = absurd (omega arith)
-none_left message address after now e (later r name left rest f record_ says g) = absurd (omega arith)
+pub none_left : (message : List ℕ) (asked : RecordType) (address : AddressRecord) (after now : Search) → now.left ≡ 0
+    → Finds message asked address after now → ⊥
+none_left message asked address after now e (here r f record_ says same) = absurd (omega arith)
+none_left message asked address after now e (later r name left rest f record_ says g) = absurd (omega arith)
 
-pub none_read : (message : List ℕ) (address : Address) (after now : Search)
-    → ((r : RecordValue) (rest : List ℕ) → IsRecord now.bytes r rest → ⊥) → Finds message address after now → ⊥
-none_read message address after now none (here r f record_ says same) = none r after.bytes record_
-none_read message address after now none (later r name left rest f record_ says g) = none r rest record_
+pub none_read : (message : List ℕ) (asked : RecordType) (address : AddressRecord) (after now : Search)
+    → ((r : RecordValue) (rest : List ℕ) → IsRecord now.bytes r rest → ⊥) → Finds message asked address after now → ⊥
+none_read message asked address after now none (here r f record_ says same) = none r after.bytes record_
+none_read message asked address after now none (later r name left rest f record_ says g) = none r rest record_

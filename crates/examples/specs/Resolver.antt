@@ -1,21 +1,27 @@
 -- What a resolver asks, which responses it takes, and which addresses it finds there (RFC 1035 section 4).
-use Rattle.std.specs.Prelude.{◌≡◌, ℕ, ◌+◌, ◌==◌, Bool, true, false, ◌↔◌, List, IsTrue}
+use Rattle.std.specs.Prelude.{◌≡◌, ◌≢◌, ℕ, ◌+◌, ◌==◌, Bool, true, false, ◌↔◌, List, map, IsTrue, IsFalse}
 use Rattle.std.specs.Int.Bits.{bit_and}
+use Rattle.std.specs.Str.{str_to_ascii_lowercase}
 use Rattle.control_wire.specs.Bytes.{Reaches, number_of}
 use Rattle.control_wire.specs.DnsTables.{opcode_of, rcode_of}
 use Rattle.control_wire.specs.DnsPacket.{id_field, flags_field, question_count_field, answer_count_field, header}
 use Rattle.control_wire.specs.DnsPacket.{payload_in}
 use Rattle.control_wire.specs.DnsPacket.{flags_in, opcode_in, rcode_in}
-use Rattle.control_wire.specs.DnsName.{HaveSameLabels}
+use Rattle.control_wire.specs.DnsName.{IsName}
+use Rattle.control_wire.specs.DnsNameWalk.{Answer, label}
 use Rattle.control_wire.specs.DnsQuestion.{IsQuestion}
 use Rattle.control_wire.specs.DnsRecord.{DataValue, address4, address6, canonical_name, other, RecordValue, IsRecord}
 use Rattle.control_wire.specs.DnsRepr.{QueryValue}
 use Rattle.control_wire.specs.DnsOpcodeType.TheVariants as opcode
+use Rattle.control_wire.specs.DnsRcodeType.{Rcode}
 use Rattle.control_wire.specs.DnsRcodeType.TheVariants as rcode
 use Rattle.control_wire.specs.DnsTypeType.{«Type» as RecordType}
-use Rattle.examples.specs.declared.resolver.Address.{Address}
+use Rattle.control_wire.specs.DnsTypeType.TheVariants as kind
 use Rattle.examples.specs.declared.resolver.Address.TheVariants.{V4, V6}
+use Rattle.examples.specs.declared.resolver.AddressRecord.{AddressRecord}
 use Rattle.examples.specs.declared.resolver.Answers.{Answers}
+use Rattle.examples.specs.declared.resolver.Response.{Response}
+use Rattle.examples.specs.declared.resolver.Response.TheVariants.{Whole, Truncated, Failed}
 use Rattle.examples.specs.declared.resolver.Turn.{Turn}
 use Rattle.examples.specs.declared.resolver.Turn.TheVariants.{Found, Sought}
 
@@ -23,38 +29,92 @@ use Rattle.examples.specs.declared.resolver.Turn.TheVariants.{Found, Sought}
 
 -- a standard query for the records of a type at a name, which the server is to follow itself
 abbrev pub query_for : ℕ → List ℕ → RecordType → QueryValue
-query_for id name kind = record {
+query_for id name asked = record {
   transaction_id = id;
   kind = opcode.Query;
   flags = 0x0100;
-  asks = record { name = name; kind = kind };
+  asks = record { name = name; kind = asked };
 }
+
+-- ---- names
+
+-- labels with each letter of ASCII as a small one
+abbrev pub lowered : List (List ℕ) → List (List ℕ)
+lowered labels = map str_to_ascii_lowercase labels
+
+-- Two names of a message are the same where their labels are, letters of ASCII in either case (RFC 1035 section 2.3.3,
+-- RFC 4343).
+pub record AreSameName (message a b : List ℕ) : Type 0 where
+  pub left : List (List ℕ)
+  pub right : List (List ℕ)
+  pub left_ : IsName a message left
+  pub right_ : IsName b message right
+  pub same : lowered left ≡ lowered right
+
+-- a walk gave a label that is this one, letters in either case
+abbrev pub GivesLabel : Answer → List ℕ → Type 0
+GivesLabel answer bytes =
+    (given : List ℕ) × (answer ≡ label given) × (str_to_ascii_lowercase given ≡ str_to_ascii_lowercase bytes)
 
 -- ---- the response
 
--- The flags have RESPONSE.
+-- The flags have RESPONSE, and TRUNCATED.
 abbrev pub responds : ℕ → Bool
 responds flags = bit_and flags 0x8000 == 0x8000
 
--- The question of a message has this type and a name with the labels of this one. The rest stands behind it.
-pub record Asks (message name : List ℕ) (kind : RecordType) (rest : List ℕ) : Type 0 where
-  pub asked : List ℕ
-  pub question : IsQuestion (payload_in message) (record { name = asked; kind = kind }) rest
-  pub same : HaveSameLabels message asked name
+abbrev pub truncates : ℕ → Bool
+truncates flags = bit_and flags 0x0200 == 0x0200
 
--- A header is that of the response to a query: it has the query's number, it tells of success, and counts one question.
-pub record TellsOfSuccess (message : List ℕ) (id : ℕ) : Type 0 where
+-- The question of a message has this type and this name. The rest stands behind it.
+pub record Asks (message name : List ℕ) (asked : RecordType) (rest : List ℕ) : Type 0 where
+  pub written : List ℕ
+  pub question : IsQuestion (payload_in message) (record { name = written; kind = asked }) rest
+  pub same : AreSameName message written name
+
+-- A header is that of the response to a query: it has the query's number, and counts one question.
+pub record Responds (message : List ℕ) (id : ℕ) : Type 0 where
   pub id_ : number_of id_field message ≡ id
   pub response : IsTrue (responds (flags_in (number_of flags_field message)))
   pub standard : opcode_of (opcode_in (number_of flags_field message)) ≡ opcode.Query
-  pub succeeded : rcode_of (rcode_in (number_of flags_field message)) ≡ rcode.NoError
   pub one_question : number_of question_count_field message ≡ 1
 
 -- A message is the response to a query, and its question is that which was asked.
-pub record IsSuccess (message : List ℕ) (id : ℕ) (name : List ℕ) (kind : RecordType) (rest : List ℕ) : Type 0 where
+pub record IsResponse (message : List ℕ) (id : ℕ) (name : List ℕ) (asked : RecordType) (rest : List ℕ) : Type 0 where
   pub whole : Reaches header message
-  pub tells : TellsOfSuccess message id
-  pub asks : Asks message name kind rest
+  pub header_ : Responds message id
+  pub asks : Asks message name asked rest
+
+-- the outcome of the query, and whether the response was cut to what a datagram takes (RFC 1035 section 4.1.1)
+abbrev pub outcome : List ℕ → Rcode
+outcome message = rcode_of (rcode_in (number_of flags_field message))
+
+abbrev pub is_truncated : List ℕ → Bool
+is_truncated message = truncates (flags_in (number_of flags_field message))
+
+-- All that is to be read of the response to a query: as many records as it counts stand behind the question, and the
+-- addresses of the name that was asked are sought, of the type that was asked.
+pub record AreAnswers (message : List ℕ) (id : ℕ) (name : List ℕ) (asked : RecordType) (answers : Answers)
+    : Type 0 where
+  pub response : IsResponse message id name asked answers.bytes.now
+  pub succeeded : outcome message ≡ rcode.NoError
+  pub message_ : answers.message.now ≡ message
+  pub name_ : answers.name.now ≡ name
+  pub type_ : answers.type_ ≡ asked
+  pub left_ : answers.left ≡ number_of answer_count_field message
+
+-- The message is the response to a query, and its outcome is a failure.
+pub record IsFailure (message : List ℕ) (id : ℕ) (name : List ℕ) (asked : RecordType) (code : Rcode) : Type 0 where
+  pub rest : List ℕ
+  pub response : IsResponse message id name asked rest
+  pub code_ : code ≡ outcome message
+  pub failed : code ≢ rcode.NoError
+
+-- what a response tells: all answers, as many of them as there was room for, or how the query failed
+abbrev pub Tells : List ℕ → ℕ → List ℕ → RecordType → Response → Type 0
+Tells message id name asked (Whole answers) = AreAnswers message id name asked answers × IsFalse (is_truncated message)
+Tells message id name asked (Truncated answers) =
+    AreAnswers message id name asked answers × IsTrue (is_truncated message)
+Tells message id name asked (Failed code) = IsFailure message id name asked code
 
 -- ---- its answers
 
@@ -67,42 +127,40 @@ pub record Search : Type 0 where
 abbrev pub search_of : Answers → Search
 search_of answers = record { name = answers.name.now; left = answers.left; bytes = answers.bytes.now }
 
--- All that is to be read of the response to a query: as many records as it counts stand behind the question, and the
--- addresses of the name that was asked are sought.
-pub record IsResponse (message : List ℕ) (id : ℕ) (name : List ℕ) (kind : RecordType) (answers : Answers) : Type 0 where
-  pub success : IsSuccess message id name kind answers.bytes.now
-  pub message_ : answers.message.now ≡ message
-  pub name_ : answers.name.now ≡ name
-  pub left_ : answers.left ≡ number_of answer_count_field message
-
 -- what a record says to who seeks a name's addresses: one of them, or for which name to go on
 pub data TurnValue : Type 0 where
-  found : Address → TurnValue
+  found : AddressRecord → TurnValue
   sought : List ℕ → TurnValue
 
 abbrev pub turn_of : Turn → TurnValue
-turn_of (Found address) = found address
+turn_of (Found record_) = found record_
 turn_of (Sought name) = sought name.now
 
--- A record of another name says nothing. One of the name says its address, or the name of which it is an alias.
-abbrev pub said : Bool → List ℕ → DataValue → TurnValue
-said false name holds = sought name
-said true name (address4 address) = found (V4 address)
-said true name (address6 address) = found (V6 address)
-said true name (canonical_name alias_of) = sought alias_of
-said true name (other kind bytes) = sought name
+-- A record of the name says its address, where it has the type that was asked, or the name of which it is an alias.
+abbrev pub said : RecordType → List ℕ → ℕ → DataValue → TurnValue
+said kind.A name ttl (address4 address) = found (record { address = V4 address; ttl = ttl })
+said kind.Aaaa name ttl (address6 address) = found (record { address = V6 address; ttl = ttl })
+said asked name ttl (canonical_name alias_of) = sought alias_of
+said asked name ttl holds = sought name
 
-pub record Says (message name : List ℕ) (r : RecordValue) (turn : TurnValue) : Type 0 where
+-- one of another name says nothing
+abbrev pub said_of : Bool → RecordType → List ℕ → RecordValue → TurnValue
+said_of false asked name r = sought name
+said_of true asked name r = said asked name r.ttl r.holds
+
+pub record Says (message : List ℕ) (asked : RecordType) (name : List ℕ) (r : RecordValue) (turn : TurnValue)
+    : Type 0 where
   pub same : Bool
-  pub same_ : IsTrue same ↔ HaveSameLabels message r.name name
-  pub is : turn ≡ said same name r.holds
+  pub same_ : IsTrue same ↔ AreSameName message r.name name
+  pub is : turn ≡ said_of same asked name r
 
 -- A search finds an address, and this is left to read after it: the first record says the address, or it says for
 -- which name to go on, and the search for that name in the records behind it finds the address.
-pub data Finds (message : List ℕ) (address : Address) (after : Search) : Search → Type 0 where
+pub data Finds (message : List ℕ) (asked : RecordType) (address : AddressRecord) (after : Search)
+    : Search → Type 0 where
   here : {now : Search} (r : RecordValue) → now.left ≡ after.left + 1 → IsRecord now.bytes r after.bytes
-      → Says message now.name r (found address) → after.name ≡ now.name → Finds message address after now
+      → Says message asked now.name r (found address) → after.name ≡ now.name → Finds message asked address after now
   later : {now : Search} (r : RecordValue) (name : List ℕ) (left : ℕ) (rest : List ℕ) → now.left ≡ left + 1
-      → IsRecord now.bytes r rest → Says message now.name r (sought name)
-      → Finds message address after (record { name = name; left = left; bytes = rest })
-      → Finds message address after now
+      → IsRecord now.bytes r rest → Says message asked now.name r (sought name)
+      → Finds message asked address after (record { name = name; left = left; bytes = rest })
+      → Finds message asked address after now

@@ -169,7 +169,8 @@ whole_wire octets e =
 pub written_more : (labels : List (List ℕ)) (label : List ℕ) → written_all (labels ++ label ∷ [])
     ≡ written_all labels ++ written label
 written_more labels label =
-    flat_map-append written labels (label ∷ []) ∙ ap (λ (o : List ℕ). written_all labels ++ o) (append-nil (written label))
+    flat_map-append written labels (label ∷ [])
+    ∙ ap (λ (o : List ℕ). written_all labels ++ o) (append-nil (written label))
 
 pub each_more : (labels : List (List ℕ)) (label : List ℕ) → AllByRecursion IsLabel labels → IsLabel label
     → AllByRecursion IsLabel (labels ++ label ∷ [])

@@ -1,6 +1,6 @@
 -- What the name is that the octets of labels are ended to.
-use Rattle.std.proofs.Common.{◌≡◌, ℕ, ◌<◌, ◌↔◌, List, [], ◌∷◌, length, Result, Ok, Err, IsOk, IfOk, IsOkAnd, refl, sym, ◌∙◌}
-use Rattle.std.proofs.Common.{subst, codes}
+use Rattle.std.proofs.Common.{◌≡◌, ℕ, ◌<◌, ◌↔◌, List, [], ◌∷◌, length, Result, Ok, Err, IsOk, IfOk, IsOkAnd, refl, sym}
+use Rattle.std.proofs.Common.{◌∙◌, subst, codes}
 use Rattle.std.specs.List.{AllByRecursion}
 use Rattle.dns_wire.specs.DnsName.{IsLabel}
 use Rattle.record_wire.specs.Labels.{written_all, labels_in, AreOfName}

@@ -1,6 +1,6 @@
-use Rattle.std.proofs.Common.{◌≡◌, [], Some, ap}
-use Rattle.control_wire.specs.DnsNameWalk.{answer_of, label, ending}
-use Rattle.control_wire.proofs.DnsNameLabels.{same_before, same_after, same_at_end, same_no_fault, none_at_end}
+use Rattle.std.proofs.Common.{◌≡◌, Some, ap}
+use Rattle.control_wire.specs.DnsNameWalk.{answer_of, label, fault, ending}
+use Rattle.examples.proofs.NameCases.{same_before, same_after, same_at_end, none_at_both, no_fault_in}
 use Rattle.examples.proofs.resolver.same_name.Goals as goal
 
 pub loop-item-init : goal.loop-item-init
@@ -9,8 +9,20 @@ loop-item-init c =
     let right = c.parse_name-right.ensures.names in
     record {
       iterates = (tt, tt);
-      back = λ same. (same.0, (left same.0).0 same.1, (right same.0).0 same.2);
-      forth = λ same. (same.0, (left same.0).1 same.1, (right same.0).1 same.2);
+      back = λ same. record {
+        left = same.labels;
+        right = same.others;
+        left_ = (left same.labels).0 same.left_;
+        right_ = (right same.others).0 same.right_;
+        same = same.same;
+      };
+      forth = λ same. record {
+        labels = same.left;
+        others = same.right;
+        left_ = (left same.left).1 same.left_;
+        right_ = (right same.right).1 same.right_;
+        same = same.same;
+      };
     }
 
 pub loop-item-preserved : goal.loop-item-preserved
@@ -31,22 +43,21 @@ loop-item-preserved c =
 pub returns : goal.returns
 returns c =
     let first : answer_of c.next.result ≡ ending = ap answer_of c.in_default.is in (
-      λ t. c.loop-item.invariant.back (
-        [],
-        none_at_end c.loop-item.left c.next.new.self c.next.result c.next.ensures.steps first,
-        none_at_end c.loop-item.right c.next-2.new.self c.next-2.result c.next-2.ensures.steps (c.is_end.ensures.0 t),
-      ),
+      λ t. c.loop-item.invariant.back
+          (none_at_both c.loop-item.left c.next.new.self c.loop-item.right c.next-2.new.self c.next.result
+          c.next-2.result c.next.ensures.steps c.next-2.ensures.steps first (c.is_end.ensures.0 t)),
       λ same. c.is_end.ensures.1
           (same_at_end c.loop-item.left c.next.new.self c.loop-item.right c.next-2.new.self c.next.result
           c.next-2.result c.next.ensures.steps c.next-2.ensures.steps first (c.loop-item.invariant.forth same)),
     )
 
 pub returns-in-Err : goal.returns-in-Err
-returns-in-Err c = (
-  λ t. cc,
-  λ same. absurd (same_no_fault c.loop-item.left c.next.new.self c.loop-item.right.ahead (Some c.in-Some.item)
-      c.in-Some.ensures.steps (ap (λ i. answer_of (Some i)) c.in-Err.is) (c.loop-item.invariant.forth same)),
-)
+returns-in-Err c =
+    let first : answer_of (Some c.in-Some.item) ≡ fault = ap (λ i. answer_of (Some i)) c.in-Err.is in (
+      λ t. cc,
+      λ same. absurd (no_fault_in c.loop-item.left c.next.new.self c.loop-item.right (Some c.in-Some.item)
+          c.in-Some.ensures.steps first (c.loop-item.invariant.forth same)),
+    )
 
 pub returns-then-not-is_label : goal.returns-then-not-is_label
 returns-then-not-is_label c =

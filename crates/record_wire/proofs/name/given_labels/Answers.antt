@@ -23,7 +23,8 @@ pub returns-then-not-is_label-clause-complete : goal.returns-then-not-is_label-c
 returns-then-not-is_label-clause-complete c = λ labels gives name.
     let first : answer_of (Some c.in-Some.item) ≡ label c.in-Ok.label.now = ap (λ i. answer_of (Some i)) c.in-Ok.is in
     let one = given_label c.args.walk.ahead c.loop-item.octets.items c.loop-item.walk c.next.new.self
-    (Some c.in-Some.item) c.in-Ok.label.now c.loop-item.invariant.given c.in-Some.ensures.steps first labels gives name in
+    (Some c.in-Some.item) c.in-Ok.label.now c.loop-item.invariant.given c.in-Some.ensures.steps first labels gives
+    name in
     let is = c.is_label.ensures.1 one.0 in
     absurd (cc is)
 
@@ -31,7 +32,8 @@ pub returns-in_err-push_label-clause-complete : goal.returns-in_err-push_label-c
 returns-in_err-push_label-clause-complete c = λ labels gives name.
     let first : answer_of (Some c.in-Some.item) ≡ label c.in-Ok.label.now = ap (λ i. answer_of (Some i)) c.in-Ok.is in
     let one = given_label c.args.walk.ahead c.loop-item.octets.items c.loop-item.walk c.next.new.self
-    (Some c.in-Some.item) c.in-Ok.label.now c.loop-item.invariant.given c.in-Some.ensures.steps first labels gives name in
+    (Some c.in-Some.item) c.in-Ok.label.now c.loop-item.invariant.given c.in-Some.ensures.steps first labels gives
+    name in
     let ok = c.in_err-push_label.ensures.room.1 (omega (arith, one.1)) in
     absurd (cc ok)
 
