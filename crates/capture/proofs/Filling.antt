@@ -13,7 +13,7 @@ fits_or_not zero b = inl (omega arith)
 fits_or_not (suc a) zero = inr (omega arith)
 fits_or_not (suc a) (suc b) = elim (fits_or_not a b) [ inl h ↦ inl (omega (arith, h)) | inr h ↦ inr (omega (arith, h)) ]
 
-no_byte : (xs : List ℕ) → length xs ≡ 0 → xs ≡ []
+pub no_byte : (xs : List ℕ) → length xs ≡ 0 → xs ≡ []
 no_byte [] none = refl
 no_byte (x ∷ xs) none = absurd (omega (arith, none))
 

@@ -13,11 +13,7 @@ use Rattle.capture.specs.declared.ending.Ending.TheVariants.{Whole, Cut, TooLarg
 use Rattle.capture.specs.declared.packet.Packet.{Packet}
 use Rattle.capture.specs.declared.pcap.FileHeader.{FileHeader}
 use Rattle.capture.specs.declared.pcap.RecordHeader.{RecordHeader}
-use Rattle.capture.proofs.Filling.{reads_splits, reads_length, reads_fits}
-
-no_byte : (xs : List ℕ) → length xs ≡ 0 → xs ≡ []
-no_byte [] none = refl
-no_byte (x ∷ xs) none = absurd (omega (arith, none))
+use Rattle.capture.proofs.Filling.{no_byte, reads_splits, reads_length, reads_fits}
 
 module _ (h : FileHeader) (all octets : List ℕ) (left : Option (List ℕ)) where
   pub record_whole : Reads all left octets 16 → length octets ≡ 0 → RecordEnds most_octets h all Whole

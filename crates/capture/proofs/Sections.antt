@@ -48,8 +48,11 @@ module _ (section : Order) (all octets : List ℕ) (old new : Option (List ℕ))
   pub cut_passed : (interfaces : List Interface) → Reads all old octets 12 → Skips old new (h.total_len - 12) false
       → BlockEnds section interfaces all Cut
   cut_passed interfaces reads skips =
-      cut h is (omega (arith, is.length_.least,
-        skips_short all octets old new 12 (h.total_len - 12) reads skips (head_fits reads))) refl
+      cut h is (omega (
+        arith,
+        is.length_.least,
+        skips_short all octets old new 12 (h.total_len - 12) reads skips (head_fits reads),
+      )) refl
 
   pub cut_read : (interfaces : List Interface) → Reads all new octets h.total_len → length octets < h.total_len
       → BlockEnds section interfaces all Cut

@@ -1,16 +1,18 @@
 -- A capture is read one header, record or block after another.
-use Rattle.std.proofs.Common.{◌≡◌, ◌≢◌, ℕ, ◌+◌, ◌<◌, ◌≤◌, true, false, List, [], ◌∷◌, ◌++◌, length, take, drop, Option}
-use Rattle.std.proofs.Common.{None, Some, IfSome, refl, ap, sym, subst, ◌∙◌, arith, length-append}
-use Rattle.std.proofs.lemmas.List.{length-take, take-take, take-append-le}
+use Rattle.std.proofs.Common.{◌≡◌, ◌≢◌, ℕ, ◌+◌, ◌-◌, ◌<◌, ◌≤◌, min, inl, inr, true, false, List, [], ◌∷◌, ◌++◌, length, take, drop, Option}
+use Rattle.std.proofs.Common.{None, Some, IfSome, refl, ap, sym, subst, ◌∙◌, arith, length-drop}
+use Rattle.std.proofs.lemmas.List.{length-take, take_all, take-append-le}
+use Rattle.wirebase.specs.Bytes.{part}
 use Rattle.capture.specs.Capture.{State, state, most_octets, IsBlock, passed, header, described, held, BlockEnds, IsUnit}
 use Rattle.capture.specs.Capture.{file, kept, first, block, Ends, no_file, no_record, no_first, no_block, BeginsSection}
-use Rattle.capture.specs.Capture.{Holds, ends, passes, packet}
+use Rattle.capture.specs.Capture.{Holds, ends, passes, packet, packet_of, GivesNext}
 use Rattle.capture.specs.Packet.{PacketValue, packet_in}
 use Rattle.capture.specs.Pcap.{IsFileHeader, FileEnds}
 use Rattle.capture.specs.Pcapng.{IsHead, IsSectionKind}
 use Rattle.capture.specs.Reader.{Reads}
 use Rattle.capture.specs.Taken.{Splits, RecordGives, BlockGives, StepGives}
-use Rattle.capture.specs.declared.capture.Stage.{Stage}
+use Rattle.capture.specs.declared.capture.Next.TheVariants as next
+use Rattle.capture.specs.declared.capture.Record.{Record}
 use Rattle.capture.specs.declared.capture.Stage.TheVariants as stage
 use Rattle.capture.specs.declared.capture.Step.{Step}
 use Rattle.capture.specs.declared.capture.Step.TheVariants as step
@@ -19,8 +21,9 @@ use Rattle.capture.specs.declared.order.Order.{Order}
 use Rattle.capture.specs.declared.order.Order.TheVariants.{Big}
 use Rattle.capture.specs.declared.pcap.FileHeader.{FileHeader}
 use Rattle.capture.specs.declared.pcapng.Head.{Head}
+use Rattle.capture.specs.declared.packet.Packet.{Packet}
 use Rattle.capture.specs.declared.pcapng.Interface.{Interface}
-use Rattle.capture.proofs.Filling.{reads_splits, reads_fits}
+use Rattle.capture.proofs.Filling.{reads_splits, reads_fits, fits_or_not, no_byte}
 
 -- a block has twelve bytes at least
 head_long : (section : Order) (bytes : List ℕ) (h : Head) → IsHead section (take 12 bytes) h → 12 ≤ length bytes
@@ -65,15 +68,18 @@ module _ (old : State) (all octets : List ℕ) (new : State) (left : Option (Lis
 
   pub file_gives : (h : FileHeader) → old.stage ≡ stage.Start → new.stage ≡ stage.File h → Reads all left octets 24
       → IsFileHeader octets h → (front : List ℕ) × Splits all front left × IsUnit old front new None
-  file_gives h start then reads is =
-      (octets, reads_splits all octets left 24 reads,
-       file h start ((reads_fits all octets left 24 reads is.whole).0) is then refl)
+  file_gives h start then reads is = (
+    octets,
+    reads_splits all octets left 24 reads,
+    file h start ((reads_fits all octets left 24 reads is.whole).0) is then refl,
+  )
 
-  pub file_ends : old.stage ≡ stage.Start → (front : List ℕ) → front ≡ take 4 all → (IsSectionKind front → ⊥)
-      → Reads all left octets 24 → (ending : Ending) → FileEnds octets ending → Ends old all ending
-  file_ends start front e other reads ending is =
-      no_file start (λ begins. other (subst IsSectionKind (sym e) begins))
-      (subst (λ l. FileEnds l ending) reads.front is)
+pub file_ends : (old : State) (all octets front : List ℕ) (left : Option (List ℕ)) → old.stage ≡ stage.Start
+    → front ≡ take 4 all → (IsSectionKind front → ⊥) → Reads all left octets 24 → (ending : Ending)
+    → FileEnds octets ending → Ends old all ending
+file_ends old all octets front left start e other reads ending is =
+    no_file start (λ begins. other (subst IsSectionKind (sym e) begins))
+    (subst (λ l. FileEnds l ending) reads.front is)
 
 -- ---- how far a call of `next` came
 
@@ -87,3 +93,66 @@ pub record SoFar (before now : State) (all : List ℕ) (left : Option (List ℕ)
 pub so_far-init : (s : State) (left : Option (List ℕ)) → IfSome left (λ all. SoFar s s all left)
 so_far-init s None = tt
 so_far-init s (Some all) = record { rest = all; left_ = refl; holds = λ packets ending h. h }
+
+behind : (mid : Option (List ℕ)) (rest : List ℕ) → mid ≡ Some rest → Reads rest mid [] 0
+behind mid rest e = record { front = refl; rest = e }
+
+module _ (first_ old new : State) (octets : List ℕ) (mid left : Option (List ℕ)) (s : Step)
+    (gives : (all : List ℕ) → Reads all mid [] 0 → StepGives old all s octets new left) where
+  given : (all : List ℕ) (t : Step) → s ≡ t → Reads all mid [] 0 → StepGives old all t octets new left
+  given all t e none = subst (λ x. StepGives old all x octets new left) e (gives all none)
+
+  pub so_far-more : s ≡ step.Passed → (o : Option (List ℕ)) → IfSome o (λ all. SoFar first_ old all mid)
+      → IfSome o (λ all. SoFar first_ new all left)
+  so_far-more e None so = tt
+  so_far-more e (Some all) so =
+      let is = given so.rest step.Passed e (behind mid so.rest so.left_) in
+      record {
+        rest = is.1.rest;
+        left_ = is.1.left_;
+        holds = λ packets ending h. so.holds packets ending (passes is.0 is.1.rest new is.1.split is.2 h);
+      }
+
+  pub so_far-ended : (ending : Ending) → s ≡ step.Ended ending → (o : Option (List ℕ))
+      → IfSome o (λ all. SoFar first_ old all mid)
+      → IfSome o (λ all. GivesNext first_ all (next.Ended ending) [] (state (stage.End ending) []) left)
+  so_far-ended ending e None so = tt
+  so_far-ended ending e (Some all) so =
+      (so.holds [] ending (ends (given so.rest (step.Ended ending) e (behind mid so.rest so.left_))), refl)
+
+  pub so_far-packet : (k : Packet) → s ≡ step.Packet k → (r : Record) (now : State) (kept_ : List ℕ)
+      → packet_of r kept_ ≡ packet_in k octets → now ≡ new → (o : Option (List ℕ))
+      → IfSome o (λ all. SoFar first_ old all mid)
+      → IfSome o (λ all. GivesNext first_ all (next.Record r) kept_ now left)
+  so_far-packet k e r now kept_ same still None so = tt
+  so_far-packet k e r now kept_ same still (Some all) so =
+      let is = given so.rest (step.Packet k) e (behind mid so.rest so.left_) in (
+        is.0.rest,
+        is.0.left_,
+        λ packets ending h. so.holds (packet_of r kept_ ∷ packets) ending
+            (packet octets is.0.rest new (packet_of r kept_) is.0.split
+            (subst (λ p. IsUnit old octets new (Some p)) (sym same) is.1)
+            (subst (λ x. Holds x is.0.rest packets ending) still h)),
+      )
+
+-- ---- the bytes of a packet
+
+pub clamped : (xs : List ℕ) (start end e s : ℕ) → e ≡ min end (length xs) → s ≡ min start e
+    → take (e - s) (drop s xs) ≡ part xs start end
+unfolding part
+clamped xs start end e s is_end is_start = elim (fits_or_not start e) [
+  | inl inside ↦
+      let same : s ≡ start = omega (arith, is_start, inside) in
+      elim (fits_or_not end (length xs)) [
+        | inl within ↦
+            let all : e ≡ end = omega (arith, is_end, within) in
+            rw (same, all) refl
+        | inr beyond ↦
+            let long = length-drop start xs in
+            rw same (take_all (e - start) (drop start xs) (omega (arith, is_end, beyond, long))
+            ∙ sym (take_all (end - start) (drop start xs) (omega (arith, beyond, long))))
+      ]
+  | inr outside ↦
+      no_byte _ (omega (arith, length-take (e - s) (drop s xs), is_start, outside))
+      ∙ sym (no_byte _ (omega (arith, length-take (end - start) (drop start xs), length-drop start xs, is_end, outside)))
+]
