@@ -166,7 +166,8 @@ impl Capture {
 
     // Reads the next block of a section, of which some bytes may be read.
     fn read_block<R: BufRead>(&mut self, input: &mut R, section: Order) -> Result<Step, Fault> {
-        match read_octets(input, &mut self.octets, section)? {
+        let block = read_octets(input, &mut self.octets, section)?;
+        match block {
             Block::Passed(_) => {
                 self.stage = Stage::Section(section);
                 Ok(Step::Passed)

@@ -147,7 +147,7 @@ fn order_of(section: Order, kind: u32, octets: &[u8]) -> Option<Order> {
     }
 }
 
-/// Whether the octets, of which 4 or more are the first of a file, begin with the kind of a section header.
+/// Whether the octets begin with the kind of a section header, as those of a pcapng file do.
 pub fn begins_section(octets: &[u8]) -> bool {
     octets.len() >= KIND_LEN && Order::Big.u32_at(octets, field::KIND) == SECTION
 }

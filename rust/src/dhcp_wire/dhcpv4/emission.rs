@@ -10,7 +10,7 @@ use super::kinds::{
 use super::options::{DhcpOption, DhcpOptionWriter};
 use super::packet::{Packet, field};
 use super::repr::{ETHERNET_LEN, MAGIC_NUMBER, Repr};
-use crate::wirebase::{ByteWriter, Ipv4Address, OctetsMut, Result};
+use crate::wirebase::{ByteWriter, EthernetAddress, Ipv4Address, OctetsMut, Result};
 
 impl Repr<'_> {
     /// The bytes that the packet takes: header, options and end mark. Requires that a `usize` holds their number.
@@ -101,7 +101,7 @@ impl Repr<'_> {
     // Writes the options of the fields, up to the first that is refused.
     fn put_fields(&self, w: &mut DhcpOptionWriter<'_>) -> Result<()> {
         w.put(OPT_DHCP_MESSAGE_TYPE, Some(self.message_type))?;
-        w.put(OPT_CLIENT_ID, self.client_identifier)?;
+        put_identifier(w, self.client_identifier)?;
         w.put(OPT_SERVER_IDENTIFIER, self.server_identifier)?;
         w.put(OPT_ROUTER, self.router)?;
         w.put(OPT_SUBNET_MASK, self.subnet_mask)?;
@@ -113,6 +113,11 @@ impl Repr<'_> {
         w.put(OPT_PARAMETER_REQUEST_LIST, self.parameter_request_list)?;
         w.put(OPT_DOMAIN_NAME_SERVER, self.dns_servers.as_ref())
     }
+}
+
+// Writes a client's identifier, where there is one.
+fn put_identifier(w: &mut DhcpOptionWriter<'_>, identifier: Option<EthernetAddress>) -> Result<()> {
+    w.put(OPT_CLIENT_ID, identifier)
 }
 
 // Writes these options, up to the first that is refused.

@@ -99,25 +99,25 @@ impl<'a> DhcpOptionWriter<'a> {
     }
 
     // Writes an option of this kind with these data, or refuses it, as `emit`.
-    fn emit_data<D: Data>(&mut self, kind: u8, data: D) -> Result<()> {
+    fn emit_data<D: Data>(&mut self, kind: u8, body: D) -> Result<()> {
         let start = self.position;
-        let len = data.len();
+        let len = body.len();
         if len > MAX_DATA_LEN || self.buffer.len() - start < 2 + len {
             return Err(Error);
         }
         let end = start + 2 + len;
-        write_option(&mut self.buffer[start..end], kind, len as u8, data);
+        write_option(&mut self.buffer[start..end], kind, len as u8, body);
         self.position = end;
         Ok(())
     }
 }
 
 // Writes an option over octets of its length.
-fn write_option<D: Data>(octets: &mut [u8], kind: u8, len: u8, data: D) {
+fn write_option<D: Data>(octets: &mut [u8], kind: u8, len: u8, body: D) {
     let mut w = ByteWriter::new(octets);
     w.put_u8(kind);
     w.put_u8(len);
-    data.put(&mut w);
+    body.put(&mut w);
 }
 
 // Writes the end mark over the first octet.

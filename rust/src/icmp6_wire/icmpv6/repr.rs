@@ -155,8 +155,8 @@ impl<'a> Repr<'a> {
     /// Writes the message over the front of the octets, as far as they go, and then, where the capabilities have it
     /// computed, the checksum of all of them as a message from `src_addr` to `dst_addr`. Requires at least 8 bytes of
     /// an echo; of an error its length or more, and that the quoted `payload_len` is at most 65,535; of a message of
-    /// multicast listener discovery what `mld::Repr::emit` asks, and of neighbor discovery what `ndisc::Repr::emit`
-    /// asks.
+    /// multicast listener discovery what `mld::Repr::emit` requires, and of neighbor discovery what
+    /// `ndisc::Repr::emit` requires.
     pub fn emit<T: OctetsMut>(
         &self,
         src_addr: &Ipv6Address,

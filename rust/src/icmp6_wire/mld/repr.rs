@@ -79,8 +79,9 @@ impl<'a> Repr<'a> {
         }
     }
 
-    /// Writes the message, with the checksum zero. Requires octets of just its length, a robustness variable below 8,
-    /// and of records that they are of groups and at most 65,535.
+    /// Writes the message over the front of the octets, with the checksum zero; the others stay. Requires octets of just
+    /// its length, and of a list of records of its length or more; a robustness variable below 8; and of records that
+    /// they are of groups and at most 65,535.
     pub fn emit<T: OctetsMut>(&self, packet: &mut Packet<T>) {
         self.emit_into(packet.buffer.octets_mut());
     }
@@ -90,7 +91,7 @@ impl<'a> Repr<'a> {
         self.write(octets);
     }
 
-    // Writes the message into octets of just its length.
+    // Writes the message over the front of the octets.
     fn write(&self, octets: &mut [u8]) {
         let mut w = ByteWriter::new(octets);
         self.put(&mut w);

@@ -19,7 +19,7 @@ fn fields_of_values() {
     check_field(1_280u16, "delay=1280\n");
     check_field(u32::MAX, "delay=4294967295\n");
     check_field(u64::MAX, "delay=18446744073709551615\n");
-    check_field(usize::MAX, "delay=18446744073709551615\n");
+    check_field(4_294_967_295usize, "delay=4294967295\n");
     check_field(true, "delay=true\n");
     check_field(false, "delay=false\n");
     check_field(None::<u32>, "delay=none\n");

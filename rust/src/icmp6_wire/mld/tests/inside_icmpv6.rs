@@ -84,3 +84,29 @@ fn a_list_of_records_is_read_back_as_a_report() {
     check_written(&by_records, &caps, &REPORT);
     reads(&read(&REPORT, &caps), &Repr::Mld(report_of(1)));
 }
+
+#[test]
+fn a_list_of_records_in_a_longer_buffer_has_the_checksum_of_all_of_it() {
+    let caps = ChecksumCapabilities::default();
+    let records = [AddressRecordRepr::new(
+        RecordType::ChangeToExclude,
+        IPV6_LINK_LOCAL_ALL_ROUTERS,
+    )];
+    let by_records = Repr::Mld(mld::Repr::ReportRecordReprs(&records));
+    for &fill in FILLS {
+        let mut octets = [fill; 31];
+        by_records.emit_into(
+            &IPV6_LINK_LOCAL_ALL_NODES,
+            &IPV6_LINK_LOCAL_ALL_ROUTERS,
+            &mut octets,
+            &caps,
+        );
+        let packet = Packet::new_unchecked(octets.as_slice());
+        let is_good =
+            packet.verify_checksum(&IPV6_LINK_LOCAL_ALL_NODES, &IPV6_LINK_LOCAL_ALL_ROUTERS);
+        holds_of(fill, is_good);
+        same_of(fill, &octets[..2], &REPORT[..2]);
+        same_of(fill, &octets[4..28], &REPORT[4..]);
+        same_of(fill, &octets[28..], [fill; 3].as_slice());
+    }
+}
