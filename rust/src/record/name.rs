@@ -29,10 +29,10 @@ impl Name {
         Name::finish(given_labels(packet.parse_name(bytes))?)
     }
 
-    /// The name of this text: labels with dots between them, a last dot allowed, and a dot alone for the root. A visible
-    /// character stands for itself, but `"`, `$`, `(`, `)`, `.`, `;`, `@` and `\` stand behind a backslash; three digits
-    /// behind a backslash are the number of a byte. Refused where the text is none, where a label is empty or has more
-    /// than 63 bytes, and where the name has more than 255 octets.
+    /// The name of this text: labels with dots between them, a last dot allowed, and a dot alone for the root. A
+    /// visible character stands for itself, but `"`, `$`, `(`, `)`, `.`, `;`, `@` and `\` stand behind a backslash;
+    /// three digits behind a backslash are the number of a byte. Refused where the text is none, where a label is
+    /// empty or has more than 63 bytes, and where the name has more than 255 octets.
     pub fn from_text(text: &[u8]) -> Result<Name> {
         if is_root(text) {
             return Name::finish(ArrayVec::new());
@@ -54,7 +54,8 @@ impl Name {
     }
 }
 
-// The octets of the labels that a walk gives. Refused where it gives an error, and where they have more than 255 octets.
+// The octets of the labels that a walk gives. Refused where it gives an error, and where they have more than 255
+// octets.
 fn given_labels(mut walk: NameIter<'_>) -> Result<ArrayVec<u8, MAX_NAME_LEN>> {
     let mut octets = ArrayVec::new();
     while let Some(item) = walk.next() {

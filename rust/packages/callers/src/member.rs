@@ -70,8 +70,8 @@ pub fn listens(group_addr: Ipv6Address) -> AddressRecordRepr<'static> {
 const REPORTS_TO: [u8; 16] = [0xff, 0x02, 0, 0, 0, 0, 0, 0, 0, 0, 0, 0, 0, 0, 0, 0x16];
 
 /// Writes the report of these records from the host's address, to be sent to all routers, ff02::16, with hop limit 1
-/// and behind the options of `router_alert`. Requires at least 8 bytes, and 20 for each record, of multicast groups and
-/// at most 65,535.
+/// and behind the options of `router_alert`. Requires 8 bytes and 20 for each record, of multicast groups and at most
+/// 65,535.
 pub fn report_v6(own: &Ipv6Address, records: &[AddressRecordRepr<'_>], out: &mut [u8]) {
     let caps = ChecksumCapabilities::default();
     let to = Ipv6Address::from_octets(REPORTS_TO);

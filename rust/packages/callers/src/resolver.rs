@@ -1,10 +1,12 @@
 // Made from crates/examples/src/resolver.rt by rust/erase.
 //! A resolver: the query for a name, and the addresses that the response has for it (RFC 1035 section 4).
 //!
-//! A name is given as it is written in messages: labels of 1 to 63 bytes, each after its length, and byte 0. Names are
-//! equal where their labels are, byte by byte: a server gives a name back in the case in which it was asked.
+//! A name is given as it is written in messages: labels of 1 to 63 bytes, each after its length, and byte 0;
+//! `record_wire::Name` makes it from text. Names are equal where their labels are, letters of ASCII in either case (RFC
+//! 1035 section 2.3.3, RFC 4343).
 
 use control_wire::dns::{Flags, Opcode, Packet, Question, Rcode, Record, RecordData, Repr, Type};
+use control_wire::record::Name;
 use control_wire::{Ipv4Address, Ipv6Address, Result};
 
 /// An address of a name.
@@ -14,6 +16,27 @@ pub enum Address {
     V4(Ipv4Address),
     /// An IPv6 address, of a record of type AAAA.
     V6(Ipv6Address),
+}
+
+/// An address of a name, and for how many seconds it may be kept.
+#[derive(Debug, PartialEq, Eq, Clone, Copy)]
+pub struct AddressRecord {
+    /// The address.
+    pub address: Address,
+    /// The time to live, in seconds.
+    pub ttl: u32,
+}
+
+/// Writes the query for the records of a type at the name of a text over the front of the octets, and says how many
+/// bytes it takes: none where they have no room. Refused where the text is no name (RFC 1035 section 5.1).
+pub fn query_text(
+    transaction_id: u16,
+    text: &[u8],
+    type_: Type,
+    out: &mut [u8],
+) -> Result<Option<usize>> {
+    let name = Name::from_text(text)?;
+    Ok(query(transaction_id, name.octets(), type_, out))
 }
 
 /// Writes the query for the records of a type at a name over the front of the octets, and says how many bytes it takes.
@@ -42,40 +65,61 @@ pub struct Answers<'a> {
     pub message: &'a [u8],
     /// The name, as it is written where it stands.
     pub name: &'a [u8],
+    /// The type of the addresses, A or AAAA.
+    pub type_: Type,
     /// The number of records that are left.
     pub left: u16,
     /// The bytes that they begin in.
     pub bytes: &'a [u8],
 }
 
-/// The answers of the response to a query. None exactly where the octets are no response to it, or tell of a failure.
+/// What the response to a query tells.
+#[derive(Clone, Copy)]
+pub enum Response<'a> {
+    /// The query succeeded, and these are all answers.
+    Whole(Answers<'a>),
+    /// The query succeeded, and these are as many answers as a datagram had room for: all are got over TCP (RFC 1035
+    /// section 4.2, RFC 7766 section 5).
+    Truncated(Answers<'a>),
+    /// The query failed: there is no such name (`NXDomain`), or the server has a fault (`ServFail`), won't answer
+    /// (`Refused`), ..
+    Failed(Rcode),
+}
+
+/// What the response to a query tells. None exactly where the octets are no response to it.
 pub fn read_answers<'a>(
     message: &'a [u8],
     transaction_id: u16,
     name: &'a [u8],
     type_: Type,
-) -> Option<Answers<'a>> {
+) -> Option<Response<'a>> {
     let packet = match Packet::new_checked(message) {
         Ok(packet) => packet,
         Err(_) => return None,
     };
-    if !tells_of_success(&packet, transaction_id) {
+    if !responds(&packet, transaction_id) {
         return None;
     }
     let bytes = match after_question(message, name, type_) {
         Some(bytes) => bytes,
         None => return None,
     };
-    Some(Answers {
+    let answers = Answers {
         message,
         name,
+        type_,
         left: packet.answer_record_count(),
         bytes,
+    };
+    Some(match packet.rcode() {
+        Rcode::NoError if packet.flags().contains(Flags::TRUNCATED) => Response::Truncated(answers),
+        Rcode::NoError => Response::Whole(answers),
+        code => Response::Failed(code),
     })
 }
 
-// Whether the header is that of the response to a query, and tells of success.
-fn tells_of_success(packet: &Packet<&[u8]>, transaction_id: u16) -> bool {
+// Whether the header is that of the response to a query.
+fn responds(packet: &Packet<&[u8]>, transaction_id: u16) -> bool {
     if packet.transaction_id() != transaction_id {
         return false;
     }
@@ -83,9 +127,6 @@ fn tells_of_success(packet: &Packet<&[u8]>, transaction_id: u16) -> bool {
         return false;
     }
     if packet.opcode() != Opcode::Query {
-        return false;
-    }
-    if packet.rcode() != Rcode::NoError {
         return false;
     }
     packet.question_count() == 1
@@ -107,10 +148,11 @@ fn after_question<'a>(message: &'a [u8], name: &'a [u8], type_: Type) -> Option<
     Some(rest)
 }
 
-/// The next address of the name, and what is left to read after it. None where no record has another up to the first
-/// that can't be read. An alias counts for the records behind it.
-pub fn next_address(answers: Answers<'_>) -> Option<(Address, Answers<'_>)> {
+/// The next address of the name, of the type that was asked, and what is left to read after it. None where no record
+/// has another up to the first that can't be read. An alias counts for the records behind it.
+pub fn next_address(answers: Answers<'_>) -> Option<(AddressRecord, Answers<'_>)> {
     let message = answers.message;
+    let type_ = answers.type_;
     let packet = Packet::new_unchecked(message);
     let mut name = answers.name;
     let mut left = answers.left;
@@ -122,15 +164,16 @@ pub fn next_address(answers: Answers<'_>) -> Option<(Address, Answers<'_>)> {
         };
         left -= 1;
         bytes = rest;
-        match read_turn(&packet, &record, name) {
-            Turn::Found(address) => {
+        match read_turn(&packet, &record, name, type_) {
+            Turn::Found(found) => {
                 let after = Answers {
                     message,
                     name,
+                    type_,
                     left,
                     bytes,
                 };
-                return Some((address, after));
+                return Some((found, after));
             }
             Turn::Sought(next) => name = next,
         }
@@ -141,24 +184,36 @@ pub fn next_address(answers: Answers<'_>) -> Option<(Address, Answers<'_>)> {
 /// What a record says to who seeks a name's addresses: one of them, or for which name to go on.
 #[derive(Clone, Copy)]
 enum Turn<'a> {
-    Found(Address),
+    Found(AddressRecord),
     Sought(&'a [u8]),
 }
 
 // What the record says.
-fn read_turn<'a>(packet: &Packet<&'a [u8]>, record: &Record<'a>, name: &'a [u8]) -> Turn<'a> {
+fn read_turn<'a>(
+    packet: &Packet<&'a [u8]>,
+    record: &Record<'a>,
+    name: &'a [u8],
+    type_: Type,
+) -> Turn<'a> {
     if !same_name(packet, record.name, name) {
         return Turn::Sought(name);
     }
-    match record.data {
-        RecordData::A(address) => Turn::Found(Address::V4(address)),
-        RecordData::Aaaa(address) => Turn::Found(Address::V6(address)),
-        RecordData::Cname(alias_of) => Turn::Sought(alias_of),
-        RecordData::Other(_, _) => Turn::Sought(name),
+    let ttl = record.ttl;
+    match (record.data, type_) {
+        (RecordData::A(address), Type::A) => Turn::Found(AddressRecord {
+            address: Address::V4(address),
+            ttl,
+        }),
+        (RecordData::Aaaa(address), Type::Aaaa) => Turn::Found(AddressRecord {
+            address: Address::V6(address),
+            ttl,
+        }),
+        (RecordData::Cname(alias_of), _) => Turn::Sought(alias_of),
+        _ => Turn::Sought(name),
     }
 }
 
-/// Whether two names of a message have the same labels, wherever their pointers lead.
+/// Whether two names of a message have the same labels, letters of ASCII in either case, wherever their pointers lead.
 pub fn same_name<'a>(packet: &Packet<&'a [u8]>, a: &'a [u8], b: &'a [u8]) -> bool {
     let mut left = packet.parse_name(a);
     let mut right = packet.parse_name(b);
@@ -174,10 +229,10 @@ pub fn same_name<'a>(packet: &Packet<&'a [u8]>, a: &'a [u8], b: &'a [u8]) -> boo
     is_end(right.next())
 }
 
-// Whether a walk gave this label.
+// Whether a walk gave this label, in either case.
 fn is_label(answer: Option<Result<&[u8]>>, bytes: &[u8]) -> bool {
     match answer {
-        Some(Ok(found)) => found == bytes,
+        Some(Ok(found)) => found.eq_ignore_ascii_case(bytes),
         Some(Err(_)) => false,
         None => false,
     }

@@ -184,12 +184,15 @@ impl Capture {
         if !pcapng::is_closed(order, self.octets.as_slice()) {
             return Ok(Step::Ended(Ending::Malformed));
         }
-        match head.kind {
-            pcapng::SECTION => Ok(self.take_section(order)),
-            pcapng::INTERFACE => self.take_interface(order),
-            kind => Ok(self.take_packet(order, kind)),
+        if head.kind == pcapng::SECTION {
+            return Ok(self.take_section(order));
         }
+        if head.kind == pcapng::INTERFACE {
+            return self.take_interface(order);
+        }
+        Ok(self.take_packet(order, head.kind))
     }
+
     // Takes a section header.
     fn take_section(&mut self, order: Order) -> Step {
         match pcapng::check_section(order, self.octets.as_slice()) {
@@ -279,3 +282,6 @@ fn read_record<R: BufRead>(
     }
     Ok(Step::Packet(pcap::packet(&header, &record)))
 }
+
+#[cfg(test)]
+mod tests;

@@ -8,6 +8,8 @@ mod packet;
 pub mod pcap;
 pub mod pcapng;
 mod reader;
+#[cfg(test)]
+mod testing;
 mod time;
 
 pub use capture::{Capture, MOST_INTERFACES, MOST_OCTETS, Next, Record};

@@ -85,12 +85,36 @@ fn check_lines(rows: &[(&str, &str)]) {
     }
 }
 
-// A line is known, and prints this, as the plain printer does.
+// A line is known, and prints this.
 fn check_line(line: &str, want: &str) {
-    check_run(&line, line.as_bytes(), true, want.as_bytes());
+    check_input(&line, line.as_bytes(), true, want.as_bytes());
+}
+
+// An input prints this, and each of its lines is known, or one of them is not; so says the plain printer too.
+fn check_input(of: &impl Debug, input: &[u8], is_known: bool, want: &[u8]) {
+    check_run(of, input, is_known, want);
+    let mut printed = Vec::new();
+    let all_known = print_lines(&mut printed, input);
+    same_of(of, all_known, is_known);
+    same_of(of, printed.as_slice(), want);
+}
+
+// Prints what an input's lines hold with the plain printer; true where each of them is known.
+fn print_lines(printed: &mut Vec<u8>, input: &[u8]) -> bool {
+    let mut all_known = true;
+    for line in input.split(|octet| *octet == b'\n') {
+        all_known &= print_line(printed, line);
+    }
+    all_known
+}
+
+// The same of one line, which may end with a CR.
+fn print_line(printed: &mut Vec<u8>, line: &[u8]) -> bool {
     let mut text = Vec::new();
-    holds_of(line, plain::print(&mut text, line.as_bytes()));
-    same_of(line, text.as_slice(), want.as_bytes());
+    let line = line.strip_suffix(b"\r").unwrap_or(line);
+    let is_known = plain::print(&mut text, line);
+    holds_of(line, printed.extend_from_slice(text.as_slice()).is_ok());
+    is_known
 }
 
 // Compares the program with the plain printer on a line that is cut at each place from there on, before its packet,

@@ -14,16 +14,30 @@ pub(super) fn read_error<'a, B: AsRef<[u8]> + ?Sized>(packet: &Packet<&'a B>) ->
     if payload.len() < IPV6_HEADER_LEN {
         return Err(Error);
     }
-    match (packet.msg_type(), packet.msg_code()) {
-        (Message::DstUnreachable, _) => Ok(read_unreachable(packet)),
-        (Message::PktTooBig, 0) => Ok(read_too_big(packet)),
-        (Message::TimeExceeded, _) => Ok(read_time_exceeded(packet)),
-        (Message::ParamProblem, _) => Ok(read_param_problem(packet)),
-        _ => Err(Error),
+    match packet.msg_type() {
+        Message::DstUnreachable => {
+            return Ok(read_unreachable(packet));
+        }
+        Message::PktTooBig => {
+            if packet.msg_code() != 0 {
+                return Err(Error);
+            }
+            return Ok(read_too_big(packet));
+        }
+        Message::TimeExceeded => {
+            return Ok(read_time_exceeded(packet));
+        }
+        Message::ParamProblem => {
+            return Ok(read_param_problem(packet));
+        }
+        _ => {
+            return Err(Error);
+        }
     }
 }
 
 // The error of an unreachable destination in octets of that type that hold a quoted header.
+#[inline(always)]
 fn read_unreachable<'a, B: AsRef<[u8]> + ?Sized>(packet: &Packet<&'a B>) -> Repr<'a> {
     let (header, data) = read_quote(packet.payload());
     Repr::DstUnreachable {
@@ -34,6 +48,7 @@ fn read_unreachable<'a, B: AsRef<[u8]> + ?Sized>(packet: &Packet<&'a B>) -> Repr
 }
 
 // The same of a packet that is too big, whose code is 0.
+#[inline(always)]
 fn read_too_big<'a, B: AsRef<[u8]> + ?Sized>(packet: &Packet<&'a B>) -> Repr<'a> {
     let (header, data) = read_quote(packet.payload());
     Repr::PktTooBig {
@@ -44,6 +59,7 @@ fn read_too_big<'a, B: AsRef<[u8]> + ?Sized>(packet: &Packet<&'a B>) -> Repr<'a>
 }
 
 // The same of a time that was exceeded.
+#[inline(always)]
 fn read_time_exceeded<'a, B: AsRef<[u8]> + ?Sized>(packet: &Packet<&'a B>) -> Repr<'a> {
     let (header, data) = read_quote(packet.payload());
     Repr::TimeExceeded {
@@ -54,6 +70,7 @@ fn read_time_exceeded<'a, B: AsRef<[u8]> + ?Sized>(packet: &Packet<&'a B>) -> Re
 }
 
 // The same of a parameter problem.
+#[inline(always)]
 fn read_param_problem<'a, B: AsRef<[u8]> + ?Sized>(packet: &Packet<&'a B>) -> Repr<'a> {
     let (header, data) = read_quote(packet.payload());
     Repr::ParamProblem {
@@ -65,6 +82,7 @@ fn read_param_problem<'a, B: AsRef<[u8]> + ?Sized>(packet: &Packet<&'a B>) -> Re
 }
 
 // The echo request in octets of that type and of code 0.
+#[inline(always)]
 pub(super) fn read_echo_request<'a, B: AsRef<[u8]> + ?Sized>(packet: &Packet<&'a B>) -> Repr<'a> {
     Repr::EchoRequest {
         ident: packet.echo_ident(),
@@ -74,6 +92,7 @@ pub(super) fn read_echo_request<'a, B: AsRef<[u8]> + ?Sized>(packet: &Packet<&'a
 }
 
 // The same of an echo reply.
+#[inline(always)]
 pub(super) fn read_echo_reply<'a, B: AsRef<[u8]> + ?Sized>(packet: &Packet<&'a B>) -> Repr<'a> {
     Repr::EchoReply {
         ident: packet.echo_ident(),
@@ -83,21 +102,31 @@ pub(super) fn read_echo_reply<'a, B: AsRef<[u8]> + ?Sized>(packet: &Packet<&'a B
 }
 
 // The message of multicast listener discovery in octets of code 0.
+#[inline(always)]
 pub(super) fn read_listener<'a, B: AsRef<[u8]> + ?Sized>(
     packet: &Packet<&'a B>,
 ) -> Result<Repr<'a>> {
     match mld::Repr::parse(packet) {
-        Ok(message) => Ok(Repr::Mld(message)),
-        Err(_) => Err(Error),
+        Ok(message) => {
+            return Ok(Repr::Mld(message));
+        }
+        Err(_) => {
+            return Err(Error);
+        }
     }
 }
 
 // The message of neighbor discovery in octets of such a type and of code 0.
+#[inline(always)]
 pub(super) fn read_neighbor<'a, B: AsRef<[u8]> + ?Sized>(
     packet: &Packet<&'a B>,
 ) -> Result<Repr<'a>> {
     match ndisc::Repr::parse(packet) {
-        Ok(message) => Ok(Repr::Ndisc(message)),
-        Err(_) => Err(Error),
+        Ok(message) => {
+            return Ok(Repr::Ndisc(message));
+        }
+        Err(_) => {
+            return Err(Error);
+        }
     }
 }

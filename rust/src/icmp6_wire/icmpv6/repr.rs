@@ -96,6 +96,7 @@ impl<'a> Repr<'a> {
     }
 
     // The message in the octets.
+    #[inline(always)]
     fn read<B: AsRef<[u8]> + ?Sized>(
         src_addr: &Ipv6Address,
         dst_addr: &Ipv6Address,
@@ -110,6 +111,7 @@ impl<'a> Repr<'a> {
     }
 
     // The message in octets that begin with a whole header, whatever their checksum.
+    #[inline(always)]
     fn read_content<B: AsRef<[u8]> + ?Sized>(packet: &Packet<&'a B>) -> Result<Repr<'a>> {
         let kind = packet.msg_type();
         if kind.is_error() {
@@ -118,12 +120,23 @@ impl<'a> Repr<'a> {
         if packet.msg_code() != 0 {
             return Err(Error);
         }
+        // A return in each arm: the value is then written once, where the caller has room for it.
         match kind {
-            Message::EchoRequest => Ok(read_echo_request(packet)),
-            Message::EchoReply => Ok(read_echo_reply(packet)),
-            _ if kind.is_mld() => read_listener(packet),
-            _ if kind.is_ndisc() => read_neighbor(packet),
-            _ => Err(Error),
+            Message::EchoRequest => {
+                return Ok(read_echo_request(packet));
+            }
+            Message::EchoReply => {
+                return Ok(read_echo_reply(packet));
+            }
+            _ if kind.is_mld() => {
+                return read_listener(packet);
+            }
+            _ if kind.is_ndisc() => {
+                return read_neighbor(packet);
+            }
+            _ => {
+                return Err(Error);
+            }
         }
     }
 

@@ -53,9 +53,10 @@ fn check_list<const N: usize>(list: &[AddressRecordRepr<'_>], wanted: &[u8; N]) 
 // Writes a report of these records over the front of 64 octets that are all the same, and checks that it is those which
 // are wanted, and that the octets behind it stay.
 fn check_front(list: &[AddressRecordRepr<'_>], wanted: &[u8]) {
+    let report = Repr::ReportRecordReprs(list);
     for &fill in FILLS {
         let mut octets = [fill; 64];
-        Repr::ReportRecordReprs(list).emit_into(&mut octets);
+        report.emit_into(&mut octets);
         let len = wanted.len();
         same_of(fill, &octets[..len], wanted);
         same_of(fill, &octets[len..], &[fill; 64][len..]);

@@ -3,11 +3,11 @@
 use super::{NeighborFlags, Repr, RouterFlags};
 use crate::icmp6_wire::icmpv6::Packet;
 use crate::icmp6_wire::plain_reader::compare_damaged;
-use crate::icmp6_wire::testing::{holds_of, same, same_of};
+use crate::icmp6_wire::testing::{differ, holds_of, reads, same, same_of};
 use crate::icmp6_wire::{icmpv6, mld};
 use crate::opt_wire::ndiscoption::{PrefixInfoFlags, PrefixInformation, RedirectedHeader};
 use crate::wirebase::{
-    ChecksumCapabilities, Duration, Error, IpProtocol, Ipv6Address, Ipv6Repr, RawHardwareAddress,
+    ChecksumCapabilities, Duration, IpProtocol, Ipv6Address, Ipv6Repr, RawHardwareAddress, Result,
 };
 
 mod fields;
@@ -28,28 +28,21 @@ fn ethernet() -> RawHardwareAddress {
     RawHardwareAddress::from_bytes(&[0x52, 0x54, 0x00, 0x12, 0x34, 0x56])
 }
 
-// What reading these bytes gives. A test that holds a message calls this itself: else rattle's borrow checker doesn't
-// find the types of its fields.
-fn read(bytes: &[u8]) -> Result<Repr<'_>, Error> {
+// What reading these bytes gives.
+fn read(bytes: &[u8]) -> Result<Repr<'_>> {
     Repr::parse(&Packet::new_unchecked(bytes))
-}
-
-// Whether what is read from these bytes is this message; nothing where they are refused.
-fn is_read(bytes: &[u8], repr: &Repr<'_>) -> Option<bool> {
-    let Ok(found) = read(bytes) else {
-        return None;
-    };
-    Some(found == *repr)
 }
 
 // Checks that these bytes are read as this message.
 fn check_read(bytes: &[u8], repr: &Repr<'_>) {
-    same_of(bytes, is_read(bytes, repr), Some(true));
+    reads(&read(bytes), repr);
 }
 
 // Checks that these bytes are read as another message.
 fn check_other(bytes: &[u8], repr: &Repr<'_>) {
-    same_of(bytes, is_read(bytes, repr), Some(false));
+    let found = read(bytes);
+    holds_of(bytes, found.is_ok());
+    differ("another message", &found, &Ok(*repr));
 }
 
 // Checks that these bytes are refused.

@@ -70,38 +70,56 @@ impl<'a> Repr<'a> {
     /// The option at the front of the octets. Refused where they don't begin with a whole option of one unit or more,
     /// where a prefix counts other than 4 units or an MTU other than 1, and where a redirected header is none of a
     /// whole packet of version 6. Flags without a name are left out; reserved bytes and padding are not looked at.
+    #[inline(always)]
     pub fn parse<B: AsRef<[u8]> + ?Sized>(opt: &NdiscOption<&'a B>) -> Result<Repr<'a>> {
         Repr::read(opt)
     }
 
     // The option at the front of the octets.
+    #[inline(always)]
     fn read<B: AsRef<[u8]> + ?Sized>(opt: &NdiscOption<&'a B>) -> Result<Repr<'a>> {
         opt.check_len()?;
         let length = opt.data_len();
         if length == 0 {
             return Err(Error);
         }
-        match (opt.option_type(), length) {
-            (Type::SourceLinkLayerAddr, _) => Ok(Repr::SourceLinkLayerAddr(opt.link_layer_addr())),
-            (Type::TargetLinkLayerAddr, _) => Ok(Repr::TargetLinkLayerAddr(opt.link_layer_addr())),
-            (Type::PrefixInformation, 4) => Ok(Repr::PrefixInformation(PrefixInformation {
-                prefix_len: opt.prefix_len(),
-                flags: opt.prefix_flags(),
-                valid_lifetime: opt.valid_lifetime(),
-                preferred_lifetime: opt.preferred_lifetime(),
-                prefix: opt.prefix(),
-            })),
-            (Type::RedirectedHeader, _) => {
-                let (header, data) = read_redirected(opt.redirected())?;
-                Ok(Repr::RedirectedHeader(RedirectedHeader { header, data }))
+        // A return in each arm: the value is then written once, where the caller has room for it.
+        match opt.option_type() {
+            Type::SourceLinkLayerAddr => {
+                return Ok(Repr::SourceLinkLayerAddr(opt.link_layer_addr()));
             }
-            (Type::Mtu, 1) => Ok(Repr::Mtu(opt.mtu())),
-            (Type::Unknown(type_), length) => Ok(Repr::Unknown {
-                type_,
-                length,
-                data: opt.data(),
-            }),
-            _ => Err(Error),
+            Type::TargetLinkLayerAddr => {
+                return Ok(Repr::TargetLinkLayerAddr(opt.link_layer_addr()));
+            }
+            Type::PrefixInformation => {
+                if length != 4 {
+                    return Err(Error);
+                }
+                return Ok(Repr::PrefixInformation(PrefixInformation {
+                    prefix_len: opt.prefix_len(),
+                    flags: opt.prefix_flags(),
+                    valid_lifetime: opt.valid_lifetime(),
+                    preferred_lifetime: opt.preferred_lifetime(),
+                    prefix: opt.prefix(),
+                }));
+            }
+            Type::RedirectedHeader => {
+                let (header, data) = read_redirected(opt.redirected())?;
+                return Ok(Repr::RedirectedHeader(RedirectedHeader { header, data }));
+            }
+            Type::Mtu => {
+                if length != 1 {
+                    return Err(Error);
+                }
+                return Ok(Repr::Mtu(opt.mtu()));
+            }
+            Type::Unknown(type_) => {
+                return Ok(Repr::Unknown {
+                    type_,
+                    length,
+                    data: opt.data(),
+                });
+            }
         }
     }
 

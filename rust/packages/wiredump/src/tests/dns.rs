@@ -15,6 +15,10 @@ fn questions() {
         ("00001c0001", "name=00\ntype_=28\nrest=0\n"),
         ("c00c00010001ff", "name=c00c\ntype_=1\nrest=1\n"),
         (
+            "06676f6f676c6503636f6d0000010001",
+            "name=06676f6f676c6503636f6d00\ntype_=1\nrest=0\n",
+        ),
+        (
             "06676f6f676c6503636f6d0000ff0001",
             "name=06676f6f676c6503636f6d00\ntype_=255\nrest=0\n",
         ),

@@ -1,7 +1,7 @@
 // Made from crates/wiredump/src/tests/faults.rt by rust/erase.
 //! Readers and writers that fail.
 
-use super::{joined, repeated};
+use super::{joined, print_line, repeated};
 use crate::line::show_line;
 use crate::reading::{Line, read_line};
 use crate::testing::{holds_of, same_of};
@@ -71,23 +71,38 @@ impl Read for Source<'_> {
     }
 }
 
-// Compares what is printed of a source that fails, or does not, with what is printed of one that never does.
-fn check_source(source: Source<'_>, fails: bool, undisturbed: &[u8]) {
+// What the lines print that end within so many octets, by the plain printer.
+fn listing(octets: usize) -> Vec<u8> {
+    let mut printed = Vec::new();
+    let mut end = 0usize;
+    for line in LINES {
+        end = end.wrapping_add(line.len());
+        if end <= octets {
+            let line = line.trim_end_matches('\n');
+            print_line(&mut printed, line.as_bytes());
+        }
+    }
+    printed
+}
+
+// Compares what is printed of a source that fails, or does not: it is what the lines print that end before that call.
+fn check_source(source: Source<'_>, fails: bool) {
     let fails_at = source.fails_at;
+    let octets = if fails {
+        fails_at.saturating_mul(GIVEN)
+    } else {
+        usize::MAX
+    };
     let mut output = Vec::new();
     let answer = run(source, &mut output);
-    let output = output.as_slice();
-    if fails {
-        same_of(fails_at, answer, Err(Fault::Read));
-        holds_of(fails_at, undisturbed.starts_with(output));
-    } else {
-        same_of(fails_at, answer, Ok(false));
-        same_of(fails_at, output, undisturbed);
-    }
+    let wanted = if fails { Err(Fault::Read) } else { Ok(false) };
+    same_of(fails_at, answer, wanted);
+    let listing = listing(octets);
+    same_of(fails_at, output.as_slice(), listing.as_slice());
 }
 
 // Fails at each call in turn, and at one more than there are.
-fn check_sources(octets: &[u8], kind: ErrorKind, fails: bool, undisturbed: &[u8]) {
+fn check_sources(octets: &[u8], kind: ErrorKind, fails: bool) {
     // Calls for all octets, and one more at the end.
     let calls = octets.len() / GIVEN + 1;
     for fails_at in 0..calls + 1 {
@@ -97,15 +112,8 @@ fn check_sources(octets: &[u8], kind: ErrorKind, fails: bool, undisturbed: &[u8]
             fails_at,
             kind,
         };
-        check_source(source, fails && fails_at < calls, undisturbed);
+        check_source(source, fails && fails_at < calls);
     }
-}
-
-// What an input with a bad line prints where nothing fails.
-fn printed(input: &[u8]) -> Vec<u8> {
-    let mut output = Vec::new();
-    same_of(input, run(input, &mut output), Ok(false));
-    output
 }
 
 #[test]
@@ -117,16 +125,23 @@ fn reads_that_fail() {
         (ErrorKind::Interrupted, false),
     ];
     let input = joined(LINES);
-    let undisturbed = printed(input.as_bytes());
-    let (input, undisturbed) = (input.as_bytes(), undisturbed.as_slice());
     for &(kind, fails) in ROWS {
-        check_sources(input, kind, fails, undisturbed);
+        check_sources(input.as_bytes(), kind, fails);
     }
+}
+
+// What an input with a bad line prints where nothing fails.
+fn printed(input: &[u8]) -> Vec<u8> {
+    let mut output = Vec::new();
+    same_of(input, run(input, &mut output), Ok(false));
+    output
 }
 
 // Takes some octets a call, and fails at one call, or from it on.
 struct Sink<'a> {
     output: &'a mut Vec<u8>,
+    // How many octets it had taken when it failed first, and how many it was given then.
+    failed: &'a mut (usize, usize),
     calls: usize,
     fails_at: usize,
     for_good: bool,
@@ -134,9 +149,12 @@ struct Sink<'a> {
 }
 
 impl Sink<'_> {
-    fn fail(&mut self) -> io::Result<()> {
+    fn fail(&mut self, given: usize) -> io::Result<()> {
         let call = self.calls;
         self.calls = call.wrapping_add(1);
+        if call == self.fails_at {
+            *self.failed = (self.output.as_slice().len(), given);
+        }
         if call == self.fails_at || self.for_good && call > self.fails_at {
             return Err(io::Error::from(self.kind));
         }
@@ -146,14 +164,14 @@ impl Sink<'_> {
 
 impl Write for Sink<'_> {
     fn write(&mut self, buffer: &[u8]) -> io::Result<usize> {
-        self.fail()?;
+        self.fail(buffer.len())?;
         let length = buffer.len().min(5_000);
         self.output.extend_from_slice(&buffer[..length])?;
         Ok(length)
     }
 
     fn flush(&mut self) -> io::Result<()> {
-        self.fail()
+        self.fail(0)
     }
 }
 
@@ -164,25 +182,28 @@ fn long_input() -> String {
     repeated(&[(lines.as_str(), 1), (long.as_str(), 60)])
 }
 
-// Compares what was printed to a sink with what is printed to one that never fails; true where no write failed.
+// Compares what was printed to a sink with what is printed to one that never fails, or with so many octets of that where
+// a write failed; true where none did.
 fn check_written(
     fails_at: usize,
-    answer: Result<bool, Fault>,
-    known: Result<bool, Fault>,
+    answers: (Result<bool, Fault>, Result<bool, Fault>),
     fault: Fault,
     output: &[u8],
     undisturbed: &[u8],
+    octets: usize,
 ) -> bool {
-    holds_of(fails_at, undisturbed.starts_with(output));
+    let (answer, known) = answers;
     if answer == known {
         same_of(fails_at, output, undisturbed);
         return true;
     }
     same_of(fails_at, answer, Err(fault));
+    same_of(fails_at, Some(output), undisturbed.get(..octets));
     false
 }
 
-// Compares what is printed to a sink that fails at one call, or from it on; true where no write failed.
+// Compares what is printed to a sink that fails at one call, or from it on; true where no write failed. What it was given
+// when it failed is given again.
 fn check_sink(
     input: &[u8],
     fails_at: usize,
@@ -191,16 +212,24 @@ fn check_sink(
 ) -> bool {
     let (kind, fault, for_good) = *row;
     let mut output = Vec::new();
+    let mut failed = (0, 0);
     let sink = Sink {
         output: &mut output,
+        failed: &mut failed,
         calls: 0,
         fails_at,
         for_good,
         kind,
     };
-    let answer = run(input, sink);
+    let answers = (run(input, sink), Ok(false));
+    let (taken, given) = failed;
+    let octets = if for_good {
+        taken
+    } else {
+        taken.saturating_add(given)
+    };
     let output = output.as_slice();
-    check_written(fails_at, answer, Ok(false), fault, output, undisturbed)
+    check_written(fails_at, answers, fault, output, undisturbed, octets)
 }
 
 // Fails at each call in turn, until there are no more calls.
@@ -246,16 +275,19 @@ fn check_line(
     undisturbed: &[u8],
 ) -> bool {
     let mut output = Vec::new();
+    let mut failed = (0, 0);
     let mut sink = Sink {
         output: &mut output,
+        failed: &mut failed,
         calls: 0,
         fails_at,
         for_good: false,
         kind: ErrorKind::BrokenPipe,
     };
-    let answer = show_line(&mut sink, line);
+    let answers = (show_line(&mut sink, line), known);
+    let (taken, _) = failed;
     let (fault, output) = (Fault::Write, output.as_slice());
-    check_written(fails_at, answer, known, fault, output, undisturbed)
+    check_written(fails_at, answers, fault, output, undisturbed, taken)
 }
 
 // At how many calls writing a line fails, each call in turn; 500 where it fails at each that is tried.

@@ -1,17 +1,17 @@
 // Made from crates/wiredump/src/tests/lines.rt by rust/erase.
 //! Lines of every shape, and at the limits of what a line may have.
 
-use super::{append, check_line, check_run, joined, repeated};
+use super::{append, check_input, check_line, check_run, joined, repeated};
 use crate::read_word;
 use crate::testing::{holds_of, same_of};
 #[allow(unused_imports)]
 use rattle_std::prelude::*;
-use std::fmt::Write;
+use std::fmt::{Debug, Write};
 
 // Each input prints this; its lines are known, or one of them is not.
 fn check_inputs(rows: &[(&str, &str, bool)]) {
     for (input, want, known) in rows {
-        check_run(input, input.as_bytes(), *known, want.as_bytes());
+        check_input(input, input.as_bytes(), *known, want.as_bytes());
     }
 }
 
@@ -112,7 +112,16 @@ fn lines_that_are_no_text() {
         b"\xef\xbb\xbfhbh 00\n",
     ];
     for &input in INPUTS {
-        check_run(&input, input, false, b"bad line\n");
+        check_input(&input, input, false, b"bad line\n");
+    }
+}
+
+// An input whose words may be too long prints this; where none is, so says the plain printer, which takes any.
+fn check_length(of: &impl Debug, input: &[u8], is_known: bool, want: &[u8]) {
+    if is_known {
+        check_input(of, input, true, want);
+    } else {
+        check_run(of, input, false, want);
     }
 }
 
@@ -127,7 +136,7 @@ fn check_digits(digits: usize, length: Option<usize>, want: &str) {
     same_of(digits, octets_len, length);
     let line = joined(&["hbh ", word.as_str()]);
     let (input, want) = (line.as_bytes(), want.as_bytes());
-    check_run(&digits, input, length.is_some(), want);
+    check_length(&digits, input, length.is_some(), want);
 }
 
 #[test]
@@ -152,7 +161,7 @@ fn check_repeated(texts: &[(&str, usize)], known: bool, want: &str) {
     append(&mut input, "\nhbh 00", 1);
     let want = joined(&[want, "Pad1\n"]);
     let (input, want) = (input.as_bytes(), want.as_bytes());
-    check_run(&texts, input, known, want);
+    check_length(&texts, input, known, want);
 }
 
 #[test]
@@ -223,4 +232,12 @@ fn octets_of_every_value() {
     let want = "Unknown\ntype_=17\nlength=255\ndata=";
     let want = joined(&[want, digits.as_str(), "\n"]);
     check_line(line.as_str(), want.as_str());
+}
+
+#[test]
+fn an_input_of_70_000_lines() {
+    let input = repeated(&[("hbh 00\nhbh 0100\n", 35_000)]);
+    let want = repeated(&[("Pad1\nPadN=0\n", 35_000)]);
+    let (input, want) = (input.as_bytes(), want.as_bytes());
+    check_input(&"70,000 lines", input, true, want);
 }

@@ -29,6 +29,12 @@ fn hop_by_hop_headers() {
             "3a00050200000100",
             "Unknown\ntype_=58\nlength=0\ndata=-\nRouterAlert=0\nPadN=0\n",
         ),
+        // Seven options, and the same with an eighth that is cut off.
+        (
+            "0001010001020000010000110005020001",
+            "Pad1\nPadN=1\nPadN=2\nPadN=0\nPad1\nUnknown\ntype_=17\nlength=0\ndata=-\nRouterAlert=1\n",
+        ),
+        ("0001010001020000010000110005020001010800", "refused\n"),
         // A ninth option is looked at and left out, and a tenth is not looked at.
         ("00000000000000000502beef", PADS),
         ("000000000000000000ff", PADS),
