@@ -1,0 +1,55 @@
+-- Tags stand one behind another.
+use Rattle.std.proofs.Common.{◌≡◌, ℕ, ◌+◌, ◌-◌, ◌≤◌, List, [], ◌∷◌, ◌++◌, length, take, drop, refl, sym, ap, subst, ◌∙◌}
+use Rattle.std.proofs.Common.{arith, append_assoc, length-drop}
+use Rattle.std.proofs.lemmas.List.{drop-drop, append-nil}
+use Rattle.std.proofs.Math.Seq.{take-add}
+use Rattle.wirebase.specs.Bytes.{field, part, number_of}
+use Rattle.frame_wire.specs.Link.{IsTagType, IsTagged, plain, tagged}
+
+-- the first bytes are tags, behind which `last` is the type of what follows: what is tagged there is tagged here
+pub record SoFar (type : ℕ) (bytes : List ℕ) (last end : ℕ) : Type 0 where
+  pub fits : end ≤ length bytes
+  pub forth : (tags : List ℕ) (final : ℕ) (rest : List ℕ) → IsTagged last (drop end bytes) tags final rest
+      → IsTagged type bytes (take end bytes ++ tags) final rest
+  pub back : (tags : List ℕ) (final : ℕ) (rest : List ℕ) → IsTagged type bytes tags final rest
+      → (more : List ℕ) × (tags ≡ take end bytes ++ more) × IsTagged last (drop end bytes) more final rest
+
+pub so_far-init : (type : ℕ) (bytes : List ℕ) → SoFar type bytes type 0
+so_far-init type bytes = record {
+  fits = omega arith;
+  forth = λ tags final rest is. is;
+  back = λ tags final rest is. (tags, refl, is);
+}
+
+-- one tag more
+one_back : (type : ℕ) (bytes tags : List ℕ) (final : ℕ) (rest : List ℕ) → IsTagType type
+    → IsTagged type bytes tags final rest
+    → (more : List ℕ) × (tags ≡ take 4 bytes ++ more) × IsTagged (number_of (field 2 4) bytes) (drop 4 bytes) more final rest
+one_back type bytes tags final rest is (plain no_tag none e b) = absurd (no_tag is)
+one_back type bytes tags final rest is (tagged more tag long behind e) = (more, e, behind)
+
+pub so_far-more : (type : ℕ) (bytes : List ℕ) (last end next : ℕ) → SoFar type bytes last end → IsTagType last
+    → 4 ≤ length bytes - end → next ≡ number_of (field 2 4) (drop end bytes) → SoFar type bytes next (end + 4)
+so_far-more type bytes last end next so tag room e =
+    let long : 4 ≤ length (drop end bytes) = omega (arith, length-drop end bytes, room) in
+    let split : take (end + 4) bytes ≡ take end bytes ++ take 4 (drop end bytes) = take-add end 4 bytes in
+    let behind : drop 4 (drop end bytes) ≡ drop (end + 4) bytes = drop-drop 4 end bytes in
+    record {
+      fits = omega (arith, so.fits, room);
+      forth = λ tags final rest is.
+          subst (λ l. IsTagged type bytes l final rest)
+          (sym (append_assoc (take end bytes) (take 4 (drop end bytes)) tags) ∙ ap (λ l. l ++ tags) (sym split))
+          (so.forth (take 4 (drop end bytes) ++ tags) final rest
+          (tagged tags tag long
+          (subst (λ n. IsTagged n (drop 4 (drop end bytes)) tags final rest) e
+          (subst (λ l. IsTagged next l tags final rest) (sym behind) is)) refl));
+      back = λ tags final rest is.
+          let first = so.back tags final rest is in
+          let second = one_back last (drop end bytes) first.0 final rest tag first.2 in (
+            second.0,
+            first.1 ∙ ap (λ l. take end bytes ++ l) second.1
+                ∙ sym (append_assoc (take end bytes) (take 4 (drop end bytes)) second.0) ∙ ap (λ l. l ++ second.0) (sym split),
+            subst (λ l. IsTagged next l second.0 final rest) behind
+                (subst (λ n. IsTagged n (drop 4 (drop end bytes)) second.0 final rest) (sym e) second.2),
+          );
+    }

@@ -1,0 +1,86 @@
+-- UDP datagrams (RFC 768).
+--
+--  0                   1                   2                   3
+--  0 1 2 3 4 5 6 7 8 9 0 1 2 3 4 5 6 7 8 9 0 1 2 3 4 5 6 7 8 9 0 1
+-- +-------------------------------+-------------------------------+
+-- |          source port          |       destination port        |
+-- +-------------------------------+-------------------------------+
+-- |            length             |           checksum            |
+-- +-------------------------------+-------------------------------+
+-- |  data, up to the length
+-- +- - - - - - - - - - - - - - - -
+use Rattle.std.specs.Prelude.{◌≡◌, ◌≢◌, ℕ, ◌≤◌, ◌⊎◌, true, List, length}
+use Rattle.std.specs.Borrow.{Bor}
+use Rattle.wirebase.specs.Bytes.{Field, field, Reaches, Writes, part, bytes_of, number_of}
+use Rattle.wirebase.specs.Capabilities.{is_verified}
+use Rattle.wirebase.specs.Checksum.{IsGood}
+use Rattle.wirebase.specs.declared.capabilities.ChecksumCapabilities.{ChecksumCapabilities}
+use Rattle.wirebase.specs.declared.ip.IpProtocol.TheVariants.{Udp}
+use Rattle.frame_wire.specs.Addresses.{IsV4, sum_before}
+use Rattle.frame_wire.specs.declared.datagram.Addresses.{Addresses}
+use Rattle.frame_wire.specs.declared.udp.UdpPacket.{UdpPacket}
+use Rattle.frame_wire.specs.declared.udp.UdpRepr.{UdpRepr}
+
+-- ---- the view
+
+-- what a view was made from, and the view made from something else
+abbrev pub inner : {T : Type 0} → UdpPacket T → T
+inner view = view.buffer
+
+abbrev pub with_inner : {T : Type 0} → UdpPacket T → T → UdpPacket T
+with_inner view buffer = record view { buffer = buffer }
+
+abbrev pub view_octets : UdpPacket (Bor (List ℕ)) → List ℕ
+view_octets view = (inner view).now
+
+-- a field of the view is w, and all its other octets stay
+abbrev pub Sets : {T : Type 0} → (T → List ℕ) → (T → List ℕ → T) → UdpPacket T → UdpPacket T → Field → List ℕ → Type 0
+Sets bytes set old new f w = Writes bytes set (inner old) (inner new) f w
+
+-- as many octets as there were
+abbrev pub KeepsLen : {T : Type 0} → (T → List ℕ) → UdpPacket T → UdpPacket T → Type 0
+KeepsLen bytes old new = length (bytes (inner new)) ≡ length (bytes (inner old))
+
+-- the fields
+abbrev pub src_port_field : Field
+src_port_field = field 0 2
+
+abbrev pub dst_port_field : Field
+dst_port_field = field 2 4
+
+abbrev pub len_field : Field
+len_field = field 4 6
+
+abbrev pub checksum_field : Field
+checksum_field = field 6 8
+
+-- the bytes of header and data
+abbrev pub len_in : List ℕ → ℕ
+len_in bytes = number_of len_field bytes
+
+abbrev pub whole_field : List ℕ → Field
+whole_field bytes = field 0 (len_in bytes)
+
+abbrev pub payload_field : List ℕ → Field
+payload_field bytes = field 8 (len_in bytes)
+
+-- the bytes begin with a datagram that its own length calls whole
+pub record BeginsWhole (bytes : List ℕ) : Type 0 where
+  pub fixed : Reaches checksum_field bytes
+  pub order : 8 ≤ len_in bytes
+  pub total : len_in bytes ≤ length bytes
+
+-- the datagram at the front of the bytes carries its checksum
+abbrev pub IsVerified : Addresses → List ℕ → Type 0
+IsVerified addresses bytes = IsGood (bytes_of (whole_field bytes) bytes) (sum_before addresses Udp (len_in bytes))
+
+-- The grammar: the bytes begin with a whole datagram to some port, and where that is verified, it carries its checksum,
+-- or over IPv4 none at all.
+pub record IsDatagram (capabilities : ChecksumCapabilities) (addresses : Addresses) (bytes : List ℕ) (r : UdpRepr)
+    : Type 0 where
+  pub whole : BeginsWhole bytes
+  pub source : r.src_port ≡ number_of src_port_field bytes
+  pub destination : r.dst_port ≡ number_of dst_port_field bytes
+  pub port : r.dst_port ≢ 0
+  pub checksum : is_verified capabilities.udp ≡ true
+      → (IsV4 addresses × (number_of checksum_field bytes ≡ 0)) ⊎ IsVerified addresses bytes

@@ -1,0 +1,10 @@
+//! What stands below a control packet: frames of links, IP datagrams with their options and extension headers, and UDP.
+#![tactic(auto)]
+
+pub mod datagram;
+pub mod link;
+pub mod udp;
+
+pub use datagram::Addresses;
+pub use link::{Frame, Network};
+pub use udp::{UdpPacket, UdpRepr};

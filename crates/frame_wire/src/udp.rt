@@ -1,0 +1,268 @@
+//! UDP datagrams (RFC 768).
+
+ghost use Rattle.std.specs.Prelude.{◌≡◌, ◌≤◌, ◌↔◌, ◌⊎◌, ℕ, List, length, IsTrue, IsOk, IfOk, IsOkAnd};
+ghost use Rattle.std.specs.Borrow.{sem, Lends, Array, u8 as byte};
+ghost use Rattle.byteorder.specs.Endian.{big_bytes};
+ghost use Rattle.wirebase.specs.Bytes.{Reaches, bytes_of, number_of, splice};
+ghost use Rattle.frame_wire.specs.Udp.{inner, with_inner, view_octets, Sets, KeepsLen, src_port_field, dst_port_field};
+ghost use Rattle.frame_wire.specs.Udp.{len_field, checksum_field, len_in, payload_field, BeginsWhole, IsVerified};
+ghost use Rattle.frame_wire.specs.Udp.{IsDatagram};
+ghost use Rattle.frame_wire.specs.Addresses.{IsV4};
+ghost use Rattle.frame_wire.specs.contracts.udp.UdpPacket.{the_row};
+ghost use Rattle.frame_wire.specs.declared.udp.UdpRepr.{UdpRepr as AnUdpRepr};
+
+use crate::datagram::Addresses;
+use wirebase::{ChecksumCapabilities, Error, IpProtocol, Octets, OctetsMut, Result, checksum};
+
+// The fields; their picture is in specs/Udp.antt.
+mod field {
+    use wirebase::Field;
+
+    pub const SRC_PORT: Field = 0..2;
+
+    pub const DST_PORT: Field = 2..4;
+
+    pub const LENGTH: Field = 4..6;
+
+    pub const CHECKSUM: Field = 6..8;
+
+    pub const PAYLOAD: usize = 8;
+}
+
+/// The bytes of the header.
+pub const HEADER_LEN: usize = field::PAYLOAD;
+
+/// A view of the octets of a UDP datagram.
+#[derive(Debug, Clone, Drop)]
+pub struct UdpPacket<T: Octets> {
+    buffer: T,
+}
+
+impl<T: Octets> UdpPacket<T> {
+    /// The view of these octets, whatever they are.
+    pub fn new_unchecked(buffer: T) -> UdpPacket<T>
+        ensures { inner result ≡ buffer }
+    {
+        UdpPacket { buffer }
+    }
+
+    /// The view of these octets, where they begin with a whole datagram; refused where they don't. A refusal gives a
+    /// `&mut [u8]` up: who wants the octets back, as they were, takes `new_unchecked` and then `check_len`.
+    pub fn new_checked(buffer: T) -> Result<UdpPacket<T>>
+        ensures accepts { IsOk result ↔ BeginsWhole (T.bytes buffer) }
+        ensures buffer { IfOk result (λ view. inner view ≡ buffer) }
+    {
+        let packet = UdpPacket::new_unchecked(buffer);
+        packet.check_len()?;
+        Ok(packet)
+    }
+
+    /// Accepts octets of 8 bytes and more that hold the whole datagram by its length, which counts the header too.
+    /// Then each accessor may be called.
+    pub fn check_len(&self) -> Result<()>
+        ensures accepts { IsOk result ↔ BeginsWhole (T.bytes (inner self.now)) }
+    {
+        let len = self.buffer.octets().len();
+        if len < HEADER_LEN {
+            return Err(Error);
+        }
+        let total = self.len() as usize;
+        if total < HEADER_LEN || len < total {
+            return Err(Error);
+        }
+        Ok(())
+    }
+
+    /// What the view was made from, as it is now.
+    pub fn into_inner(self) -> T
+        ensures { result ≡ inner self }
+    {
+        self.buffer
+    }
+
+    /// The port of the sender, or 0 where it has none. Requires at least 2 bytes.
+    pub fn src_port(&self) -> u16
+        requires { Reaches src_port_field (T.bytes (inner self.now)) }
+        ensures { result ≡ number_of src_port_field (T.bytes (inner self.now)) }
+    {
+        self.buffer.u16_at(field::SRC_PORT)
+    }
+
+    /// The port of the receiver. Requires at least 4 bytes.
+    pub fn dst_port(&self) -> u16
+        requires { Reaches dst_port_field (T.bytes (inner self.now)) }
+        ensures { result ≡ number_of dst_port_field (T.bytes (inner self.now)) }
+    {
+        self.buffer.u16_at(field::DST_PORT)
+    }
+
+    /// The bytes of header and data. Requires at least 6 bytes.
+    pub fn len(&self) -> u16
+        requires { Reaches len_field (T.bytes (inner self.now)) }
+        ensures { result ≡ len_in (T.bytes (inner self.now)) }
+    {
+        self.buffer.u16_at(field::LENGTH)
+    }
+
+    /// The checksum, or 0 where there is none. Requires at least 8 bytes.
+    pub fn checksum(&self) -> u16
+        requires { Reaches checksum_field (T.bytes (inner self.now)) }
+        ensures { result ≡ number_of checksum_field (T.bytes (inner self.now)) }
+    {
+        self.buffer.u16_at(field::CHECKSUM)
+    }
+
+    /// Whether the datagram carries its checksum, with the pseudo header of these addresses. One without a checksum
+    /// carries none. Requires a whole datagram.
+    #[tactic(auto, using(wirebase::proofs::PseudoSeals::pseudo_seals))]
+    pub fn verify_checksum(&self, addresses: &Addresses) -> bool
+        requires { BeginsWhole (T.bytes (inner self.now)) }
+        ensures { IsTrue result ↔ IsVerified addresses.now (T.bytes (inner self.now)) }
+    {
+        let len = self.len();
+        let sum = addresses.sum_before(IpProtocol::Udp, len as u32);
+        checksum::is_good(self.buffer.range(0, len as usize), sum)
+    }
+}
+
+impl<'a> UdpPacket<&'a [u8]> {
+    /// The data, for as long as the octets live. Requires a whole datagram.
+    #[tactic(auto, using(wirebase::proofs::Pieces::pieces), unfolding(wirebase::specs::Bytes::part))]
+    pub fn payload(&self) -> &'a [u8]
+        requires { BeginsWhole (view_octets self.now) }
+        ensures { result.now ≡ bytes_of (payload_field (view_octets self.now))
+            (view_octets self.now) }
+    {
+        let octets: &'a [u8] = self.buffer;
+        &octets[field::PAYLOAD..self.len() as usize]
+    }
+}
+
+impl<T: OctetsMut> UdpPacket<T> {
+    /// Writes the port of the sender. Requires at least 2 bytes.
+    pub fn set_src_port(&mut self, value: u16)
+        requires { Reaches src_port_field (T.bytes (inner self.old)) }
+        ensures writes { Sets T.bytes T.put self.old self.new src_port_field (big_bytes 2 value) }
+        ensures len { KeepsLen T.bytes self.old self.new }
+    {
+        self.buffer.set_u16(field::SRC_PORT, value);
+    }
+
+    /// Writes the port of the receiver. Requires at least 4 bytes.
+    pub fn set_dst_port(&mut self, value: u16)
+        requires { Reaches dst_port_field (T.bytes (inner self.old)) }
+        ensures writes { Sets T.bytes T.put self.old self.new dst_port_field (big_bytes 2 value) }
+        ensures len { KeepsLen T.bytes self.old self.new }
+    {
+        self.buffer.set_u16(field::DST_PORT, value);
+    }
+
+    /// Writes the bytes of header and data. Requires at least 6 bytes.
+    pub fn set_len(&mut self, value: u16)
+        requires { Reaches len_field (T.bytes (inner self.old)) }
+        ensures writes { Sets T.bytes T.put self.old self.new len_field (big_bytes 2 value) }
+        ensures len { KeepsLen T.bytes self.old self.new }
+    {
+        self.buffer.set_u16(field::LENGTH, value);
+    }
+
+    /// Writes the checksum. Requires at least 8 bytes.
+    pub fn set_checksum(&mut self, value: u16)
+        requires { Reaches checksum_field (T.bytes (inner self.old)) }
+        ensures writes { Sets T.bytes T.put self.old self.new checksum_field (big_bytes 2 value) }
+        ensures len { KeepsLen T.bytes self.old self.new }
+    {
+        self.buffer.set_u16(field::CHECKSUM, value);
+    }
+
+    /// Lends the data for writing; the header stays. Requires a whole datagram.
+    pub fn payload_mut(&mut self) -> &mut [u8]
+        requires { BeginsWhole (T.bytes (inner self.old)) }
+        ensures* lends { sem 𝓛 (Lends (the_row T.row) (Array byte 0) self.entry result
+            (λ w. with_inner self.old (T.put (inner self.old)
+            (splice (T.bytes (inner self.old)) 8 (len_in (T.bytes (inner self.old))) w)))) }
+        ensures value { result.now
+            ≡ bytes_of (payload_field (T.bytes (inner self.old))) (T.bytes (inner self.old)) }
+    {
+        let end = self.len() as usize;
+        self.buffer.range_mut(field::PAYLOAD, end)
+    }
+}
+
+/// Views are equal where their octets are.
+impl<T: Octets> PartialEq for UdpPacket<T> {
+    ghost use Rattle.std.specs.Prelude.{◌==◌};
+    ghost use Rattle.std.proofs.Common.{rules};
+    ghost use Rattle.std.specs.Cmp.Lexicographic.{pointwise};
+    ghost use Rattle.std.specs.Cmp.Rules.{comparing};
+    ghost use Rattle.std.specs.Ordering.{on};
+
+    ghost eq = { on (λ view. T.bytes (inner view)) (pointwise ◌==◌) };
+
+    ghost laws = { Prim.search (comparing, rules) };
+
+    fn eq(&self, other: &UdpPacket<T>) -> bool
+        ensures { IsTrue result ↔ (T.bytes (inner self.now) ≡ T.bytes (inner other.now)) }
+    {
+        self.buffer.octets() == other.buffer.octets()
+    }
+}
+
+impl<T: Octets> Eq for UdpPacket<T> {
+    ghost use Rattle.std.proofs.Common.{rules};
+    ghost use Rattle.std.specs.Cmp.Rules.{comparing};
+
+    ghost laws = { Prim.search (comparing, rules) };
+}
+
+/// The ports of a datagram.
+#[derive(Debug, PartialEq, Eq, Clone, Copy)]
+pub struct UdpRepr {
+    /// The port of the sender, or 0 where it has none.
+    pub src_port: u16,
+    /// The port of the receiver, which is not 0.
+    pub dst_port: u16,
+}
+
+impl UdpRepr {
+    /// The ports of the datagram at the front of the octets. Refused where that is not whole, is to port 0, and where
+    /// `checksum_caps.udp` has the checksum verified, which it then lacks; over IPv4 none may stand there (RFC 768).
+    pub fn parse(
+        packet: &UdpPacket<&[u8]>,
+        addresses: &Addresses,
+        checksum_caps: &ChecksumCapabilities,
+    ) -> Result<UdpRepr>
+        ensures sound { IfOk result (λ repr. IsDatagram checksum_caps.now addresses.now (view_octets packet.now) repr) }
+        ensures complete { (r : AnUdpRepr) → IsDatagram checksum_caps.now addresses.now (view_octets packet.now) r
+            → IsOkAnd result (λ repr. repr ≡ r) }
+    {
+        packet.check_len()?;
+        let dst_port = packet.dst_port();
+        if dst_port == 0 {
+            return Err(Error);
+        }
+        if checksum_caps.udp.rx() && !has_checksum(packet, addresses) {
+            return Err(Error);
+        }
+        Ok(UdpRepr {
+            src_port: packet.src_port(),
+            dst_port,
+        })
+    }
+
+    /// The bytes of the header: 8.
+    pub const fn header_len(&self) -> usize
+        ensures { result ≡ 8 }
+    {
+        HEADER_LEN
+    }
+}
+
+// Whether the datagram carries its checksum, or none where it need not.
+fn has_checksum(packet: &UdpPacket<&[u8]>, addresses: &Addresses) -> bool
+    requires { BeginsWhole (view_octets packet.now) }
+    ensures { IsTrue result ↔ ((IsV4 addresses.now × (number_of checksum_field (view_octets packet.now) ≡ 0))
+        ⊎ IsVerified addresses.now (view_octets packet.now)) }
+{
+    (addresses.is_v4() && packet.checksum() == 0) || packet.verify_checksum(addresses)
+}
