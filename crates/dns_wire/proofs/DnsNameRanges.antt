@@ -1,9 +1,10 @@
 -- Parts of a text by the places where they begin and end.
-use Rattle.std.proofs.Common.{◌≡◌, ℕ, ◌+◌, ◌-◌, ◌<◌, ◌≤◌, List, ◌∷◌, length, take, drop, false, sym, ap, ◌∙◌, arith}
-use Rattle.std.proofs.Common.{slice_range}
-use Rattle.std.proofs.lemmas.List.{take_all, drop-take, drop-drop, drop_at, length-take-le, length-drop, length-append}
-use Rattle.dns_wire.specs.DnsNameAhead.{ahead_of, whole, front_of}
-use Rattle.dns_wire.proofs.DnsNameTurns.{Whole-front}
+use Rattle.std.proofs.Common.{◌≡◌, ℕ, ◌+◌, ◌-◌, ◌<◌, ◌≤◌, Bool, true, false, List, ◌∷◌, length, take, drop, refl, sym, ap, ◌∙◌}
+use Rattle.std.proofs.Common.{slice_range, arith}
+use Rattle.std.proofs.lemmas.List.{take_all, take-take, take_rest, drop-take, drop-drop, drop_at, length-take-le, length-drop, length-append}
+use Rattle.dns_wire.specs.DnsNameAhead.{ahead_of, read_in, whole, pointer, front_of}
+use Rattle.dns_wire.specs.DnsNameWalk.{Coming}
+use Rattle.dns_wire.proofs.DnsNameTurns.{Whole-front, ahead_pointer}
 
 pub whole_range : (s : List ℕ) → slice_range s 0 (length s) ≡ s
 whole_range s = take_all (length s - 0) s (omega arith)
@@ -39,8 +40,27 @@ range_label s b r place end l m e =
       k,
     )
 
--- what is read after a pointer, and what is then open
-pub range_pointer : (message : List ℕ) (p open_len : ℕ) → p < open_len
-    → slice_range message p open_len ≡ drop p (take open_len message)
-range_pointer message p open_len l = let e : open_len ≡ p + (open_len - p) = omega arith in
-    sym (ap (λ m. drop p (take m message)) e ∙ drop-take p (open_len - p) message)
+-- what is left at a place of what stands before the end
+pub range_before : (s : List ℕ) (place end : ℕ) → place ≤ end → slice_range s place end ≡ drop place (take end s)
+range_before s place end l = let e : end ≡ place + (end - place) = omega arith in
+    sym (ap (λ m. drop place (take m s)) e ∙ drop-take place (end - place) s)
+
+-- what is left of the slice, which is read to its end; and what is read of the message
+pub range_slice : (in_message : Bool) (message slice : List ℕ) (place end : ℕ) → in_message ≡ false
+    → end ≡ length slice → slice_range (read_in in_message message slice) place end ≡ drop place slice
+range_slice in_message message slice place end e l = rw (e, l) (take_rest slice place)
+
+pub read_message : (in_message : Bool) (message slice : List ℕ) → in_message ≡ true
+    → read_in in_message message slice ≡ message
+read_message in_message message slice e = rw e refl
+
+-- the answers to come are those behind a pointer that is followed
+pub followed : (n : ℕ) (text message : List ℕ) (p open_len : ℕ) (old : List Coming) → pointer p ≡ front_of text
+    → p < open_len → open_len ≤ length message → ahead_of false n text (take open_len message) ≡ old
+    → ahead_of false (n + 1) (slice_range message p open_len) (take p message) ≡ old
+followed n text message p open_len old front l m same =
+    let reach = take open_len message in
+    let inside : p < length reach = omega (arith, length-take-le open_len message m, l) in
+    ap (λ t. ahead_of false (n + 1) t (take p message)) (range_before message p open_len (omega (arith, l)))
+    ∙ (ap (λ m. ahead_of false (n + 1) (drop p reach) m) (sym (take-take p open_len message (omega (arith, l))))
+    ∙ ahead_pointer n text reach p old front inside same)

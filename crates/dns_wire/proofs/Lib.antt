@@ -1,3 +1,4 @@
+pub mod DnsNameFirst
 pub mod DnsNameTurns
 pub mod DnsNameGiving
 pub mod DnsNameParts

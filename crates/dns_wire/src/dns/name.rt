@@ -1,8 +1,8 @@
 //! The walk over a name that may go on elsewhere in its message (RFC 1035 section 4.1.4).
 
 ghost use Rattle.std.specs.Prelude.{◌≡◌};
-ghost use Rattle.dns_wire.specs.DnsNameWalk.{IsWalkOver};
-ghost use Rattle.dns_wire.specs.DnsNameAhead.{read_in};
+ghost use Rattle.dns_wire.specs.DnsNameWalk.{IsWalkOver, GivesFirst};
+ghost use Rattle.dns_wire.specs.DnsPart.{ComesFirst};
 
 use crate::dns::part::{Front, read_front};
 use std::marker::Model;
@@ -26,7 +26,8 @@ pub struct NameIter<'a> {
 }
 
 impl<'a> Model for NameIter<'a> {
-    ghost use Rattle.std.specs.Prelude.{◌+◌, ◌-◌, ◌*◌, ◌<◌, ◌≤◌, ◌^◌, length, slice_range, take};
+    ghost use Rattle.std.specs.Prelude.{◌≡◌, ◌+◌, ◌-◌, ◌*◌, ◌<◌, ◌≤◌, ◌^◌, false, length};
+    ghost use Rattle.std.specs.Prelude.{slice_range, take};
     ghost use Rattle.dns_wire.specs.DnsNameWalk.{Walk};
     ghost use Rattle.dns_wire.specs.DnsNameAhead.{ahead_of, read_in};
 
@@ -39,7 +40,8 @@ impl<'a> Model for NameIter<'a> {
           (take it.open_len it.message.now);
     } };
 
-    ghost invariant = { λ it. (it.place ≤ it.end)
+    ghost invariant = { λ it. (it.in_message ≡ false → it.end ≡ length it.slice.now)
+        × (it.place ≤ it.end)
         × (it.end ≤ length (read_in it.in_message it.message.now it.slice.now))
         × (it.open_len ≤ length it.message.now)
         × (2 * it.steps + (it.end - it.place) + it.open_len < 2 ^ 65) };
@@ -55,36 +57,39 @@ impl<'a> Iterator for NameIter<'a> {
 
     ghost remaining = { λ walk. at_most (items_in walk.ahead) };
 
+    #[inline]
     fn next(&mut self) -> Option<Result<&'a [u8]>> {
         if self.ended {
             return None;
         }
-        loop {
-            let limit = self.open_len;
-            let read = source(self.in_message, self.message, self.slice);
-            match read_front(&read[self.place..self.end]) {
-                Front::Label(label) => {
-                    self.place += 1 + label.len();
-                    self.steps += 1;
-                    return Some(Ok(label));
-                }
-                Front::Pointer(target) if target < limit => {
-                    self.in_message = true;
-                    self.place = target;
-                    self.end = self.open_len;
-                    self.open_len = target;
-                    self.steps += 1;
-                }
-                Front::End => {
-                    self.ended = true;
-                    return None;
-                }
-                _ => {
-                    self.ended = true;
-                    return Some(Err(Error));
-                }
+        if !self.in_message {
+            let front = read_front(self.slice, self.place);
+            let Front::Pointer(target) = front else {
+                return self.answer(front);
+            };
+            if target >= self.open_len {
+                return self.answer(Front::Torn);
             }
+            self.in_message = true;
+            self.place = target;
+            self.end = self.open_len;
+            self.open_len = target;
+            self.steps += 1;
         }
+        let front = loop {
+            let front = read_front(&self.message[..self.end], self.place);
+            let Front::Pointer(target) = front else {
+                break front;
+            };
+            if target >= self.open_len {
+                break Front::Torn;
+            }
+            self.place = target;
+            self.end = self.open_len;
+            self.open_len = target;
+            self.steps += 1;
+        };
+        self.answer(front)
     }
 }
 
@@ -96,16 +101,33 @@ impl<'a> NameIter<'a> {
         let NameIter { steps, .. } = self;
         *steps
     }
-}
 
-// What is read: the message, or else the slice.
-fn source<'a>(in_message: bool, message: &'a [u8], slice: &'a [u8]) -> &'a [u8]
-    ensures { result.now ≡ read_in in_message message.now slice.now }
-{
-    if in_message { message } else { slice }
+    // The answer where this stands at the place that is read: a label, behind which the walk goes on, or the last.
+    #[inline]
+    fn answer(&mut self, front: Front<'a>) -> Option<Result<&'a [u8]>>
+        requires { ComesFirst self.old front }
+        ensures { GivesFirst self.old result self.new }
+    {
+        match front {
+            Front::Label(label) => {
+                self.place += 1 + label.len();
+                self.steps += 1;
+                Some(Ok(label))
+            }
+            Front::End => {
+                self.ended = true;
+                None
+            }
+            _ => {
+                self.ended = true;
+                Some(Err(Error))
+            }
+        }
+    }
 }
 
 /// The walk over the name that begins in a slice and may go on in a message.
+#[inline]
 pub(crate) fn walk<'a>(message: &'a [u8], slice: &'a [u8]) -> NameIter<'a>
     ensures { IsWalkOver slice.entry.now message.entry.now result }
 {

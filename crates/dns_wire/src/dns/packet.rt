@@ -169,6 +169,7 @@ impl<'a> Packet<&'a [u8]> {
     /// The walk over the name that begins in `bytes`, a part of the message or not, and goes on where its pointers
     /// lead in the message (RFC 1035 section 4.1.4). The first pointer leads to any place of the message, and each
     /// later one to below the place that the one before it led to. Requires nothing of the message.
+    #[inline]
     pub fn parse_name(&self, bytes: &'a [u8]) -> NameIter<'a>
         ensures { IsWalkOver bytes.entry.now (view_octets self.now) result }
     {

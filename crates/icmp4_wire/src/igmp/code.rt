@@ -14,6 +14,7 @@ const LONGEST: u64 = 31_744;
 
 // The time that a code stands for (RFC 3376 section 4.1.1).
 #[tactic(auto, using(crate::proofs::IgmpCode::reading))]
+#[inline]
 pub(super) fn duration_of_code(code: u8) -> Duration
     ensures value { micros_of result ≡ 1000 * code_millis code }
     ensures rises { (a b : ℕ) → a < b → b < 256 → code_millis a < code_millis b }
@@ -29,6 +30,7 @@ pub(super) fn duration_of_code(code: u8) -> Duration
 }
 
 // The code of the longest time that is within this one (RFC 3376 section 4.1.1).
+#[inline]
 pub(super) fn code_of_duration(duration: Duration) -> u8
     ensures value { result ≡ code_of duration }
     ensures greatest { IsGreatestCode (micros_of duration) result }

@@ -57,6 +57,7 @@ impl Repr {
     /// The message at the front of the octets. Refused where they are fewer than 8, where the group is neither
     /// 0.0.0.0 nor multicast, and where the type has no name. The checksum is not verified; the code of a report
     /// or of a leave message is not looked at.
+    #[inline]
     pub fn parse(packet: &Packet<&[u8]>) -> Result<Repr>
         ensures sound { IfOk result (IsMessage (view_octets packet.now)) }
         ensures complete { (repr : Repr) → IsMessage (view_octets packet.now) repr
@@ -68,6 +69,7 @@ impl Repr {
     }
 
     // The message at the front of the octets.
+    #[inline]
     fn read(packet: &Packet<&[u8]>) -> Result<Repr>
         ensures sound { IfOk result (IsMessage (view_octets packet.now)) }
         ensures complete { (repr : Repr) → IsMessage (view_octets packet.now) repr
@@ -221,6 +223,7 @@ fn put_message(w: &mut ByteWriter<'_>, message: Message, code: u8, group: Ipv4Ad
 }
 
 // Whether a message may speak of this group: of none, 0.0.0.0, or of a multicast address.
+#[inline]
 fn is_group(address: Ipv4Address) -> bool
     ensures { IsTrue result ↔ IsGroup address }
 {
@@ -228,6 +231,7 @@ fn is_group(address: Ipv4Address) -> bool
 }
 
 // The query with this code. One of code 0 is of version 1 (RFC 3376 section 7.1).
+#[inline]
 fn query_of_code(code: u8, group_addr: Ipv4Address) -> Repr
     ensures { result ≡ query_of code group_addr }
 {

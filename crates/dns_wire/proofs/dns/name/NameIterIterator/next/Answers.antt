@@ -1,128 +1,128 @@
-use Rattle.std.proofs.Common.{◌≡◌, ◌∙◌, ℕ, ◌+◌, ◌<◌, ◌≤◌, List, ◌∷◌, Some, Ok, Err, refl, sym, ap, subst, arith, take, drop}
-use Rattle.std.proofs.Common.{length, slice_range, false}
-use Rattle.std.proofs.lemmas.List.{take-take, length-take-le}
-use Rattle.dns_wire.specs.DnsNameWalk.{Coming, label, at_end, at_fault}
-use Rattle.dns_wire.specs.DnsNameAhead.{ahead_of, read_in, front_of, whole, pointer, stop}
-use Rattle.dns_wire.proofs.DnsNameTurns.{ahead_label, ahead_pointer, ahead_far, ahead_stop, ahead_torn, Points-length}
-use Rattle.dns_wire.proofs.DnsNameTurns.{Points-front}
-use Rattle.dns_wire.proofs.DnsNameRanges.{range_label, range_pointer, length_range}
-use Rattle.dns_wire.proofs.DnsNameGiving.{gives_item, gives_end, fewer_ahead, still, progress_item}
-use Rattle.dns_wire.proofs.dns.name.NameIterIterator.next.Goals.{in_default-via-in-Pointer+else-target-limit}
-use Rattle.dns_wire.proofs.dns.name.NameIterIterator.next.Goals.{in_default-via-in_default}
+use Rattle.std.proofs.Common.{◌≡◌, ◌∙◌, ℕ, ◌≤◌, false, List, length, take, slice_range, refl, sym, ap}
+use Rattle.std.proofs.Common.{subst, arith}
+use Rattle.std.proofs.lemmas.List.{length-take-le}
+use Rattle.dns_wire.specs.DnsNameAhead.{ahead_of, read_in, front_of, pointer}
+use Rattle.dns_wire.specs.DnsNameWalk.{Walk}
+use Rattle.dns_wire.specs.DnsPart.{shown, ComesFirst}
+use Rattle.dns_wire.specs.declared.dns.name.NameIter.TheInside.{Inside}
+use Rattle.dns_wire.specs.declared.dns.part.Front.{Front as FrontOf}
+use Rattle.dns_wire.specs.declared.dns.part.Front.TheVariants.{Pointer}
+use Rattle.dns_wire.proofs.DnsNameTurns.{Points-length, Points-front}
+use Rattle.dns_wire.proofs.DnsNameRanges.{range_before, range_slice, read_message, followed, length_range}
+use Rattle.dns_wire.proofs.DnsNameFirst.{comes_first}
+use Rattle.dns_wire.proofs.DnsNameGiving.{still}
+use Rattle.dns_wire.proofs.dns.name.NameIterIterator.next.Goals.{then-not-self+in-Pointer+else-target-self, else-not-self}
+use Rattle.dns_wire.proofs.dns.name.NameIterIterator.next.Goals.{in_default-front, in-Pointer-front+then-target-self-2}
 use Rattle.dns_wire.proofs.dns.name.NameIterIterator.next.Goals as goal
 
--- what is read behind a label
-after_label : (c : goal.After-self-in-Label-1) → List ℕ
-after_label c =
-    let it = c.loop-label.self-inside in
-    slice_range (read_in it.in_message it.message.now it.slice.now)
-    (it.place + (1 + length c.in-Label.label.now)) it.end
+-- the text that is left, the open bytes, and the walk
+abbrev text_of : Inside → List ℕ
+text_of it = slice_range (read_in it.in_message it.message.now it.slice.now) it.place it.end
 
--- the answers that come behind it
-after_ahead : (c : goal.After-self-in-Label-1) → List Coming
-after_ahead c =
-    let it = c.loop-label.self-inside in
-    ahead_of it.ended (it.steps + 1) (after_label c) (take it.open_len it.message.now)
+abbrev reach_of : Inside → List ℕ
+reach_of it = take it.open_len it.message.now
 
--- a whole label at the front
-at_label : (c : goal.After-self-in-Label-1) → c.args.self.now.ahead
-    ≡ record { answer = label c.in-Label.label.now; steps = c.loop-label.self-inside.steps + 1 } ∷ after_ahead c
-unfolding after_ahead after_label
-at_label c =
-    let it = c.loop-label.self-inside in
-    let from = read_in it.in_message it.message.now it.slice.now in
-    let text = slice_range from it.place it.end in
-    let reach = take it.open_len it.message.now in
-    let b = c.in-Label.label.now in
-    let r = drop (1 + length b) text in
-    let front : whole b r ≡ front_of text =
-    subst (λ s. whole b (drop (1 + length b) (slice_range s it.place it.end)) ≡ front_of (slice_range s it.place it.end))
-    c.source-read.ensures c.in-Label.ensures in
-    let l = range_label from b r it.place it.end c.loop-label.invariant.places.0 c.loop-label.invariant.places.1 front
-    in
-    let first = ahead_label it.steps text reach b r c.args.self.now.ahead front c.loop-label.invariant.same in
-    first ∙ ap (λ cs. record { answer = label b; steps = it.steps + 1 } ∷ cs)
-    (ap (λ t. ahead_of false (it.steps + 1) t reach) l.0
-    ∙ still it.ended (it.steps + 1) _ reach c.loop-label.invariant.going)
+abbrev walk_of : Inside → Walk
+walk_of it = record { steps = it.steps; ahead = ahead_of it.ended it.steps (text_of it) (reach_of it) }
 
-pub returns-in-Label-clause-steps : goal.returns-in-Label-clause-steps
-unfolding after_ahead after_label
-returns-in-Label-clause-steps c =
-    gives_item c.args.self.now (Some (Ok c.in-Label.label)) (c.loop-label.self-inside.steps + 1) (after_ahead c)
-    (at_label c) refl
+-- a front that is read where the walk goes on comes first, where it is no pointer to an open byte
+first : (it : Inside) (walk : Walk) (text : List ℕ) (front : FrontOf) → walk_of it ≡ walk → it.ended ≡ false
+    → text_of it ≡ text → it.open_len ≤ length it.message.now → shown text front ≡ front_of text
+    → ((target : ℕ) → front ≡ Pointer target → it.open_len ≤ target) → ComesFirst walk front
+first it walk text front v going t open_ e far =
+    subst (λ w. ComesFirst w front) v
+    (comes_first front it.steps (text_of it) (reach_of it) (ahead_of it.ended it.steps (text_of it) (reach_of it))
+    (subst (λ s. shown s front ≡ front_of s) (sym t) e)
+    (λ target is. omega (arith, far target is, length-take-le it.open_len it.message.now open_))
+    (still it.ended it.steps (text_of it) (reach_of it) going))
 
-pub returns-in-Label-clause-goes : goal.returns-in-Label-clause-goes
-unfolding after_ahead after_label
-returns-in-Label-clause-goes c =
-    progress_item c.args.self.now (record { steps = c.loop-label.self-inside.steps + 1; ahead = after_ahead c })
-    (Ok c.in-Label.label) (fewer_ahead _ _ _ (at_label c) refl)
+pub answer-requires : goal.answer-requires
+answer-requires c =
+    let it = c.self.inside in
+    let i = c.self.invariant in
+    let text = range_slice it.in_message it.message.now it.slice.now it.place it.end c.if-not-self.true
+    (i.0 c.if-not-self.true) in
+    first it c.args.self.now _ c.read_front-front.result c.self.view_is c.if-self.false text i.3 c.read_front-front.ensures
+    (λ target is. absurd (c.in_default.not-Pointer target is))
 
-pub loop-label-preserved : goal.loop-label-preserved
-loop-label-preserved c =
-    let it = c.loop-label.self-inside in
-    let from = read_in it.in_message it.message.now it.slice.now in
-    let text = slice_range from it.place it.end in
-    let reach = take it.open_len it.message.now in
-    let p = c.in-Pointer.target in
-    let front : pointer p ≡ front_of text =
-    c.in-Pointer.ensures ∙ ap (λ s. front_of (slice_range s it.place it.end)) c.source-read.ensures in
-    let k = length-take-le it.open_len it.message.now c.loop-label.invariant.places.2 in
-    let l : p < length reach = omega (arith, k, c.if-target-limit.true) in
-    let next = ahead_pointer it.steps text reach p c.args.self.now.ahead front l c.loop-label.invariant.same in
-    let two = Points-length text p (Points-front text p (sym front)) in
-    let len = length_range from it.place it.end c.loop-label.invariant.places.0 c.loop-label.invariant.places.1 in
-    record {
-      going = c.loop-label.invariant.going;
-      same = ap (λ t. ahead_of false (it.steps + 1) t (take p it.message.now))
-          (range_pointer it.message.now p it.open_len c.if-target-limit.true)
-          ∙ (ap (λ m. ahead_of false (it.steps + 1) (drop p reach) m)
-          (sym (take-take p it.open_len it.message.now (omega (arith, c.if-target-limit.true)))) ∙ next);
-      places = (
-        omega (arith, c.if-target-limit.true),
-        c.loop-label.invariant.places.2,
-        omega (arith, c.if-target-limit.true, c.loop-label.invariant.places.2),
-      );
-      room = omega (arith, two, len, c.if-target-limit.true, c.loop-label.invariant.room);
-    }
+pub answer-requires-then-target-self : goal.answer-requires-then-target-self
+answer-requires-then-target-self c =
+    let it = c.self.inside in
+    let i = c.self.invariant in
+    let text = range_slice it.in_message it.message.now it.slice.now it.place it.end c.if-not-self.true
+    (i.0 c.if-not-self.true) in
+    first it c.args.self.now _ (Pointer c.in-Pointer.target) c.self.view_is c.if-self.false text i.3 c.in-Pointer.ensures
+    (λ target is. let same : c.in-Pointer.target ≡ target = cc in omega (arith, c.if-target-self.true, same))
 
-pub returns-in-End-clause-steps : goal.returns-in-End-clause-steps
-returns-in-End-clause-steps c =
-    let it = c.loop-label.self-inside in
-    let text = slice_range (read_in it.in_message it.message.now it.slice.now) it.place it.end in
-    let front : stop ≡ front_of text =
-    c.in-End.ensures ∙ ap (λ s. front_of (slice_range s it.place it.end)) c.source-read.ensures in
-    gives_end c.args.self.now it.steps
-    (ahead_stop it.steps text (take it.open_len it.message.now)
-    c.args.self.now.ahead front c.loop-label.invariant.same)
-
--- nothing whole at the front, or a pointer out of the open bytes
-pub at_default : (c : goal.After-self-in_default-1) → c.args.self.now.ahead ≡ at_fault c.loop-label.self-inside.steps
-at_default c =
-    let it = c.loop-label.self-inside in
-    let text = slice_range (read_in it.in_message it.message.now it.slice.now) it.place it.end in
-    let reach = take it.open_len it.message.now in
-    let same = ap (λ s. front_of (slice_range s it.place it.end)) c.source-read.ensures in
-    elim c.in_default.branch [
-      | in_default-via-in-Pointer+else-target-limit w ↦
-          let far : length reach ≤ w.in-Pointer.target =
-          omega (
-            arith,
-            length-take-le it.open_len it.message.now c.loop-label.invariant.places.2,
-            w.if-target-limit.false,
-          ) in
-          ahead_far it.steps text reach w.in-Pointer.target c.args.self.now.ahead
-          (w.in-Pointer.ensures ∙ same) far c.loop-label.invariant.same
-      | in_default-via-in_default w ↦ ahead_torn it.steps text reach c.args.self.now.ahead
-          (w.in_default.ensures ∙ same) c.loop-label.invariant.same
+-- the walk behind a pointer, as the loop has it
+pub loop-target-init : goal.loop-target-init
+loop-target-init c =
+    let at = c.self.inside in
+    let i = c.self.invariant in
+    let same : ahead_of false at.steps (text_of at) (reach_of at) ≡ c.args.self.now.ahead =
+    still at.ended at.steps (text_of at) (reach_of at) c.if-self.false ∙ ap (λ w. w.ahead) c.self.view_is in
+    elim c.if-not-self.branch [
+      | then-not-self+in-Pointer+else-target-self w ↦
+          let text = range_slice at.in_message at.message.now at.slice.now at.place at.end w.if-not-self.true
+          (i.0 w.if-not-self.true) in
+          let front : pointer w.in-Pointer.target ≡ front_of (text_of at) = w.in-Pointer.ensures ∙ ap front_of (sym text) in
+          let two = Points-length (text_of at) w.in-Pointer.target (Points-front (text_of at) w.in-Pointer.target (sym front)) in
+          let len = length_range (read_in at.in_message at.message.now at.slice.now) at.place at.end i.1 i.2 in
+          rw w.self-inside-is (record {
+            going = c.if-self.false;
+            reads = refl;
+            same = followed at.steps (text_of at) at.message.now w.in-Pointer.target at.open_len c.args.self.now.ahead front
+                w.if-target-self.false i.3 same;
+            places = (omega (arith, w.if-target-self.false), i.3, omega (arith, w.if-target-self.false, i.3));
+            room = omega (arith, two, len, w.if-target-self.false, i.4);
+          })
+      | else-not-self w ↦
+          let m = read_message at.in_message at.message.now at.slice.now w.if-not-self.false in
+          rw w.self-inside-is (record {
+            going = c.if-self.false;
+            reads = w.if-not-self.false;
+            same = ap (λ s. ahead_of false at.steps (slice_range s at.place at.end) (reach_of at)) (sym m) ∙ same;
+            places = (i.1, subst (λ s. at.end ≤ length s) m i.2, i.3);
+            room = i.4;
+          })
     ]
 
-pub returns-in_default-clause-steps : goal.returns-in_default-clause-steps
-returns-in_default-clause-steps c =
-    let it = c.loop-label.self-inside in
-    gives_item c.args.self.now (Some (Err (record {}))) it.steps (at_end it.steps) (at_default c) refl
+pub loop-target-preserved : goal.loop-target-preserved
+loop-target-preserved c =
+    let it = c.loop-target.self-inside in
+    let i = c.loop-target.invariant in
+    let text = slice_range it.message.now it.place it.end in
+    let p = c.in-Pointer-front.target in
+    let front : pointer p ≡ front_of text =
+    c.in-Pointer-front.ensures ∙ ap front_of (sym (range_before it.message.now it.place it.end i.places.0)) in
+    let two = Points-length text p (Points-front text p (sym front)) in
+    let len = length_range it.message.now it.place it.end i.places.0 i.places.1 in
+    let l = c.if-target-self-2.false in
+    record {
+      going = i.going;
+      reads = i.reads;
+      same = followed it.steps text it.message.now p it.open_len c.args.self.now.ahead front l i.places.2 i.same;
+      places = (omega (arith, l), i.places.2, omega (arith, l, i.places.2));
+      room = omega (arith, two, len, l, i.room);
+    }
 
-pub returns-in_default-clause-goes : goal.returns-in_default-clause-goes
-returns-in_default-clause-goes c =
-    let it = c.loop-label.self-inside in
-    progress_item c.args.self.now (record { steps = it.steps; ahead = at_end it.steps }) (Err (record {}))
-    (fewer_ahead _ _ _ (at_default c) refl)
+pub answer-requires-2 : goal.answer-requires-2
+answer-requires-2 c =
+    let it = c.loop-target.self-inside in
+    let i = c.loop-target.invariant in
+    let m = read_message it.in_message it.message.now it.slice.now i.reads in
+    let text = ap (λ s. slice_range s it.place it.end) m ∙ range_before it.message.now it.place it.end i.places.0 in
+    let walk = c.match-front-2.self in
+    elim c.match-front-2.branch [
+      | in_default-front w ↦
+          subst (ComesFirst walk) (sym w.front-is)
+          (first it walk _ c.read_front-front-in-loop-target.result (sym w.self-is) i.going text i.places.2
+          c.read_front-front-in-loop-target.ensures
+          (λ target is. absurd (w.in_default-front.not-Pointer target is)))
+      | in-Pointer-front+then-target-self-2 w ↦
+          subst (ComesFirst walk) (sym w.front-is)
+          (first it walk _ (Pointer w.in-Pointer-front.target) (sym w.self-is) i.going text i.places.2
+          w.in-Pointer-front.ensures
+          (λ target is. let same : w.in-Pointer-front.target ≡ target = cc in
+          omega (arith, w.if-target-self-2.true, same)))
+    ]
