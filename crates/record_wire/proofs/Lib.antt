@@ -5,3 +5,5 @@ pub mod NameLabels
 pub mod NameWalks
 pub mod NameTexts
 pub mod Outcomes
+pub mod RecordFormat
+pub mod EntryCases

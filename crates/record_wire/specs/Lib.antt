@@ -2,3 +2,5 @@ pub mod Labels
 pub mod NameText
 pub mod NameReading
 pub mod Name
+pub mod Record
+pub mod Entries

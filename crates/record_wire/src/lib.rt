@@ -1,8 +1,13 @@
-//! What stands above the messages of the Domain Name System: whole names, as octets and as text.
+//! What stands above the messages of the Domain Name System: whole names, as octets and as text; questions and
+//! resource records of any type and class.
 #![tactic(auto)]
 
+pub mod entries;
 pub mod name;
+pub mod record;
 #[cfg(test)]
 mod testing;
 
+pub use entries::{Entries, Entry, Section};
 pub use name::Name;
+pub use record::{Question, Record};

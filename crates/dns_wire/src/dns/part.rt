@@ -50,7 +50,7 @@ pub(crate) fn read_front(text: &[u8], place: usize) -> Front<'_>
 }
 
 /// The part of a name at the front of a text, and what stands behind it. Refused where the text begins with none.
-pub(crate) fn split_name(text: &[u8]) -> Result<(&[u8], &[u8])>
+pub fn split_name(text: &[u8]) -> Result<(&[u8], &[u8])>
     ensures sound { IfOk result (λ split. IsSplit text.now split.0.now split.1.now) }
     ensures complete { (name rest : List ℕ) → IsSplit text.now name rest
         → IsOkAnd result (λ split. (split.0.now ≡ name) × (split.1.now ≡ rest)) }

@@ -1,0 +1,60 @@
+-- What stands behind a name is one question and one record, and as many bytes are left.
+use Rattle.std.proofs.Common.{◌≡◌, ℕ, List, length, drop, sym, ap, ◌∙◌, subst}
+use Rattle.dns_wire.specs.declared.dns.tables.Type.{«Type» as RecordType}
+use Rattle.wirebase.specs.Bytes.{number_of}
+use Rattle.dns_wire.specs.DnsTables.{type_of}
+use Rattle.dns_wire.specs.DnsQuestion.{type_field, class_field}
+use Rattle.dns_wire.specs.DnsPart.{IsSplit}
+use Rattle.record_wire.specs.Record.{QuestionValue, IsQuestion, RecordValue, IsBehindName, IsRecord}
+
+-- ---- questions
+
+abbrev question_at : List ℕ → RecordType → ℕ → QuestionValue
+question_at name kind class = record { name = name; kind = kind; class = class }
+
+same_question : (q r : QuestionValue) → q.name ≡ r.name → q.kind ≡ r.kind → q.class ≡ r.class → q ≡ r
+same_question q r e f g =
+    ap (λ (n : List ℕ). question_at n q.kind q.class) e
+    ∙ (ap (λ (k : RecordType). question_at r.name k q.class) f ∙ ap (λ (c : ℕ). question_at r.name r.kind c) g)
+
+pub question_split : (bytes : List ℕ) (q : QuestionValue) (rest : List ℕ) (h : IsQuestion bytes q rest)
+    → IsSplit bytes q.name h.after
+question_split bytes q rest h = record { name_ = h.name_; whole = h.whole }
+
+-- two questions behind one name
+pub question_one : (bytes : List ℕ) (q r : QuestionValue) (rest more : List ℕ) (a : IsQuestion bytes q rest)
+    (b : IsQuestion bytes r more) → q.name ≡ r.name → a.after ≡ b.after → (q ≡ r) × (rest ≡ more)
+question_one bytes q r rest more a b name after = (
+  same_question q r name
+      (a.kind_ ∙ (ap (λ (t : List ℕ). type_of (number_of type_field t)) after ∙ sym b.kind_))
+      (a.class_ ∙ (ap (λ (t : List ℕ). number_of class_field t) after ∙ sym b.class_)),
+  a.rest_ ∙ (ap (λ (t : List ℕ). drop 4 t) after ∙ sym b.rest_),
+)
+
+-- ---- records
+
+abbrev record_at : List ℕ → RecordType → ℕ → ℕ → List ℕ → RecordValue
+record_at name kind class ttl bytes =
+    record { name = name; kind = kind; class = class; ttl = ttl; data_ = bytes }
+
+same_record : (r s : RecordValue) → r.name ≡ s.name → r.kind ≡ s.kind → r.class ≡ s.class → r.ttl ≡ s.ttl
+    → r.data_ ≡ s.data_ → r ≡ s
+same_record r s e f g h k =
+    ap (λ (n : List ℕ). record_at n r.kind r.class r.ttl r.data_) e
+    ∙ (ap (λ (t : RecordType). record_at s.name t r.class r.ttl r.data_) f
+    ∙ (ap (λ (c : ℕ). record_at s.name s.kind c r.ttl r.data_) g
+    ∙ (ap (λ (t : ℕ). record_at s.name s.kind s.class t r.data_) h
+    ∙ ap (λ (d : List ℕ). record_at s.name s.kind s.class s.ttl d) k)))
+
+pub record_split : (bytes : List ℕ) (r : RecordValue) (rest : List ℕ) (h : IsRecord bytes r rest)
+    → IsSplit bytes r.name h.after
+record_split bytes r rest h = record { name_ = h.name_; whole = h.whole }
+
+-- two records behind one name
+pub behind_one : (after : List ℕ) (r s : RecordValue) (rest more : List ℕ) → IsBehindName after r rest
+    → IsBehindName after s more → r.name ≡ s.name → (r ≡ s) × (rest ≡ more)
+behind_one after r s rest more a b name = (
+  same_record r s name (a.kind_ ∙ sym b.kind_) (a.class_ ∙ sym b.class_) (a.ttl_ ∙ sym b.ttl_)
+      (a.data_is ∙ sym b.data_is),
+  a.rest_ ∙ sym b.rest_,
+)

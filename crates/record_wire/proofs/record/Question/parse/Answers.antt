@@ -1,0 +1,34 @@
+use Rattle.std.proofs.Common.{◌≡◌, length, ap, sym, ◌∙◌, arith}
+use Rattle.std.proofs.lemmas.List.{take_rest}
+use Rattle.dns_wire.specs.DnsTables.{type_of}
+use Rattle.record_wire.proofs.RecordFormat.{question_one, question_split}
+use Rattle.record_wire.proofs.record.Question.parse.Goals as goal
+
+pub returns-in_err-name-clause-complete : goal.returns-in_err-name-clause-complete
+returns-in_err-name-clause-complete c value rest is =
+    absurd (c.in_err-name.ensures.complete value.name is.after (question_split c.args.octets.now value rest is))
+
+pub returns-then-after-lt-QUESTION_END-clause-complete : goal.returns-then-after-lt-QUESTION_END-clause-complete
+returns-then-after-lt-QUESTION_END-clause-complete c value rest is =
+    let split = c.in_ok-name.ensures.complete value.name is.after (question_split c.args.octets.now value rest is) in
+    absurd (omega (arith, ap length split.1, is.reaches))
+
+pub returns-clause-sound : goal.returns-clause-sound
+returns-clause-sound c =
+    let after = c.in_ok-name.after.now in
+    record {
+      after = after;
+      name_ = c.in_ok-name.ensures.sound.name_;
+      whole = c.in_ok-name.ensures.sound.whole;
+      reaches = omega arith;
+      kind_ = c.from.ensures.value ∙ ap type_of c.u16_at.ensures;
+      class_ = c.u16_at-2.ensures;
+      rest_ = take_rest after 4;
+    }
+
+pub returns-clause-complete : goal.returns-clause-complete
+unfolding returns-clause-sound
+returns-clause-complete c value rest is =
+    let split = c.in_ok-name.ensures.complete value.name is.after (question_split c.args.octets.now value rest is) in
+    let sound = returns-clause-sound c in
+    question_one c.args.octets.now _ value _ rest sound is split.0 split.1

@@ -1,0 +1,91 @@
+-- What stands behind the header of a message, in order (RFC 1035 section 4.1): the questions, and then the records that
+-- answer, those that name an authority, and those that add to them, as many of each as the header counts.
+use Rattle.std.specs.Prelude.{◌≡◌, ◌≢◌, ℕ, ◌+◌, ◌-◌, ◌<◌, nat_lt, if◌then◌else◌, List}
+use Rattle.std.specs.Prelude.{Option, None, Some, Result, Ok, Err}
+use Rattle.wirebase.specs.Bytes.{number_of}
+use Rattle.wirebase.specs.declared.error.Error.{Error}
+use Rattle.dns_wire.specs.DnsPacket.{question_count_field, answer_count_field, authority_count_field}
+use Rattle.dns_wire.specs.DnsPacket.{additional_count_field, payload_in}
+use Rattle.record_wire.specs.Record.{QuestionValue, question_of, IsQuestion, RecordValue, record_of, IsRecord}
+use Rattle.record_wire.specs.declared.entries.Section.{Section}
+use Rattle.record_wire.specs.declared.entries.Section.TheVariants.{Question, Answer, Authority, Additional}
+use Rattle.record_wire.specs.declared.entries.Entry.{Entry}
+use Rattle.record_wire.specs.declared.entries.Entry.TheVariants as entry
+
+-- how many entries there are up to the end of each section
+pub record Ends : Type 0 where
+  pub questions : ℕ
+  pub answers : ℕ
+  pub authorities : ℕ
+  pub all : ℕ
+
+abbrev pub ends_in : List ℕ → Ends
+ends_in message =
+    let questions = number_of question_count_field message in
+    let answers = questions + number_of answer_count_field message in
+    let authorities = answers + number_of authority_count_field message in
+    record {
+      questions = questions;
+      answers = answers;
+      authorities = authorities;
+      all = authorities + number_of additional_count_field message;
+    }
+
+-- the section of the entry that stands behind n others
+abbrev pub section_at : Ends → ℕ → Section
+section_at ends n =
+    if nat_lt n ends.questions then Question
+    else if nat_lt n ends.answers then Answer
+    else if nat_lt n ends.authorities then Authority
+    else Additional
+
+-- an entry by its content
+pub data EntryValue : Type 0 where
+  question : QuestionValue → EntryValue
+  record_in : Section → RecordValue → EntryValue
+
+abbrev pub entry_of : Entry → EntryValue
+entry_of (entry.Question q) = question (question_of q)
+entry_of (entry.Record section r) = record_in section (record_of r)
+
+-- these bytes are an entry of a section, and then a rest
+abbrev pub IsEntry : Section → List ℕ → EntryValue → List ℕ → Type 0
+IsEntry section bytes (question q) rest = (section ≡ Question) × IsQuestion bytes q rest
+IsEntry section bytes (record_in s r) rest = (section ≢ Question) × (s ≡ section) × IsRecord bytes r rest
+
+-- how many entries were taken off, and the bytes that the others begin in
+pub record Left : Type 0 where
+  pub ends : Ends
+  pub taken : ℕ
+  pub bytes : List ℕ
+
+abbrev pub all_of : List ℕ → Left
+all_of message = record { ends = ends_in message; taken = 0; bytes = payload_in message }
+
+-- the section of the next entry, where one is left
+abbrev pub next_section : Left → Option Section
+next_section left = if nat_lt left.taken left.ends.all then Some (section_at left.ends left.taken) else None
+
+-- how many are left
+abbrev pub are_left : Left → ℕ
+are_left left = left.ends.all - left.taken
+
+-- the next entry stands at the front of the bytes
+pub record IsNext (old : Left) (e : EntryValue) (new : Left) : Type 0 where
+  pub some : old.taken < old.ends.all
+  pub is : IsEntry (section_at old.ends old.taken) old.bytes e new.bytes
+  pub ends_ : new.ends ≡ old.ends
+  pub taken_ : new.taken ≡ old.taken + 1
+
+-- an entry is left, and none stands at the front of the bytes; none is left then
+pub record IsBroken (old new : Left) : Type 0 where
+  pub some : old.taken < old.ends.all
+  pub none : (e : EntryValue) (rest : List ℕ) → IsEntry (section_at old.ends old.taken) old.bytes e rest → ⊥
+  pub ends_ : new.ends ≡ old.ends
+  pub taken_ : new.taken ≡ old.ends.all
+
+-- A call gives the next entry and takes it off; where none stands it gives one refusal, and then the end for good.
+abbrev pub GivesEntry : Left → Option (Result Entry Error) → Left → Type 0
+GivesEntry old None new = (old.taken ≡ old.ends.all) × (new ≡ old)
+GivesEntry old (Some (Ok e)) new = IsNext old (entry_of e) new
+GivesEntry old (Some (Err error)) new = IsBroken old new
