@@ -1,6 +1,6 @@
 -- Tags stand one behind another.
 use Rattle.std.proofs.Common.{◌≡◌, ℕ, ◌+◌, ◌-◌, ◌≤◌, List, [], ◌∷◌, ◌++◌, length, take, drop, refl, sym, ap, subst, ◌∙◌}
-use Rattle.std.proofs.Common.{arith, append_assoc, length-drop}
+use Rattle.std.proofs.Common.{arith, append_assoc, length-drop, ◌<◌, Bool, true, false, IsTrue, ◌↔◌}
 use Rattle.std.proofs.lemmas.List.{drop-drop, append-nil}
 use Rattle.std.proofs.Math.Seq.{take-add}
 use Rattle.wirebase.specs.Bytes.{field, part, number_of}
@@ -53,3 +53,33 @@ so_far-more type bytes last end next so tag room e =
                 (subst (λ n. IsTagged n (drop 4 (drop end bytes)) second.0 final rest) (sym e) second.2),
           );
     }
+
+short_none : (type : ℕ) (bytes tags : List ℕ) (final : ℕ) (rest : List ℕ) → IsTagType type → length bytes < 4
+    → IsTagged type bytes tags final rest → ⊥
+short_none type bytes tags final rest is short (plain no_tag none e b) = no_tag is
+short_none type bytes tags final rest is short (tagged more tag long behind e) = omega (arith, long, short)
+
+-- a tag that is cut short
+pub cut_none : (type : ℕ) (bytes : List ℕ) (last end : ℕ) → SoFar type bytes last end → IsTagType last
+    → length bytes - end < 4 → (tags : List ℕ) (final : ℕ) (rest : List ℕ) → IsTagged type bytes tags final rest → ⊥
+cut_none type bytes last end so tag short tags final rest is =
+    let behind = so.back tags final rest is in
+    short_none last (drop end bytes) behind.0 final rest tag (omega (arith, short, length-drop end bytes)) behind.2
+
+pub so_far-last : (type : ℕ) (bytes : List ℕ) (last end : ℕ) → SoFar type bytes last end → (IsTagType last → ⊥)
+    → IsTagged type bytes (take end bytes) last (drop end bytes)
+so_far-last type bytes last end so none =
+    subst (λ l. IsTagged type bytes l last (drop end bytes)) (append-nil (take end bytes))
+    (so.forth [] last (drop end bytes) (plain none refl refl refl))
+
+pub part-behind : (bytes : List ℕ) (end : ℕ) → part bytes (end + 2) (end + 4) ≡ part (drop end bytes) 2 4
+unfolding part
+part-behind bytes end =
+    let two : end + 4 - (end + 2) ≡ 2 = omega arith in
+    rw two (ap (take 2) (sym (drop-drop 2 end bytes)))
+
+pub told : {P : Type 0} (b : Bool) → (IsTrue b ↔ P) → b ≡ true → P
+told b is yes' = is.0 yes'
+
+pub told_not : {P : Type 0} (b : Bool) → (IsTrue b ↔ P) → b ≡ false → P → ⊥
+told_not b is no' p = let both : true ≡ false = sym (is.1 p) ∙ no' in cc

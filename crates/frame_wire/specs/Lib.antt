@@ -1,3 +1,4 @@
 pub mod Addresses
+pub mod Datagram
 pub mod Link
 pub mod Udp

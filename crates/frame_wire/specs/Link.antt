@@ -1,12 +1,15 @@
 -- Frames of links: what their headers say of the network, VLAN tags, and the bytes behind them.
-use Rattle.std.specs.Prelude.{◌≡◌, ◌≢◌, ℕ, ◌%◌, ◌<◌, ◌≤◌, ◌⊎◌, List, [], ◌∷◌, ◌++◌, length, take, drop, slice_index}
+use Rattle.std.specs.Prelude.{◌≡◌, ◌≢◌, ℕ, ◌+◌, ◌*◌, ◌/◌, ◌%◌, ◌<◌, ◌≤◌, ◌⊎◌, List, [], ◌∷◌, ◌++◌, length, take, drop, slice_index}
+use Rattle.std.specs.Prelude.{nat_lt, if◌then◌else◌, Option, None, Some}
 use Rattle.byteorder.specs.Endian.{little_number}
 use Rattle.wirebase.specs.Bytes.{field, part, number_of}
 use Rattle.frame_wire.specs.declared.link.Frame.{Frame}
+use Rattle.frame_wire.specs.declared.link.Link.{Link}
+use Rattle.frame_wire.specs.declared.link.Link.TheVariants.{Null, Ethernet, Ppp, PppEther, Raw, LinuxSll, LinuxSll2}
 use Rattle.frame_wire.specs.declared.link.Network.{Network}
 use Rattle.frame_wire.specs.declared.link.Network.TheVariants.{Ipv4, Ipv6, Other}
 use Rattle.frame_wire.specs.declared.link.Typed.{Typed}
-use Rattle.wirebase.specs.Numbered.{rows_of, case_in}
+use Rattle.wirebase.specs.Numbered.{case_in}
 
 -- a frame by its content: its tags are four bytes each
 pub record FrameValue : Type 0 where
@@ -84,10 +87,9 @@ pub data IsPayload (type : ℕ) (tags bytes : List ℕ) (v : FrameValue) : Type 
 
 -- a type, and the bytes behind it
 pub record IsTypedFrame (type : ℕ) (bytes : List ℕ) (v : FrameValue) : Type 0 where
-  pub last : ℕ
-  pub rest : List ℕ
-  pub tagged_ : IsTagged type bytes v.tags last rest
-  pub payload_ : IsPayload last v.tags rest v
+  pub typed : TypedValue
+  pub tagged_ : IsTagged type bytes typed.tags typed.type typed.payload
+  pub payload_ : IsPayload typed.type typed.tags typed.payload v
 
 -- ---- links of IP alone
 
@@ -98,3 +100,44 @@ network_of_version n = case_in Other ((Ipv4, 4) ∷ (Ipv6, 6) ∷ []) n
 -- the network of an address family: those of Linux, NetBSD, FreeBSD and Darwin
 abbrev pub network_of_family : ℕ → Network
 network_of_family n = case_in Other ((Ipv4, 2) ∷ (Ipv6, 10) ∷ (Ipv6, 24) ∷ (Ipv6, 28) ∷ (Ipv6, 30) ∷ []) n
+
+-- the bytes are a datagram of IP of either version
+pub record IsRaw (bytes : List ℕ) (v : FrameValue) : Type 0 where
+  pub some : 1 ≤ length bytes
+  pub value : v ≡ frame (network_of_version (slice_index bytes 0 / 16)) [] bytes
+
+-- The family stands in four bytes in the order of the machine that captured: it has at most 16 bits, and so it is read
+-- with the highest byte first where that gives such a number, and else with the lowest first.
+abbrev pub family_in : List ℕ → ℕ
+family_in bytes =
+    if nat_lt (number_of (field 0 4) bytes) 65536 then number_of (field 0 4) bytes
+    else little_number 4 (part bytes 0 4) % 65536
+
+pub record IsFamily (bytes : List ℕ) (v : FrameValue) : Type 0 where
+  pub there : 4 ≤ length bytes
+  pub value : v ≡ frame (network_of_family (family_in bytes)) [] (drop 4 bytes)
+
+-- ---- links
+
+-- the link of a number (the registry of link types of pcap and pcapng)
+abbrev pub link_of : ℕ → Option Link
+link_of n =
+    case_in (λ _. None)
+    ((Some Null, 0) ∷ (Some Ethernet, 1) ∷ (Some Ppp, 9) ∷ (Some Raw, 12)
+    ∷ (Some Raw, 14) ∷ (Some Ppp, 50) ∷ (Some PppEther, 51) ∷ (Some Raw, 101)
+    ∷ (Some Null, 108) ∷ (Some LinuxSll, 113) ∷ (Some Raw, 228) ∷ (Some Raw, 229)
+    ∷ (Some LinuxSll2, 276) ∷ []) n
+
+-- The grammar of a frame, by its link.
+abbrev pub IsFrame : Link → List ℕ → FrameValue → Type 0
+IsFrame Null bytes v = IsFamily bytes v
+IsFrame Ethernet bytes v = (14 ≤ length bytes) × IsTypedFrame (number_of (field 12 14) bytes) (drop 14 bytes) v
+IsFrame Ppp bytes v = IsPpp bytes v
+IsFrame PppEther bytes v = IsSession bytes × IsProtocol (drop 6 bytes) [] v
+IsFrame Raw bytes v = IsRaw bytes v
+IsFrame LinuxSll bytes v = (16 ≤ length bytes) × IsTypedFrame (number_of (field 14 16) bytes) (drop 16 bytes) v
+IsFrame LinuxSll2 bytes v = (20 ≤ length bytes) × IsTypedFrame (number_of (field 0 2) bytes) (drop 20 bytes) v
+
+-- the number of the VLAN of a tag, and whether there is one at a place
+abbrev pub vlan_in : List ℕ → ℕ → ℕ
+vlan_in tags i = number_of (field (4 * i) (4 * i + 2)) tags % 4096

@@ -5,6 +5,6 @@ pub mod datagram;
 pub mod link;
 pub mod udp;
 
-pub use datagram::Addresses;
-pub use link::{Frame, Network};
+pub use datagram::{Addresses, Datagram, Refusal};
+pub use link::{Frame, Link, Network};
 pub use udp::{UdpPacket, UdpRepr};

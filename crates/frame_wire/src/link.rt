@@ -1,11 +1,68 @@
 //! Frames of the links that captures have.
 
-ghost use Rattle.std.specs.Prelude.{◌≡◌, ◌≤◌, ◌↔◌, ◌%◌, [], IfOk, IsOkAnd, IsTrue, length, drop, take, slice_index};
+ghost use Rattle.std.specs.Prelude.{◌≡◌, ◌≤◌, ◌↔◌, ◌+◌, ◌*◌, ◌/◌, ◌%◌, [], IfOk, IsOkAnd, IsTrue, length, drop, take, slice_index};
 ghost use Rattle.frame_wire.specs.Link.{FrameValue, value_of, network_of_type, IsTagType, TypedValue, typed_of, IsTagged};
 ghost use Rattle.frame_wire.specs.Link.{network_of_protocol, IsProtocol, HasAddress, IsPpp, IsSession, IsPayload};
-ghost use Rattle.frame_wire.specs.Link.{IsTypedFrame};
+ghost use Rattle.frame_wire.specs.Link.{IsTypedFrame, link_of, IsFrame, IsRaw, IsFamily, family_in, network_of_family};
+ghost use Rattle.frame_wire.specs.Link.{vlan_in};
+ghost use Rattle.wirebase.specs.Bytes.{field as field_at, number_of};
 
+use byteorder::{ByteOrder, LittleEndian};
 use wirebase::{Error, Octets, Result};
+
+/// The links whose frames are read.
+#[derive(Debug, PartialEq, Eq, Clone, Copy)]
+pub enum Link {
+    /// The loopback of BSD: an address family, in the order of bytes of the machine or of the network.
+    Null,
+    /// Ethernet II.
+    Ethernet,
+    /// PPP (RFC 1661), also in HDLC framing (RFC 1662).
+    Ppp,
+    /// A session of PPP over Ethernet (RFC 2516).
+    PppEther,
+    /// IP without a header of a link.
+    Raw,
+    /// Linux cooked capture, version 1.
+    LinuxSll,
+    /// Linux cooked capture, version 2.
+    LinuxSll2,
+}
+
+impl Link {
+    /// The link of a link type of a capture file, or None where its frames are not read.
+    pub fn of(link_type: u16) -> Option<Link>
+        ensures { result ≡ link_of link_type }
+    {
+        match link_type {
+            0 | 108 => Some(Link::Null),
+            1 => Some(Link::Ethernet),
+            9 | 50 => Some(Link::Ppp),
+            12 | 14 | 101 | 228 | 229 => Some(Link::Raw),
+            51 => Some(Link::PppEther),
+            113 => Some(Link::LinuxSll),
+            276 => Some(Link::LinuxSll2),
+            _ => None,
+        }
+    }
+
+    /// The frame in these octets. Refused where its headers are cut short, and where a session is of another version
+    /// or code than data has.
+    pub fn frame(self, octets: &[u8]) -> Result<Frame<'_>>
+        ensures sound { IfOk result (λ f. IsFrame self octets.now (value_of f)) }
+        ensures complete { (v : FrameValue) → IsFrame self octets.now v → IsOkAnd result (λ f. value_of f ≡ v) }
+    {
+        match self {
+            Link::Null => family(octets),
+            Link::Ethernet => typed_at(octets, 12, 14),
+            Link::Ppp => ppp(octets),
+            Link::PppEther => session(octets),
+            Link::Raw => raw(octets),
+            Link::LinuxSll => typed_at(octets, 14, 16),
+            Link::LinuxSll2 => typed_at(octets, 0, 20),
+        }
+    }
+}
 
 /// The network that a frame is of.
 #[derive(Debug, PartialEq, Eq, Clone, Copy)]
@@ -38,9 +95,26 @@ struct Typed<'a> {
     payload: &'a [u8],
 }
 
+impl Frame<'_> {
+    /// How many VLAN tags the frame has.
+    pub fn vlans(&self) -> usize
+        ensures { result ≡ length (value_of self.now).tags / 4 }
+    {
+        self.tags.len() / 4
+    }
+
+    /// The number of the VLAN of a tag, 0 to 4,095. Requires that there is such a tag.
+    pub fn vlan(&self, place: usize) -> u16
+        requires { 4 * place + 4 ≤ length (value_of self.now).tags }
+        ensures { result ≡ vlan_in (value_of self.now).tags place }
+    {
+        self.tags.u16_at(4 * place..4 * place + 2) % 4096
+    }
+}
+
 // The octets from a place on. Requires that they reach it.
 #[tactic(auto, using(std::proofs::lemmas::List::take_all))]
-fn behind(octets: &[u8], place: usize) -> &[u8]
+pub(crate) fn behind(octets: &[u8], place: usize) -> &[u8]
     requires { place ≤ length octets.now }
     ensures { result.now ≡ drop place octets.now }
 {
@@ -124,9 +198,9 @@ fn protocol<'a>(octets: &'a [u8], tags: &'a [u8]) -> Result<Frame<'a>>
     })
 }
 
-/// A frame of PPP, with or without the address and control bytes ff 03 in front (RFC 1661 section 2, RFC 1662
-/// section 3.1). Refused where the protocol is cut short.
-pub fn ppp(octets: &[u8]) -> Result<Frame<'_>>
+// A frame of PPP, with or without the address and control bytes ff 03 in front (RFC 1661 section 2, RFC 1662
+// section 3.1). Refused where the protocol is cut short.
+fn ppp(octets: &[u8]) -> Result<Frame<'_>>
     ensures sound { IfOk result (λ f. IsPpp octets.now (value_of f)) }
     ensures complete { (v : FrameValue) → IsPpp octets.now v → IsOkAnd result (λ f. value_of f ≡ v) }
 {
@@ -156,4 +230,99 @@ fn payload_of<'a>(typed: Typed<'a>) -> Result<Frame<'a>>
         tags,
         payload,
     })
+}
+
+// A frame with a type at a place, and what it speaks of from another on. Refused where its headers are cut short.
+fn typed_at(octets: &[u8], place: usize, start: usize) -> Result<Frame<'_>>
+    requires order { place + 2 ≤ start }
+    requires small { start ≤ 20 }
+    ensures sound { IfOk result (λ f. (start ≤ length octets.now)
+        × IsTypedFrame (number_of (field_at place (place + 2)) octets.now) (drop start octets.now) (value_of f)) }
+    ensures complete { (v : FrameValue) → start ≤ length octets.now
+        → IsTypedFrame (number_of (field_at place (place + 2)) octets.now) (drop start octets.now) v
+        → IsOkAnd result (λ f. value_of f ≡ v) }
+{
+    if octets.len() < start {
+        return Err(Error);
+    }
+    read_typed(octets.u16_at(place..place + 2), behind(octets, start))
+}
+
+// What stands behind a type.
+fn read_typed(kind: u16, octets: &[u8]) -> Result<Frame<'_>>
+    ensures sound { IfOk result (λ f. IsTypedFrame kind octets.now (value_of f)) }
+    ensures complete { (v : FrameValue) → IsTypedFrame kind octets.now v → IsOkAnd result (λ f. value_of f ≡ v) }
+{
+    let typed = untagged(kind, octets)?;
+    payload_of(typed)
+}
+
+// The data of a PPPoE session. Refused where its headers are cut short or say that it is none.
+fn session(octets: &[u8]) -> Result<Frame<'_>>
+    ensures sound { IfOk result (λ f. IsSession octets.now × IsProtocol (drop 6 octets.now) [] (value_of f)) }
+    ensures complete { (v : FrameValue) → IsSession octets.now × IsProtocol (drop 6 octets.now) [] v
+        → IsOkAnd result (λ f. value_of f ≡ v) }
+{
+    if octets.len() < 6 || octets.u16_at(0..2) != 0x1100 {
+        return Err(Error);
+    }
+    protocol(behind(octets, 6), &[])
+}
+
+// A datagram without a header of a link. Refused where there is nothing.
+fn raw(octets: &[u8]) -> Result<Frame<'_>>
+    ensures sound { IfOk result (λ f. IsRaw octets.now (value_of f)) }
+    ensures complete { (v : FrameValue) → IsRaw octets.now v → IsOkAnd result (λ f. value_of f ≡ v) }
+{
+    if octets.is_empty() {
+        return Err(Error);
+    }
+    let network = match octets[0] / 16 {
+        4 => Network::Ipv4,
+        6 => Network::Ipv6,
+        other => Network::Other(other as u16),
+    };
+    Ok(Frame {
+        network,
+        tags: &[],
+        payload: octets,
+    })
+}
+
+// A frame behind an address family. Refused where that is cut short.
+fn family(octets: &[u8]) -> Result<Frame<'_>>
+    ensures sound { IfOk result (λ f. IsFamily octets.now (value_of f)) }
+    ensures complete { (v : FrameValue) → IsFamily octets.now v → IsOkAnd result (λ f. value_of f ≡ v) }
+{
+    if octets.len() < 4 {
+        return Err(Error);
+    }
+    Ok(Frame {
+        network: network_of_family(family_in(octets)),
+        tags: &[],
+        payload: behind(octets, 4),
+    })
+}
+
+// The address family in the first four bytes, of either order. Requires that they are there.
+fn family_in(octets: &[u8]) -> u16
+    requires { 4 ≤ length octets.now }
+    ensures { result ≡ family_in octets.now }
+{
+    let family = octets.u32_at(0..4);
+    if family < 65536 {
+        return family as u16;
+    }
+    (LittleEndian::read_u32(octets.range(0, 4)) % 65536) as u16
+}
+
+// The network of an address family, by the numbers of Linux, NetBSD, FreeBSD and Darwin.
+fn network_of_family(family: u16) -> Network
+    ensures { result ≡ network_of_family family }
+{
+    match family {
+        2 => Network::Ipv4,
+        10 | 24 | 28 | 30 => Network::Ipv6,
+        other => Network::Other(other),
+    }
 }

@@ -1,0 +1,23 @@
+-- Tags are passed, one after another.
+use Rattle.std.proofs.Common.{◌≡◌, ap, sym, subst, ◌∙◌, arith}
+use Rattle.byteorder.specs.Endian.{big_number}
+use Rattle.frame_wire.specs.Link.{IsTagged}
+use Rattle.frame_wire.proofs.Tags.{so_far-init, so_far-more, so_far-last, cut_none, part-behind, told, told_not}
+use Rattle.frame_wire.proofs.link.untagged.Goals as goal
+
+pub tags-init : goal.tags-init
+tags-init c = so_far-init _ _
+
+pub returns-then-octets-end-lt4-clause-complete : goal.returns-then-octets-end-lt4-clause-complete
+returns-then-octets-end-lt4-clause-complete c v is =
+    cut_none _ _ _ _ c.tags.invariant (told _ c.is_tag.ensures c.tags-test.true) c.if-octets-end-lt4.true _ _ _ is
+
+pub tags-preserved : goal.tags-preserved
+tags-preserved c =
+    so_far-more _ _ _ _ _ c.tags.invariant (told _ c.is_tag.ensures c.tags-test.true) c.if-octets-end-lt4.false
+    (c.u16_at-last.ensures ∙ ap (big_number 2) (part-behind c.args.octets.now c.tags.end))
+
+pub returns-clause-sound : goal.returns-clause-sound
+returns-clause-sound c =
+    subst (λ l. IsTagged c.args.kind c.args.octets.now _ c.tags.last l) (sym c.behind.ensures)
+    (so_far-last _ _ _ _ c.tags.invariant (told_not _ c.is_tag.ensures c.tags-test.false))

@@ -1,0 +1,145 @@
+-- Datagrams of IPv4 (RFC 791 section 3.1), and of IPv6 with the headers that extend it (RFC 8200 sections 3 and 4).
+use Rattle.std.specs.Prelude.{◌≡◌, ◌≢◌, ℕ, ◌+◌, ◌-◌, ◌*◌, ◌<◌, ◌≤◌, ◌⊎◌, ◌==◌, ◌||◌, ◌&&◌, nat_le, if◌then◌else◌}
+use Rattle.std.specs.Prelude.{List, length, drop, slice_index}
+use Rattle.wirebase.specs.Bytes.{field, part, byte_of, bytes_of}
+use Rattle.wirebase.specs.Ip.{protocol_of}
+use Rattle.wirebase.specs.Ipv4 as ipv4
+use Rattle.wirebase.specs.Ipv6 as ipv6
+use Rattle.wirebase.specs.Ipv6Address.{octets_of}
+use Rattle.wirebase.specs.declared.ip.IpProtocol.{IpProtocol}
+use Rattle.wirebase.specs.declared.ip.IpProtocol.TheVariants.{HopByHop, Ipv6Route, Ipv6Opts, Ipv6Frag}
+use Rattle.wirebase.specs.declared.ipv4.Ipv4Address.{Ipv4Address}
+use Rattle.wirebase.specs.declared.ipv6.address.Ipv6Address.{Ipv6Address}
+use Rattle.frame_wire.specs.declared.datagram.Addresses.{Addresses}
+use Rattle.frame_wire.specs.declared.datagram.Addresses.TheVariants.{V4, V6}
+use Rattle.frame_wire.specs.declared.datagram.Datagram.{Datagram}
+use Rattle.frame_wire.specs.declared.datagram.Refusal.{Refusal}
+use Rattle.frame_wire.specs.declared.datagram.Refusal.TheVariants.{Cut, Malformed, Fragment}
+
+-- a datagram by its content
+pub record DatagramValue : Type 0 where
+  pub addresses : Addresses
+  pub protocol : IpProtocol
+  pub hop_limit : ℕ
+  pub payload : List ℕ
+
+abbrev pub value_of : Datagram → DatagramValue
+value_of d = record {
+  addresses = d.addresses;
+  protocol = d.protocol;
+  hop_limit = d.hop_limit;
+  payload = d.payload.now;
+}
+
+-- ---- IPv4
+
+-- the bytes begin with a header of version 4 whose lengths agree; its checksum is not looked at
+pub record HasHeader4 (bytes : List ℕ) : Type 0 where
+  pub fixed : 20 ≤ length bytes
+  pub version : ipv4.version_in bytes ≡ 4
+  pub least : 20 ≤ ipv4.header_len_in bytes
+  pub order : ipv4.header_len_in bytes ≤ ipv4.total_len_in bytes
+
+-- part of a datagram alone
+abbrev pub IsFragment4 : List ℕ → Type 0
+IsFragment4 bytes = (ipv4.more_frags_in bytes ≡ 1) ⊎ (ipv4.frag_offset_in bytes ≢ 0)
+
+-- The grammar: the bytes begin with a whole datagram by its own lengths, and what stands behind it is no part.
+pub record IsDatagram4 (bytes : List ℕ) (v : DatagramValue) : Type 0 where
+  pub header : HasHeader4 bytes
+  pub total : ipv4.total_len_in bytes ≤ length bytes
+  pub unfragmented : IsFragment4 bytes → ⊥
+  pub source : Ipv4Address
+  pub destination : Ipv4Address
+  pub source_ : ipv4.octets_of source ≡ bytes_of ipv4.src_addr_field bytes
+  pub destination_ : ipv4.octets_of destination ≡ bytes_of ipv4.dst_addr_field bytes
+  pub addresses_ : v.addresses ≡ V4 source destination
+  pub protocol_ : v.protocol ≡ protocol_of (byte_of ipv4.protocol_field bytes)
+  pub hop_limit_ : v.hop_limit ≡ byte_of ipv4.time_to_live_field bytes
+  pub payload_ : v.payload ≡ part bytes (ipv4.header_len_in bytes) (ipv4.total_len_in bytes)
+
+-- what is told of other bytes: they end too early, contradict themselves, or are a fragment
+abbrev pub Refuses4 : List ℕ → Refusal → Type 0
+Refuses4 bytes Cut = (length bytes < 20) ⊎ (HasHeader4 bytes × (length bytes < ipv4.total_len_in bytes))
+Refuses4 bytes Malformed = (20 ≤ length bytes) × (HasHeader4 bytes → ⊥)
+Refuses4 bytes Fragment = HasHeader4 bytes × (ipv4.total_len_in bytes ≤ length bytes) × IsFragment4 bytes
+
+-- ---- the headers that extend IPv6
+
+-- those that are passed: hop-by-hop and destination options, and routing headers
+abbrev pub IsExtension : IpProtocol → Type 0
+IsExtension p = (p ≡ HopByHop) ⊎ (p ≡ Ipv6Route) ⊎ (p ≡ Ipv6Opts)
+
+-- the end of a header: its length counts eight bytes each, without the first eight
+abbrev pub extension_end : List ℕ → ℕ
+extension_end bytes = 8 * slice_index bytes 1 + 8
+
+-- the bytes begin with a whole header
+pub record HasExtension (bytes : List ℕ) : Type 0 where
+  pub least : 8 ≤ length bytes
+  pub whole : extension_end bytes ≤ length bytes
+
+-- Where a routing header leads that still has segments left: to the last address of types 0 and 2 (RFC 2460
+-- section 4.4, RFC 6275 section 6.4), and to the first that is written of type 4 (RFC 8754 section 2). That
+-- destination counts in checksums (RFC 8200 section 8.1).
+abbrev pub routed : List ℕ → List ℕ → List ℕ
+routed header destination =
+    if (slice_index header 3 == 0) || nat_le (extension_end header) 23 then destination
+    else if slice_index header 2 == 4 then part header 8 24
+    else if (slice_index header 2 == 0) || (slice_index header 2 == 2)
+    then part header (extension_end header - 16) (extension_end header)
+    else destination
+
+-- the destination behind a header
+pub data Routes (p : IpProtocol) (header destination next : List ℕ) : Type 0 where
+  by_route : p ≡ Ipv6Route → next ≡ routed header destination → Routes p header destination next
+  by_options : p ≢ Ipv6Route → next ≡ destination → Routes p header destination next
+
+-- A protocol and the bytes behind it lead past as many headers as there are to a protocol that is none of them, with
+-- these bytes and this destination.
+pub data Leads : IpProtocol → List ℕ → List ℕ → IpProtocol → List ℕ → List ℕ → Type 0 where
+  here : {p : IpProtocol} {bytes destination : List ℕ} {q : IpProtocol} {payload final : List ℕ}
+      → (IsExtension p → ⊥) → p ≢ Ipv6Frag → q ≡ p → payload ≡ bytes → final ≡ destination
+      → Leads p bytes destination q payload final
+  past : {p : IpProtocol} {bytes destination : List ℕ} {q : IpProtocol} {payload final : List ℕ} (next : List ℕ)
+      → IsExtension p → HasExtension bytes → Routes p bytes destination next
+      → Leads (protocol_of (slice_index bytes 0)) (drop (extension_end bytes) bytes) next q payload final
+      → Leads p bytes destination q payload final
+
+-- or they lead to a fragment, or to a header that is not whole
+pub data Stops : IpProtocol → List ℕ → Refusal → Type 0 where
+  at_fragment : {p : IpProtocol} {bytes : List ℕ} {r : Refusal} → p ≡ Ipv6Frag → r ≡ Fragment → Stops p bytes r
+  torn : {p : IpProtocol} {bytes : List ℕ} {r : Refusal} → IsExtension p → (HasExtension bytes → ⊥) → r ≡ Malformed
+      → Stops p bytes r
+  later : {p : IpProtocol} {bytes : List ℕ} {r : Refusal} → IsExtension p → HasExtension bytes
+      → Stops (protocol_of (slice_index bytes 0)) (drop (extension_end bytes) bytes) r → Stops p bytes r
+
+-- ---- IPv6
+
+-- the bytes begin with a header of version 6
+pub record HasHeader6 (bytes : List ℕ) : Type 0 where
+  pub fixed : 40 ≤ length bytes
+  pub version : ipv6.version_in bytes ≡ 6
+
+abbrev pub total_len6 : List ℕ → ℕ
+total_len6 bytes = 40 + ipv6.payload_len_in bytes
+
+-- The grammar: the bytes begin with a whole datagram by its own length, and what stands behind it is no part.
+pub record IsDatagram6 (bytes : List ℕ) (v : DatagramValue) : Type 0 where
+  pub header : HasHeader6 bytes
+  pub total : total_len6 bytes ≤ length bytes
+  pub source : Ipv6Address
+  pub destination : Ipv6Address
+  pub source_ : octets_of source ≡ bytes_of ipv6.src_addr_field bytes
+  pub addresses_ : v.addresses ≡ V6 source destination
+  pub hop_limit_ : v.hop_limit ≡ byte_of ipv6.hop_limit_field bytes
+  pub leads_ : Leads (protocol_of (byte_of ipv6.next_header_field bytes)) (bytes_of (ipv6.payload_field bytes) bytes)
+      (bytes_of ipv6.dst_addr_field bytes) v.protocol v.payload (octets_of destination)
+
+-- what is told of other bytes
+pub data Refuses6 (bytes : List ℕ) (r : Refusal) : Type 0 where
+  cut : (length bytes < 40) ⊎ (HasHeader6 bytes × (length bytes < total_len6 bytes)) → r ≡ Cut → Refuses6 bytes r
+  malformed : 40 ≤ length bytes → (HasHeader6 bytes → ⊥) → r ≡ Malformed → Refuses6 bytes r
+  stops : HasHeader6 bytes → total_len6 bytes ≤ length bytes
+      → Stops (protocol_of (byte_of ipv6.next_header_field bytes)) (bytes_of (ipv6.payload_field bytes) bytes) r
+      → Refuses6 bytes r
