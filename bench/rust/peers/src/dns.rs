@@ -36,13 +36,16 @@ fn read_all(octets: &[u8]) -> control_wire::Result<usize> {
 
 // The same of the message that hickory-proto read.
 fn count_all(message: &Message) -> usize {
-    let names = message.answers().iter().map(|record| record.name().len());
+    let names = message
+        .answers()
+        .iter()
+        .map(|record| record.name().len() + 1);
     let data = message.answers().iter().map(|record| match record.data() {
-        Some(hickory_proto::rr::RData::CNAME(name)) => name.len(),
+        Some(hickory_proto::rr::RData::CNAME(name)) => name.len() + 1,
         Some(hickory_proto::rr::RData::A(_)) => 4,
         _ => 0,
     });
-    message.queries()[0].name().len() + names.sum::<usize>() + data.sum::<usize>()
+    message.queries()[0].name().len() + 1 + names.sum::<usize>() + data.sum::<usize>()
 }
 
 pub fn rows() {
@@ -89,6 +92,7 @@ pub fn rows() {
         HickoryName::from_str(black_box("www.example.org."))
             .unwrap()
             .len()
+            + 1
     };
     assert_eq!(read(), theirs());
     row("DNS name, of its text", "hickory", read, theirs);
