@@ -1,5 +1,5 @@
 pub mod Alerts
-pub mod Asking
+pub mod Leases
 pub mod Cuts
 pub mod Neighbors
 pub mod NameCases
