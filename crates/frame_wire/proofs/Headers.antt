@@ -27,3 +27,10 @@ so_far-more first_ all start p rest destination q behind next so is there routes
       so.stops r (later is there
       (subst (λ l. Stops (protocol_of (slice_index rest 0)) l r) b (subst (λ x. Stops x behind r) e h)));
 }
+
+pub leads_at : (p p' : IpProtocol) (bytes bytes' start start' : List ℕ) (q : IpProtocol) (payload final : List ℕ)
+    → p ≡ p' → bytes ≡ bytes' → start ≡ start' → Leads p bytes start q payload final
+    → Leads p' bytes' start' q payload final
+leads_at p p' bytes bytes' start start' q payload final e f g leads =
+    subst (λ x. Leads x bytes' start' q payload final) e
+    (subst (λ l. Leads p l start' q payload final) f (subst (λ l. Leads p bytes l q payload final) g leads))

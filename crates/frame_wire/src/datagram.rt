@@ -5,7 +5,7 @@ ghost use Rattle.wirebase.specs.Checksum.{fold};
 ghost use Rattle.wirebase.specs.Ipv6Address.{octets_of};
 ghost use Rattle.frame_wire.specs.Addresses.{sum_before, IsV4};
 ghost use Rattle.frame_wire.specs.Datagram.{value_of, IsDatagram4, Refuses4, IsDatagram6, Refuses6, IsExtension};
-ghost use Rattle.frame_wire.specs.Datagram.{HasExtension, extension_end, routed, Leads, Stops};
+ghost use Rattle.frame_wire.specs.Datagram.{HasExtension, extension_end, routed, Routes, Leads, Stops};
 
 use crate::link::behind;
 use wirebase::{
@@ -154,13 +154,11 @@ fn pass_headers<'a>(
             return Err(Refusal::Malformed);
         }
         let end = 8 * rest[1] as usize + 8;
-        if protocol == IpProtocol::Ipv6Route {
-            dst_addr = routed(rest, dst_addr);
-        }
+        dst_addr = behind_header(protocol, rest, dst_addr);
         protocol = IpProtocol::from(rest[0]);
         rest = behind(rest, end);
     }
-    if protocol == IpProtocol::Ipv6Frag {
+    if is_fragment(protocol) {
         return Err(Refusal::Fragment);
     }
     Ok(Upper {
@@ -177,6 +175,24 @@ fn is_extension(protocol: IpProtocol) -> bool
     protocol == IpProtocol::HopByHop
         || protocol == IpProtocol::Ipv6Route
         || protocol == IpProtocol::Ipv6Opts
+}
+
+// Whether this is a header before a part of a datagram.
+fn is_fragment(protocol: IpProtocol) -> bool
+    ensures { IsTrue result ↔ (protocol ≡ IpProtocol.Ipv6Frag) }
+{
+    protocol == IpProtocol::Ipv6Frag
+}
+
+// The destination behind a header that is passed.
+fn behind_header(protocol: IpProtocol, header: &[u8], dst_addr: Ipv6Address) -> Ipv6Address
+    requires { HasExtension header.now }
+    ensures { Routes protocol header.now (octets_of dst_addr) (octets_of result) }
+{
+    if protocol == IpProtocol::Ipv6Route {
+        return routed(header, dst_addr);
+    }
+    dst_addr
 }
 
 // Whether the octets begin with a whole header.
@@ -201,3 +217,6 @@ fn routed(header: &[u8], dst_addr: Ipv6Address) -> Ipv6Address
         _ => dst_addr,
     }
 }
+
+#[cfg(test)]
+mod tests;

@@ -266,3 +266,6 @@ fn has_checksum(packet: &UdpPacket<&[u8]>, addresses: &Addresses) -> bool
 {
     (addresses.is_v4() && packet.checksum() == 0) || packet.verify_checksum(addresses)
 }
+
+#[cfg(test)]
+mod tests;

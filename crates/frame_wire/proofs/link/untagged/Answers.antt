@@ -1,5 +1,5 @@
 -- Tags are passed, one after another.
-use Rattle.std.proofs.Common.{◌≡◌, ap, sym, subst, ◌∙◌, arith}
+use Rattle.std.proofs.Common.{◌≡◌, take, ap, sym, subst, ◌∙◌, arith}
 use Rattle.byteorder.specs.Endian.{big_number}
 use Rattle.frame_wire.specs.Link.{IsTagged}
 use Rattle.frame_wire.proofs.Tags.{so_far-init, so_far-more, so_far-last, cut_none, part-behind, told, told_not}
@@ -19,5 +19,5 @@ tags-preserved c =
 
 pub returns-clause-sound : goal.returns-clause-sound
 returns-clause-sound c =
-    subst (λ l. IsTagged c.args.kind c.args.octets.now _ c.tags.last l) (sym c.behind.ensures)
+    subst (λ l. IsTagged c.args.kind c.args.octets.now (take c.tags.end c.args.octets.now) c.tags.last l) (sym c.behind.ensures)
     (so_far-last _ _ _ _ c.tags.invariant (told_not _ c.is_tag.ensures c.tags-test.false))

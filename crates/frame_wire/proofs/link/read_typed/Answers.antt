@@ -1,0 +1,10 @@
+-- What stands behind the tags is what their last type says.
+use Rattle.frame_wire.specs.Link.{typed_of}
+use Rattle.frame_wire.proofs.Tags.{if_ok}
+use Rattle.frame_wire.proofs.link.read_typed.Goals as goal
+
+pub returns-clause-sound : goal.returns-clause-sound
+returns-clause-sound c =
+    if_ok _ _ c.payload_of.result
+    (λ f is. record { typed = typed_of c.in_ok-typed.typed; tagged_ = c.in_ok-typed.ensures.sound; payload_ = is })
+    c.payload_of.ensures.sound
