@@ -5,9 +5,9 @@
 //! The type is A, AAAA, CNAME, NS, SOA or a number, and the server by default the first of /etc/resolv.conf. It prints
 //! each record of the answer; data of a type that has no text here stand in hexadecimal (RFC 3597 section 5).
 
-use callers::resolver::{self, Answers};
-use control_wire::dns::{Flags, Packet, Question, Rcode, Record, RecordData, Type};
-use control_wire::record::Name;
+use callers::resolver::{self, Answers, Response};
+use control_wire::dns::{Packet, Rcode, RecordData, Type};
+use control_wire::record::{Name, Record};
 use std::hash::{BuildHasher, Hasher, RandomState};
 use std::io::{ErrorKind, Read, Write};
 use std::net::{IpAddr, SocketAddr, TcpStream, UdpSocket};
@@ -26,61 +26,29 @@ const WAITS: [Duration; 3] = [
 struct Query {
     id: u16,
     name: Name,
-    kind: Type,
+    type_: Type,
     octets: Vec<u8>,
 }
 
-/// What a message is to a query.
-enum Meaning<'a> {
-    Another,
-    Truncated,
-    Failure(Rcode),
-    Answer(Answers<'a>),
-}
-
 impl Query {
-    fn new(text: &str, kind: Type) -> Result<Query> {
+    fn new(text: &str, type_: Type) -> Result<Query> {
         let name = Name::from_text(text.as_bytes()).map_err(|_| format!("{text} is no name"))?;
         let id = RandomState::new().build_hasher().finish() as u16;
         let mut octets = vec![0; 512];
-        let len =
-            resolver::query(id, name.octets(), kind, &mut octets).ok_or("the name is too long")?;
+        let len = resolver::query(id, name.octets(), type_, &mut octets)
+            .ok_or("no room for the query")?;
         octets.truncate(len);
         Ok(Query {
             id,
             name,
-            kind,
+            type_,
             octets,
         })
     }
 
-    /// Whether a message is about this question.
-    fn is_question_of<'a>(&'a self, packet: &Packet<&'a [u8]>) -> bool {
-        Question::parse(packet.payload()).is_ok_and(|(_, question)| {
-            question.type_ == self.kind
-                && resolver::same_name(packet, question.name, self.name.octets())
-        })
-    }
-
-    /// What a message is to this query. One of another number, or about another question, is nothing to it.
-    fn meaning<'a>(&'a self, message: &'a [u8]) -> Meaning<'a> {
-        let Ok(packet) = Packet::new_checked(message) else {
-            return Meaning::Another;
-        };
-        let flags = packet.flags();
-        if packet.transaction_id() != self.id
-            || !flags.contains(Flags::RESPONSE)
-            || !self.is_question_of(&packet)
-        {
-            return Meaning::Another;
-        }
-        if flags.contains(Flags::TRUNCATED) {
-            return Meaning::Truncated;
-        }
-        match resolver::read_answers(message, self.id, self.name.octets(), self.kind) {
-            Some(answers) => Meaning::Answer(answers),
-            None => Meaning::Failure(packet.rcode()),
-        }
+    /// What a message tells, where it is a response to this query.
+    fn read<'a>(&'a self, message: &'a [u8]) -> Option<Response<'a>> {
+        resolver::read_answers(message, self.id, self.name.octets(), self.type_)
     }
 
     /// The response of a server over UDP: the first datagram that is one, in three tries (RFC 1035 section 4.2.1).
@@ -101,7 +69,7 @@ impl Query {
             {
                 socket.set_read_timeout(Some(left))?;
                 match socket.recv(&mut octets) {
-                    Ok(len) if matches!(self.meaning(&octets[..len]), Meaning::Another) => {}
+                    Ok(len) if self.read(&octets[..len]).is_none() => {}
                     Ok(len) => return Ok(octets[..len].to_vec()),
                     Err(error)
                         if matches!(error.kind(), ErrorKind::WouldBlock | ErrorKind::TimedOut) => {}
@@ -128,18 +96,18 @@ impl Query {
 
 /// A record as a line of text.
 fn line(packet: &Packet<&[u8]>, record: &Record<'_>) -> Result<String> {
-    let data = match record.data {
+    let data = match RecordData::parse(record.type_, record.data)? {
         RecordData::A(address) => format!("A {address}"),
         RecordData::Aaaa(address) => format!("AAAA {address}"),
         RecordData::Cname(name) => format!("CNAME {}", Name::read(packet, name)?),
         RecordData::Other(Type::Ns, name) => format!("NS {}", Name::read(packet, name)?),
-        RecordData::Other(kind, data) => {
+        RecordData::Other(type_, data) => {
             let digits: String = data.iter().map(|octet| format!("{octet:02X}")).collect();
-            format!("TYPE{} \\# {} {digits}", u16::from(kind), data.len())
+            format!("TYPE{} \\# {} {digits}", u16::from(type_), data.len())
         }
     };
     Ok(format!(
-        "{} {} IN {data}",
+        "{} {} {data}",
         Name::read(packet, record.name)?,
         record.ttl
     ))
@@ -158,22 +126,22 @@ fn print(answers: &Answers<'_>) -> Result<()> {
 }
 
 /// Asks for a name's records, and prints them; an error where there is none.
-fn resolve(text: &str, kind: Type, server: SocketAddr) -> Result<()> {
-    let query = Query::new(text, kind)?;
+fn resolve(text: &str, type_: Type, server: SocketAddr) -> Result<()> {
+    let query = Query::new(text, type_)?;
     let mut response = query.ask(server)?;
-    if matches!(query.meaning(&response), Meaning::Truncated) {
-        eprintln!("; the response was cut: asked again over TCP");
-        response = query.ask_whole(server)?;
+    if matches!(query.read(&response), Some(Response::Truncated(_))) {
+        eprintln!("the response was cut: asking again over TCP");
+        response = query
+            .ask_whole(server)
+            .map_err(|error| format!("{server} over TCP: {error}"))?;
     }
-    match query.meaning(&response) {
-        Meaning::Answer(answers) if answers.left == 0 => {
-            Err(format!("{text} has no records of this type").into())
-        }
-        Meaning::Answer(answers) => print(&answers),
-        Meaning::Failure(Rcode::NXDomain) => Err(format!("there is no {text}").into()),
-        Meaning::Failure(code) => Err(format!("{server} answers {code:?}").into()),
-        Meaning::Another | Meaning::Truncated => {
-            Err(format!("{server} answers another question").into())
+    match query.read(&response) {
+        Some(Response::Whole(answers)) if answers.left > 0 => print(&answers),
+        Some(Response::Whole(_)) => Err(format!("{text} has no records of this type").into()),
+        Some(Response::Failed(Rcode::NXDomain)) => Err(format!("there is no {text}").into()),
+        Some(Response::Failed(code)) => Err(format!("{server} answers {code:?}").into()),
+        Some(Response::Truncated(_)) | None => {
+            Err(format!("{server} gives no whole answer").into())
         }
     }
 }
@@ -195,7 +163,8 @@ fn own_server() -> Result<SocketAddr> {
     server(found.ok_or("/etc/resolv.conf has no server")?.trim())
 }
 
-fn kind(text: &str) -> Result<Type> {
+/// The type of an argument.
+fn type_of(text: &str) -> Result<Type> {
     match text.to_ascii_uppercase().as_str() {
         "A" => Ok(Type::A),
         "AAAA" => Ok(Type::Aaaa),
@@ -221,7 +190,7 @@ fn main() -> Result<()> {
     };
     match words[..] {
         [name] => resolve(name, Type::A, server),
-        [name, text] => resolve(name, kind(text)?, server),
+        [name, text] => resolve(name, type_of(text)?, server),
         _ => Err("usage: resolve NAME [TYPE] [@SERVER[:PORT]]".into()),
     }
 }
