@@ -11,6 +11,7 @@ use control_wire::record::{Name, Record};
 use std::hash::{BuildHasher, Hasher, RandomState};
 use std::io::{ErrorKind, Read, Write};
 use std::net::{IpAddr, SocketAddr, TcpStream, UdpSocket};
+use std::process::ExitCode;
 use std::time::{Duration, Instant};
 
 type Result<T> = std::result::Result<T, Box<dyn std::error::Error>>;
@@ -179,18 +180,29 @@ fn type_of(text: &str) -> Result<Type> {
     }
 }
 
-fn main() -> Result<()> {
+/// Does what the arguments say.
+fn run() -> Result<()> {
     let arguments: Vec<String> = std::env::args().skip(1).collect();
     let (servers, words): (Vec<_>, Vec<_>) =
         arguments.iter().partition(|word| word.starts_with('@'));
     let server = match servers[..] {
         [] => own_server()?,
         [text] => server(&text[1..])?,
-        _ => return Err("one server, please".into()),
+        _ => return Err("more than one server".into()),
     };
     match words[..] {
         [name] => resolve(name, Type::A, server),
         [name, text] => resolve(name, type_of(text)?, server),
         _ => Err("usage: resolve NAME [TYPE] [@SERVER[:PORT]]".into()),
+    }
+}
+
+fn main() -> ExitCode {
+    match run() {
+        Ok(()) => ExitCode::SUCCESS,
+        Err(error) => {
+            eprintln!("resolve: {error}");
+            ExitCode::FAILURE
+        }
     }
 }
