@@ -2,26 +2,22 @@
 //!
 //!     cargo run --example resolve -- NAME [TYPE] [@SERVER[:PORT]]
 //!
-//! The type is A, AAAA, CNAME, NS, SOA or a number, and the server by default the first of /etc/resolv.conf. It prints
+//! The type is A, AAAA, CNAME, MX, NS, SOA, TXT or a number, and the server by default the first of /etc/resolv.conf. It prints
 //! each record of the answer; data of a type that has no text here stand in hexadecimal (RFC 3597 section 5).
 
 use callers::resolver::{self, Answers, Response};
 use control_wire::dns::{Packet, Rcode, RecordData, Type};
 use control_wire::record::{Name, Record};
 use std::hash::{BuildHasher, Hasher, RandomState};
-use std::io::{ErrorKind, Read, Write};
+use std::io::ErrorKind::{TimedOut, WouldBlock};
+use std::io::{Read, Write};
 use std::net::{IpAddr, SocketAddr, TcpStream, UdpSocket};
-use std::process::ExitCode;
 use std::time::{Duration, Instant};
 
 type Result<T> = std::result::Result<T, Box<dyn std::error::Error>>;
 
-/// How long each of the tries waits for its response.
-const WAITS: [Duration; 3] = [
-    Duration::from_secs(1),
-    Duration::from_secs(2),
-    Duration::from_secs(4),
-];
+/// How many seconds each of the tries waits for its response.
+const WAITS: [u64; 3] = [1, 2, 4];
 
 /// A question, and the query that asks it.
 struct Query {
@@ -36,8 +32,7 @@ impl Query {
         let name = Name::from_text(text.as_bytes()).map_err(|_| format!("{text} is no name"))?;
         let id = RandomState::new().build_hasher().finish() as u16;
         let mut octets = vec![0; 512];
-        let len = resolver::query(id, name.octets(), type_, &mut octets)
-            .ok_or("no room for the query")?;
+        let len = resolver::query(id, name.octets(), type_, &mut octets).unwrap();
         octets.truncate(len);
         Ok(Query {
             id,
@@ -52,39 +47,44 @@ impl Query {
         resolver::read_answers(message, self.id, self.name.octets(), self.type_)
     }
 
-    /// The response of a server over UDP: the first datagram that is one, in three tries (RFC 1035 section 4.2.1).
+    /// The response of a server over UDP, in three tries (RFC 1035 section 4.2.1).
     fn ask(&self, server: SocketAddr) -> Result<Vec<u8>> {
-        let socket = UdpSocket::bind(if server.is_ipv4() {
-            "0.0.0.0:0"
-        } else {
-            "[::]:0"
-        })?;
+        let v4 = server.is_ipv4();
+        let any = if v4 { "0.0.0.0:0" } else { "[::]:0" };
+        let socket = UdpSocket::bind(any)?;
         socket.connect(server)?;
-        let mut octets = vec![0; 65_535];
         for wait in WAITS {
             socket.send(&self.octets)?;
-            let end = Instant::now() + wait;
-            while let Some(left) = end
-                .checked_duration_since(Instant::now())
-                .filter(|left| !left.is_zero())
-            {
-                socket.set_read_timeout(Some(left))?;
-                match socket.recv(&mut octets) {
-                    Ok(len) if self.read(&octets[..len]).is_none() => {}
-                    Ok(len) => return Ok(octets[..len].to_vec()),
-                    Err(error)
-                        if matches!(error.kind(), ErrorKind::WouldBlock | ErrorKind::TimedOut) => {}
-                    Err(error) => return Err(format!("{server}: {error}").into()),
-                }
+            if let Some(response) = self.wait(&socket, Duration::from_secs(wait))? {
+                return Ok(response);
             }
         }
-        Err(format!("{server} did not answer {} queries", WAITS.len()).into())
+        Err(format!("no response to {} queries", WAITS.len()).into())
+    }
+
+    /// The first response that comes in this time, whatever else comes.
+    fn wait(&self, socket: &UdpSocket, time: Duration) -> Result<Option<Vec<u8>>> {
+        let start = Instant::now();
+        let mut octets = vec![0; 65_535];
+        while let Some(left) = time.checked_sub(start.elapsed()) {
+            socket.set_read_timeout(Some(left.max(Duration::from_millis(1))))?;
+            match socket.recv(&mut octets) {
+                Ok(len) if self.read(&octets[..len]).is_some() => {
+                    octets.truncate(len);
+                    return Ok(Some(octets));
+                }
+                Ok(_) => {}
+                Err(error) if matches!(error.kind(), WouldBlock | TimedOut) => {}
+                Err(error) => return Err(error.into()),
+            }
+        }
+        Ok(None)
     }
 
     /// The response over TCP, in which two bytes before each message have its length (RFC 1035 section 4.2.2).
     fn ask_whole(&self, server: SocketAddr) -> Result<Vec<u8>> {
-        let mut stream = TcpStream::connect_timeout(&server, WAITS[2])?;
-        stream.set_read_timeout(Some(WAITS[2]))?;
+        let mut stream = TcpStream::connect_timeout(&server, Duration::from_secs(WAITS[2]))?;
+        stream.set_read_timeout(Some(Duration::from_secs(WAITS[2])))?;
         let len = self.octets.len() as u16;
         stream.write_all(&[&len.to_be_bytes()[..], &self.octets].concat())?;
         let mut len = [0; 2];
@@ -107,11 +107,8 @@ fn line(packet: &Packet<&[u8]>, record: &Record<'_>) -> Result<String> {
             format!("TYPE{} \\# {} {digits}", u16::from(type_), data.len())
         }
     };
-    Ok(format!(
-        "{} {} {data}",
-        Name::read(packet, record.name)?,
-        record.ttl
-    ))
+    let name = Name::read(packet, record.name)?;
+    Ok(format!("{name} {} {data}", record.ttl))
 }
 
 /// Prints the records of an answer.
@@ -129,7 +126,9 @@ fn print(answers: &Answers<'_>) -> Result<()> {
 /// Asks for a name's records, and prints them; an error where there is none.
 fn resolve(text: &str, type_: Type, server: SocketAddr) -> Result<()> {
     let query = Query::new(text, type_)?;
-    let mut response = query.ask(server)?;
+    let mut response = query
+        .ask(server)
+        .map_err(|error| format!("{server}: {error}"))?;
     if matches!(query.read(&response), Some(Response::Truncated(_))) {
         eprintln!("the response was cut: asking again over TCP");
         response = query
@@ -141,9 +140,7 @@ fn resolve(text: &str, type_: Type, server: SocketAddr) -> Result<()> {
         Some(Response::Whole(_)) => Err(format!("{text} has no records of this type").into()),
         Some(Response::Failed(Rcode::NXDomain)) => Err(format!("there is no {text}").into()),
         Some(Response::Failed(code)) => Err(format!("{server} answers {code:?}").into()),
-        Some(Response::Truncated(_)) | None => {
-            Err(format!("{server} gives no whole answer").into())
-        }
+        _ => Err(format!("{server} gives no whole answer").into()),
     }
 }
 
@@ -158,26 +155,24 @@ fn server(text: &str) -> Result<SocketAddr> {
 /// The first server of the machine's own.
 fn own_server() -> Result<SocketAddr> {
     let text = std::fs::read_to_string("/etc/resolv.conf")?;
-    let found = text
-        .lines()
-        .find_map(|line| line.strip_prefix("nameserver "));
+    let mut lines = text.lines();
+    let found = lines.find_map(|line| line.strip_prefix("nameserver "));
     server(found.ok_or("/etc/resolv.conf has no server")?.trim())
 }
 
 /// The type of an argument.
 fn type_of(text: &str) -> Result<Type> {
-    match text.to_ascii_uppercase().as_str() {
-        "A" => Ok(Type::A),
-        "AAAA" => Ok(Type::Aaaa),
-        "CNAME" => Ok(Type::Cname),
-        "NS" => Ok(Type::Ns),
-        "SOA" => Ok(Type::Soa),
-        number => Ok(Type::from(
-            number
-                .parse::<u16>()
-                .map_err(|_| format!("{text} is no type"))?,
-        )),
-    }
+    let number = match text.to_ascii_uppercase().as_str() {
+        "A" => 1,
+        "NS" => 2,
+        "CNAME" => 5,
+        "SOA" => 6,
+        "MX" => 15,
+        "TXT" => 16,
+        "AAAA" => 28,
+        digits => digits.parse().map_err(|_| format!("{text} is no type"))?,
+    };
+    Ok(Type::from(number))
 }
 
 /// Does what the arguments say.
@@ -185,10 +180,9 @@ fn run() -> Result<()> {
     let arguments: Vec<String> = std::env::args().skip(1).collect();
     let (servers, words): (Vec<_>, Vec<_>) =
         arguments.iter().partition(|word| word.starts_with('@'));
-    let server = match servers[..] {
-        [] => own_server()?,
-        [text] => server(&text[1..])?,
-        _ => return Err("more than one server".into()),
+    let server = match servers.first() {
+        Some(text) => server(&text[1..])?,
+        None => own_server()?,
     };
     match words[..] {
         [name] => resolve(name, Type::A, server),
@@ -197,12 +191,9 @@ fn run() -> Result<()> {
     }
 }
 
-fn main() -> ExitCode {
-    match run() {
-        Ok(()) => ExitCode::SUCCESS,
-        Err(error) => {
-            eprintln!("resolve: {error}");
-            ExitCode::FAILURE
-        }
+fn main() {
+    if let Err(error) = run() {
+        eprintln!("resolve: {error}");
+        std::process::exit(1);
     }
 }
