@@ -9,6 +9,7 @@ extern crate std;
 mod by_hand;
 mod dhcp_wire;
 mod dns_wire;
+pub mod frames;
 mod icmp4_wire;
 mod icmp6_wire;
 mod opt_wire;

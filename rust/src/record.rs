@@ -1,8 +1,13 @@
 // Made from crates/record_wire/src/lib.rt by rust/erase.
-//! What stands above the messages of the Domain Name System: whole names, as octets and as text.
+//! What stands above the messages of the Domain Name System: whole names, as octets and as text; questions and
+//! resource records of any type and class.
 
+pub mod entries;
 pub mod name;
+pub mod record;
 #[cfg(test)]
 mod testing;
 
+pub use entries::{Entries, Entry, Section};
 pub use name::Name;
+pub use record::{Question, Record};

@@ -11,6 +11,7 @@ mod tables;
 
 pub use name::NameIter;
 pub use packet::Packet;
+pub use part::split_name;
 pub use question::Question;
 pub use record::{Record, RecordData};
 pub use repr::Repr;

@@ -23,29 +23,41 @@ fn response() -> Vec<u8> {
     octets
 }
 
-/// Says what the library does.
-pub fn here() {
-    let octets = response();
-    let start = Instant::now();
-    let packet = Packet::new_unchecked(&octets[..]);
-    let (rest, _) = Record::parse(packet.payload()).unwrap();
-    let (_, record) = Record::parse(rest).unwrap();
-    match Name::read(&packet, record.name) {
-        Ok(name) => print!("a name of {} octets", name.octets().len()),
-        Err(_) => print!("refused"),
-    }
-    println!(", in {} microseconds", start.elapsed().as_micros());
+/// Says what the library does, on a thread with this stack, in KiB.
+pub fn here(stack: usize) {
+    tell(stack, |octets| {
+        let packet = Packet::new_unchecked(octets);
+        let (rest, _) = Record::parse(packet.payload()).unwrap();
+        let (_, record) = Record::parse(rest).unwrap();
+        match Name::read(&packet, record.name) {
+            Ok(name) => format!("read, its name has {} octets", name.octets().len()),
+            Err(error) => format!("refused: {error}"),
+        }
+    });
 }
 
-/// Says what hickory-proto does, on a thread with the stack of 2 MiB that Rust gives one.
-pub fn hickory() {
+/// The same of hickory-proto.
+pub fn hickory(stack: usize) {
+    tell(stack, |octets| match Message::from_vec(octets) {
+        Ok(message) => format!(
+            "read, its name has {} octets",
+            message.answers()[1].name().len()
+        ),
+        Err(error) => format!("refused: {error}"),
+    });
+}
+
+// Prints what a reader says of the response, and how long it takes for it.
+fn tell(stack: usize, read: fn(&[u8]) -> String) {
     let octets = response();
-    let start = Instant::now();
-    let answer =
-        std::thread::spawn(move || Message::from_vec(&octets).map(|it| it.answers().len())).join();
-    match answer.unwrap() {
-        Ok(count) => print!("{count} records"),
-        Err(error) => print!("refused: {error}"),
-    }
-    println!(", in {} microseconds", start.elapsed().as_micros());
+    let call = move || {
+        let start = Instant::now();
+        let said = read(&octets);
+        println!("{said}, in {} microseconds", start.elapsed().as_micros());
+    };
+    let thread = std::thread::Builder::new()
+        .stack_size(stack * 1_024)
+        .spawn(call)
+        .unwrap();
+    thread.join().unwrap();
 }

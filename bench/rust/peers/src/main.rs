@@ -8,9 +8,10 @@ mod icmp;
 mod measure;
 
 fn main() {
-    match std::env::args().nth(1).as_deref() {
-        Some("chain-here") => chain::here(),
-        Some("chain-hickory") => chain::hickory(),
+    let words: Vec<String> = std::env::args().skip(1).collect();
+    match &words.iter().map(String::as_str).collect::<Vec<_>>()[..] {
+        ["chain-here", stack] => chain::here(stack.parse().unwrap()),
+        ["chain-hickory", stack] => chain::hickory(stack.parse().unwrap()),
         _ => {
             measure::head();
             icmp::rows();

@@ -23,36 +23,39 @@ pub struct NameIter<'a> {
 impl<'a> Iterator for NameIter<'a> {
     type Item = Result<&'a [u8]>;
 
+    #[inline]
     fn next(&mut self) -> Option<Result<&'a [u8]>> {
         if self.ended {
             return None;
         }
-        loop {
-            let limit = self.open_len;
-            let read = source(self.in_message, self.message, self.slice);
-            match read_front(&read[self.place..self.end]) {
-                Front::Label(label) => {
-                    self.place += 1 + label.len();
-                    self.steps += 1;
-                    return Some(Ok(label));
-                }
-                Front::Pointer(target) if target < limit => {
-                    self.in_message = true;
-                    self.place = target;
-                    self.end = self.open_len;
-                    self.open_len = target;
-                    self.steps += 1;
-                }
-                Front::End => {
-                    self.ended = true;
-                    return None;
-                }
-                _ => {
-                    self.ended = true;
-                    return Some(Err(Error));
-                }
+        if !self.in_message {
+            let front = read_front(self.slice, self.place);
+            let Front::Pointer(target) = front else {
+                return self.answer(front);
+            };
+            if target >= self.open_len {
+                return self.answer(Front::Torn);
             }
+            self.in_message = true;
+            self.place = target;
+            self.end = self.open_len;
+            self.open_len = target;
+            self.steps += 1;
         }
+        let front = loop {
+            let front = read_front(&self.message[..self.end], self.place);
+            let Front::Pointer(target) = front else {
+                break front;
+            };
+            if target >= self.open_len {
+                break Front::Torn;
+            }
+            self.place = target;
+            self.end = self.open_len;
+            self.open_len = target;
+            self.steps += 1;
+        };
+        self.answer(front)
     }
 }
 
@@ -62,14 +65,30 @@ impl<'a> NameIter<'a> {
         let NameIter { steps, .. } = self;
         *steps
     }
-}
 
-// What is read: the message, or else the slice.
-fn source<'a>(in_message: bool, message: &'a [u8], slice: &'a [u8]) -> &'a [u8] {
-    if in_message { message } else { slice }
+    // The answer where this stands at the place that is read: a label, behind which the walk goes on, or the last.
+    #[inline]
+    fn answer(&mut self, front: Front<'a>) -> Option<Result<&'a [u8]>> {
+        match front {
+            Front::Label(label) => {
+                self.place += 1 + label.len();
+                self.steps += 1;
+                Some(Ok(label))
+            }
+            Front::End => {
+                self.ended = true;
+                None
+            }
+            _ => {
+                self.ended = true;
+                Some(Err(Error))
+            }
+        }
+    }
 }
 
 /// The walk over the name that begins in a slice and may go on in a message.
+#[inline]
 pub(crate) fn walk<'a>(message: &'a [u8], slice: &'a [u8]) -> NameIter<'a> {
     NameIter {
         message,

@@ -118,6 +118,7 @@ impl<'a, B: AsRef<[u8]> + ?Sized> Packet<&'a B> {
     /// The walk over the name that begins in `bytes`, a part of the message or not, and goes on where its pointers
     /// lead in the message (RFC 1035 section 4.1.4). The first pointer leads to any place of the message, and each
     /// later one to below the place that the one before it led to. Requires nothing of the message.
+    #[inline]
     pub fn parse_name(&self, bytes: &'a [u8]) -> NameIter<'a> {
         name::walk(self.buffer.as_ref(), bytes)
     }

@@ -3,7 +3,7 @@
 
 use crate::wirebase::{Error, Result};
 
-/// What stands at the front of a text.
+/// What stands at a place of a text.
 #[derive(Clone, Copy)]
 pub(crate) enum Front<'a> {
     /// The bytes of a label.
@@ -22,27 +22,29 @@ const LABEL_END: u8 = 0x40;
 // The first byte of a pointer is this or above, and its other six bits are the higher ones of the place.
 const POINTER: u8 = 0xc0;
 
-/// Reads the front of a text.
-pub(crate) fn read_front(text: &[u8]) -> Front<'_> {
-    match text {
-        [] => Front::Torn,
-        [0, ..] => Front::End,
-        [first, rest @ ..] if *first < LABEL_END => {
-            let len = *first as usize;
-            if rest.len() < len {
-                return Front::Torn;
-            }
-            Front::Label(&rest[..len])
-        }
-        [first, second, ..] if *first >= POINTER => {
-            Front::Pointer(256 * (*first % 64) as usize + *second as usize)
-        }
+/// Reads what stands at a place of a text.
+#[inline]
+pub(crate) fn read_front(text: &[u8], place: usize) -> Front<'_> {
+    let Some(&first) = text.get(place) else {
+        return Front::Torn;
+    };
+    let rest = &text[place + 1..];
+    match first {
+        0 => Front::End,
+        1..LABEL_END => match rest.get(..first as usize) {
+            Some(label) => Front::Label(label),
+            None => Front::Torn,
+        },
+        POINTER.. => match rest.first() {
+            Some(second) => Front::Pointer(256 * (first % 64) as usize + *second as usize),
+            None => Front::Torn,
+        },
         _ => Front::Torn,
     }
 }
 
 /// The part of a name at the front of a text, and what stands behind it. Refused where the text begins with none.
-pub(crate) fn split_name(text: &[u8]) -> Result<(&[u8], &[u8])> {
+pub fn split_name(text: &[u8]) -> Result<(&[u8], &[u8])> {
     let len = part_len(text)?;
     Ok((&text[..len], &text[len..]))
 }
@@ -51,7 +53,7 @@ pub(crate) fn split_name(text: &[u8]) -> Result<(&[u8], &[u8])> {
 fn part_len(text: &[u8]) -> Result<usize> {
     let mut len = 0;
     loop {
-        match read_front(&text[len..]) {
+        match read_front(text, len) {
             Front::Label(label) => len += 1 + label.len(),
             Front::Pointer(_) => return Ok(len + 2),
             Front::End => return Ok(len + 1),

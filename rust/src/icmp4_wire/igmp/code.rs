@@ -10,6 +10,7 @@ const FLOATING: u8 = 0x80;
 const LONGEST: u64 = 31_744;
 
 // The time that a code stands for (RFC 3376 section 4.1.1).
+#[inline]
 pub(super) fn duration_of_code(code: u8) -> Duration {
     let tenths = if code < FLOATING {
         code as u64
@@ -22,6 +23,7 @@ pub(super) fn duration_of_code(code: u8) -> Duration {
 }
 
 // The code of the longest time that is within this one (RFC 3376 section 4.1.1).
+#[inline]
 pub(super) fn code_of_duration(duration: Duration) -> u8 {
     let tenths = (duration.total_millis() / 100).min(LONGEST) as u16;
     if tenths < FLOATING as u16 {

@@ -47,11 +47,13 @@ impl Repr {
     /// The message at the front of the octets. Refused where they are fewer than 8, where the group is neither
     /// 0.0.0.0 nor multicast, and where the type has no name. The checksum is not verified; the code of a report
     /// or of a leave message is not looked at.
+    #[inline]
     pub fn parse<B: AsRef<[u8]> + ?Sized>(packet: &Packet<&B>) -> Result<Repr> {
         Repr::read(packet)
     }
 
     // The message at the front of the octets.
+    #[inline]
     fn read<B: AsRef<[u8]> + ?Sized>(packet: &Packet<&B>) -> Result<Repr> {
         packet.check_len()?;
         let group_addr = packet.group_addr();
@@ -172,11 +174,13 @@ fn put_message(w: &mut ByteWriter<'_>, message: Message, code: u8, group: Ipv4Ad
 }
 
 // Whether a message may speak of this group: of none, 0.0.0.0, or of a multicast address.
+#[inline]
 fn is_group(address: Ipv4Address) -> bool {
     address.is_unspecified() || address.is_multicast()
 }
 
 // The query with this code. One of code 0 is of version 1 (RFC 3376 section 7.1).
+#[inline]
 fn query_of_code(code: u8, group_addr: Ipv4Address) -> Repr {
     let version = if code == 0 {
         IgmpVersion::Version1

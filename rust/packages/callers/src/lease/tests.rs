@@ -1,7 +1,7 @@
 // Made from crates/examples/src/lease/tests.rt by rust/erase.
-use super::{Lease, discover, read_lease, request};
+
+use super::{Answer, Client, Lease, Message, read_answer, write};
 use crate::testing::same;
-use control_wire::dhcpv4::MessageType;
 use control_wire::{EthernetAddress, Ipv4Address};
 
 // The header of an answer to the client 00:0b:82:01:fc:42 in exchange 0x00003d1d, with the address 192.168.0.10.
@@ -28,10 +28,36 @@ fn offer() -> [u8; 294] {
     octets
 }
 
+fn server() -> Ipv4Address {
+    Ipv4Address::new(192, 168, 0, 1)
+}
+
+fn address() -> Ipv4Address {
+    Ipv4Address::new(192, 168, 0, 10)
+}
+
+// The lease of an offer, or of an acknowledgement.
+fn lease_in(octets: &[u8]) -> Option<Lease> {
+    match read_answer(octets, 0x3d1d, EthernetAddress::from_bytes(&CLIENT)) {
+        Some(Answer::Offer(lease)) => Some(lease),
+        Some(Answer::Ack(lease)) => Some(lease),
+        _ => None,
+    }
+}
+
+// What kind of answer the octets are to this client in this exchange.
+fn kind_of(octets: &[u8], transaction_id: u32, client: &[u8; 6]) -> &'static str {
+    match read_answer(octets, transaction_id, EthernetAddress::from_bytes(client)) {
+        Some(Answer::Offer(_)) => "an offer",
+        Some(Answer::Ack(_)) => "a lease",
+        Some(Answer::Nak(_)) => "a refusal",
+        None => "nothing",
+    }
+}
+
 #[test]
 fn an_offer_gives_all_that_it_says() {
-    let client = EthernetAddress::from_bytes(&CLIENT);
-    let Some(lease) = read_lease(&offer(), MessageType::Offer, 0x3d1d, client) else {
+    let Some(lease) = lease_in(&offer()) else {
         panic!("refused");
     };
     gives_addresses(&lease);
@@ -41,8 +67,8 @@ fn an_offer_gives_all_that_it_says() {
 }
 
 fn gives_addresses(lease: &Lease) {
-    same(lease.address, Ipv4Address::new(192, 168, 0, 10));
-    same(lease.server, Ipv4Address::new(192, 168, 0, 1));
+    same(lease.address, address());
+    same(lease.server, server());
     let mask = Ipv4Address::new(255, 255, 255, 0);
     same(lease.subnet_mask, Some(mask));
     let router = Ipv4Address::new(192, 168, 0, 254);
@@ -59,62 +85,185 @@ fn dns_servers(lease: &Lease) -> &[Ipv4Address] {
 }
 
 #[test]
+fn answers_by_their_type() {
+    let mut octets = offer();
+    same(kind_of(&octets, 0x3d1d, &CLIENT), "an offer");
+    octets[242] = 5;
+    same(kind_of(&octets, 0x3d1d, &CLIENT), "a lease");
+    octets[242] = 6;
+    same(kind_of(&octets, 0x3d1d, &CLIENT), "a refusal");
+    octets[16..20].fill(0);
+    same(kind_of(&octets, 0x3d1d, &CLIENT), "a refusal");
+}
+
+#[test]
+fn nothing_is_a_lease_of_no_address() {
+    let mut octets = offer();
+    octets[16..20].fill(0);
+    same(kind_of(&octets, 0x3d1d, &CLIENT), "nothing");
+    octets[242] = 5;
+    same(kind_of(&octets, 0x3d1d, &CLIENT), "nothing");
+}
+
+#[test]
+fn a_refusal_tells_its_server() {
+    let mut octets = offer();
+    octets[242] = 6;
+    let client = EthernetAddress::from_bytes(&CLIENT);
+    let told = match read_answer(&octets, 0x3d1d, client) {
+        Some(Answer::Nak(server)) => Some(server),
+        _ => None,
+    };
+    same(told, Some(server()));
+}
+
+#[test]
 fn what_is_of_another_exchange_gives_nothing() {
     let mut octets = offer();
     let other = [0x00, 0x0b, 0x82, 0x01, 0xfc, 0x43];
-    same(gives(&octets, MessageType::Ack, 0x3d1d, &CLIENT), false);
-    same(gives(&octets, MessageType::Offer, 0x3d1e, &CLIENT), false);
-    same(gives(&octets, MessageType::Offer, 0x3d1d, &other), false);
-    same(gives(&HEADER, MessageType::Offer, 0x3d1d, &CLIENT), false);
+    same(kind_of(&octets, 0x3d1e, &CLIENT), "nothing");
+    same(kind_of(&octets, 0x3d1d, &other), "nothing");
+    same(kind_of(&HEADER, 0x3d1d, &CLIENT), "nothing");
     // without the server's identifier
     octets[267] = 0x37;
-    same(gives(&octets, MessageType::Offer, 0x3d1d, &CLIENT), false);
+    same(kind_of(&octets, 0x3d1d, &CLIENT), "nothing");
 }
 
-fn gives(octets: &[u8], type_: MessageType, transaction_id: u32, client: &[u8; 6]) -> bool {
-    let client = EthernetAddress::from_bytes(client);
-    read_lease(octets, type_, transaction_id, client).is_some()
+#[test]
+fn of_several_routers_the_first() {
+    const ROUTERS: [u8; 12] = [
+        0x03, 0x08, 0xc0, 0xa8, 0x00, 0xfd, 0xc0, 0xa8, 0x00, 0xfe, 0xff, 0x00,
+    ];
+    let mut octets = [0; 300];
+    octets[..294].copy_from_slice(&offer());
+    octets[283..295].copy_from_slice(&ROUTERS);
+    let router = match lease_in(&octets) {
+        Some(lease) => lease.router,
+        None => None,
+    };
+    same(router, Some(Ipv4Address::new(192, 168, 0, 253)));
 }
 
-// Up to the client's hardware address, and from the cookie on.
-const ASKING: [u8; 34] = [
+// The header of a message of that client in that exchange, up to its hardware address.
+const SENT: [u8; 34] = [
     0x01, 0x01, 0x06, 0x00, 0x00, 0x00, 0x3d, 0x1d, 0x00, 0x00, 0x00, 0x00, 0x00, 0x00, 0x00, 0x00,
     0x00, 0x00, 0x00, 0x00, 0x00, 0x00, 0x00, 0x00, 0x00, 0x00, 0x00, 0x00, 0x00, 0x0b, 0x82, 0x01,
     0xfc, 0x42,
 ];
 
-const DISCOVER: [u8; 22] = [
-    0x63, 0x82, 0x53, 0x63, 0x35, 0x01, 0x01, 0x3d, 0x07, 0x01, 0x00, 0x0b, 0x82, 0x01, 0xfc, 0x42,
-    0x37, 0x03, 0x01, 0x03, 0x06, 0xff,
-];
+const COOKIE: [u8; 4] = [0x63, 0x82, 0x53, 0x63];
 
-const REQUEST: [u8; 34] = [
-    0x63, 0x82, 0x53, 0x63, 0x35, 0x01, 0x03, 0x3d, 0x07, 0x01, 0x00, 0x0b, 0x82, 0x01, 0xfc, 0x42,
-    0x36, 0x04, 0xc0, 0xa8, 0x00, 0x01, 0x32, 0x04, 0xc0, 0xa8, 0x00, 0x0a, 0x37, 0x03, 0x01, 0x03,
-    0x06, 0xff,
-];
+// Writes a message, which is to have this byte of flags, this address of the client, and these options.
+fn check(message: &Message, client: &Client<'_>, flags: u8, own: &[u8; 4], options: &[u8]) {
+    let mut wanted = [0; 300];
+    wanted[..34].copy_from_slice(&SENT);
+    wanted[10] = flags;
+    wanted[12..16].copy_from_slice(own);
+    wanted[236..240].copy_from_slice(&COOKIE);
+    wanted[240..240 + options.len()].copy_from_slice(options);
+    let len = (240 + options.len()).max(client.min_len);
+    let mut out = [0xa5; 310];
+    same(write(message, 0x3d1d, client, &mut out), Some(len));
+    same(out.get(..len), wanted.get(..len));
+    same(out.get(len..len + 1), Some(&[0xa5]));
+}
+
+const QUIET: Client<'static> = Client {
+    address: EthernetAddress(CLIENT),
+    broadcast: false,
+    requested: &[1, 3, 6],
+    min_len: 0,
+};
+
+const LOUD: Client<'static> = Client {
+    address: EthernetAddress(CLIENT),
+    broadcast: true,
+    requested: &[1, 3, 6, 15],
+    min_len: 300,
+};
 
 #[test]
-fn a_client_asks() {
-    let client = EthernetAddress::from_bytes(&CLIENT);
-    let mut discovers = [0; 258];
-    discovers[..34].copy_from_slice(&ASKING);
-    discovers[236..].copy_from_slice(&DISCOVER);
-    let mut out = [0xa5; 258];
-    same(discover(0x3d1d, client, &mut out), Some(258));
-    same(out, discovers);
-    let mut requests = [0; 270];
-    requests[..34].copy_from_slice(&ASKING);
-    requests[236..].copy_from_slice(&REQUEST);
-    let server = Ipv4Address::new(192, 168, 0, 1);
-    let address = Ipv4Address::new(192, 168, 0, 10);
-    let mut out = [0xa5; 270];
-    same(
-        request(0x3d1d, client, server, address, &mut out),
-        Some(270),
-    );
-    same(out, requests);
-    let mut short = [0xa5; 257];
-    same(discover(0x3d1d, client, &mut short), None);
-    same(short, [0xa5; 257]);
+fn a_client_discovers() {
+    const OPTIONS: &[u8] = &[
+        0x35, 0x01, 0x01, 0x3d, 0x07, 0x01, 0x00, 0x0b, 0x82, 0x01, 0xfc, 0x42, 0x37, 0x03, 0x01,
+        0x03, 0x06, 0xff,
+    ];
+    const LOUD_OPTIONS: &[u8] = &[
+        0x35, 0x01, 0x01, 0x3d, 0x07, 0x01, 0x00, 0x0b, 0x82, 0x01, 0xfc, 0x42, 0x37, 0x04, 0x01,
+        0x03, 0x06, 0x0f, 0xff,
+    ];
+    const NONE_OPTIONS: &[u8] = &[
+        0x35, 0x01, 0x01, 0x3d, 0x07, 0x01, 0x00, 0x0b, 0x82, 0x01, 0xfc, 0x42, 0xff,
+    ];
+    check(&Message::Discover, &QUIET, 0, &[0; 4], OPTIONS);
+    check(&Message::Discover, &LOUD, 0x80, &[0; 4], LOUD_OPTIONS);
+    let client = Client {
+        requested: &[],
+        ..QUIET
+    };
+    check(&Message::Discover, &client, 0, &[0; 4], NONE_OPTIONS);
+}
+
+#[test]
+fn a_client_requests_an_address() {
+    const SELECT: &[u8] = &[
+        0x35, 0x01, 0x03, 0x3d, 0x07, 0x01, 0x00, 0x0b, 0x82, 0x01, 0xfc, 0x42, 0x36, 0x04, 0xc0,
+        0xa8, 0x00, 0x01, 0x32, 0x04, 0xc0, 0xa8, 0x00, 0x0a, 0x37, 0x03, 0x01, 0x03, 0x06, 0xff,
+    ];
+    const REBOOT: &[u8] = &[
+        0x35, 0x01, 0x03, 0x3d, 0x07, 0x01, 0x00, 0x0b, 0x82, 0x01, 0xfc, 0x42, 0x32, 0x04, 0xc0,
+        0xa8, 0x00, 0x0a, 0x37, 0x03, 0x01, 0x03, 0x06, 0xff,
+    ];
+    let select = Message::Select {
+        server: server(),
+        address: address(),
+    };
+    check(&select, &QUIET, 0, &[0; 4], SELECT);
+    let reboot = Message::Reboot { address: address() };
+    check(&reboot, &QUIET, 0, &[0; 4], REBOOT);
+}
+
+#[test]
+fn a_client_requests_more_time() {
+    const OPTIONS: &[u8] = &[
+        0x35, 0x01, 0x03, 0x3d, 0x07, 0x01, 0x00, 0x0b, 0x82, 0x01, 0xfc, 0x42, 0x37, 0x04, 0x01,
+        0x03, 0x06, 0x0f, 0xff,
+    ];
+    const OWN: &[u8; 4] = &[0xc0, 0xa8, 0x00, 0x0a];
+    let renew = Message::Renew { address: address() };
+    check(&renew, &LOUD, 0x80, OWN, OPTIONS);
+    let rebind = Message::Rebind { address: address() };
+    check(&rebind, &LOUD, 0x80, OWN, OPTIONS);
+}
+
+#[test]
+fn a_client_declines_and_releases() {
+    const DECLINE: &[u8] = &[
+        0x35, 0x01, 0x04, 0x3d, 0x07, 0x01, 0x00, 0x0b, 0x82, 0x01, 0xfc, 0x42, 0x36, 0x04, 0xc0,
+        0xa8, 0x00, 0x01, 0x32, 0x04, 0xc0, 0xa8, 0x00, 0x0a, 0xff,
+    ];
+    const RELEASE: &[u8] = &[
+        0x35, 0x01, 0x07, 0x3d, 0x07, 0x01, 0x00, 0x0b, 0x82, 0x01, 0xfc, 0x42, 0x36, 0x04, 0xc0,
+        0xa8, 0x00, 0x01, 0xff,
+    ];
+    let decline = Message::Decline {
+        server: server(),
+        address: address(),
+    };
+    check(&decline, &LOUD, 0, &[0; 4], DECLINE);
+    let release = Message::Release {
+        server: server(),
+        address: address(),
+    };
+    check(&release, &LOUD, 0, &[0xc0, 0xa8, 0x00, 0x0a], RELEASE);
+}
+
+#[test]
+fn without_room_nothing_is_written() {
+    let mut out = [0xa5; 299];
+    same(write(&Message::Discover, 1, &LOUD, &mut out), None);
+    same(out, [0xa5; 299]);
+    let short = &mut out[..257];
+    same(write(&Message::Discover, 1, &QUIET, short), None);
+    same(out, [0xa5; 299]);
 }

@@ -1,0 +1,261 @@
+// Made from crates/frame_wire/src/link.rt by rust/erase.
+//! Frames of the links that captures have.
+
+use crate::wirebase::{Error, Octets, Result};
+use byteorder::{ByteOrder, LittleEndian};
+
+/// The links whose frames are read.
+#[derive(Debug, PartialEq, Eq, Clone, Copy)]
+pub enum Link {
+    /// The loopback of BSD: an address family, in the order of bytes of the machine or of the network.
+    Null,
+    /// Ethernet II.
+    Ethernet,
+    /// PPP (RFC 1661), also in HDLC framing (RFC 1662).
+    Ppp,
+    /// A session of PPP over Ethernet (RFC 2516).
+    PppEther,
+    /// IP without a header of a link.
+    Raw,
+    /// Linux cooked capture, version 1.
+    LinuxSll,
+    /// Linux cooked capture, version 2.
+    LinuxSll2,
+}
+
+impl Link {
+    /// The link of a link type of a capture file, or None where its frames are not read.
+    pub fn of(link_type: u16) -> Option<Link> {
+        match link_type {
+            0 | 108 => Some(Link::Null),
+            1 => Some(Link::Ethernet),
+            9 | 50 => Some(Link::Ppp),
+            12 | 14 | 101 | 228 | 229 => Some(Link::Raw),
+            51 => Some(Link::PppEther),
+            113 => Some(Link::LinuxSll),
+            276 => Some(Link::LinuxSll2),
+            _ => None,
+        }
+    }
+
+    /// The frame in these octets. Refused where its headers are cut short, and where a session is of another version
+    /// or code than data has.
+    pub fn frame(self, octets: &[u8]) -> Result<Frame<'_>> {
+        match self {
+            Link::Null => family(octets),
+            Link::Ethernet => typed_at(octets, 12, 14),
+            Link::Ppp => ppp(octets),
+            Link::PppEther => session(octets),
+            Link::Raw => raw(octets),
+            Link::LinuxSll => typed_at(octets, 14, 16),
+            Link::LinuxSll2 => typed_at(octets, 0, 20),
+        }
+    }
+}
+
+/// The network that a frame is of.
+#[derive(Debug, PartialEq, Eq, Clone, Copy)]
+pub enum Network {
+    /// IPv4.
+    Ipv4,
+    /// IPv6.
+    Ipv6,
+    /// Another, by its number on that link.
+    Other(u16),
+}
+
+/// What a frame holds.
+#[derive(Debug, PartialEq, Eq, Clone, Copy)]
+pub struct Frame<'a> {
+    /// The network.
+    pub network: Network,
+    /// The VLAN tags, the outermost first: four bytes each, of which the lower 12 bits of the first two are the VLAN's
+    /// number (IEEE 802.1Q clause 9.6).
+    pub tags: &'a [u8],
+    /// What stands behind the headers of the link.
+    pub payload: &'a [u8],
+}
+
+// A payload by its EtherType, behind as many tags as there are.
+#[derive(Debug, PartialEq, Eq, Clone, Copy)]
+struct Typed<'a> {
+    kind: u16,
+    tags: &'a [u8],
+    payload: &'a [u8],
+}
+
+impl Frame<'_> {
+    /// How many VLAN tags the frame has.
+    pub fn vlans(&self) -> usize {
+        self.tags.len() / 4
+    }
+
+    /// The number of the VLAN of a tag, 0 to 4,095. Requires that there is such a tag.
+    pub fn vlan(&self, place: usize) -> u16 {
+        self.tags.u16_at(4 * place..4 * place + 2) % 4096
+    }
+}
+
+// The octets from a place on. Requires that they reach it.
+pub(crate) fn behind(octets: &[u8], place: usize) -> &[u8] {
+    &octets[place..]
+}
+
+// The network of an EtherType.
+fn network_of_type(kind: u16) -> Network {
+    match kind {
+        0x0800 => Network::Ipv4,
+        0x86dd => Network::Ipv6,
+        other => Network::Other(other),
+    }
+}
+
+// The network of a protocol of PPP.
+fn network_of_protocol(protocol: u16) -> Network {
+    match protocol {
+        0x0021 => Network::Ipv4,
+        0x0057 => Network::Ipv6,
+        other => Network::Other(other),
+    }
+}
+
+// Whether this is the type of a VLAN tag.
+fn is_tag(kind: u16) -> bool {
+    kind == 0x8100 || kind == 0x88a8
+}
+
+// What stands behind a type and the tags that follow it. Refused where a tag is cut short.
+fn untagged<'a>(kind: u16, octets: &'a [u8]) -> Result<Typed<'a>> {
+    let mut last = kind;
+    let mut end = 0;
+    while is_tag(last) {
+        if octets.len() - end < 4 {
+            return Err(Error);
+        }
+        last = octets.u16_at(end + 2..end + 4);
+        end += 4;
+    }
+    Ok(Typed {
+        kind: last,
+        tags: &octets[..end],
+        payload: behind(octets, end),
+    })
+}
+
+// What stands behind a protocol of PPP. Refused where the protocol is cut short.
+fn protocol<'a>(octets: &'a [u8], tags: &'a [u8]) -> Result<Frame<'a>> {
+    if octets.is_empty() {
+        return Err(Error);
+    }
+    let first = octets[0];
+    if first % 2 == 1 {
+        return Ok(Frame {
+            network: network_of_protocol(first as u16),
+            tags,
+            payload: behind(octets, 1),
+        });
+    }
+    if octets.len() < 2 {
+        return Err(Error);
+    }
+    Ok(Frame {
+        network: network_of_protocol(octets.u16_at(0..2)),
+        tags,
+        payload: behind(octets, 2),
+    })
+}
+
+// A frame of PPP, with or without the address and control bytes ff 03 in front (RFC 1661 section 2, RFC 1662
+// section 3.1). Refused where the protocol is cut short.
+fn ppp(octets: &[u8]) -> Result<Frame<'_>> {
+    if octets.len() >= 2 && octets.u16_at(0..2) == 0xff03 {
+        return protocol(behind(octets, 2), &[]);
+    }
+    protocol(octets, &[])
+}
+
+// What a payload of a type is. Refused where a session's protocol is cut short.
+fn payload_of<'a>(typed: Typed<'a>) -> Result<Frame<'a>> {
+    let Typed {
+        kind,
+        tags,
+        payload,
+    } = typed;
+    if kind == 0x8864 && payload.len() >= 6 && payload.u16_at(0..2) == 0x1100 {
+        return protocol(behind(payload, 6), tags);
+    }
+    Ok(Frame {
+        network: network_of_type(kind),
+        tags,
+        payload,
+    })
+}
+
+// A frame with a type at a place, and what it speaks of from another on. Refused where its headers are cut short.
+fn typed_at(octets: &[u8], place: usize, start: usize) -> Result<Frame<'_>> {
+    if octets.len() < start {
+        return Err(Error);
+    }
+    read_typed(octets.u16_at(place..place + 2), behind(octets, start))
+}
+
+// What stands behind a type.
+fn read_typed(kind: u16, octets: &[u8]) -> Result<Frame<'_>> {
+    let typed = untagged(kind, octets)?;
+    payload_of(typed)
+}
+
+// The data of a PPPoE session. Refused where its headers are cut short or say that it is none.
+fn session(octets: &[u8]) -> Result<Frame<'_>> {
+    if octets.len() < 6 || octets.u16_at(0..2) != 0x1100 {
+        return Err(Error);
+    }
+    protocol(behind(octets, 6), &[])
+}
+
+// A datagram without a header of a link. Refused where there is nothing.
+fn raw(octets: &[u8]) -> Result<Frame<'_>> {
+    if octets.is_empty() {
+        return Err(Error);
+    }
+    let network = match octets[0] / 16 {
+        4 => Network::Ipv4,
+        6 => Network::Ipv6,
+        other => Network::Other(other as u16),
+    };
+    Ok(Frame {
+        network,
+        tags: &[],
+        payload: octets,
+    })
+}
+
+// A frame behind an address family. Refused where that is cut short.
+fn family(octets: &[u8]) -> Result<Frame<'_>> {
+    if octets.len() < 4 {
+        return Err(Error);
+    }
+    Ok(Frame {
+        network: network_of_family(family_in(octets)),
+        tags: &[],
+        payload: behind(octets, 4),
+    })
+}
+
+// The address family in the first four bytes, of either order. Requires that they are there.
+fn family_in(octets: &[u8]) -> u16 {
+    let family = octets.u32_at(0..4);
+    if family < 65536 {
+        return family as u16;
+    }
+    (LittleEndian::read_u32(octets.range(0, 4)) % 65536) as u16
+}
+
+// The network of an address family, by the numbers of Linux, NetBSD, FreeBSD and Darwin.
+fn network_of_family(family: u16) -> Network {
+    match family {
+        2 => Network::Ipv4,
+        10 | 24 | 28 | 30 => Network::Ipv6,
+        other => Network::Other(other),
+    }
+}

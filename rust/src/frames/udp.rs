@@ -1,0 +1,180 @@
+// Made from crates/frame_wire/src/udp.rt by rust/erase.
+//! UDP datagrams (RFC 768).
+
+use crate::frames::datagram::Addresses;
+use crate::wirebase::{
+    ChecksumCapabilities, Error, IpProtocol, Octets, OctetsMut, Result, checksum,
+};
+
+// The fields; their picture is in specs/Udp.antt.
+mod field {
+    use crate::wirebase::Field;
+
+    pub const SRC_PORT: Field = 0..2;
+
+    pub const DST_PORT: Field = 2..4;
+
+    pub const LENGTH: Field = 4..6;
+
+    pub const CHECKSUM: Field = 6..8;
+
+    pub const PAYLOAD: usize = 8;
+}
+
+/// The bytes of the header.
+pub const HEADER_LEN: usize = field::PAYLOAD;
+
+/// A view of the octets of a UDP datagram.
+#[derive(Debug, Clone)]
+pub struct UdpPacket<T: Octets> {
+    buffer: T,
+}
+
+impl<T: Octets> UdpPacket<T> {
+    /// The view of these octets, whatever they are.
+    pub fn new_unchecked(buffer: T) -> UdpPacket<T> {
+        UdpPacket { buffer }
+    }
+
+    /// The view of these octets, where they begin with a whole datagram; refused where they don't. A refusal gives a
+    /// `&mut [u8]` up: who wants the octets back, as they were, takes `new_unchecked` and then `check_len`.
+    pub fn new_checked(buffer: T) -> Result<UdpPacket<T>> {
+        let packet = UdpPacket::new_unchecked(buffer);
+        packet.check_len()?;
+        Ok(packet)
+    }
+
+    /// Accepts octets of 8 bytes and more that hold the whole datagram by its length, which counts the header too.
+    /// Then each accessor may be called.
+    pub fn check_len(&self) -> Result<()> {
+        let len = self.buffer.octets().len();
+        if len < HEADER_LEN {
+            return Err(Error);
+        }
+        let total = self.len() as usize;
+        if total < HEADER_LEN || len < total {
+            return Err(Error);
+        }
+        Ok(())
+    }
+
+    /// What the view was made from, as it is now.
+    pub fn into_inner(self) -> T {
+        self.buffer
+    }
+
+    /// The port of the sender, or 0 where it has none. Requires at least 2 bytes.
+    pub fn src_port(&self) -> u16 {
+        self.buffer.u16_at(field::SRC_PORT)
+    }
+
+    /// The port of the receiver. Requires at least 4 bytes.
+    pub fn dst_port(&self) -> u16 {
+        self.buffer.u16_at(field::DST_PORT)
+    }
+
+    /// The bytes of header and data. Requires at least 6 bytes.
+    pub fn len(&self) -> u16 {
+        self.buffer.u16_at(field::LENGTH)
+    }
+
+    /// The checksum, or 0 where there is none. Requires at least 8 bytes.
+    pub fn checksum(&self) -> u16 {
+        self.buffer.u16_at(field::CHECKSUM)
+    }
+
+    /// Whether the datagram carries its checksum, with the pseudo header of these addresses. One without a checksum
+    /// carries none. Requires a whole datagram.
+    pub fn verify_checksum(&self, addresses: &Addresses) -> bool {
+        let len = self.len();
+        let sum = addresses.sum_before(IpProtocol::Udp, len as u32);
+        checksum::is_good(self.buffer.range(0, len as usize), sum)
+    }
+}
+
+impl<'a, B: AsRef<[u8]> + ?Sized> UdpPacket<&'a B> {
+    /// The data, for as long as the octets live. Requires a whole datagram.
+    pub fn payload(&self) -> &'a [u8] {
+        let octets: &'a [u8] = self.buffer.as_ref();
+        &octets[field::PAYLOAD..self.len() as usize]
+    }
+}
+
+impl<T: OctetsMut> UdpPacket<T> {
+    /// Writes the port of the sender. Requires at least 2 bytes.
+    pub fn set_src_port(&mut self, value: u16) {
+        self.buffer.set_u16(field::SRC_PORT, value);
+    }
+
+    /// Writes the port of the receiver. Requires at least 4 bytes.
+    pub fn set_dst_port(&mut self, value: u16) {
+        self.buffer.set_u16(field::DST_PORT, value);
+    }
+
+    /// Writes the bytes of header and data. Requires at least 6 bytes.
+    pub fn set_len(&mut self, value: u16) {
+        self.buffer.set_u16(field::LENGTH, value);
+    }
+
+    /// Writes the checksum. Requires at least 8 bytes.
+    pub fn set_checksum(&mut self, value: u16) {
+        self.buffer.set_u16(field::CHECKSUM, value);
+    }
+
+    /// Lends the data for writing; the header stays. Requires a whole datagram.
+    pub fn payload_mut(&mut self) -> &mut [u8] {
+        let end = self.len() as usize;
+        self.buffer.range_mut(field::PAYLOAD, end)
+    }
+}
+
+/// Views are equal where their octets are.
+impl<T: Octets> PartialEq for UdpPacket<T> {
+    fn eq(&self, other: &UdpPacket<T>) -> bool {
+        self.buffer.octets() == other.buffer.octets()
+    }
+}
+
+impl<T: Octets> Eq for UdpPacket<T> {}
+
+/// The ports of a datagram.
+#[derive(Debug, PartialEq, Eq, Clone, Copy)]
+pub struct UdpRepr {
+    /// The port of the sender, or 0 where it has none.
+    pub src_port: u16,
+    /// The port of the receiver, which is not 0.
+    pub dst_port: u16,
+}
+
+impl UdpRepr {
+    /// The ports of the datagram at the front of the octets. Refused where that is not whole, is to port 0, and where
+    /// `checksum_caps.udp` has the checksum verified, which it then lacks; over IPv4 none may stand there (RFC 768).
+    pub fn parse<B: AsRef<[u8]> + ?Sized>(
+        packet: &UdpPacket<&B>,
+        addresses: &Addresses,
+        checksum_caps: &ChecksumCapabilities,
+    ) -> Result<UdpRepr> {
+        packet.check_len()?;
+        let dst_port = packet.dst_port();
+        if dst_port == 0 {
+            return Err(Error);
+        }
+        if checksum_caps.udp.rx() && !has_checksum(packet, addresses) {
+            return Err(Error);
+        }
+        Ok(UdpRepr {
+            src_port: packet.src_port(),
+            dst_port,
+        })
+    }
+
+    /// The bytes of the header: 8.
+    pub const fn header_len(&self) -> usize {
+        HEADER_LEN
+    }
+}
+
+// Whether the datagram carries its checksum, or none where it need not.
+fn has_checksum<B: AsRef<[u8]> + ?Sized>(packet: &UdpPacket<&B>, addresses: &Addresses) -> bool {
+    (addresses.is_v4() && packet.checksum() == 0) || packet.verify_checksum(addresses)
+}
