@@ -1,7 +1,8 @@
 -- Parts of a text by the places where they begin and end.
-use Rattle.std.proofs.Common.{◌≡◌, ℕ, ◌+◌, ◌-◌, ◌<◌, ◌≤◌, Bool, true, false, List, ◌∷◌, length, take, drop, refl, sym, ap, ◌∙◌}
-use Rattle.std.proofs.Common.{slice_range, arith}
-use Rattle.std.proofs.lemmas.List.{take_all, take-take, take_rest, drop-take, drop-drop, drop_at, length-take-le, length-drop, length-append}
+use Rattle.std.proofs.Common.{◌≡◌, ℕ, ◌+◌, ◌-◌, ◌<◌, ◌≤◌, Bool, true, false, List, ◌∷◌, length, take, drop, refl}
+use Rattle.std.proofs.Common.{sym, ap, ◌∙◌, slice_range, arith}
+use Rattle.std.proofs.lemmas.List.{take_all, take-take, take_rest, drop-take, drop-drop, drop_at, length-take-le}
+use Rattle.std.proofs.lemmas.List.{length-drop, length-append}
 use Rattle.dns_wire.specs.DnsNameAhead.{ahead_of, read_in, whole, pointer, front_of}
 use Rattle.dns_wire.specs.DnsNameWalk.{Coming}
 use Rattle.dns_wire.proofs.DnsNameTurns.{Whole-front, ahead_pointer}

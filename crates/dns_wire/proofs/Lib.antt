@@ -1,4 +1,5 @@
 pub mod DnsNameFirst
+pub mod DnsNameInside
 pub mod DnsNameTurns
 pub mod DnsNameGiving
 pub mod DnsNameParts

@@ -1,29 +1,17 @@
-use Rattle.std.proofs.Common.{◌≡◌, ◌∙◌, ℕ, ◌+◌, ◌≤◌, false, List, ◌∷◌, Bor, Some, Ok, arith, length, take, drop}
+use Rattle.std.proofs.Common.{◌≡◌, ◌∙◌, ℕ, ◌+◌, ◌≤◌, false, List, ◌∷◌, Bor, Some, Ok, arith, length, drop}
 use Rattle.std.proofs.Common.{slice_range, refl, ap, sym, subst}
-use Rattle.dns_wire.specs.DnsNameAhead.{read_in, whole, front_of, ahead_of}
+use Rattle.dns_wire.specs.DnsNameAhead.{whole, front_of, ahead_of}
 use Rattle.dns_wire.specs.DnsNameWalk.{Walk, label}
 use Rattle.dns_wire.specs.DnsPart.{ComesFirst, IsFirst}
 use Rattle.dns_wire.specs.declared.dns.name.NameIter.TheInside.{Inside}
 use Rattle.dns_wire.specs.declared.dns.part.Front.{Front as FrontOf}
 use Rattle.dns_wire.specs.declared.dns.part.Front.TheVariants.{Label}
 use Rattle.dns_wire.proofs.DnsNameFirst.{first_label}
+use Rattle.dns_wire.proofs.DnsNameInside.{source_of, text_of, reach_of, walk_of}
 use Rattle.dns_wire.proofs.DnsNameGiving.{gives_item, still}
 use Rattle.dns_wire.proofs.DnsNameRanges.{range_label}
 use Rattle.dns_wire.proofs.DnsNameTurns.{Whole-front, ahead_label}
 use Rattle.dns_wire.proofs.dns.name.NameIter.answer.Goals as goal
-
--- the bytes that are read, the text that is left of them, and the open bytes of the message
-abbrev source_of : Inside → List ℕ
-source_of it = read_in it.in_message it.message.now it.slice.now
-
-abbrev text_of : Inside → List ℕ
-text_of it = slice_range (source_of it) it.place it.end
-
-abbrev reach_of : Inside → List ℕ
-reach_of it = take it.open_len it.message.now
-
-abbrev walk_of : Inside → Walk
-walk_of it = record { steps = it.steps; ahead = ahead_of it.ended it.steps (text_of it) (reach_of it) }
 
 -- a label that comes first is at the front of the text
 record Here (it : Inside) (b : List ℕ) : Type 0 where

@@ -1,4 +1,4 @@
-use Rattle.std.proofs.Common.{◌≡◌, ◌∙◌, ℕ, ◌≤◌, false, List, length, take, slice_range, refl, sym, ap}
+use Rattle.std.proofs.Common.{◌≡◌, ◌∙◌, ℕ, ◌≤◌, false, List, length, slice_range, refl, sym, ap}
 use Rattle.std.proofs.Common.{subst, arith}
 use Rattle.std.proofs.lemmas.List.{length-take-le}
 use Rattle.dns_wire.specs.DnsNameAhead.{ahead_of, read_in, front_of, pointer}
@@ -9,21 +9,13 @@ use Rattle.dns_wire.specs.declared.dns.part.Front.{Front as FrontOf}
 use Rattle.dns_wire.specs.declared.dns.part.Front.TheVariants.{Pointer}
 use Rattle.dns_wire.proofs.DnsNameTurns.{Points-length, Points-front}
 use Rattle.dns_wire.proofs.DnsNameRanges.{range_before, range_slice, read_message, followed, length_range}
+use Rattle.dns_wire.proofs.DnsNameInside.{text_of, reach_of, walk_of}
 use Rattle.dns_wire.proofs.DnsNameFirst.{comes_first}
 use Rattle.dns_wire.proofs.DnsNameGiving.{still}
-use Rattle.dns_wire.proofs.dns.name.NameIterIterator.next.Goals.{then-not-self+in-Pointer+else-target-self, else-not-self}
+use Rattle.dns_wire.proofs.dns.name.NameIterIterator.next.Goals.{then-not-self+in-Pointer+else-target-self}
+use Rattle.dns_wire.proofs.dns.name.NameIterIterator.next.Goals.{else-not-self}
 use Rattle.dns_wire.proofs.dns.name.NameIterIterator.next.Goals.{in_default-front, in-Pointer-front+then-target-self-2}
 use Rattle.dns_wire.proofs.dns.name.NameIterIterator.next.Goals as goal
-
--- the text that is left, the open bytes, and the walk
-abbrev text_of : Inside → List ℕ
-text_of it = slice_range (read_in it.in_message it.message.now it.slice.now) it.place it.end
-
-abbrev reach_of : Inside → List ℕ
-reach_of it = take it.open_len it.message.now
-
-abbrev walk_of : Inside → Walk
-walk_of it = record { steps = it.steps; ahead = ahead_of it.ended it.steps (text_of it) (reach_of it) }
 
 -- a front that is read where the walk goes on comes first, where it is no pointer to an open byte
 first : (it : Inside) (walk : Walk) (text : List ℕ) (front : FrontOf) → walk_of it ≡ walk → it.ended ≡ false
@@ -42,8 +34,8 @@ answer-requires c =
     let i = c.self.invariant in
     let text = range_slice it.in_message it.message.now it.slice.now it.place it.end c.if-not-self.true
     (i.0 c.if-not-self.true) in
-    first it c.args.self.now _ c.read_front-front.result c.self.view_is c.if-self.false text i.3 c.read_front-front.ensures
-    (λ target is. absurd (c.in_default.not-Pointer target is))
+    first it c.args.self.now _ c.read_front-front.result c.self.view_is c.if-self.false text i.3
+    c.read_front-front.ensures (λ target is. absurd (c.in_default.not-Pointer target is))
 
 pub answer-requires-then-target-self : goal.answer-requires-then-target-self
 answer-requires-then-target-self c =
@@ -51,7 +43,8 @@ answer-requires-then-target-self c =
     let i = c.self.invariant in
     let text = range_slice it.in_message it.message.now it.slice.now it.place it.end c.if-not-self.true
     (i.0 c.if-not-self.true) in
-    first it c.args.self.now _ (Pointer c.in-Pointer.target) c.self.view_is c.if-self.false text i.3 c.in-Pointer.ensures
+    first it c.args.self.now _ (Pointer c.in-Pointer.target) c.self.view_is c.if-self.false text i.3
+    c.in-Pointer.ensures
     (λ target is. let same : c.in-Pointer.target ≡ target = cc in omega (arith, c.if-target-self.true, same))
 
 -- the walk behind a pointer, as the loop has it
@@ -65,13 +58,14 @@ loop-target-init c =
       | then-not-self+in-Pointer+else-target-self w ↦
           let text = range_slice at.in_message at.message.now at.slice.now at.place at.end w.if-not-self.true
           (i.0 w.if-not-self.true) in
-          let front : pointer w.in-Pointer.target ≡ front_of (text_of at) = w.in-Pointer.ensures ∙ ap front_of (sym text) in
-          let two = Points-length (text_of at) w.in-Pointer.target (Points-front (text_of at) w.in-Pointer.target (sym front)) in
+          let p = w.in-Pointer.target in
+          let front : pointer p ≡ front_of (text_of at) = w.in-Pointer.ensures ∙ ap front_of (sym text) in
+          let two = Points-length (text_of at) p (Points-front (text_of at) p (sym front)) in
           let len = length_range (read_in at.in_message at.message.now at.slice.now) at.place at.end i.1 i.2 in
           rw w.self-inside-is (record {
             going = c.if-self.false;
             reads = refl;
-            same = followed at.steps (text_of at) at.message.now w.in-Pointer.target at.open_len c.args.self.now.ahead front
+            same = followed at.steps (text_of at) at.message.now p at.open_len c.args.self.now.ahead front
                 w.if-target-self.false i.3 same;
             places = (omega (arith, w.if-target-self.false), i.3, omega (arith, w.if-target-self.false, i.3));
             room = omega (arith, two, len, w.if-target-self.false, i.4);
