@@ -14,7 +14,8 @@ pub record SoFar (first_ : IpProtocol) (all start : List ℕ) (p : IpProtocol) (
 pub so_far-init : (p : IpProtocol) (all start : List ℕ) → SoFar p all start p all start
 so_far-init p all start = record { leads = λ q payload final h. h; stops = λ r h. h }
 
-pub so_far-more : (first_ : IpProtocol) (all start : List ℕ) (p : IpProtocol) (rest destination : List ℕ) (q : IpProtocol)
+pub so_far-more : (first_ : IpProtocol) (all start : List ℕ) (p : IpProtocol) (rest destination : List ℕ)
+    (q : IpProtocol)
     (behind next : List ℕ) → SoFar first_ all start p rest destination → IsExtension p → HasExtension rest
     → Routes p rest destination next → q ≡ protocol_of (slice_index rest 0) → behind ≡ drop (extension_end rest) rest
     → SoFar first_ all start q behind next

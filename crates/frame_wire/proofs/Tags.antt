@@ -1,6 +1,7 @@
 -- Tags stand one behind another.
 use Rattle.std.proofs.Common.{◌≡◌, ℕ, ◌+◌, ◌-◌, ◌≤◌, List, [], ◌∷◌, ◌++◌, length, take, drop, refl, sym, ap, subst, ◌∙◌}
-use Rattle.std.proofs.Common.{arith, append_assoc, length-drop, ◌<◌, Bool, true, false, IsTrue, ◌↔◌, Result, Ok, Err, IfOk}
+use Rattle.std.proofs.Common.{arith, append_assoc, length-drop, ◌<◌, Bool, true, false, IsTrue, ◌↔◌, Result, Ok, Err}
+use Rattle.std.proofs.Common.{IfOk}
 use Rattle.std.proofs.lemmas.List.{drop-drop, append-nil}
 use Rattle.std.proofs.Math.Seq.{take-add}
 use Rattle.wirebase.specs.Bytes.{field, part, number_of}
@@ -24,7 +25,8 @@ so_far-init type bytes = record {
 -- one tag more
 one_back : (type : ℕ) (bytes tags : List ℕ) (final : ℕ) (rest : List ℕ) → IsTagType type
     → IsTagged type bytes tags final rest
-    → (more : List ℕ) × (tags ≡ take 4 bytes ++ more) × IsTagged (number_of (field 2 4) bytes) (drop 4 bytes) more final rest
+    → (more : List ℕ) × (tags ≡ take 4 bytes ++ more) × IsTagged (number_of (field 2 4) bytes)
+    (drop 4 bytes) more final rest
 one_back type bytes tags final rest is (plain no_tag none e b) = absurd (no_tag is)
 one_back type bytes tags final rest is (tagged more tag long behind e) = (more, e, behind)
 
@@ -48,7 +50,8 @@ so_far-more type bytes last end next so tag room e =
           let second = one_back last (drop end bytes) first.0 final rest tag first.2 in (
             second.0,
             first.1 ∙ ap (λ l. take end bytes ++ l) second.1
-                ∙ sym (append_assoc (take end bytes) (take 4 (drop end bytes)) second.0) ∙ ap (λ l. l ++ second.0) (sym split),
+                ∙ sym (append_assoc (take end bytes) (take 4 (drop end bytes)) second.0) ∙ ap
+                (λ l. l ++ second.0) (sym split),
             subst (λ l. IsTagged next l second.0 final rest) behind
                 (subst (λ n. IsTagged n (drop 4 (drop end bytes)) second.0 final rest) (sym e) second.2),
           );

@@ -1,5 +1,6 @@
 -- Frames of links: what their headers say of the network, VLAN tags, and the bytes behind them.
-use Rattle.std.specs.Prelude.{◌≡◌, ◌≢◌, ℕ, ◌+◌, ◌*◌, ◌/◌, ◌%◌, ◌<◌, ◌≤◌, ◌⊎◌, List, [], ◌∷◌, ◌++◌, length, take, drop, slice_index}
+use Rattle.std.specs.Prelude.{◌≡◌, ◌≢◌, ℕ, ◌+◌, ◌*◌, ◌/◌, ◌%◌, ◌<◌, ◌≤◌, ◌⊎◌, List, [], ◌∷◌, ◌++◌, length, take, drop}
+use Rattle.std.specs.Prelude.{slice_index}
 use Rattle.std.specs.Prelude.{nat_lt, if◌then◌else◌, Option, None, Some}
 use Rattle.byteorder.specs.Endian.{little_number}
 use Rattle.wirebase.specs.Bytes.{field, part, number_of}
@@ -33,7 +34,8 @@ network_of_type n = case_in Other ((Ipv4, 0x0800) ∷ (Ipv6, 0x86dd) ∷ []) n
 abbrev pub IsTagType : ℕ → Type 0
 IsTagType n = (n ≡ 0x8100) ⊎ (n ≡ 0x88a8)
 
--- Behind a type stand as many tags as there are, each with the type of what is behind it; behind them stand these bytes,
+-- Behind a type stand as many tags as there are, each with the type of what is behind it; behind them stand these
+-- bytes,
 -- which have the last of the types.
 pub data IsTagged : ℕ → List ℕ → List ℕ → ℕ → List ℕ → Type 0 where
   plain : {type : ℕ} {bytes tags : List ℕ} {last : ℕ} {rest : List ℕ} → (IsTagType type → ⊥) → tags ≡ [] → last ≡ type

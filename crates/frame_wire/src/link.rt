@@ -1,7 +1,9 @@
 //! Frames of the links that captures have.
 
-ghost use Rattle.std.specs.Prelude.{◌≡◌, ◌≤◌, ◌↔◌, ◌+◌, ◌*◌, ◌/◌, ◌%◌, [], IfOk, IsOkAnd, IsTrue, length, drop, take, slice_index};
-ghost use Rattle.frame_wire.specs.Link.{FrameValue, value_of, network_of_type, IsTagType, TypedValue, typed_of, IsTagged};
+ghost use Rattle.std.specs.Prelude.{◌≡◌, ◌≤◌, ◌↔◌, ◌+◌, ◌*◌, ◌/◌, ◌%◌, [], IfOk, IsOkAnd, IsTrue, length, drop, take};
+ghost use Rattle.std.specs.Prelude.{slice_index};
+ghost use Rattle.frame_wire.specs.Link.{FrameValue, value_of, network_of_type, IsTagType, TypedValue, typed_of};
+ghost use Rattle.frame_wire.specs.Link.{IsTagged};
 ghost use Rattle.frame_wire.specs.Link.{network_of_protocol, IsProtocol, HasAddress, IsPpp, IsSession, IsPayload};
 ghost use Rattle.frame_wire.specs.Link.{IsTypedFrame, link_of, IsFrame, IsRaw, IsFamily, family_in, network_of_family};
 ghost use Rattle.frame_wire.specs.Link.{vlan_in};
@@ -152,7 +154,8 @@ fn is_tag(kind: u16) -> bool
 
 // What stands behind a type and the tags that follow it. Refused where a tag is cut short.
 fn untagged<'a>(kind: u16, octets: &'a [u8]) -> Result<Typed<'a>>
-    ensures sound { IfOk result (λ t. IsTagged kind octets.now (typed_of t).tags (typed_of t).type (typed_of t).payload) }
+    ensures sound { IfOk result (λ t. IsTagged kind octets.now (typed_of t).tags (typed_of t).type
+        (typed_of t).payload) }
     ensures complete { (v : TypedValue) → IsTagged kind octets.now v.tags v.type v.payload
         → IsOkAnd result (λ t. typed_of t ≡ v) }
 {

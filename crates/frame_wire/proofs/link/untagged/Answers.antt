@@ -19,5 +19,6 @@ tags-preserved c =
 
 pub returns-clause-sound : goal.returns-clause-sound
 returns-clause-sound c =
-    subst (λ l. IsTagged c.args.kind c.args.octets.now (take c.tags.end c.args.octets.now) c.tags.last l) (sym c.behind.ensures)
+    subst (λ l. IsTagged c.args.kind c.args.octets.now (take c.tags.end c.args.octets.now) c.tags.last l)
+    (sym c.behind.ensures)
     (so_far-last _ _ _ _ c.tags.invariant (told_not _ c.is_tag.ensures c.tags-test.false))
