@@ -1,4 +1,4 @@
-use Rattle.std.proofs.Common.{Option, None, List, ℕ, sym, ap, ◌∙◌}
+use Rattle.std.proofs.Common.{Option, List, ℕ, sym, ap, ◌∙◌}
 use Rattle.std.specs.Option.{option_map, option_or}
 use Rattle.control_wire.specs.Dhcpv4.{said}
 use Rattle.control_wire.specs.Dhcpv4Options.{OptionValue, value_of_option}
