@@ -128,7 +128,6 @@ impl<'a> Repr<'a> {
     }
 
     // The same of the error that its destination is unreachable.
-    #[inline]
     fn read_unreachable(packet: &Packet<&'a [u8]>) -> Result<Repr<'a>>
         requires whole { Reaches header (view_octets packet.now) }
         requires kind { byte_of type_field (view_octets packet.now) ≡ 3 }
@@ -145,7 +144,6 @@ impl<'a> Repr<'a> {
     }
 
     // The same of the error that a time was exceeded.
-    #[inline]
     fn read_time_exceeded(packet: &Packet<&'a [u8]>) -> Result<Repr<'a>>
         requires whole { Reaches header (view_octets packet.now) }
         requires kind { byte_of type_field (view_octets packet.now) ≡ 11 }
@@ -292,7 +290,6 @@ impl fmt::Display for Repr<'_> {
 }
 
 // The header that an error quotes, and all that stands behind it (RFC 792).
-#[inline]
 fn read_quote(octets: &[u8]) -> Result<(Ipv4Repr, &[u8])>
     ensures sound { IfOk result (λ quote_. IsQuote octets.now quote_.0 quote_.1.now) }
     ensures complete { (quoted : Ipv4Repr) (behind : List ℕ) → IsQuote octets.now quoted behind
