@@ -3,6 +3,8 @@
 
 pub mod datagram;
 pub mod link;
+#[cfg(test)]
+mod testing;
 pub mod udp;
 
 pub use datagram::{Addresses, Datagram, Refusal};

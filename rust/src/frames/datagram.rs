@@ -134,13 +134,11 @@ fn pass_headers<'a>(
             return Err(Refusal::Malformed);
         }
         let end = 8 * rest[1] as usize + 8;
-        if protocol == IpProtocol::Ipv6Route {
-            dst_addr = routed(rest, dst_addr);
-        }
+        dst_addr = behind_header(protocol, rest, dst_addr);
         protocol = IpProtocol::from(rest[0]);
         rest = behind(rest, end);
     }
-    if protocol == IpProtocol::Ipv6Frag {
+    if is_fragment(protocol) {
         return Err(Refusal::Fragment);
     }
     Ok(Upper {
@@ -155,6 +153,19 @@ fn is_extension(protocol: IpProtocol) -> bool {
     protocol == IpProtocol::HopByHop
         || protocol == IpProtocol::Ipv6Route
         || protocol == IpProtocol::Ipv6Opts
+}
+
+// Whether this is a header before a part of a datagram.
+fn is_fragment(protocol: IpProtocol) -> bool {
+    protocol == IpProtocol::Ipv6Frag
+}
+
+// The destination behind a header that is passed.
+fn behind_header(protocol: IpProtocol, header: &[u8], dst_addr: Ipv6Address) -> Ipv6Address {
+    if protocol == IpProtocol::Ipv6Route {
+        return routed(header, dst_addr);
+    }
+    dst_addr
 }
 
 // Whether the octets begin with a whole header.
@@ -174,3 +185,6 @@ fn routed(header: &[u8], dst_addr: Ipv6Address) -> Ipv6Address {
         _ => dst_addr,
     }
 }
+
+#[cfg(test)]
+mod tests;

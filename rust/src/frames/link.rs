@@ -259,3 +259,6 @@ fn network_of_family(family: u16) -> Network {
         other => Network::Other(other),
     }
 }
+
+#[cfg(test)]
+mod tests;

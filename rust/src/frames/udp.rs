@@ -178,3 +178,6 @@ impl UdpRepr {
 fn has_checksum<B: AsRef<[u8]> + ?Sized>(packet: &UdpPacket<&B>, addresses: &Addresses) -> bool {
     (addresses.is_v4() && packet.checksum() == 0) || packet.verify_checksum(addresses)
 }
+
+#[cfg(test)]
+mod tests;

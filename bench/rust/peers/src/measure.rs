@@ -6,8 +6,8 @@ use std::sync::atomic::{AtomicU64, Ordering};
 use std::time::Instant;
 
 // How often a call is made for a figure, and how often a figure is taken: the least counts.
-const ROUNDS: u32 = 20_000;
-const TRIES: usize = 25;
+const ROUNDS: u32 = 1_000;
+const TRIES: usize = 500;
 
 // The system's allocator, which counts.
 struct Counting;

@@ -28,6 +28,19 @@ fn offer() -> [u8; 294] {
     octets
 }
 
+// An answer of another type, and one that gives no address.
+fn of_type(kind: u8) -> [u8; 294] {
+    let mut octets = offer();
+    octets[242] = kind;
+    octets
+}
+
+fn without_address(kind: u8) -> [u8; 294] {
+    let mut octets = of_type(kind);
+    octets[16..20].fill(0);
+    octets
+}
+
 fn server() -> Ipv4Address {
     Ipv4Address::new(192, 168, 0, 1)
 }
@@ -86,31 +99,23 @@ fn dns_servers(lease: &Lease) -> &[Ipv4Address] {
 
 #[test]
 fn answers_by_their_type() {
-    let mut octets = offer();
-    same(kind_of(&octets, 0x3d1d, &CLIENT), "an offer");
-    octets[242] = 5;
-    same(kind_of(&octets, 0x3d1d, &CLIENT), "a lease");
-    octets[242] = 6;
-    same(kind_of(&octets, 0x3d1d, &CLIENT), "a refusal");
-    octets[16..20].fill(0);
-    same(kind_of(&octets, 0x3d1d, &CLIENT), "a refusal");
+    same(kind_of(&of_type(2), 0x3d1d, &CLIENT), "an offer");
+    same(kind_of(&of_type(5), 0x3d1d, &CLIENT), "a lease");
+    same(kind_of(&of_type(6), 0x3d1d, &CLIENT), "a refusal");
+    same(kind_of(&of_type(1), 0x3d1d, &CLIENT), "nothing");
 }
 
 #[test]
 fn nothing_is_a_lease_of_no_address() {
-    let mut octets = offer();
-    octets[16..20].fill(0);
-    same(kind_of(&octets, 0x3d1d, &CLIENT), "nothing");
-    octets[242] = 5;
-    same(kind_of(&octets, 0x3d1d, &CLIENT), "nothing");
+    same(kind_of(&without_address(2), 0x3d1d, &CLIENT), "nothing");
+    same(kind_of(&without_address(5), 0x3d1d, &CLIENT), "nothing");
+    same(kind_of(&without_address(6), 0x3d1d, &CLIENT), "a refusal");
 }
 
 #[test]
 fn a_refusal_tells_its_server() {
-    let mut octets = offer();
-    octets[242] = 6;
     let client = EthernetAddress::from_bytes(&CLIENT);
-    let told = match read_answer(&octets, 0x3d1d, client) {
+    let told = match read_answer(&without_address(6), 0x3d1d, client) {
         Some(Answer::Nak(server)) => Some(server),
         _ => None,
     };
@@ -129,15 +134,20 @@ fn what_is_of_another_exchange_gives_nothing() {
     same(kind_of(&octets, 0x3d1d, &CLIENT), "nothing");
 }
 
+// An offer of two routers in the place of one.
+fn with_two_routers() -> [u8; 298] {
+    const ROUTERS: [u8; 11] = [
+        0x03, 0x08, 0xc0, 0xa8, 0x00, 0xfd, 0xc0, 0xa8, 0x00, 0xfe, 0xff,
+    ];
+    let mut octets = [0; 298];
+    octets[..294].copy_from_slice(&offer());
+    octets[283..294].copy_from_slice(&ROUTERS);
+    octets
+}
+
 #[test]
 fn of_several_routers_the_first() {
-    const ROUTERS: [u8; 12] = [
-        0x03, 0x08, 0xc0, 0xa8, 0x00, 0xfd, 0xc0, 0xa8, 0x00, 0xfe, 0xff, 0x00,
-    ];
-    let mut octets = [0; 300];
-    octets[..294].copy_from_slice(&offer());
-    octets[283..295].copy_from_slice(&ROUTERS);
-    let router = match lease_in(&octets) {
+    let router = match lease_in(&with_two_routers()) {
         Some(lease) => lease.router,
         None => None,
     };
@@ -153,19 +163,38 @@ const SENT: [u8; 34] = [
 
 const COOKIE: [u8; 4] = [0x63, 0x82, 0x53, 0x63];
 
-// Writes a message, which is to have this byte of flags, this address of the client, and these options.
-fn check(message: &Message, client: &Client<'_>, flags: u8, own: &[u8; 4], options: &[u8]) {
-    let mut wanted = [0; 300];
-    wanted[..34].copy_from_slice(&SENT);
-    wanted[10] = flags;
-    wanted[12..16].copy_from_slice(own);
-    wanted[236..240].copy_from_slice(&COOKIE);
-    wanted[240..240 + options.len()].copy_from_slice(options);
-    let len = (240 + options.len()).max(client.min_len);
+// Writes these bytes into others from a place on, where there is room.
+fn lay(octets: &mut [u8], at: usize, part: &[u8]) {
+    if let Some(rest) = octets.get_mut(at..) {
+        if let Some(place) = rest.get_mut(..part.len()) {
+            place.copy_from_slice(part);
+        }
+    }
+}
+
+// A message with this byte of flags, this address of the client, and these options.
+fn message(flags: u8, own: &[u8; 4], options: &[u8]) -> [u8; 300] {
+    let mut octets = [0; 300];
+    lay(&mut octets, 0, &SENT);
+    lay(&mut octets, 10, &[flags]);
+    lay(&mut octets, 12, own);
+    lay(&mut octets, 236, &COOKIE);
+    lay(&mut octets, 240, options);
+    octets
+}
+
+// Compares what is written with this message, of which the options take so many bytes.
+fn check(sent: &Message, client: &Client<'_>, wanted: &[u8; 300], options_len: usize) {
+    let len = (240 + options_len).max(client.min_len);
     let mut out = [0xa5; 310];
-    same(write(message, 0x3d1d, client, &mut out), Some(len));
-    same(out.get(..len), wanted.get(..len));
-    same(out.get(len..len + 1), Some(&[0xa5]));
+    same(write(sent, 0x3d1d, client, &mut out), Some(len));
+    same_front(&out, wanted, len);
+}
+
+// Compares the first bytes, of which there are so many.
+fn same_front(left: &[u8], right: &[u8], len: usize) {
+    same(left.get(..len), right.get(..len));
+    same(left.get(len), Some(&0xa5));
 }
 
 const QUIET: Client<'static> = Client {
@@ -195,13 +224,28 @@ fn a_client_discovers() {
     const NONE_OPTIONS: &[u8] = &[
         0x35, 0x01, 0x01, 0x3d, 0x07, 0x01, 0x00, 0x0b, 0x82, 0x01, 0xfc, 0x42, 0xff,
     ];
-    check(&Message::Discover, &QUIET, 0, &[0; 4], OPTIONS);
-    check(&Message::Discover, &LOUD, 0x80, &[0; 4], LOUD_OPTIONS);
+    check(
+        &Message::Discover,
+        &QUIET,
+        &message(0, &[0; 4], OPTIONS),
+        OPTIONS.len(),
+    );
+    check(
+        &Message::Discover,
+        &LOUD,
+        &message(0x80, &[0; 4], LOUD_OPTIONS),
+        LOUD_OPTIONS.len(),
+    );
     let client = Client {
         requested: &[],
         ..QUIET
     };
-    check(&Message::Discover, &client, 0, &[0; 4], NONE_OPTIONS);
+    check(
+        &Message::Discover,
+        &client,
+        &message(0, &[0; 4], NONE_OPTIONS),
+        NONE_OPTIONS.len(),
+    );
 }
 
 #[test]
@@ -218,9 +262,9 @@ fn a_client_requests_an_address() {
         server: server(),
         address: address(),
     };
-    check(&select, &QUIET, 0, &[0; 4], SELECT);
+    check(&select, &QUIET, &message(0, &[0; 4], SELECT), SELECT.len());
     let reboot = Message::Reboot { address: address() };
-    check(&reboot, &QUIET, 0, &[0; 4], REBOOT);
+    check(&reboot, &QUIET, &message(0, &[0; 4], REBOOT), REBOOT.len());
 }
 
 #[test]
@@ -231,9 +275,9 @@ fn a_client_requests_more_time() {
     ];
     const OWN: &[u8; 4] = &[0xc0, 0xa8, 0x00, 0x0a];
     let renew = Message::Renew { address: address() };
-    check(&renew, &LOUD, 0x80, OWN, OPTIONS);
+    check(&renew, &LOUD, &message(0x80, OWN, OPTIONS), OPTIONS.len());
     let rebind = Message::Rebind { address: address() };
-    check(&rebind, &LOUD, 0x80, OWN, OPTIONS);
+    check(&rebind, &LOUD, &message(0x80, OWN, OPTIONS), OPTIONS.len());
 }
 
 #[test]
@@ -250,12 +294,22 @@ fn a_client_declines_and_releases() {
         server: server(),
         address: address(),
     };
-    check(&decline, &LOUD, 0, &[0; 4], DECLINE);
+    check(
+        &decline,
+        &LOUD,
+        &message(0, &[0; 4], DECLINE),
+        DECLINE.len(),
+    );
     let release = Message::Release {
         server: server(),
         address: address(),
     };
-    check(&release, &LOUD, 0, &[0xc0, 0xa8, 0x00, 0x0a], RELEASE);
+    check(
+        &release,
+        &LOUD,
+        &message(0, &[0xc0, 0xa8, 0x00, 0x0a], RELEASE),
+        RELEASE.len(),
+    );
 }
 
 #[test]

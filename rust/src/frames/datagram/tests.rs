@@ -1,0 +1,126 @@
+// Made from crates/frame_wire/src/datagram/tests.rt by rust/erase.
+use super::{Addresses, Datagram, Refusal};
+use crate::frames::testing::same_of;
+use crate::wirebase::{IpProtocol, Ipv4Address, Ipv6Address};
+
+// A router alert option, one byte of ICMP, and padding of a frame behind it.
+const V4: &[u8] = &[
+    0x46, 0xc0, 0x00, 0x19, 0x00, 0x01, 0x40, 0x00, 0x01, 0x01, 0x00, 0x00, 192, 0, 2, 1, 224, 0,
+    0, 1, //
+    0x94, 0x04, 0x00, 0x00, 0x08, 0x00, 0x00,
+];
+
+const FROM: Ipv4Address = Ipv4Address::new(192, 0, 2, 1);
+
+const TO: Ipv4Address = Ipv4Address::new(224, 0, 0, 1);
+
+#[test]
+fn a_datagram_of_ipv4() {
+    let want = Datagram {
+        addresses: Addresses::V4(FROM, TO),
+        protocol: IpProtocol::Icmp,
+        hop_limit: 1,
+        payload: &[0x08],
+    };
+    same_of(V4, Datagram::parse_v4(V4), Ok(want));
+    for len in 0..25 {
+        same_of(len, Datagram::parse_v4(&V4[..len]), Err(Refusal::Cut));
+    }
+}
+
+// The datagram with another byte at a place.
+fn changed(place: usize, byte: u8) -> [u8; 27] {
+    let mut octets = [0; 27];
+    octets.copy_from_slice(V4);
+    if place < 27 {
+        octets[place] = byte;
+    }
+    octets
+}
+
+#[test]
+fn datagrams_of_ipv4_that_are_refused() {
+    const ROWS: &[(usize, u8, Refusal)] = &[
+        // Of version 6, with a header of 16 bytes, with one longer than the datagram, longer than there is, with more
+        // fragments, and at an offset.
+        (0, 0x66, Refusal::Malformed),
+        (0, 0x44, Refusal::Malformed),
+        (0, 0x47, Refusal::Malformed),
+        (3, 0x1c, Refusal::Cut),
+        (6, 0x20, Refusal::Fragment),
+        (7, 0x01, Refusal::Fragment),
+    ];
+    for &(place, byte, refusal) in ROWS {
+        let octets = changed(place, byte);
+        same_of(place, Datagram::parse_v4(&octets), Err(refusal));
+    }
+}
+
+// Hop-by-hop options, a routing header of type 0 with a segment left, and one byte of ICMPv6.
+const V6: &[u8] = &[
+    0x60, 0, 0, 0, 0x00, 0x21, 0x00, 0x40, //
+    0x20, 0x01, 0x0d, 0xb8, 0, 0, 0, 0, 0, 0, 0, 0, 0, 0, 0, 1, //
+    0x20, 0x01, 0x0d, 0xb8, 0, 0, 0, 0, 0, 0, 0, 0, 0, 0, 0, 2, //
+    43, 0, 0x05, 0x02, 0, 0, 0x01, 0x00, //
+    58, 2, 0, 1, 0, 0, 0, 0, 0x20, 0x01, 0x0d, 0xb8, 0, 0, 0, 0, 0, 0, 0, 0, 0, 0, 0, 3, //
+    0x80, 0xff,
+];
+
+#[test]
+fn a_datagram_of_ipv6() {
+    let want = Datagram {
+        addresses: Addresses::V6(
+            Ipv6Address::new(0x2001, 0x0db8, 0, 0, 0, 0, 0, 1),
+            Ipv6Address::new(0x2001, 0x0db8, 0, 0, 0, 0, 0, 3),
+        ),
+        protocol: IpProtocol::Icmpv6,
+        hop_limit: 64,
+        payload: &[0x80],
+    };
+    same_of(V6, Datagram::parse_v6(V6), Ok(want));
+    for len in 0..73 {
+        same_of(len, Datagram::parse_v6(&V6[..len]), Err(Refusal::Cut));
+    }
+}
+
+// The datagram with another byte at a place, and the answer to it.
+fn answer_of(place: usize, byte: u8) -> (Option<Addresses>, Option<Refusal>) {
+    let mut octets = [0; 74];
+    octets.copy_from_slice(V6);
+    if place < 74 {
+        octets[place] = byte;
+    }
+    match Datagram::parse_v6(&octets) {
+        Ok(datagram) => (Some(datagram.addresses), None),
+        Err(refusal) => (None, Some(refusal)),
+    }
+}
+
+#[test]
+fn headers_that_extend_ipv6() {
+    const ROWS: &[(usize, u8, Option<u16>, Option<Refusal>)] = &[
+        // Of version 4; a fragment instead of options and behind them; a header longer than the datagram.
+        (0, 0x40, None, Some(Refusal::Malformed)),
+        (6, 44, None, Some(Refusal::Fragment)),
+        (40, 44, None, Some(Refusal::Fragment)),
+        (41, 4, None, Some(Refusal::Malformed)),
+        (49, 3, None, Some(Refusal::Malformed)),
+        // No segments are left; of types 2 and 4 the address is the same one, of type 1 none is known.
+        (51, 0, Some(2), None),
+        (50, 2, Some(3), None),
+        (50, 4, Some(3), None),
+        (50, 1, Some(2), None),
+        // Destination options behind the hop-by-hop ones lead nowhere else.
+        (40, 60, Some(2), None),
+    ];
+    for &(place, byte, last, refusal) in ROWS {
+        let want = match last {
+            Some(last) => Some(Addresses::V6(
+                Ipv6Address::new(0x2001, 0x0db8, 0, 0, 0, 0, 0, 1),
+                Ipv6Address::new(0x2001, 0x0db8, 0, 0, 0, 0, 0, last),
+            )),
+            None => None,
+        };
+        same_of((place, byte), answer_of(place, byte), (want, refusal));
+    }
+}

@@ -1,0 +1,208 @@
+// Made from crates/frame_wire/src/link/tests.rt by rust/erase.
+use super::{Frame, Link, Network};
+use crate::frames::testing::same_of;
+
+// A frame of a link, and what it holds.
+type Row = (Link, &'static [u8], Network, &'static [u16], &'static [u8]);
+
+const ROWS: &[Row] = &[
+    (
+        Link::Ethernet,
+        &[
+            0xff, 0xff, 0xff, 0xff, 0xff, 0xff, 2, 0, 0, 0, 0, 1, 0x08, 0x00, 0x45, 0x00,
+        ],
+        Network::Ipv4,
+        &[],
+        &[0x45, 0x00],
+    ),
+    // A tag of a service around one of a customer, VLANs 100 and 4,095, with a priority.
+    (
+        Link::Ethernet,
+        &[
+            0x33, 0x33, 0, 0, 0, 1, 2, 0, 0, 0, 0, 1, 0x88, 0xa8, 0x00, 0x64, 0x81, 0x00, 0xef,
+            0xff, 0x86, 0xdd, 0x60,
+        ],
+        Network::Ipv6,
+        &[100, 4095],
+        &[0x60],
+    ),
+    // ARP.
+    (
+        Link::Ethernet,
+        &[
+            0xff, 0xff, 0xff, 0xff, 0xff, 0xff, 2, 0, 0, 0, 0, 1, 0x08, 0x06, 0x00, 0x01,
+        ],
+        Network::Other(0x0806),
+        &[],
+        &[0x00, 0x01],
+    ),
+    // A PPPoE session of IPv6, and a discovery, which is none.
+    (
+        Link::Ethernet,
+        &[
+            2, 0, 0, 0, 0, 2, 2, 0, 0, 0, 0, 1, 0x88, 0x64, 0x11, 0x00, 0x00, 0x07, 0x00, 0x03,
+            0x00, 0x57, 0x60,
+        ],
+        Network::Ipv6,
+        &[],
+        &[0x60],
+    ),
+    (
+        Link::Ethernet,
+        &[
+            2, 0, 0, 0, 0, 2, 2, 0, 0, 0, 0, 1, 0x88, 0x64, 0x11, 0xa7, 0x00, 0x07, 0x00, 0x00,
+        ],
+        Network::Other(0x8864),
+        &[],
+        &[0x11, 0xa7, 0x00, 0x07, 0x00, 0x00],
+    ),
+    (
+        Link::LinuxSll,
+        &[0, 0, 0, 1, 0, 6, 2, 0, 0, 0, 0, 1, 0, 0, 0x08, 0x00, 0x45],
+        Network::Ipv4,
+        &[],
+        &[0x45],
+    ),
+    (
+        Link::LinuxSll2,
+        &[
+            0x86, 0xdd, 0, 0, 0, 0, 0, 2, 0, 1, 0, 6, 2, 0, 0, 0, 0, 1, 0, 0, 0x60,
+        ],
+        Network::Ipv6,
+        &[],
+        &[0x60],
+    ),
+    (Link::Raw, &[0x45, 0x00], Network::Ipv4, &[], &[0x45, 0x00]),
+    (Link::Raw, &[0x6f], Network::Ipv6, &[], &[0x6f]),
+    (Link::Raw, &[0x00], Network::Other(0), &[], &[0x00]),
+    // The family of IPv4, in either order, and those of IPv6.
+    (Link::Null, &[2, 0, 0, 0, 0x45], Network::Ipv4, &[], &[0x45]),
+    (Link::Null, &[0, 0, 0, 2, 0x45], Network::Ipv4, &[], &[0x45]),
+    (
+        Link::Null,
+        &[30, 0, 0, 0, 0x60],
+        Network::Ipv6,
+        &[],
+        &[0x60],
+    ),
+    (
+        Link::Null,
+        &[0, 0, 0, 24, 0x60],
+        Network::Ipv6,
+        &[],
+        &[0x60],
+    ),
+    (
+        Link::Null,
+        &[10, 0, 0, 0, 0x60],
+        Network::Ipv6,
+        &[],
+        &[0x60],
+    ),
+    (
+        Link::Null,
+        &[0, 0, 0, 28, 0x60],
+        Network::Ipv6,
+        &[],
+        &[0x60],
+    ),
+    (
+        Link::Null,
+        &[7, 0, 0, 0, 0x60],
+        Network::Other(7),
+        &[],
+        &[0x60],
+    ),
+    // PPP with and without an address, and with a protocol of one byte.
+    (
+        Link::Ppp,
+        &[0xff, 0x03, 0x00, 0x21, 0x45],
+        Network::Ipv4,
+        &[],
+        &[0x45],
+    ),
+    (Link::Ppp, &[0x00, 0x57, 0x60], Network::Ipv6, &[], &[0x60]),
+    (Link::Ppp, &[0x21, 0x45], Network::Ipv4, &[], &[0x45]),
+    (
+        Link::Ppp,
+        &[0xc0, 0x21, 0x01],
+        Network::Other(0xc021),
+        &[],
+        &[0x01],
+    ),
+    (
+        Link::PppEther,
+        &[0x11, 0x00, 0x00, 0x07, 0x00, 0x03, 0x00, 0x21, 0x45],
+        Network::Ipv4,
+        &[],
+        &[0x45],
+    ),
+];
+
+// Compares a frame with a row.
+fn check_frame(of: &[u8], frame: &Frame<'_>, row: &Row) {
+    let &(_, _, network, vlans, payload) = row;
+    same_of(of, frame.network, network);
+    same_of(of, frame.payload, payload);
+    same_of(of, frame.vlans(), vlans.len());
+    for (i, &vlan) in vlans.iter().enumerate() {
+        if i < frame.vlans() {
+            same_of(of, frame.vlan(i), vlan);
+        }
+    }
+}
+
+#[test]
+fn frames_of_each_link() {
+    for row in ROWS {
+        let &(link, octets, ..) = row;
+        match link.frame(octets) {
+            Ok(frame) => check_frame(octets, &frame, row),
+            Err(_) => same_of(octets, false, true),
+        }
+    }
+}
+
+// Without its payload a frame is whole, and with less it is refused.
+#[test]
+fn frames_that_are_cut_short() {
+    for &(link, octets, _, _, payload) in ROWS {
+        let whole = octets.len().saturating_sub(payload.len());
+        let is_plain = matches!(
+            link,
+            Link::Ethernet | Link::LinuxSll | Link::LinuxSll2 | Link::Null
+        );
+        let is_session = octets.get(13) == Some(&0x64);
+        for len in 0..octets.len() {
+            let read = link.frame(&octets[..len]);
+            if is_plain && !is_session {
+                same_of((octets, len), read.is_ok(), len >= whole);
+            }
+        }
+    }
+}
+
+#[test]
+fn link_types() {
+    const TYPES: &[(u16, Option<Link>)] = &[
+        (0, Some(Link::Null)),
+        (1, Some(Link::Ethernet)),
+        (2, None),
+        (9, Some(Link::Ppp)),
+        (12, Some(Link::Raw)),
+        (14, Some(Link::Raw)),
+        (50, Some(Link::Ppp)),
+        (51, Some(Link::PppEther)),
+        (101, Some(Link::Raw)),
+        (105, None),
+        (108, Some(Link::Null)),
+        (113, Some(Link::LinuxSll)),
+        (228, Some(Link::Raw)),
+        (229, Some(Link::Raw)),
+        (276, Some(Link::LinuxSll2)),
+        (65535, None),
+    ];
+    for &(link_type, link) in TYPES {
+        same_of(link_type, Link::of(link_type), link);
+    }
+}

@@ -1,0 +1,10 @@
+// Made from crates/frame_wire/src/testing.rt by rust/erase.
+// What the tests compare by, over one macro of std: the prover goes through the code of a macro anew at each place
+// where it stands, and through a call of these in a sixth of the time.
+
+use std::fmt::Debug;
+
+// Ends the test where the two differ, and says what they are of.
+pub(crate) fn same_of<T: PartialEq + Debug>(of: impl Debug, left: T, right: T) {
+    assert!(left == right, "{of:?}: {left:?} is not {right:?}");
+}

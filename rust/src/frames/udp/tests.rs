@@ -1,0 +1,100 @@
+// Made from crates/frame_wire/src/udp/tests.rt by rust/erase.
+use super::{UdpPacket, UdpRepr};
+use crate::frames::datagram::Addresses;
+use crate::frames::testing::same_of;
+use crate::wirebase::{ChecksumCapabilities, Ipv4Address, Ipv6Address};
+
+// Three bytes of data to the port of DNS, with the checksum of each pseudo header.
+const V4: &[u8] = &[
+    0xc0, 0x00, 0x00, 0x35, 0x00, 0x0b, 0xa8, 0x37, 0x12, 0x34, 0x01,
+];
+
+const V6: &[u8] = &[
+    0xc0, 0x00, 0x00, 0x35, 0x00, 0x0b, 0xd0, 0xc6, 0x12, 0x34, 0x01,
+];
+
+// Without a checksum.
+const NONE: &[u8] = &[
+    0xc0, 0x00, 0x00, 0x35, 0x00, 0x0b, 0x00, 0x00, 0x12, 0x34, 0x01,
+];
+
+const OVER_V4: Addresses = Addresses::V4(
+    Ipv4Address::new(192, 0, 2, 1),
+    Ipv4Address::new(192, 0, 2, 53),
+);
+
+fn over_v6() -> Addresses {
+    Addresses::V6(
+        Ipv6Address::new(0x2001, 0x0db8, 0, 0, 0, 0, 0, 1),
+        Ipv6Address::new(0x2001, 0x0db8, 0, 0, 0, 0, 0, 0x35),
+    )
+}
+
+#[test]
+fn fields_of_a_datagram() {
+    let packet = UdpPacket::new_checked(V4);
+    match packet {
+        Ok(packet) => {
+            same_of(V4, packet.src_port(), 49152);
+            same_of(V4, packet.dst_port(), 53);
+            same_of(V4, packet.len(), 11);
+            same_of(V4, packet.checksum(), 0xa837);
+            same_of(V4, packet.payload(), &[0x12, 0x34, 0x01]);
+            same_of(V4, packet.verify_checksum(&OVER_V4), true);
+            same_of(V4, packet.verify_checksum(&over_v6()), false);
+            same_of(V4, packet == UdpPacket::new_unchecked(V4), true);
+            same_of(V4, packet.into_inner(), V4);
+        }
+        Err(_) => same_of(V4, false, true),
+    }
+}
+
+#[test]
+fn datagrams_with_either_pseudo_header() {
+    let both = ChecksumCapabilities::default();
+    let ignored = ChecksumCapabilities::ignored();
+    let ports = UdpRepr {
+        src_port: 49152,
+        dst_port: 53,
+    };
+    let rows = [
+        (V4, OVER_V4, both, Some(ports)),
+        (V6, over_v6(), both, Some(ports)),
+        (V4, over_v6(), both, None),
+        (V6, OVER_V4, both, None),
+        (NONE, OVER_V4, both, Some(ports)),
+        (NONE, over_v6(), both, None),
+        (NONE, over_v6(), ignored, Some(ports)),
+        (&V4[..10], OVER_V4, both, None),
+        (&V4[..7], OVER_V4, ignored, None),
+        // To port 0, and with a length below that of a header.
+        (&[0xc0, 0, 0, 0, 0, 8, 0, 0], OVER_V4, both, None),
+        (&[0xc0, 0, 0, 53, 0, 7, 0, 0], OVER_V4, both, None),
+    ];
+    for (octets, addresses, capabilities, want) in rows {
+        let read = UdpRepr::parse(&UdpPacket::new_unchecked(octets), &addresses, &capabilities);
+        same_of(octets, read.ok(), want);
+    }
+    same_of((), ports.header_len(), 8);
+}
+
+// What stands behind the length is no part, and a checksum may be written.
+#[test]
+fn a_datagram_that_is_written_by_its_setters() {
+    let mut octets = [0xa5; 12];
+    let mut packet = UdpPacket::new_unchecked(&mut octets[..]);
+    packet.set_src_port(49152);
+    packet.set_dst_port(53);
+    packet.set_len(11);
+    packet.set_checksum(0xa837);
+    if packet.check_len().is_ok() {
+        packet.payload_mut().fill(0x12);
+    }
+    same_of(
+        (),
+        &octets[..],
+        &[
+            0xc0, 0x00, 0x00, 0x35, 0x00, 0x0b, 0xa8, 0x37, 0x12, 0x12, 0x12, 0xa5,
+        ],
+    );
+}
