@@ -7,3 +7,4 @@ pub mod NameTexts
 pub mod Outcomes
 pub mod RecordFormat
 pub mod EntryCases
+pub mod RDataParts

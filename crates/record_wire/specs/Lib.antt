@@ -4,3 +4,4 @@ pub mod NameReading
 pub mod Name
 pub mod Record
 pub mod Entries
+pub mod RData

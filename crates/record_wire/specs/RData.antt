@@ -1,0 +1,192 @@
+-- The data of resource records by their type (RFC 1035 sections 3.3 and 3.4, RFC 2782, RFC 3596).
+use Rattle.std.specs.Prelude.{◌≡◌, ℕ, ◌==◌, ◌≤◌, if◌then◌else◌, List, [], ◌∷◌, ◌++◌, length, drop}
+use Rattle.std.specs.Prelude.{Option, None, Some, nat_le}
+use Rattle.std.specs.Borrow.{Bor}
+use Rattle.std.specs.List.{flat_map}
+use Rattle.wirebase.specs.Bytes.{Field, field, Reaches, number_of}
+use Rattle.wirebase.specs.Ipv4 as ipv4
+use Rattle.wirebase.specs.Ipv6Address as ipv6
+use Rattle.wirebase.specs.declared.ipv4.Ipv4Address.{Ipv4Address}
+use Rattle.wirebase.specs.declared.ipv6.address.Ipv6Address.{Ipv6Address}
+use Rattle.dns_wire.specs.DnsName.{IsOnePart, written}
+use Rattle.dns_wire.specs.DnsQuestion.{internet}
+use Rattle.dns_wire.specs.declared.dns.tables.Type.{«Type» as RecordType}
+use Rattle.dns_wire.specs.declared.dns.tables.Type.TheVariants as kind
+use Rattle.record_wire.specs.declared.rdata.Layout.{Layout}
+use Rattle.record_wire.specs.declared.rdata.Layout.TheVariants as layout
+use Rattle.record_wire.specs.declared.rdata.Authority.{Authority}
+use Rattle.record_wire.specs.declared.rdata.RData.{RData}
+use Rattle.record_wire.specs.declared.rdata.RData.TheVariants as rdata
+
+-- ---- layouts
+
+-- which layout the data of a type has: PTR is 12, MX 15, TXT 16 (RFC 1035 section 3.2.2), SRV 33 (RFC 2782); addresses
+-- are those of the internet
+abbrev pub layout_of : RecordType → ℕ → Layout
+layout_of kind.A class = if class == internet then layout.Ipv4 else layout.Opaque
+layout_of kind.Aaaa class = if class == internet then layout.Ipv6 else layout.Opaque
+layout_of kind.Cname class = layout.Name
+layout_of kind.Ns class = layout.Name
+layout_of kind.Soa class = layout.Authority
+layout_of (kind.Unknown n) class =
+    if n == 12 then layout.Name
+    else if n == 15 then layout.Mail
+    else if n == 16 then layout.Strings
+    else if n == 33 then layout.Service
+    else layout.Opaque
+
+-- ---- data
+
+-- the fields of MX and SRV in front of the name, and those of SOA behind the two names
+abbrev pub preference_field : Field
+preference_field = field 0 2
+
+abbrev pub priority_field : Field
+priority_field = field 0 2
+
+abbrev pub weight_field : Field
+weight_field = field 2 4
+
+abbrev pub port_field : Field
+port_field = field 4 6
+
+abbrev pub serial_field : Field
+serial_field = field 0 4
+
+abbrev pub refresh_field : Field
+refresh_field = field 4 8
+
+abbrev pub retry_field : Field
+retry_field = field 8 12
+
+abbrev pub expire_field : Field
+expire_field = field 12 16
+
+abbrev pub minimum_field : Field
+minimum_field = field 16 20
+
+-- strings of up to 255 bytes, each behind its length (RFC 1035 section 3.3)
+abbrev pub AreStrings : List ℕ → Type 0
+AreStrings bytes = (strings : List (List ℕ)) × (bytes ≡ flat_map written strings)
+
+-- what stands behind the first string, as it is computed
+abbrev pub string_rest : List ℕ → Option (List ℕ)
+string_rest [] = None
+string_rest (n ∷ rest) = if nat_le n (length rest) then Some (drop n rest) else None
+
+abbrev pub seen_rest : Option (Bor (List ℕ)) → Option (List ℕ)
+seen_rest None = None
+seen_rest (Some rest) = Some rest.now
+
+-- who is responsible for a zone, and how copies of it are kept (RFC 1035 section 3.3.13)
+pub record AuthorityValue : Type 0 where
+  pub primary : List ℕ
+  pub mailbox : List ℕ
+  pub serial : ℕ
+  pub refresh : ℕ
+  pub retry : ℕ
+  pub expire : ℕ
+  pub minimum : ℕ
+
+-- the data of a record by its content
+pub data RDataValue : Type 0 where
+  address4 : Ipv4Address → RDataValue
+  address6 : Ipv6Address → RDataValue
+  name : List ℕ → RDataValue
+  mail : ℕ → List ℕ → RDataValue
+  service : ℕ → ℕ → ℕ → List ℕ → RDataValue
+  authority : AuthorityValue → RDataValue
+  strings : List ℕ → RDataValue
+  other : List ℕ → RDataValue
+
+abbrev pub authority_of : Authority → AuthorityValue
+authority_of soa = record {
+  primary = soa.primary.now;
+  mailbox = soa.mailbox.now;
+  serial = soa.serial;
+  refresh = soa.refresh;
+  retry = soa.retry;
+  expire = soa.expire;
+  minimum = soa.minimum;
+}
+
+abbrev pub rdata_of : RData → RDataValue
+rdata_of (rdata.A address) = address4 address
+rdata_of (rdata.Aaaa address) = address6 address
+rdata_of (rdata.Name bytes) = name bytes.now
+rdata_of (rdata.Mx preference exchange) = mail preference exchange.now
+rdata_of (rdata.Srv priority weight port target) = service priority weight port target.now
+rdata_of (rdata.Soa soa) = authority (authority_of soa)
+rdata_of (rdata.Txt bytes) = strings bytes.now
+rdata_of (rdata.Other bytes) = other bytes.now
+
+-- ---- the grammar of each layout
+
+pub record IsAddress4 (bytes : List ℕ) (value : RDataValue) : Type 0 where
+  pub address : Ipv4Address
+  pub len : length bytes ≡ 4
+  pub octets : ipv4.octets_of address ≡ bytes
+  pub is : value ≡ address4 address
+
+pub record IsAddress6 (bytes : List ℕ) (value : RDataValue) : Type 0 where
+  pub address : Ipv6Address
+  pub len : length bytes ≡ 16
+  pub octets : ipv6.octets_of address ≡ bytes
+  pub is : value ≡ address6 address
+
+-- one part of a name and nothing more
+pub record IsNameData (bytes : List ℕ) (value : RDataValue) : Type 0 where
+  pub one : IsOnePart bytes
+  pub is : value ≡ name bytes
+
+-- a preference, the lower the better, and the name of a host (RFC 1035 section 3.3.9)
+pub record IsMail (bytes : List ℕ) (value : RDataValue) : Type 0 where
+  pub reaches : Reaches preference_field bytes
+  pub one : IsOnePart (drop 2 bytes)
+  pub is : value ≡ mail (number_of preference_field bytes) (drop 2 bytes)
+
+-- a priority, a weight, a port, and the name of a host (RFC 2782)
+pub record IsService (bytes : List ℕ) (value : RDataValue) : Type 0 where
+  pub reaches : Reaches port_field bytes
+  pub one : IsOnePart (drop 6 bytes)
+  pub is : value ≡ service (number_of priority_field bytes) (number_of weight_field bytes)
+      (number_of port_field bytes) (drop 6 bytes)
+
+-- two names, and five numbers
+pub record IsAuthority (bytes : List ℕ) (value : RDataValue) : Type 0 where
+  pub primary : List ℕ
+  pub mailbox : List ℕ
+  pub after : List ℕ
+  pub primary_ : IsOnePart primary
+  pub mailbox_ : IsOnePart mailbox
+  pub whole : bytes ≡ primary ++ (mailbox ++ after)
+  pub len : length after ≡ 20
+  pub is : value ≡ authority (record {
+    primary = primary;
+    mailbox = mailbox;
+    serial = number_of serial_field after;
+    refresh = number_of refresh_field after;
+    retry = number_of retry_field after;
+    expire = number_of expire_field after;
+    minimum = number_of minimum_field after;
+  })
+
+-- strings of up to 255 bytes, each behind its length, one at least (RFC 1035 sections 3.3 and 3.3.14)
+pub record IsStrings (bytes : List ℕ) (value : RDataValue) : Type 0 where
+  pub some : 1 ≤ length bytes
+  pub are : AreStrings bytes
+  pub is : value ≡ strings bytes
+
+-- the data of a type and a class
+abbrev pub IsLaidOut : Layout → List ℕ → RDataValue → Type 0
+IsLaidOut layout.Ipv4 bytes value = IsAddress4 bytes value
+IsLaidOut layout.Ipv6 bytes value = IsAddress6 bytes value
+IsLaidOut layout.Name bytes value = IsNameData bytes value
+IsLaidOut layout.Mail bytes value = IsMail bytes value
+IsLaidOut layout.Service bytes value = IsService bytes value
+IsLaidOut layout.Authority bytes value = IsAuthority bytes value
+IsLaidOut layout.Strings bytes value = IsStrings bytes value
+IsLaidOut layout.Opaque bytes value = value ≡ other bytes
+
+abbrev pub IsRData : RecordType → ℕ → List ℕ → RDataValue → Type 0
+IsRData t class bytes value = IsLaidOut (layout_of t class) bytes value
