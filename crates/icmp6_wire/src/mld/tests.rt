@@ -59,17 +59,15 @@ fn check_list<const N: usize>(rt: &impl Abort, list: &[AddressRecordRepr<'_>], w
     check_written(rt, &report, wanted);
 }
 
-// Writes a report of these records over the front of 64 octets that are all the same, and checks that it is those which
-// are wanted, and that the octets behind it stay.
-fn check_front(rt: &impl Abort, list: &[AddressRecordRepr<'_>], wanted: &[u8])
-    requires can { (bytes : List ℕ) → length bytes ≡ 64
-        → CanEmit (records (values_of list.now)) bytes }
+// Writes a message over the front of 64 octets that are all the same, and checks that it is those which are wanted, and
+// that the octets behind it stay.
+fn check_front(rt: &impl Abort, message: &Repr<'_>, wanted: &[u8])
+    requires can { (bytes : List ℕ) → length bytes ≡ 64 → CanEmit (value_of message.now) bytes }
     requires short { length wanted.now ≤ 64 }
 {
-    let report = Repr::ReportRecordReprs(list);
     for &fill in FILLS {
         let mut octets = [fill; 64];
-        report.emit_into(&mut octets);
+        message.emit_into(&mut octets);
         let len = wanted.len();
         same_of(rt, fill, &octets[..len], wanted);
         same_of(rt, fill, &octets[len..], &[fill; 64][len..]);
@@ -255,13 +253,14 @@ fn records_are_written_in_their_order(rt: HostRuntime) {
         AddressRecordRepr::new(RecordType::Unknown(7), IPV6_LINK_LOCAL_ALL_ROUTERS),
     ];
     check_list(&rt, &records, &TWO_RECORDS);
-    check_front(&rt, &records, &TWO_RECORDS);
+    check_front(&rt, &Repr::ReportRecordReprs(&records), &TWO_RECORDS);
 }
 
 #[test]
 fn an_empty_list_of_records_is_written(rt: HostRuntime) {
     check_list(&rt, &[], &[0x8f, 0, 0, 0, 0, 0, 0, 0]);
-    check_front(&rt, &[], &[0x8f, 0, 0, 0, 0, 0, 0, 0]);
+    let report = Repr::ReportRecordReprs(&[]);
+    check_front(&rt, &report, &[0x8f, 0, 0, 0, 0, 0, 0, 0]);
 }
 
 // Checks that these octets count 300 records, and that each of them is this one.

@@ -1,7 +1,9 @@
 ghost use Rattle.std.specs.Prelude.{◌≡◌, ◌≤◌, ◌+◌, ℕ, List, length, min};
 ghost use Rattle.icmp6_wire.specs.Icmpv6.{CanEmit, text_len, value_of};
 
-use super::{TOO_BIG, all, behind, check_found, check_written, destination, is_read, read, source};
+use super::{
+    FILLS, TOO_BIG, all, behind, check_found, check_written, destination, is_read, read, source,
+};
 use crate::icmpv6::{DstUnreachable, Packet, ParamProblem, Repr, TimeExceeded};
 use crate::testing::{differ, holds_of, same, same_of};
 use std::process::Abort;
@@ -154,13 +156,24 @@ fn errors_quote_1192_bytes_at_the_most(rt: HostRuntime) {
     check_len(&rt, &data, 1240);
 }
 
+// Writes an error of these data, more than it quotes, over octets that are all this one, and checks its checksum and
+// that it is read with what it quotes of them.
+fn check_read_over(rt: &impl Abort, data: &[u8], fill: u8)
+    requires { 1192 ≤ length «data».now }
+{
+    let mut octets = [fill; 1240];
+    let mut packet = Packet::new_unchecked(octets.as_mut_slice());
+    too_big(data).emit(&source(), &destination(), &mut packet, &all(Checksum::Both));
+    same_of(rt, fill, &octets[2..4], [0xcc, 0xdb].as_slice());
+    check_found(rt, &read(&octets, Checksum::Both), &too_big(&data[..1192]));
+}
+
 #[test]
 fn what_an_error_quotes_is_read(rt: HostRuntime) {
     let data = [0x11; 9999];
-    let mut octets = [0xff; 1240];
-    let mut packet = Packet::new_unchecked(octets.as_mut_slice());
-    too_big(&data).emit(&source(), &destination(), &mut packet, &all(Checksum::Both));
-    check_found(&rt, &read(&octets, Checksum::Both), &too_big(&data[..1192]));
+    for &fill in FILLS {
+        check_read_over(&rt, &data, fill);
+    }
 }
 
 // The bytes of the data that a packet that is too big quotes; nothing where the octets are another message.
@@ -171,23 +184,26 @@ fn quoted_len(octets: &[u8]) -> Option<usize> {
     }
 }
 
-// Checks an error of these data, more than it quotes, that is written into a longer buffer.
-fn check_in_longer_buffer(rt: &impl Abort, data: &[u8]) {
-    let mut octets = [0xff; 1300];
+// Checks an error of these data, more than it quotes, that is written into a longer buffer, whose octets are all this
+// one.
+fn check_in_longer_buffer(rt: &impl Abort, data: &[u8], fill: u8, checksum: &[u8; 2]) {
+    let mut octets = [fill; 1300];
     let caps = all(Checksum::Both);
     too_big(data).emit_into(&source(), &destination(), &mut octets, &caps);
     // The checksum is of all 1,300 octets, of which the last 60 stay as they were.
-    same(rt, &octets[2..4], [0xcc, 0x9f].as_slice());
-    same(rt, &octets[1240..], [0xff; 60].as_slice());
+    same_of(rt, fill, &octets[2..4], checksum.as_slice());
+    same_of(rt, fill, &octets[1240..], [fill; 60].as_slice());
     // All behind the quoted header is read as its data.
-    same(rt, quoted_len(&octets), Some(1252));
+    same_of(rt, fill, quoted_len(&octets), Some(1252));
 }
 
 #[test]
 fn an_error_in_a_longer_buffer_has_the_checksum_of_the_whole(rt: HostRuntime) {
     let data = [0x11; 9999];
-    check_in_longer_buffer(&rt, &data[..1193]);
-    check_in_longer_buffer(&rt, &data);
+    check_in_longer_buffer(&rt, &data[..1193], 0xff, &[0xcc, 0x9f]);
+    check_in_longer_buffer(&rt, &data, 0xff, &[0xcc, 0x9f]);
+    check_in_longer_buffer(&rt, &data, 0x00, &[0xcc, 0x9f]);
+    check_in_longer_buffer(&rt, &data, 0x2a, &[0xdb, 0xae]);
 }
 
 #[test]
