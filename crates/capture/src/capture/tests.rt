@@ -119,7 +119,7 @@ fn check(rt: &impl Abort, alloc: Global, octets: &[u8], rows: &[Row], ending: En
 }
 
 // A capture, its records, and where its units end: those before its first record, and each of the others.
-type File = (&'static [u8], &'static [Row], &'static [(usize, usize)]);
+type File = (&'static [u8], &'static [Row], &'static [(usize, u64)]);
 
 // Each with the ends of its units, and how many records there are up to each.
 const FILES: &[File] = &[
@@ -154,7 +154,7 @@ fn files_of_each_kind(rt: HostRuntime) {
 }
 
 // How many records a front of so many bytes holds, and what ends it.
-fn cut_at(len: usize, units: &[(usize, usize)]) -> (usize, Ending) {
+fn cut_at(len: usize, units: &[(usize, u64)]) -> (u64, Ending) {
     let mut records = 0;
     let mut ending = if len < 4 {
         Ending::NotACapture
@@ -177,8 +177,15 @@ fn each_front_of_a_file(rt: HostRuntime) {
     for (octets, rows, units) in FILES {
         for len in 0..octets.len() {
             let (records, ending) = cut_at(len, units);
-            let kept = rows.get(..records).unwrap_or(&[]);
-            check(&rt, rt.alloc(), &octets[..len], kept, ending);
+            let mut input = &octets[..len];
+            let mut capture = Capture::new(rt.alloc());
+            for want in rows.iter() {
+                if want.0 <= records {
+                    check_record(&rt, octets, &mut capture, &mut input, want);
+                }
+            }
+            let read = capture.next(&mut input);
+            same_of(&rt, (octets, len), read, Ok(Next::Ended(ending)));
         }
     }
 }
