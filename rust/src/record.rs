@@ -4,6 +4,7 @@
 
 pub mod entries;
 pub mod name;
+pub mod rdata;
 pub mod record;
 #[cfg(test)]
 mod testing;

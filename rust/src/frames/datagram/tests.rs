@@ -10,14 +10,13 @@ const V4: &[u8] = &[
     0x94, 0x04, 0x00, 0x00, 0x08, 0x00, 0x00,
 ];
 
-const FROM: Ipv4Address = Ipv4Address::new(192, 0, 2, 1);
-
-const TO: Ipv4Address = Ipv4Address::new(224, 0, 0, 1);
-
 #[test]
 fn a_datagram_of_ipv4() {
     let want = Datagram {
-        addresses: Addresses::V4(FROM, TO),
+        addresses: Addresses::V4(
+            Ipv4Address::new(192, 0, 2, 1),
+            Ipv4Address::new(224, 0, 0, 1),
+        ),
         protocol: IpProtocol::Icmp,
         hop_limit: 1,
         payload: &[0x08],

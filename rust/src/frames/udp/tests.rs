@@ -18,10 +18,12 @@ const NONE: &[u8] = &[
     0xc0, 0x00, 0x00, 0x35, 0x00, 0x0b, 0x00, 0x00, 0x12, 0x34, 0x01,
 ];
 
-const OVER_V4: Addresses = Addresses::V4(
-    Ipv4Address::new(192, 0, 2, 1),
-    Ipv4Address::new(192, 0, 2, 53),
-);
+fn over_v4() -> Addresses {
+    Addresses::V4(
+        Ipv4Address::new(192, 0, 2, 1),
+        Ipv4Address::new(192, 0, 2, 53),
+    )
+}
 
 fn over_v6() -> Addresses {
     Addresses::V6(
@@ -40,7 +42,7 @@ fn fields_of_a_datagram() {
             same_of(V4, packet.len(), 11);
             same_of(V4, packet.checksum(), 0xa837);
             same_of(V4, packet.payload(), &[0x12, 0x34, 0x01]);
-            same_of(V4, packet.verify_checksum(&OVER_V4), true);
+            same_of(V4, packet.verify_checksum(&over_v4()), true);
             same_of(V4, packet.verify_checksum(&over_v6()), false);
             same_of(V4, packet == UdpPacket::new_unchecked(V4), true);
             same_of(V4, packet.into_inner(), V4);
@@ -58,18 +60,18 @@ fn datagrams_with_either_pseudo_header() {
         dst_port: 53,
     };
     let rows = [
-        (V4, OVER_V4, both, Some(ports)),
+        (V4, over_v4(), both, Some(ports)),
         (V6, over_v6(), both, Some(ports)),
         (V4, over_v6(), both, None),
-        (V6, OVER_V4, both, None),
-        (NONE, OVER_V4, both, Some(ports)),
+        (V6, over_v4(), both, None),
+        (NONE, over_v4(), both, Some(ports)),
         (NONE, over_v6(), both, None),
         (NONE, over_v6(), ignored, Some(ports)),
-        (&V4[..10], OVER_V4, both, None),
-        (&V4[..7], OVER_V4, ignored, None),
+        (&V4[..10], over_v4(), both, None),
+        (&V4[..7], over_v4(), ignored, None),
         // To port 0, and with a length below that of a header.
-        (&[0xc0, 0, 0, 0, 0, 8, 0, 0], OVER_V4, both, None),
-        (&[0xc0, 0, 0, 53, 0, 7, 0, 0], OVER_V4, both, None),
+        (&[0xc0, 0, 0, 0, 0, 8, 0, 0], over_v4(), both, None),
+        (&[0xc0, 0, 0, 53, 0, 7, 0, 0], over_v4(), both, None),
     ];
     for (octets, addresses, capabilities, want) in rows {
         let read = UdpRepr::parse(&UdpPacket::new_unchecked(octets), &addresses, &capabilities);

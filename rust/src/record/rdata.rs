@@ -1,0 +1,265 @@
+// Made from crates/record_wire/src/rdata.rt by rust/erase.
+//! The data of resource records by their type (RFC 1035 sections 3.3 and 3.4, RFC 2782, RFC 3596).
+
+use crate::dns_wire::dns::{Type, split_name};
+use crate::wirebase::{Error, Ipv4Address, Ipv6Address, Octets, Result};
+
+// The data of MX and SRV in front of a name, and of SOA behind two names.
+mod field {
+    use crate::wirebase::Field;
+
+    pub const PREFERENCE: Field = 0..2;
+
+    pub const MX_NAME: usize = 2;
+
+    pub const PRIORITY: Field = 0..2;
+
+    pub const WEIGHT: Field = 2..4;
+
+    pub const PORT: Field = 4..6;
+
+    pub const SRV_NAME: usize = 6;
+
+    pub const SERIAL: Field = 0..4;
+
+    pub const REFRESH: Field = 4..8;
+
+    pub const RETRY: Field = 8..12;
+
+    pub const EXPIRE: Field = 12..16;
+
+    pub const MINIMUM: Field = 16..20;
+
+    pub const SOA_END: usize = 20;
+}
+
+// The class of the internet, and the types that have no name in the message's tables.
+const CLASS_IN: u16 = 1;
+
+const TYPE_PTR: u16 = 12;
+
+const TYPE_MX: u16 = 15;
+
+const TYPE_TXT: u16 = 16;
+
+const TYPE_SRV: u16 = 33;
+
+/// The data of a record. Names are as they are written: labels of 1 to 63 bytes, each after its length, and then byte 0
+/// or a pointer into the message.
+#[derive(Debug, PartialEq, Eq, Clone, Copy)]
+pub enum RData<'a> {
+    /// An IPv4 address (RFC 1035 section 3.4.1), of type A and class 1.
+    A(Ipv4Address),
+    /// An IPv6 address (RFC 3596 section 2.2), of type AAAA and class 1.
+    Aaaa(Ipv6Address),
+    /// A name, of type CNAME, NS or PTR (RFC 1035 sections 3.3.1, 3.3.11 and 3.3.12).
+    Name(&'a [u8]),
+    /// A host that takes mail (RFC 1035 section 3.3.9).
+    Mx {
+        /// The lower, the better.
+        preference: u16,
+        /// The host's name.
+        exchange: &'a [u8],
+    },
+    /// A host that has a service (RFC 2782).
+    Srv {
+        /// The lower, the earlier it is tried.
+        priority: u16,
+        /// The greater, the more often it is tried among hosts of its priority.
+        weight: u16,
+        /// The port of the service.
+        port: u16,
+        /// The host's name.
+        target: &'a [u8],
+    },
+    /// Who is responsible for a zone (RFC 1035 section 3.3.13).
+    Soa(Authority<'a>),
+    /// Strings of up to 255 bytes, each behind its length, one at least (RFC 1035 section 3.3.14).
+    Txt(&'a [u8]),
+    /// Data of any other type or class.
+    Other(&'a [u8]),
+}
+
+/// Who is responsible for a zone, and how copies of it are kept (RFC 1035 section 3.3.13). Times are in seconds.
+#[derive(Debug, PartialEq, Eq, Clone, Copy)]
+pub struct Authority<'a> {
+    /// The name of the server that the zone comes from.
+    pub primary: &'a [u8],
+    /// The mailbox of who is responsible, with a dot for its at sign.
+    pub mailbox: &'a [u8],
+    /// The zone's version.
+    pub serial: u32,
+    /// How long a copy is good before it is looked after.
+    pub refresh: u32,
+    /// How long to wait where that failed.
+    pub retry: u32,
+    /// How long a copy is good at the most.
+    pub expire: u32,
+    /// The least time to live of the zone's records; of answers that there is none (RFC 2308 section 4).
+    pub minimum: u32,
+}
+
+/// How the data of a type is laid out.
+#[derive(Debug, PartialEq, Eq, Clone, Copy)]
+pub enum Layout {
+    /// An IPv4 address.
+    Ipv4,
+    /// An IPv6 address.
+    Ipv6,
+    /// A name.
+    Name,
+    /// A preference and a name.
+    Mail,
+    /// A priority, a weight, a port and a name.
+    Service,
+    /// Two names and five numbers.
+    Authority,
+    /// Strings.
+    Strings,
+    /// Any bytes.
+    Opaque,
+}
+
+impl<'a> RData<'a> {
+    /// The data of a record of this type and class. Refused where the bytes are not laid out as the type has it.
+    pub fn parse(type_: Type, class: u16, octets: &'a [u8]) -> Result<RData<'a>> {
+        read(find_layout(type_, class), octets)
+    }
+}
+
+// How the data of this type and class is laid out.
+fn find_layout(type_: Type, class: u16) -> Layout {
+    match type_ {
+        Type::A if class == CLASS_IN => Layout::Ipv4,
+        Type::Aaaa if class == CLASS_IN => Layout::Ipv6,
+        Type::A | Type::Aaaa => Layout::Opaque,
+        Type::Cname | Type::Ns | Type::Unknown(TYPE_PTR) => Layout::Name,
+        Type::Soa => Layout::Authority,
+        Type::Unknown(TYPE_MX) => Layout::Mail,
+        Type::Unknown(TYPE_TXT) => Layout::Strings,
+        Type::Unknown(TYPE_SRV) => Layout::Service,
+        Type::Unknown(_) => Layout::Opaque,
+    }
+}
+
+// The data of this layout.
+fn read(layout: Layout, octets: &[u8]) -> Result<RData<'_>> {
+    match layout {
+        Layout::Ipv4 => read_ipv4(octets),
+        Layout::Ipv6 => read_ipv6(octets),
+        Layout::Name => read_name(octets),
+        Layout::Mail => read_mail(octets),
+        Layout::Service => read_service(octets),
+        Layout::Authority => read_authority(octets),
+        Layout::Strings => read_strings(octets),
+        Layout::Opaque => Ok(RData::Other(octets)),
+    }
+}
+
+fn read_ipv4(octets: &[u8]) -> Result<RData<'_>> {
+    if octets.len() != 4 {
+        return Err(Error);
+    }
+    Ok(RData::A(Ipv4Address::from_octets(
+        octets.try_into().unwrap(),
+    )))
+}
+
+fn read_ipv6(octets: &[u8]) -> Result<RData<'_>> {
+    if octets.len() != 16 {
+        return Err(Error);
+    }
+    Ok(RData::Aaaa(Ipv6Address::from_octets(
+        octets.try_into().unwrap(),
+    )))
+}
+
+fn read_name(octets: &[u8]) -> Result<RData<'_>> {
+    if !is_name(octets) {
+        return Err(Error);
+    }
+    Ok(RData::Name(octets))
+}
+
+fn read_mail(octets: &[u8]) -> Result<RData<'_>> {
+    if octets.len() < field::MX_NAME {
+        return Err(Error);
+    }
+    let exchange = &octets[field::MX_NAME..];
+    if !is_name(exchange) {
+        return Err(Error);
+    }
+    let preference = octets.u16_at(field::PREFERENCE);
+    Ok(RData::Mx {
+        preference,
+        exchange,
+    })
+}
+
+fn read_service(octets: &[u8]) -> Result<RData<'_>> {
+    if octets.len() < field::SRV_NAME {
+        return Err(Error);
+    }
+    let target = &octets[field::SRV_NAME..];
+    if !is_name(target) {
+        return Err(Error);
+    }
+    Ok(RData::Srv {
+        priority: octets.u16_at(field::PRIORITY),
+        weight: octets.u16_at(field::WEIGHT),
+        port: octets.u16_at(field::PORT),
+        target,
+    })
+}
+
+fn read_authority(octets: &[u8]) -> Result<RData<'_>> {
+    let (primary, behind) = split_name(octets)?;
+    let (mailbox, after) = split_name(behind)?;
+    if after.len() != field::SOA_END {
+        return Err(Error);
+    }
+    Ok(RData::Soa(Authority {
+        primary,
+        mailbox,
+        serial: after.u32_at(field::SERIAL),
+        refresh: after.u32_at(field::REFRESH),
+        retry: after.u32_at(field::RETRY),
+        expire: after.u32_at(field::EXPIRE),
+        minimum: after.u32_at(field::MINIMUM),
+    }))
+}
+
+fn read_strings(octets: &[u8]) -> Result<RData<'_>> {
+    if octets.is_empty() || !are_strings(octets) {
+        return Err(Error);
+    }
+    Ok(RData::Txt(octets))
+}
+
+// Whether these bytes are one part of a name, and nothing more.
+fn is_name(octets: &[u8]) -> bool {
+    match split_name(octets) {
+        Ok((_, rest)) => rest.is_empty(),
+        Err(_) => false,
+    }
+}
+
+// Whether these bytes are strings, each behind its length.
+fn are_strings(octets: &[u8]) -> bool {
+    let mut left = octets;
+    while !left.is_empty() {
+        match behind_string(left) {
+            Some(rest) => left = rest,
+            None => return false,
+        }
+    }
+    true
+}
+
+// What stands behind the string at the front of octets. None where no whole string stands.
+fn behind_string(octets: &[u8]) -> Option<&[u8]> {
+    match octets {
+        [len, rest @ ..] if *len as usize <= rest.len() => Some(&rest[*len as usize..]),
+        _ => None,
+    }
+}
