@@ -2,13 +2,16 @@
 use Rattle.std.specs.Prelude.{◌≡◌, ◌≢◌, ℕ, ◌+◌, ◌-◌, ◌≤◌, ◌<◌, ◌^◌, ◌↔◌, Bool, nat_le, ◌&&◌, List, [], ◌∷◌, ◌++◌}
 use Rattle.std.specs.Prelude.{length}
 use Rattle.std.specs.Prelude.{if◌then◌else◌, Option, None, Some, Result, IsOk, OnOk, OnErr}
+use Rattle.std.specs.Prelude.{flat_map}
+use Rattle.std.specs.Option.{is_some, option_map}
 use Rattle.wirebase.specs.Bytes.{over}
 use Rattle.wirebase.specs.Format.{Format, RoundTrips}
+use Rattle.wirebase.specs.Ipv4.{octets_of}
 use Rattle.wirebase.specs.Numbered.{IsProper}
 use Rattle.wirebase.specs.declared.error.Error.{Error}
 use Rattle.wirebase.specs.declared.ipv4.Ipv4Address.{Ipv4Address}
 use Rattle.dhcp_wire.specs.declared.dhcpv4.tables.MessageType.TheVariants as message
-use Rattle.dhcp_wire.specs.Dhcpv4.{Value, Slot, slots_of, text, header_text, options_of, IsPacket}
+use Rattle.dhcp_wire.specs.Dhcpv4.{Value, text, header_text, options_of, IsPacket}
 use Rattle.dhcp_wire.specs.Dhcpv4Options.{OptionValue, option_text}
 use Rattle.dhcp_wire.specs.Dhcpv4Tables.{message_rows}
 
@@ -19,13 +22,20 @@ abbrev pub data_len : Option (List ℕ) → ℕ
 data_len None = 0
 data_len (Some d) = 2 + length d
 
-abbrev pub slots_len : List Slot → ℕ
-slots_len [] = 0
-slots_len (s ∷ rest) = data_len s.body + slots_len rest
+abbrev pub len_if : Bool → ℕ → ℕ
+len_if present len = if present then len else 0
 
--- the header of 240 bytes, the end mark, and the options of the fields
+-- the header, the end mark, and all options of a fixed length
+abbrev pub fixed_len : Value → ℕ
+fixed_len v =
+    244 + len_if (is_some v.client_identifier) 9 + len_if (is_some v.server_identifier) 6 + len_if (is_some v.router) 6
+    + len_if (is_some v.subnet_mask) 6 + len_if (is_some v.requested_ip) 6 + len_if (is_some v.max_size) 4
+    + len_if (is_some v.lease_duration) 6 + len_if (is_some v.renew_duration) 6 + len_if (is_some v.rebind_duration) 6
+
+-- with the two lists
 abbrev pub fields_len : Value → ℕ
-fields_len v = 241 + slots_len (slots_of v)
+fields_len v =
+    fixed_len v + data_len v.parameter_request_list + data_len (option_map (flat_map octets_of) v.dns_servers)
 
 abbrev pub options_len : List OptionValue → ℕ
 options_len [] = 0

@@ -9,8 +9,8 @@ ghost use Rattle.wirebase.specs.Ethernet.{octets_of as ethernet_octets};
 ghost use Rattle.wirebase.specs.HardwareAddress.{ethernet_of};
 ghost use Rattle.wirebase.specs.Ipv4.{octets_of};
 ghost use Rattle.dhcp_wire.specs.Dhcpv4.{value_of, slot, slots_of, options_of, header_fields, text};
-ghost use Rattle.dhcp_wire.specs.Dhcpv4Emission.{WritesOptions, progress, step_slot, steps, step_all};
-ghost use Rattle.dhcp_wire.specs.Dhcpv4Format.{data_len, fields_len, text_len, format, Emits};
+ghost use Rattle.dhcp_wire.specs.Dhcpv4Emission.{WritesOptions, counted_len, progress, step_slot, steps, step_all};
+ghost use Rattle.dhcp_wire.specs.Dhcpv4Format.{data_len, text_len, format, Emits};
 ghost use Rattle.dhcp_wire.specs.Dhcpv4Options.{value_of_option};
 ghost use Rattle.dhcp_wire.specs.Dhcpv4Packet.{inner, magic_field};
 ghost use Rattle.dhcp_wire.specs.Dhcpv4Writer.{the_slice};
@@ -73,8 +73,8 @@ impl Repr<'_> {
 
     // The bytes of all but the additional options; the end mark takes one.
     fn fields_len(&self) -> usize
-        requires { fields_len (value_of self.now) ≤ usize.MAX }
-        ensures { result ≡ fields_len (value_of self.now) }
+        requires { counted_len (value_of self.now) ≤ usize.MAX }
+        ensures { result ≡ counted_len (value_of self.now) }
     {
         field::OPTIONS
             + 1
