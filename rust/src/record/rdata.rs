@@ -263,3 +263,6 @@ fn behind_string(octets: &[u8]) -> Option<&[u8]> {
         _ => None,
     }
 }
+
+#[cfg(test)]
+mod tests;

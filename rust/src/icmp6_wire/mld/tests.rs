@@ -50,13 +50,12 @@ fn check_list<const N: usize>(list: &[AddressRecordRepr<'_>], wanted: &[u8; N]) 
     check_written(&report, wanted);
 }
 
-// Writes a report of these records over the front of 64 octets that are all the same, and checks that it is those which
-// are wanted, and that the octets behind it stay.
-fn check_front(list: &[AddressRecordRepr<'_>], wanted: &[u8]) {
-    let report = Repr::ReportRecordReprs(list);
+// Writes a message over the front of 64 octets that are all the same, and checks that it is those which are wanted, and
+// that the octets behind it stay.
+fn check_front(message: &Repr<'_>, wanted: &[u8]) {
     for &fill in FILLS {
         let mut octets = [fill; 64];
-        report.emit_into(&mut octets);
+        message.emit_into(&mut octets);
         let len = wanted.len();
         same_of(fill, &octets[..len], wanted);
         same_of(fill, &octets[len..], &[fill; 64][len..]);
@@ -227,13 +226,14 @@ fn records_are_written_in_their_order() {
         AddressRecordRepr::new(RecordType::Unknown(7), IPV6_LINK_LOCAL_ALL_ROUTERS),
     ];
     check_list(&records, &TWO_RECORDS);
-    check_front(&records, &TWO_RECORDS);
+    check_front(&Repr::ReportRecordReprs(&records), &TWO_RECORDS);
 }
 
 #[test]
 fn an_empty_list_of_records_is_written() {
     check_list(&[], &[0x8f, 0, 0, 0, 0, 0, 0, 0]);
-    check_front(&[], &[0x8f, 0, 0, 0, 0, 0, 0, 0]);
+    let report = Repr::ReportRecordReprs(&[]);
+    check_front(&report, &[0x8f, 0, 0, 0, 0, 0, 0, 0]);
 }
 
 // Checks that these octets count 300 records, and that each of them is this one.

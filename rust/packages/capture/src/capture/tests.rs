@@ -110,7 +110,7 @@ fn check(octets: &[u8], rows: &[Row], ending: Ending) {
 }
 
 // A capture, its records, and where its units end: those before its first record, and each of the others.
-type File = (&'static [u8], &'static [Row], &'static [(usize, usize)]);
+type File = (&'static [u8], &'static [Row], &'static [(usize, u64)]);
 
 // Each with the ends of its units, and how many records there are up to each.
 const FILES: &[File] = &[
@@ -145,7 +145,7 @@ fn files_of_each_kind() {
 }
 
 // How many records a front of so many bytes holds, and what ends it.
-fn cut_at(len: usize, units: &[(usize, usize)]) -> (usize, Ending) {
+fn cut_at(len: usize, units: &[(usize, u64)]) -> (u64, Ending) {
     let mut records = 0;
     let mut ending = if len < 4 {
         Ending::NotACapture
@@ -168,8 +168,15 @@ fn each_front_of_a_file() {
     for (octets, rows, units) in FILES {
         for len in 0..octets.len() {
             let (records, ending) = cut_at(len, units);
-            let kept = rows.get(..records).unwrap_or(&[]);
-            check(&octets[..len], kept, ending);
+            let mut input = &octets[..len];
+            let mut capture = Capture::new();
+            for want in rows.iter() {
+                if want.0 <= records {
+                    check_record(octets, &mut capture, &mut input, want);
+                }
+            }
+            let read = capture.next(&mut input);
+            same_of((octets, len), read, Ok(Next::Ended(ending)));
         }
     }
 }

@@ -1,6 +1,8 @@
 // Made from crates/icmp6_wire/src/icmpv6/tests/errors.rt by rust/erase.
 
-use super::{TOO_BIG, all, behind, check_found, check_written, destination, is_read, read, source};
+use super::{
+    FILLS, TOO_BIG, all, behind, check_found, check_written, destination, is_read, read, source,
+};
 use crate::icmp6_wire::icmpv6::{DstUnreachable, Packet, ParamProblem, Repr, TimeExceeded};
 use crate::icmp6_wire::testing::{differ, holds_of, same, same_of};
 use crate::wirebase::capabilities::Checksum;
@@ -137,13 +139,22 @@ fn errors_quote_1192_bytes_at_the_most() {
     check_len(&data, 1240);
 }
 
+// Writes an error of these data, more than it quotes, over octets that are all this one, and checks its checksum and
+// that it is read with what it quotes of them.
+fn check_read_over(data: &[u8], fill: u8) {
+    let mut octets = [fill; 1240];
+    let mut packet = Packet::new_unchecked(octets.as_mut_slice());
+    too_big(data).emit(&source(), &destination(), &mut packet, &all(Checksum::Both));
+    same_of(fill, &octets[2..4], [0xcc, 0xdb].as_slice());
+    check_found(&read(&octets, Checksum::Both), &too_big(&data[..1192]));
+}
+
 #[test]
 fn what_an_error_quotes_is_read() {
     let data = [0x11; 9999];
-    let mut octets = [0xff; 1240];
-    let mut packet = Packet::new_unchecked(octets.as_mut_slice());
-    too_big(&data).emit(&source(), &destination(), &mut packet, &all(Checksum::Both));
-    check_found(&read(&octets, Checksum::Both), &too_big(&data[..1192]));
+    for &fill in FILLS {
+        check_read_over(&data, fill);
+    }
 }
 
 // The bytes of the data that a packet that is too big quotes; nothing where the octets are another message.
@@ -154,23 +165,26 @@ fn quoted_len(octets: &[u8]) -> Option<usize> {
     }
 }
 
-// Checks an error of these data, more than it quotes, that is written into a longer buffer.
-fn check_in_longer_buffer(data: &[u8]) {
-    let mut octets = [0xff; 1300];
+// Checks an error of these data, more than it quotes, that is written into a longer buffer, whose octets are all this
+// one.
+fn check_in_longer_buffer(data: &[u8], fill: u8, checksum: &[u8; 2]) {
+    let mut octets = [fill; 1300];
     let caps = all(Checksum::Both);
     too_big(data).emit_into(&source(), &destination(), &mut octets, &caps);
     // The checksum is of all 1,300 octets, of which the last 60 stay as they were.
-    same(&octets[2..4], [0xcc, 0x9f].as_slice());
-    same(&octets[1240..], [0xff; 60].as_slice());
+    same_of(fill, &octets[2..4], checksum.as_slice());
+    same_of(fill, &octets[1240..], [fill; 60].as_slice());
     // All behind the quoted header is read as its data.
-    same(quoted_len(&octets), Some(1252));
+    same_of(fill, quoted_len(&octets), Some(1252));
 }
 
 #[test]
 fn an_error_in_a_longer_buffer_has_the_checksum_of_the_whole() {
     let data = [0x11; 9999];
-    check_in_longer_buffer(&data[..1193]);
-    check_in_longer_buffer(&data);
+    check_in_longer_buffer(&data[..1193], 0xff, &[0xcc, 0x9f]);
+    check_in_longer_buffer(&data, 0xff, &[0xcc, 0x9f]);
+    check_in_longer_buffer(&data, 0x00, &[0xcc, 0x9f]);
+    check_in_longer_buffer(&data, 0x2a, &[0xdb, 0xae]);
 }
 
 #[test]

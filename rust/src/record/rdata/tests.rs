@@ -1,0 +1,104 @@
+// Made from crates/record_wire/src/rdata/tests.rt by rust/erase.
+//! The data of records by their type.
+
+use super::{Authority, RData};
+use crate::dns_wire::dns::Type;
+use crate::record::testing::same_of;
+use crate::wirebase::{Error, Ipv4Address, Ipv6Address, Result};
+
+// The types that have no name in the tables (RFC 1035 section 3.2.2, RFC 2782).
+const PTR: Type = Type::Unknown(12);
+
+const MX: Type = Type::Unknown(15);
+
+const TXT: Type = Type::Unknown(16);
+
+const SRV: Type = Type::Unknown(33);
+
+// Ends the test unless these bytes are this data of a type of the internet.
+fn is(type_: Type, octets: &[u8], data: Result<RData<'_>>) {
+    same_of(octets, RData::parse(type_, 1, octets), data);
+}
+
+#[test]
+fn addresses() {
+    let address = Ipv4Address::new(10, 1, 0, 52);
+    is(Type::A, &[10, 1, 0, 52], Ok(RData::A(address)));
+    is(Type::A, &[10, 1, 0], Err(Error));
+    let loopback = [0, 0, 0, 0, 0, 0, 0, 0, 0, 0, 0, 0, 0, 0, 0, 1];
+    let address = Ipv6Address::from_octets(loopback);
+    is(Type::Aaaa, &loopback, Ok(RData::Aaaa(address)));
+    is(Type::Aaaa, &loopback[1..], Err(Error));
+    same_of(
+        "another class",
+        RData::parse(Type::A, 3, &[10]),
+        Ok(RData::Other(&[10])),
+    );
+}
+
+#[test]
+fn names() {
+    for type_ in [Type::Cname, Type::Ns, PTR] {
+        is(
+            type_,
+            b"\x01A\x03ISI\xc0\x1a",
+            Ok(RData::Name(b"\x01A\x03ISI\xc0\x1a")),
+        );
+        is(type_, b"\0", Ok(RData::Name(b"\0")));
+        is(type_, b"\x01A\0\0", Err(Error));
+        is(type_, b"\x01A", Err(Error));
+        is(type_, b"", Err(Error));
+    }
+}
+
+// Those of RFC 1035 section 5.3 and RFC 2782: VENERA for mail, and port 21 of a server.
+#[test]
+fn hosts_of_services() {
+    let mail = RData::Mx {
+        preference: 10,
+        exchange: b"\x06VENERA\xc0\x0c",
+    };
+    is(MX, b"\x00\x0a\x06VENERA\xc0\x0c", Ok(mail));
+    is(MX, b"\x00\x0a", Err(Error));
+    is(MX, b"\x00", Err(Error));
+    let service = RData::Srv {
+        priority: 1,
+        weight: 3,
+        port: 21,
+        target: b"\x06server\0",
+    };
+    is(SRV, b"\x00\x01\x00\x03\x00\x15\x06server\0", Ok(service));
+    is(SRV, b"\x00\x01\x00\x03\x00\x15\x06server\0\0", Err(Error));
+    is(SRV, b"\x00\x01\x00\x03\x00", Err(Error));
+}
+
+// The zone of RFC 1035 section 5.3: serial 20, refreshed after 7200 s, tried again after 600 s, good for 3600000 s,
+// and 60 s at the least.
+#[test]
+fn zones() {
+    let octets =
+        b"\x06VENERA\xc0\x0c\x0eAction.domains\xc0\x0c\0\0\0\x14\0\0\x1c\x20\0\0\x02\x58\0\x36\xee\x80\0\0\0\x3c";
+    let authority = Authority {
+        primary: b"\x06VENERA\xc0\x0c",
+        mailbox: b"\x0eAction.domains\xc0\x0c",
+        serial: 20,
+        refresh: 7200,
+        retry: 600,
+        expire: 3600000,
+        minimum: 60,
+    };
+    is(Type::Soa, octets, Ok(RData::Soa(authority)));
+    is(Type::Soa, &octets[..octets.len() - 1], Err(Error));
+    is(Type::Soa, &octets[..9], Err(Error));
+}
+
+#[test]
+fn strings() {
+    is(TXT, b"\x0bv=spf1 -all", Ok(RData::Txt(b"\x0bv=spf1 -all")));
+    is(TXT, b"\x01a\x00\x02bc", Ok(RData::Txt(b"\x01a\x00\x02bc")));
+    is(TXT, b"\x01a\x02b", Err(Error));
+    is(TXT, b"", Err(Error));
+    let other = Type::Unknown(41);
+    is(other, b"\x01", Ok(RData::Other(b"\x01")));
+    is(other, b"", Ok(RData::Other(b"")));
+}
