@@ -1,13 +1,11 @@
 -- What is told of neighbors and routers, and in which messages.
-use Rattle.std.proofs.Common.{◌≡◌, ℕ, List, [], ◌∷◌, Option, None, Some, length, drop, slice_index, refl, ap, ◌∙◌, arith, subst}
+use Rattle.std.proofs.Common.{◌≡◌, ℕ, List, [], ◌∷◌, Option, None, Some, length, drop, slice_index, refl, ap, ◌∙◌}
+use Rattle.std.proofs.Common.{arith, subst}
 use Rattle.std.proofs.Math.ListN.{drop_of_length-le}
 use Rattle.std.proofs.lemmas.List.{drop_more}
 use Rattle.std.specs.List.{filter_map}
 use Rattle.control_wire.proofs.HardwareAddresses.{same_raw}
-use Rattle.control_wire.specs.Bytes.{byte_of}
 use Rattle.control_wire.specs.DurationType.{Duration}
-use Rattle.control_wire.specs.HardwareAddress.{raw_bytes}
-use Rattle.control_wire.specs.Icmp.{type_field}
 use Rattle.control_wire.specs.Icmpv6.{MessageValue, ndisc}
 use Rattle.control_wire.specs.Icmpv6Packet.{header_len_of}
 use Rattle.control_wire.specs.Icmpv6Tables.{message_of}

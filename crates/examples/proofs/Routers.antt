@@ -1,12 +1,13 @@
 -- The prefixes that the options of a router tell, block by block.
 use Rattle.std.proofs.Common.{◌≡◌, ℕ, ◌*◌, List, [], ◌∷◌, ◌++◌, length, take, drop, refl, sym, ap, subst, ◌∙◌, arith}
 use Rattle.std.proofs.Common.{length-append}
-use Rattle.std.specs.Prelude.{Option, None, Some}
+use Rattle.std.specs.Prelude.{None}
 use Rattle.std.specs.List.{filter_map}
 use Rattle.std.proofs.Math.ListN.{get_or-append}
 use Rattle.std.proofs.lemmas.List.{take_at, drop_at}
 use Rattle.control_wire.specs.NdiscOption.{units_in}
-use Rattle.control_wire.specs.NdiscOptionRepr.{OptionValue, source, target, prefix_, redirected, mtu, unknown, BeginsWith}
+use Rattle.control_wire.specs.NdiscOptionRepr.{OptionValue, source, target, prefix_, redirected, mtu, unknown}
+use Rattle.control_wire.specs.NdiscOptionRepr.{BeginsWith}
 use Rattle.control_wire.specs.NdiscBlocks.{IsBlock, AreBlocks, ends, goes_on, skips, prefix_in}
 use Rattle.control_wire.specs.NdiscPrefixInformationType.{PrefixInformation}
 use Rattle.examples.specs.Router.{TellPrefixes}

@@ -1,6 +1,6 @@
 -- What a host that listens to multicast groups over IPv6 sends, and when (RFC 3810).
-use Rattle.std.specs.Prelude.{◌≡◌, ◌⊎◌, ℕ, ◌+◌, ◌*◌, ◌/◌, ◌%◌, ◌^◌, ◌≤◌, nat_lt, if◌then◌else◌, Bool, List, [], ◌∷◌, ◌++◌}
-use Rattle.std.specs.Prelude.{length, take}
+use Rattle.std.specs.Prelude.{◌≡◌, ◌⊎◌, ℕ, ◌+◌, ◌*◌, ◌/◌, ◌%◌, ◌^◌, ◌≤◌, nat_lt, if◌then◌else◌, Bool, List}
+use Rattle.std.specs.Prelude.{[], ◌∷◌, ◌++◌, length, take}
 use Rattle.control_wire.specs.Capabilities.{all_of}
 use Rattle.control_wire.specs.ChecksumType.TheVariants.{Both}
 use Rattle.control_wire.specs.Duration.{micros_of}

@@ -9,7 +9,7 @@ use Rattle.control_wire.specs.Ipv4 as ipv4
 use Rattle.control_wire.specs.Ipv6 as ipv6
 use Rattle.control_wire.specs.Ipv6Address.{octets_of, IsMulticast}
 use Rattle.control_wire.specs.Ipv6AddressType.{Ipv6Address}
-use Rattle.quote_wire.specs.Error.{ErrorValue, packet_text}
+use Rattle.quote_wire.specs.Error.{packet_text}
 use Rattle.quote_wire.specs.Icmpv4Error as icmpv4
 use Rattle.quote_wire.specs.Icmpv6Error as icmpv6
 use Rattle.quote_wire.specs.declared.icmpv4_error.Kind.TheVariants as kind_v4

@@ -7,7 +7,7 @@ ghost use Rattle.std.specs.Prelude.{IsTrue, IfSome, IsSome, IsSomeAnd, None};
 ghost use Rattle.control_wire.specs.Duration.{micros_of};
 ghost use Rattle.control_wire.specs.Ipv6Address.{octets_of, IsMulticast};
 ghost use Rattle.control_wire.specs.Ipv6AddressType.{Ipv6Address as AnyAddress};
-ghost use Rattle.control_wire.specs.Mld.{MldValue, AreGroups, CanEmit, text_len, values_of, records as reported};
+ghost use Rattle.control_wire.specs.Mld.{MldValue, AreGroups, CanEmit, text_len, values_of};
 ghost use Rattle.control_wire.specs.Mld.{report as report_of, value_of as content_of};
 ghost use Rattle.control_wire.specs.MldRecord.{address_record, value_of, group_of, text as record_text};
 ghost use Rattle.examples.specs.Listener.{delay_millis, IsListedIn, IsReport, IsReportOf, IsQuery, IsDue};

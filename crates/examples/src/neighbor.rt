@@ -1,5 +1,5 @@
-//! A host on an Ethernet that looks for its neighbors, and that its neighbors look for (RFC 4861 section 7). Each message
-//! is sent with hop limit 255, and one that came with another is not taken.
+//! A host on an Ethernet that looks for its neighbors, and that its neighbors look for (RFC 4861 section 7). Each
+//! message is sent with hop limit 255, and one that came with another is not taken.
 
 ghost use Rattle.std.specs.Prelude.{◌≡◌, ◌≤◌, ◌↔◌, ◌++◌, length, take, drop, IsTrue, IfSome, IsSome, IsSomeAnd};
 ghost use Rattle.std.specs.Prelude.{None, Some};

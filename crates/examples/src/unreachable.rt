@@ -38,8 +38,8 @@ const IPV4_HEADER_LEN: u8 = 20;
 const IPV6_HEADER_LEN: usize = 40;
 
 /// Writes the error that no one listens at the port of a datagram of IPv4 over the front of the octets, and says how
-/// many bytes it takes: 8, and as many as it quotes of the datagram, at most 548. It goes to the datagram's source. None
-/// exactly where no error may be sent about it, or where the octets have no room; then they are as they were.
+/// many bytes it takes: 8, and as many as it quotes of the datagram, at most 548. It goes to the datagram's source.
+/// None exactly where no error may be sent about it, or where the octets have no room; then they are as they were.
 pub fn port_unreachable(datagram: &[u8], out: &mut [u8]) -> Option<usize>
     ensures tells { IfSome result (λ n. MayTell datagram.now
         × (take n out.new ≡ port_unreachable_text datagram.now)) }

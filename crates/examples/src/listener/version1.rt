@@ -2,7 +2,7 @@
 //! have just 24 bytes (RFC 3810 section 8.2.1). Each group has a report of its own. Messages go with hop limit 1 and
 //! behind the options of `router_alert`, too.
 
-ghost use Rattle.std.specs.Prelude.{◌≡◌, ◌≤◌, length, take, drop, IfSome, IsSome, None, Some};
+ghost use Rattle.std.specs.Prelude.{◌≡◌, ◌≤◌, length, take, drop, IfSome, None, Some};
 ghost use Rattle.control_wire.specs.DurationType.{Duration as AnyDuration};
 ghost use Rattle.examples.specs.ListenerVersion1.{text_of, IsMessage, IsQueryFor, IsDone};
 

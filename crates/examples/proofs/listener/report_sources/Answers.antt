@@ -1,4 +1,4 @@
-use Rattle.std.proofs.Common.{◌≡◌, ◌≤◌, length, take, subst, arith}
+use Rattle.std.proofs.Common.{◌≤◌, length, take, subst, arith}
 use Rattle.std.proofs.lemmas.Option.{IfSome_then}
 use Rattle.control_wire.specs.Mld.{report}
 use Rattle.examples.specs.Listener.{IsReport}

@@ -1,6 +1,5 @@
 use Rattle.std.proofs.Common.{◌≡◌, ◌≤◌, ◌∙◌, ◌++◌, length, take, drop, arith, subst, rules, length-take-le}
 use Rattle.std.proofs.Math.Seq.{take-append_seam}
-use Rattle.std.proofs.lemmas.Slice.{drop-append-drop}
 use Rattle.control_wire.specs.Capabilities.{all_of}
 use Rattle.control_wire.specs.ChecksumType.TheVariants.{Both}
 use Rattle.examples.proofs.unreachable.write_v6.Goals as goal
