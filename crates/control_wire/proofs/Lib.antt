@@ -2,4 +2,5 @@
 -- same octets are the same.
 pub use Rattle.dns_wire.proofs.DnsNameLabels
 pub use Rattle.wirebase.proofs.ByteParts
+pub use Rattle.wirebase.proofs.HardwareAddresses
 pub use Rattle.wirebase.proofs.Ipv6Header

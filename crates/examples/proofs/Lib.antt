@@ -1,6 +1,7 @@
 pub mod Alerts
 pub mod Leases
-pub mod Cuts
+pub mod Listeners
 pub mod Neighbors
 pub mod NameCases
 pub mod ResolverSearch
+pub mod Routers

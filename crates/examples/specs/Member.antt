@@ -1,16 +1,9 @@
--- What a host that is a member of multicast groups sends, and when.
+-- What a host that is a member of multicast groups over IPv4 sends, and when.
 use Rattle.std.specs.Prelude.{◌≡◌, ◌⊎◌, ℕ, List, [], ◌∷◌}
 use Rattle.control_wire.specs.Checksum.{IsGood}
 use Rattle.control_wire.specs.DurationType.{Duration}
 use Rattle.control_wire.specs.Ipv4.{octets_of}
 use Rattle.control_wire.specs.Ipv4AddressType.{Ipv4Address}
-use Rattle.control_wire.specs.Capabilities.{all_of}
-use Rattle.control_wire.specs.Ipv6Address as ipv6
-use Rattle.control_wire.specs.ChecksumType.TheVariants.{Both}
-use Rattle.control_wire.specs.Ipv6AddressType.{Ipv6Address}
-use Rattle.control_wire.specs.Icmpv6.{packet_text, mld}
-use Rattle.control_wire.specs.Mld.{records}
-use Rattle.control_wire.specs.MldRecord.{RecordValue}
 use Rattle.control_wire.specs.Igmp.{IsMessage}
 use Rattle.control_wire.specs.IgmpVersionType.{IgmpVersion}
 use Rattle.control_wire.specs.IgmpReprType.{Repr}
@@ -28,10 +21,3 @@ AsksFor asked group = (asked ≡ group) ⊎ (octets_of asked ≡ 0 ∷ 0 ∷ 0 �
 abbrev pub IsQueryFor : List ℕ → Ipv4Address → Duration → IgmpVersion → Type 0
 IsQueryFor bytes group time version =
     (asked : Ipv4Address) × IsGoodMessage bytes (MembershipQuery time asked version) × AsksFor asked group
-
--- the report of these records from this address to ff02::16, with its checksum
-abbrev pub IsReport : Ipv6Address → List RecordValue → List ℕ → Type 0
-IsReport own reported bytes =
-    (to : Ipv6Address)
-    × (ipv6.octets_of to ≡ 0xff ∷ 2 ∷ 0 ∷ 0 ∷ 0 ∷ 0 ∷ 0 ∷ 0 ∷ 0 ∷ 0 ∷ 0 ∷ 0 ∷ 0 ∷ 0 ∷ 0 ∷ 0x16 ∷ [])
-    × (bytes ≡ packet_text (all_of Both) own to (mld (records reported)))

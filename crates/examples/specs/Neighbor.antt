@@ -1,55 +1,90 @@
--- What a host of an Ethernet answers to who looks for its address on the link, and what it takes from the
--- advertisements of neighbors and routers.
-use Rattle.std.specs.Prelude.{◌≡◌, ℕ, List, Option, Some}
+-- What a host of an Ethernet sends to find its neighbors, whom it answers, and what it takes from their advertisements
+-- (RFC 4861).
+use Rattle.std.specs.Prelude.{◌≡◌, ℕ, List, [], ◌∷◌, Option, None, Some, take, replicate}
+use Rattle.std.specs.Int.RustNames.{bit_and}
 use Rattle.control_wire.specs.Capabilities.{all_of}
 use Rattle.control_wire.specs.ChecksumType.TheVariants.{Both}
-use Rattle.control_wire.specs.Ipv6Address.{octets_of}
+use Rattle.control_wire.specs.Ipv6Address.{octets_of, IsMulticast}
 use Rattle.control_wire.specs.Ipv6AddressType.{Ipv6Address}
 use Rattle.control_wire.specs.Icmpv6.{ndisc, packet_text}
-use Rattle.control_wire.specs.Ndisc.{NdiscValue, router_advert, neighbor_solicit, neighbor_advert}
+use Rattle.control_wire.specs.Ndisc.{NdiscValue, neighbor_solicit, neighbor_advert}
+use Rattle.control_wire.specs.NdiscFound.{link_of}
 use Rattle.control_wire.specs.NdiscNeighborFlagsType.{NeighborFlags}
 use Rattle.control_wire.specs.NdiscTables.{neighbor_bits}
 use Rattle.examples.specs.Ping.{IsGoodMessageV6}
-use Rattle.examples.specs.declared.neighbor.RouterInformation.{RouterInformation}
+use Rattle.examples.specs.declared.neighbor.NeighborInformation.{NeighborInformation}
 
--- a message of neighbor discovery with a good checksum, between addresses
-abbrev pub IsGoodMessage : Ipv6Address → Ipv6Address → List ℕ → NdiscValue → Type 0
-IsGoodMessage source destination bytes v = IsGoodMessageV6 source destination bytes (ndisc v)
+-- ---- addresses
 
--- a solicitation of the neighbor that has this address
-abbrev pub Solicits : Ipv6Address → Ipv6Address → Ipv6Address → List ℕ → Type 0
-Solicits peer asked own bytes =
-    (sender : Option (List ℕ)) × IsGoodMessage peer asked bytes (neighbor_solicit own sender)
+-- no address, ::
+abbrev pub IsUnspecified : Ipv6Address → Type 0
+IsUnspecified address = octets_of address ≡ replicate 16 0
 
--- a message is the solicitation of the neighbor that has this address
-abbrev pub LooksFor : Ipv6Address → NdiscValue → Type 0
-LooksFor own (neighbor_solicit t l) = octets_of t ≡ octets_of own
-LooksFor own v = ⊥
+-- all nodes of a link, ff02::1
+abbrev pub IsAllNodes : Ipv6Address → Type 0
+IsAllNodes address =
+    octets_of address ≡ 0xff ∷ 2 ∷ 0 ∷ 0 ∷ 0 ∷ 0 ∷ 0 ∷ 0 ∷ 0 ∷ 0 ∷ 0 ∷ 0 ∷ 0 ∷ 0 ∷ 0 ∷ 1 ∷ []
 
--- The advertisement that answers it, with its checksum: from this address to the one that asked, solicited, and to take
--- the place of what is known of the address.
-abbrev pub IsAnswer : Ipv6Address → Ipv6Address → List ℕ → List ℕ → Type 0
-IsAnswer own peer address bytes =
-    (flags : NeighborFlags) × (neighbor_bits flags ≡ 0x60)
-    × (bytes ≡ packet_text (all_of Both) own peer (ndisc (neighbor_advert flags own (Some address))))
+-- the first 13 octets of every solicited-node address, ff02::1:ff00:0/104 (RFC 4291 section 2.7.1)
+abbrev pub solicited_node_prefix : List ℕ
+solicited_node_prefix = 0xff ∷ 2 ∷ 0 ∷ 0 ∷ 0 ∷ 0 ∷ 0 ∷ 0 ∷ 0 ∷ 0 ∷ 0 ∷ 1 ∷ 0xff ∷ []
 
--- a message is the advertisement of a neighbor, with this address of it on the link
-abbrev pub LinkAddressIn : Ipv6Address → List ℕ → NdiscValue → Type 0
-LinkAddressIn neighbor address (neighbor_advert flags t l) = (octets_of t ≡ octets_of neighbor) × (l ≡ Some address)
-LinkAddressIn neighbor address v = ⊥
+abbrev pub IsSolicitedNode : Ipv6Address → Type 0
+IsSolicitedNode address = take 13 (octets_of address) ≡ solicited_node_prefix
 
--- an advertisement of a neighbor tells this address of it on the link
-abbrev pub TellsLinkAddress : Ipv6Address → Ipv6Address → List ℕ → Ipv6Address → List ℕ → Type 0
-TellsLinkAddress source destination bytes neighbor address =
-    (v : NdiscValue) × IsGoodMessage source destination bytes v × LinkAddressIn neighbor address v
+-- ---- what a host sends
 
--- a message is the advertisement of a router, which tells this of it
-abbrev pub RouterIn : RouterInformation → NdiscValue → Type 0
-RouterIn router (router_advert hops flags lifetime reachable retrans l m p) =
-    (lifetime ≡ router.lifetime) × (m ≡ router.mtu) × (p ≡ router.prefix_info)
-RouterIn router v = ⊥
+-- a sender tells its address on the link, but from :: (sections 4.1 and 4.3)
+pub record IsSender (own : Ipv6Address) (address : List ℕ) (told : Option (List ℕ)) : Type 0 where
+  pub specified : (IsUnspecified own → ⊥) → told ≡ Some address
+  pub unspecified : IsUnspecified own → told ≡ None
 
--- an advertisement of a router tells this of it
-abbrev pub TellsRouter : Ipv6Address → Ipv6Address → List ℕ → RouterInformation → Type 0
-TellsRouter source destination bytes router =
-    (v : NdiscValue) × IsGoodMessage source destination bytes v × RouterIn router v
+-- the solicitation of a neighbor, from this host
+abbrev pub IsSolicitation : Ipv6Address → Ipv6Address → Ipv6Address → List ℕ → List ℕ → Type 0
+IsSolicitation own destination target address bytes =
+    (told : Option (List ℕ)) × IsSender own address told
+    × (bytes ≡ packet_text (all_of Both) own destination (ndisc (neighbor_solicit target told)))
+
+-- ---- what a host receives
+
+-- a message of neighbor discovery that was not forwarded, with a good checksum (sections 6.1 and 7.1)
+abbrev pub IsReceived : Ipv6Address → Ipv6Address → ℕ → List ℕ → NdiscValue → Type 0
+IsReceived source destination hops bytes v = (hops ≡ 255) × IsGoodMessageV6 source destination bytes (ndisc v)
+
+-- A message is the solicitation of the neighbor that has this address, no group's; from ::, where a host sees whether
+-- the address is taken, it went to a solicited-node address and tells no address on the link (section 7.1.1).
+abbrev pub LooksFor : Ipv6Address → Ipv6Address → Ipv6Address → NdiscValue → Type 0
+LooksFor peer asked own (neighbor_solicit target told) =
+    (octets_of target ≡ octets_of own) × (IsMulticast target → ⊥)
+    × (IsUnspecified peer → IsSolicitedNode asked × (told ≡ None))
+LooksFor peer asked own v = ⊥
+
+-- a valid solicitation of the neighbor that has this address
+abbrev pub Solicits : Ipv6Address → Ipv6Address → ℕ → Ipv6Address → List ℕ → Type 0
+Solicits peer asked hops own bytes = (v : NdiscValue) × IsReceived peer asked hops bytes v × LooksFor peer asked own v
+
+-- The advertisement that answers it, with its checksum: it goes to the one that asked, as solicited, or from :: to all
+-- nodes, and takes the place of what is known of the address (section 7.2.4).
+pub record IsAnswer (own peer destination : Ipv6Address) (address bytes : List ℕ) : Type 0 where
+  pub flags : NeighborFlags
+  pub solicited : (IsUnspecified peer → ⊥) → (destination ≡ peer) × (neighbor_bits flags ≡ 0x60)
+  pub unsolicited : IsUnspecified peer → IsAllNodes destination × (neighbor_bits flags ≡ 0x20)
+  pub text : bytes ≡ packet_text (all_of Both) own destination (ndisc (neighbor_advert flags own (Some address)))
+
+-- an advertisement answers a solicitation
+abbrev pub IsSolicited : NeighborFlags → Type 0
+IsSolicited flags = bit_and (neighbor_bits flags) 0x40 ≡ 0x40
+
+-- A message is the advertisement of a neighbor, no group's, which tells this of it; to a group it is not solicited
+-- (section 7.1.2).
+abbrev pub NeighborIn : Ipv6Address → NeighborInformation → NdiscValue → Type 0
+NeighborIn destination neighbor (neighbor_advert flags target told) =
+    (flags ≡ neighbor.flags) × (target ≡ neighbor.addr) × (told ≡ link_of neighbor.lladdr)
+    × (IsMulticast target → ⊥)
+    × (IsMulticast destination → IsSolicited flags → ⊥)
+NeighborIn destination neighbor v = ⊥
+
+-- a valid advertisement of a neighbor
+abbrev pub TellsNeighbor : Ipv6Address → Ipv6Address → ℕ → List ℕ → NeighborInformation → Type 0
+TellsNeighbor source destination hops bytes neighbor =
+    (v : NdiscValue) × IsReceived source destination hops bytes v × NeighborIn destination neighbor v
