@@ -1,158 +1,223 @@
 // Made from crates/examples/src/neighbor.rt by rust/erase.
-//! A host on an Ethernet that its neighbors look for, and what it takes from the advertisements of neighbors and
-//! routers (RFC 4861 sections 6.3.4, 7.2.4 and 7.2.5). That a message came with hop limit 255, and that a
-//! solicitation did not come from ::, is the caller's to see.
+//! A host on an Ethernet that looks for its neighbors, and that its neighbors look for (RFC 4861 section 7). Each
+//! message is sent with hop limit 255, and one that came with another is not taken.
 
 use control_wire::icmpv6::{Packet, Repr};
 use control_wire::ndisc::{self, NeighborFlags};
-use control_wire::ndiscoption::PrefixInformation;
 use control_wire::{
-    ChecksumCapabilities, Duration, EthernetAddress, Ipv6Address, RawHardwareAddress,
+    ChecksumCapabilities, EthernetAddress, IPV6_LINK_LOCAL_ALL_NODES, Ipv6Address,
+    RawHardwareAddress,
 };
 
-/// The bytes of an answer.
-pub const ANSWER_LEN: usize = 32;
+// The hop limit of every message: one that was forwarded has less (RFC 4861 section 11.2).
+const HOP_LIMIT: u8 = 255;
 
-/// Writes the advertisement that answers a solicitation for this host's address over the front of the reply, and says
-/// how many bytes it takes, 32. The solicitation came from `peer` and went to `asked`; the answer goes from `own` to
-/// `peer`, tells `lladdr`, and has the flags SOLICITED and OVERRIDE. None exactly where the octets are no solicitation
-/// for `own` with a good checksum, or where the reply has no room; then it is as it was.
+/// The solicited-node address of an address, `ff02::1:ff00:0/104` and the last three octets: who may have the address
+/// listens there (RFC 4291 section 2.7.1).
+pub fn solicited_node(address: &Ipv6Address) -> Ipv6Address {
+    let octets = address.octets();
+    Ipv6Address::from_octets([
+        0xff, 0x02, 0, 0, 0, 0, 0, 0, 0, 0, 0, 1, 0xff, octets[13], octets[14], octets[15],
+    ])
+}
+
+// Whether an address is a solicited-node address.
+fn is_solicited_node(address: &Ipv6Address) -> bool {
+    address.octets()[..13] == [0xff, 0x02, 0, 0, 0, 0, 0, 0, 0, 0, 0, 1, 0xff]
+}
+
+/// Writes the solicitation of the neighbor that has the address `target` over the front of the octets, and says how
+/// many bytes it takes, 32. It goes from this host's address to `destination`: to `solicited_node(target)`, or to the
+/// target itself to see whether it is still there (RFC 4861 sections 4.3, 7.2.2 and 7.3.3). From `::`, by which a host
+/// sees whether an address is free, it does not tell `lladdr` and takes 24 bytes (RFC 4862 section 5.4.2). None where
+/// the octets have no room; then they are as they were.
+pub fn solicit(
+    own: &Ipv6Address,
+    destination: &Ipv6Address,
+    target: &Ipv6Address,
+    lladdr: EthernetAddress,
+    out: &mut [u8],
+) -> Option<usize> {
+    let message = ndisc::Repr::NeighborSolicit {
+        target_addr: *target,
+        lladdr: sender(own, lladdr),
+    };
+    write(&message, own, destination, out)
+}
+
+// The address on the link that a sender tells: none from `::`.
+pub(crate) fn sender(own: &Ipv6Address, lladdr: EthernetAddress) -> Option<RawHardwareAddress> {
+    if own.is_unspecified() {
+        None
+    } else {
+        Some(RawHardwareAddress::from(lladdr))
+    }
+}
+
+// Writes a message over the front of the octets, and says how many bytes it takes.
+pub(crate) fn write(
+    message: &ndisc::Repr<'_>,
+    source: &Ipv6Address,
+    destination: &Ipv6Address,
+    out: &mut [u8],
+) -> Option<usize> {
+    let message = Repr::Ndisc(*message);
+    let len = message.buffer_len();
+    if out.len() < len {
+        return None;
+    }
+    let caps = ChecksumCapabilities::default();
+    message.emit_into(source, destination, &mut out[..len], &caps);
+    Some(len)
+}
+
+/// An answer to a solicitation.
+#[derive(Debug, PartialEq, Eq, Clone, Copy)]
+pub struct Reply {
+    /// Whom it goes to.
+    pub destination: Ipv6Address,
+    /// The bytes that it takes.
+    pub len: usize,
+}
+
+/// Writes the advertisement that answers a solicitation for this host's address `own` over the front of the reply,
+/// and says how many bytes it takes, 32, and whom it goes to. The solicitation came from `peer` and went to `asked`.
+/// The answer goes to `peer`, with the flags SOLICITED and OVERRIDE; where that is `::`, whose sender sees whether the
+/// address is free, to all nodes with OVERRIDE alone (RFC 4861 section 7.2.4). It tells `lladdr`. None exactly where
+/// the octets are no valid solicitation for `own`, or where the reply has no room; then it is as it was. An address
+/// that a host does not have yet is not answered for: `solicits` says that another host is after it.
 pub fn answer(
     peer: &Ipv6Address,
     asked: &Ipv6Address,
+    hop_limit: u8,
     own: &Ipv6Address,
     lladdr: EthernetAddress,
     solicitation: &[u8],
     reply: &mut [u8],
-) -> Option<usize> {
-    if !solicits(peer, asked, own, solicitation) || reply.len() < ANSWER_LEN {
+) -> Option<Reply> {
+    if !solicits(peer, asked, hop_limit, own, solicitation) {
         return None;
     }
-    write_answer(own, peer, lladdr, &mut reply[..ANSWER_LEN]);
-    Some(ANSWER_LEN)
+    let (destination, flags) = if peer.is_unspecified() {
+        (IPV6_LINK_LOCAL_ALL_NODES, NeighborFlags::OVERRIDE)
+    } else {
+        (*peer, NeighborFlags::SOLICITED | NeighborFlags::OVERRIDE)
+    };
+    let message = ndisc::Repr::NeighborAdvert {
+        flags,
+        target_addr: *own,
+        lladdr: Some(RawHardwareAddress::from(lladdr)),
+    };
+    match write(&message, own, &destination, reply) {
+        Some(len) => Some(Reply { destination, len }),
+        None => None,
+    }
 }
 
-// Whether the octets are a good solicitation for this host's address.
-fn solicits(peer: &Ipv6Address, asked: &Ipv6Address, own: &Ipv6Address, octets: &[u8]) -> bool {
-    let caps = ChecksumCapabilities::default();
-    let Ok(message) = Repr::parse(peer, asked, &Packet::new_unchecked(octets), &caps) else {
-        return false;
-    };
-    match &message {
-        Repr::Ndisc(message) => looks_for(message, own),
-        _ => false,
+/// Whether the octets are a valid solicitation for the address `own`, which came from `peer` with this hop limit and
+/// went to `asked` (RFC 4861 section 7.1.1). One from `::` for an address that this host is after, too, says that two
+/// hosts are (RFC 4862 section 5.4.3).
+pub fn solicits(
+    peer: &Ipv6Address,
+    asked: &Ipv6Address,
+    hop_limit: u8,
+    own: &Ipv6Address,
+    octets: &[u8],
+) -> bool {
+    match read(peer, asked, hop_limit, octets) {
+        Some(message) => looks_for(&message, peer, asked, own),
+        None => false,
     }
 }
 
 // Whether a message is a solicitation for this address.
-fn looks_for(message: &ndisc::Repr<'_>, own: &Ipv6Address) -> bool {
+fn looks_for(
+    message: &ndisc::Repr<'_>,
+    peer: &Ipv6Address,
+    asked: &Ipv6Address,
+    own: &Ipv6Address,
+) -> bool {
     match message {
-        ndisc::Repr::NeighborSolicit { target_addr, .. } => is_same(target_addr, own),
+        ndisc::Repr::NeighborSolicit {
+            target_addr,
+            lladdr,
+        } => {
+            target_addr.octets() == own.octets()
+                && !target_addr.is_multicast()
+                && (!peer.is_unspecified() || is_solicited_node(asked) && lladdr.is_none())
+        }
         _ => false,
     }
 }
 
-// Writes the answer.
-fn write_answer(own: &Ipv6Address, peer: &Ipv6Address, lladdr: EthernetAddress, out: &mut [u8]) {
-    let caps = ChecksumCapabilities::default();
-    let message = Repr::Ndisc(ndisc::Repr::NeighborAdvert {
-        flags: NeighborFlags::SOLICITED | NeighborFlags::OVERRIDE,
-        target_addr: *own,
-        lladdr: Some(RawHardwareAddress::from(lladdr)),
-    });
-    message.emit_into(own, peer, out, &caps);
-}
-
-/// The address on the link that an advertisement tells of a neighbor, which came from `source` to `destination`. None
-/// exactly where the octets are no advertisement of this neighbor with a good checksum, or tell no address on the link.
-pub fn link_address(
+// The message of neighbor discovery in the octets, which was not forwarded.
+pub(crate) fn read<'a>(
     source: &Ipv6Address,
     destination: &Ipv6Address,
-    neighbor: &Ipv6Address,
-    octets: &[u8],
-) -> Option<RawHardwareAddress> {
+    hop_limit: u8,
+    octets: &'a [u8],
+) -> Option<ndisc::Repr<'a>> {
+    if hop_limit != HOP_LIMIT {
+        return None;
+    }
     let caps = ChecksumCapabilities::default();
-    let Ok(message) = Repr::parse(source, destination, &Packet::new_unchecked(octets), &caps)
-    else {
+    let packet = Packet::new_unchecked(octets);
+    let message = match Repr::parse(source, destination, &packet, &caps) {
+        Ok(message) => message,
+        Err(_) => return None,
+    };
+    let Repr::Ndisc(message) = message else {
         return None;
     };
-    match &message {
-        Repr::Ndisc(message) => link_address_in(message, neighbor),
-        _ => None,
+    Some(message)
+}
+
+/// What a neighbor tells of itself (RFC 4861 section 4.4).
+#[derive(Debug, PartialEq, Eq, Clone, Copy)]
+pub struct NeighborInformation {
+    /// The neighbor's address.
+    pub addr: Ipv6Address,
+    /// Whether it is a router, was asked, and takes the place of what is known of the address.
+    pub flags: NeighborFlags,
+    /// Its address on the link.
+    pub lladdr: Option<RawHardwareAddress>,
+}
+
+/// What a neighbor's advertisement tells, which came from `source` with this hop limit and went to `destination`. None
+/// exactly where the octets are no valid advertisement of a neighbor (RFC 4861 section 7.1.2).
+pub fn neighbor(
+    source: &Ipv6Address,
+    destination: &Ipv6Address,
+    hop_limit: u8,
+    octets: &[u8],
+) -> Option<NeighborInformation> {
+    match read(source, destination, hop_limit, octets) {
+        Some(message) => neighbor_in(&message, destination),
+        None => None,
     }
 }
 
-// The address on the link that a message tells of this neighbor.
-fn link_address_in(
+// What a message tells of a neighbor.
+fn neighbor_in(
     message: &ndisc::Repr<'_>,
-    neighbor: &Ipv6Address,
-) -> Option<RawHardwareAddress> {
-    match message {
+    destination: &Ipv6Address,
+) -> Option<NeighborInformation> {
+    match *message {
         ndisc::Repr::NeighborAdvert {
+            flags,
             target_addr,
             lladdr,
-            ..
         } => {
-            if is_same(target_addr, neighbor) {
-                match lladdr {
-                    Some(address) => Some(*address),
-                    None => None,
-                }
-            } else {
-                None
+            let solicited = flags.contains(NeighborFlags::SOLICITED);
+            if target_addr.is_multicast() || destination.is_multicast() && solicited {
+                return None;
             }
+            Some(NeighborInformation {
+                addr: target_addr,
+                flags,
+                lladdr,
+            })
         }
-        _ => None,
-    }
-}
-
-// Whether two addresses are the same.
-fn is_same(a: &Ipv6Address, b: &Ipv6Address) -> bool {
-    a.octets() == b.octets()
-}
-
-/// What a router tells of itself and of the link.
-#[derive(Debug, PartialEq, Eq, Clone, Copy)]
-pub struct RouterInformation {
-    /// For how long it is a default router, in whole seconds; zero where it is none.
-    pub lifetime: Duration,
-    /// The greatest packet of the link, in bytes.
-    pub mtu: Option<u32>,
-    /// A prefix of the link: the last one that the advertisement has.
-    pub prefix_info: Option<PrefixInformation>,
-}
-
-/// What a router's advertisement tells, which came from `source` to `destination`. None exactly where the octets are no
-/// advertisement of a router with a good checksum.
-pub fn router(
-    source: &Ipv6Address,
-    destination: &Ipv6Address,
-    octets: &[u8],
-) -> Option<RouterInformation> {
-    let caps = ChecksumCapabilities::default();
-    let Ok(message) = Repr::parse(source, destination, &Packet::new_unchecked(octets), &caps)
-    else {
-        return None;
-    };
-    match &message {
-        Repr::Ndisc(message) => router_in(message),
-        _ => None,
-    }
-}
-
-// What a message tells of a router.
-fn router_in(message: &ndisc::Repr<'_>) -> Option<RouterInformation> {
-    match message {
-        ndisc::Repr::RouterAdvert {
-            router_lifetime,
-            mtu,
-            prefix_info,
-            ..
-        } => Some(RouterInformation {
-            lifetime: *router_lifetime,
-            mtu: *mtu,
-            prefix_info: *prefix_info,
-        }),
         _ => None,
     }
 }

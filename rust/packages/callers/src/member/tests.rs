@@ -1,8 +1,8 @@
 // Made from crates/examples/src/member/tests.rt by rust/erase.
 
-use super::{MESSAGE_LEN, answer, join, leave, listens, report_v6, router_alert};
+use super::{MESSAGE_LEN, answer, join, leave};
 use crate::testing::same;
-use control_wire::{Duration, Ipv4Address, Ipv6Address};
+use control_wire::{Duration, Ipv4Address};
 
 // 224.0.6.150
 fn group() -> Ipv4Address {
@@ -47,23 +47,3 @@ fn what_is_no_good_query_is_not_answered() {
     same(answer(&QUERY[..7], group(), &mut out), None);
     same(out.as_slice(), [0x2a; MESSAGE_LEN].as_slice());
 }
-
-// A host fe80::1 listens to ff02::fb.
-#[test]
-fn groups_are_reported_over_ipv6() {
-    let own = Ipv6Address::new(0xfe80, 0, 0, 0, 0, 0, 0, 1);
-    let group = Ipv6Address::from_octets(GROUP_V6);
-    let records = [listens(group)];
-    let written = [
-        0x8f, 0x00, 0x71, 0x0f, 0x00, 0x00, 0x00, 0x01, 0x02, 0x00, 0x00, 0x00, 0xff, 0x02, 0x00,
-        0x00, 0x00, 0x00, 0x00, 0x00, 0x00, 0x00, 0x00, 0x00, 0x00, 0x00, 0x00, 0xfb,
-    ];
-    let mut out = [0xa5; 28];
-    report_v6(&own, &records, &mut out);
-    same(out, written);
-    let mut options = [0xa5; 8];
-    router_alert(&mut options);
-    same(options, [0x3a, 0x00, 0x05, 0x02, 0x00, 0x00, 0x01, 0x00]);
-}
-
-const GROUP_V6: [u8; 16] = [0xff, 0x02, 0, 0, 0, 0, 0, 0, 0, 0, 0, 0, 0, 0, 0, 0xfb];

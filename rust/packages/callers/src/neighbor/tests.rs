@@ -1,10 +1,10 @@
 // Made from crates/examples/src/neighbor/tests.rt by rust/erase.
-use super::{answer, link_address, router};
+use super::{NeighborInformation, Reply, answer, neighbor, solicit, solicited_node, solicits};
 use crate::testing::same;
-use control_wire::ndiscoption::{PrefixInfoFlags, PrefixInformation};
-use control_wire::{
-    Duration, EthernetAddress, IPV6_LINK_LOCAL_ALL_NODES, Ipv6Address, RawHardwareAddress,
-};
+use control_wire::ndisc::NeighborFlags;
+use control_wire::{EthernetAddress, IPV6_LINK_LOCAL_ALL_NODES, Ipv6Address, RawHardwareAddress};
+
+const PEER_LINK_ADDRESS: EthernetAddress = EthernetAddress([0x02, 0x00, 0x00, 0x00, 0x00, 0x01]);
 
 const OWN_LINK_ADDRESS: EthernetAddress = EthernetAddress([0x02, 0x00, 0x00, 0x00, 0x00, 0x02]);
 
@@ -14,13 +14,50 @@ const SOLICITATION: [u8; 32] = [
     0x00, 0x00, 0x00, 0x00, 0x00, 0x00, 0x00, 0x02, 0x01, 0x01, 0x02, 0x00, 0x00, 0x00, 0x00, 0x01,
 ];
 
-// fe80::2 answers fe80::1.
+// :: asks the same before it takes fe80::2 (RFC 4862 section 5.4.2), as Linux does with a nonce behind (RFC 7527).
+const TENTATIVE: [u8; 24] = [
+    0x87, 0x00, 0x7c, 0x23, 0x00, 0x00, 0x00, 0x00, 0xfe, 0x80, 0x00, 0x00, 0x00, 0x00, 0x00, 0x00,
+    0x00, 0x00, 0x00, 0x00, 0x00, 0x00, 0x00, 0x02,
+];
+
+const WITH_NONCE: [u8; 32] = [
+    0x87, 0x00, 0x5d, 0x51, 0x00, 0x00, 0x00, 0x00, 0xfe, 0x80, 0x00, 0x00, 0x00, 0x00, 0x00, 0x00,
+    0x00, 0x00, 0x00, 0x00, 0x00, 0x00, 0x00, 0x02, 0x0e, 0x01, 0x5a, 0x1d, 0x03, 0xe7, 0xb2, 0xc4,
+];
+
+// From :: with an address on the link, from :: to all nodes, and for the group ff02::2.
+const OF_NO_ONE: [u8; 32] = [
+    0x87, 0x00, 0x79, 0x19, 0x00, 0x00, 0x00, 0x00, 0xfe, 0x80, 0x00, 0x00, 0x00, 0x00, 0x00, 0x00,
+    0x00, 0x00, 0x00, 0x00, 0x00, 0x00, 0x00, 0x02, 0x01, 0x01, 0x02, 0x00, 0x00, 0x00, 0x00, 0x01,
+];
+
+const TO_ALL: [u8; 24] = [
+    0x87, 0x00, 0x7b, 0x26, 0x00, 0x00, 0x00, 0x00, 0xfe, 0x80, 0x00, 0x00, 0x00, 0x00, 0x00, 0x00,
+    0x00, 0x00, 0x00, 0x00, 0x00, 0x00, 0x00, 0x02,
+];
+
+const FOR_GROUP: [u8; 24] = [
+    0x87, 0x00, 0x7d, 0x1f, 0x00, 0x00, 0x00, 0x00, 0xff, 0x02, 0x00, 0x00, 0x00, 0x00, 0x00, 0x00,
+    0x00, 0x00, 0x00, 0x00, 0x00, 0x00, 0x00, 0x02,
+];
+
+// fe80::2 answers fe80::1, and tells all nodes without being asked and as if it were.
 const ADVERTISEMENT: [u8; 32] = [
     0x88, 0x00, 0x18, 0x1a, 0x60, 0x00, 0x00, 0x00, 0xfe, 0x80, 0x00, 0x00, 0x00, 0x00, 0x00, 0x00,
     0x00, 0x00, 0x00, 0x00, 0x00, 0x00, 0x00, 0x02, 0x02, 0x01, 0x02, 0x00, 0x00, 0x00, 0x00, 0x02,
 ];
 
-// The same with no option, and with the option of a sender's address.
+const UNSOLICITED: [u8; 32] = [
+    0x88, 0x00, 0x57, 0x98, 0x20, 0x00, 0x00, 0x00, 0xfe, 0x80, 0x00, 0x00, 0x00, 0x00, 0x00, 0x00,
+    0x00, 0x00, 0x00, 0x00, 0x00, 0x00, 0x00, 0x02, 0x02, 0x01, 0x02, 0x00, 0x00, 0x00, 0x00, 0x02,
+];
+
+const SOLICITED_BY_ALL: [u8; 32] = [
+    0x88, 0x00, 0x17, 0x98, 0x60, 0x00, 0x00, 0x00, 0xfe, 0x80, 0x00, 0x00, 0x00, 0x00, 0x00, 0x00,
+    0x00, 0x00, 0x00, 0x00, 0x00, 0x00, 0x00, 0x02, 0x02, 0x01, 0x02, 0x00, 0x00, 0x00, 0x00, 0x02,
+];
+
+// The answer with no option, and with the option of a sender's address.
 const BARE: [u8; 24] = [
     0x88, 0x00, 0x1c, 0x25, 0x60, 0x00, 0x00, 0x00, 0xfe, 0x80, 0x00, 0x00, 0x00, 0x00, 0x00, 0x00,
     0x00, 0x00, 0x00, 0x00, 0x00, 0x00, 0x00, 0x02,
@@ -29,14 +66,6 @@ const BARE: [u8; 24] = [
 const OF_SENDER: [u8; 32] = [
     0x88, 0x00, 0x19, 0x13, 0x60, 0x00, 0x00, 0x00, 0xfe, 0x80, 0x00, 0x00, 0x00, 0x00, 0x00, 0x00,
     0x00, 0x00, 0x00, 0x00, 0x00, 0x00, 0x00, 0x02, 0x01, 0x01, 0x02, 0x00, 0x00, 0x00, 0x00, 0x09,
-];
-
-// fe80::1 tells ff02::1 a lifetime of 1,800 s, an MTU of 1,500 bytes and the prefix 2001:db8::/64.
-const ROUTER: [u8; 64] = [
-    0x86, 0x00, 0xed, 0xe9, 0x40, 0x00, 0x07, 0x08, 0x00, 0x00, 0x00, 0x00, 0x00, 0x00, 0x00, 0x00,
-    0x01, 0x01, 0x02, 0x00, 0x00, 0x00, 0x00, 0x01, 0x05, 0x01, 0x00, 0x00, 0x00, 0x00, 0x05, 0xdc,
-    0x03, 0x04, 0x40, 0xc0, 0x00, 0x27, 0x8d, 0x00, 0x00, 0x09, 0x3a, 0x80, 0x00, 0x00, 0x00, 0x00,
-    0x20, 0x01, 0x0d, 0xb8, 0x00, 0x00, 0x00, 0x00, 0x00, 0x00, 0x00, 0x00, 0x00, 0x00, 0x00, 0x00,
 ];
 
 fn peer() -> Ipv6Address {
@@ -51,20 +80,83 @@ fn asked() -> Ipv6Address {
     Ipv6Address::new(0xff02, 0, 0, 0, 0, 1, 0xff00, 2)
 }
 
+// The address of RFC 4291 section 2.7.1.
+#[test]
+fn the_solicited_node_address_has_the_last_three_octets() {
+    let address = Ipv6Address::new(0x4037, 0, 0, 0, 0x01, 0x0800, 0x200e, 0x8c6c);
+    let group = Ipv6Address::new(0xff02, 0, 0, 0, 0, 1, 0xff0e, 0x8c6c);
+    same(solicited_node(&address), group);
+    same(solicited_node(&own()), asked());
+}
+
+#[test]
+fn a_neighbor_is_solicited_with_the_senders_address_on_the_link() {
+    let target = own();
+    let mut out = [0x2a; 33];
+    let group = solicited_node(&target);
+    let written = solicit(&peer(), &group, &target, PEER_LINK_ADDRESS, &mut out);
+    same(written, Some(32));
+    same(&out[..32], SOLICITATION.as_slice());
+    same(out[32], 0x2a);
+    let mut short = [0x2a; 31];
+    let written = solicit(&peer(), &group, &target, PEER_LINK_ADDRESS, &mut short);
+    same(written, None);
+    same(short, [0x2a; 31]);
+}
+
+#[test]
+fn an_address_is_looked_for_without_an_address_on_the_link_before_it_is_taken() {
+    let none = Ipv6Address::UNSPECIFIED;
+    let mut out = [0x2a; 24];
+    let written = solicit(&none, &asked(), &own(), PEER_LINK_ADDRESS, &mut out);
+    same(written, Some(24));
+    same(out, TENTATIVE);
+}
+
 #[test]
 fn a_solicitation_is_answered_with_the_address_on_the_link() {
+    let (peer, own) = (peer(), own());
     let mut reply = [0x2a; 34];
+    let lladdr = OWN_LINK_ADDRESS;
     let written = answer(
-        &peer(),
+        &peer,
         &asked(),
-        &own(),
-        OWN_LINK_ADDRESS,
+        255,
+        &own,
+        lladdr,
         &SOLICITATION,
         &mut reply,
     );
-    same(written, Some(32));
+    let to_peer = Reply {
+        destination: peer,
+        len: 32,
+    };
+    same(written, Some(to_peer));
     same(&reply[..32], ADVERTISEMENT.as_slice());
     same(&reply[32..], [0x2a; 2].as_slice());
+}
+
+#[test]
+fn who_is_after_a_taken_address_is_told_among_all_nodes() {
+    let (none, asked, own) = (Ipv6Address::UNSPECIFIED, asked(), own());
+    let to_all = Reply {
+        destination: IPV6_LINK_LOCAL_ALL_NODES,
+        len: 32,
+    };
+    for solicitation in [TENTATIVE.as_slice(), WITH_NONCE.as_slice()] {
+        let mut reply = [0x2a; 32];
+        let written = answer(
+            &none,
+            &asked,
+            255,
+            &own,
+            OWN_LINK_ADDRESS,
+            solicitation,
+            &mut reply,
+        );
+        same(written, Some(to_all));
+        same(reply, UNSOLICITED);
+    }
 }
 
 #[test]
@@ -72,72 +164,73 @@ fn what_is_no_solicitation_for_this_host_or_has_no_room_is_not_answered() {
     let (peer, asked, own) = (peer(), asked(), own());
     let lladdr = OWN_LINK_ADDRESS;
     let mut reply = [0x2a; 32];
-    // For another address, of another checksum, and no solicitation.
-    let none = answer(&peer, &asked, &peer, lladdr, &SOLICITATION, &mut reply);
+    // Forwarded, for another address, of another checksum, and no solicitation.
+    let none = answer(&peer, &asked, 254, &own, lladdr, &SOLICITATION, &mut reply);
     same(none, None);
-    let none = answer(&peer, &own, &own, lladdr, &SOLICITATION, &mut reply);
+    let none = answer(&peer, &asked, 255, &peer, lladdr, &SOLICITATION, &mut reply);
     same(none, None);
-    let none = answer(&own, &peer, &own, lladdr, &ADVERTISEMENT, &mut reply);
+    let none = answer(&peer, &own, 255, &own, lladdr, &SOLICITATION, &mut reply);
+    same(none, None);
+    let none = answer(&own, &peer, 255, &own, lladdr, &ADVERTISEMENT, &mut reply);
     same(none, None);
     same(reply, [0x2a; 32]);
     let mut short = [0x2a; 31];
-    let none = answer(&peer, &asked, &own, lladdr, &SOLICITATION, &mut short);
+    let none = answer(&peer, &asked, 255, &own, lladdr, &SOLICITATION, &mut short);
     same(none, None);
     same(short, [0x2a; 31]);
 }
 
 #[test]
-fn the_address_on_the_link_is_read_from_an_advertisement() {
-    let (peer, asked, own) = (peer(), asked(), own());
-    let told = link_address(&own, &peer, &own, &ADVERTISEMENT);
-    same(told, Some(RawHardwareAddress::from(OWN_LINK_ADDRESS)));
-    // Of another neighbor, of another checksum, and with no address of the target.
-    same(is_told(&own, &peer, &peer, &ADVERTISEMENT), false);
-    same(is_told(&own, &asked, &own, &ADVERTISEMENT), false);
-    same(is_told(&own, &peer, &own, &BARE), false);
-    same(is_told(&own, &peer, &own, &OF_SENDER), false);
-}
-
-fn is_told(
-    source: &Ipv6Address,
-    destination: &Ipv6Address,
-    neighbor: &Ipv6Address,
-    octets: &[u8],
-) -> bool {
-    link_address(source, destination, neighbor, octets).is_some()
+fn solicitations_against_the_rules_are_not_valid() {
+    let (none, asked, own) = (Ipv6Address::UNSPECIFIED, asked(), own());
+    let all = IPV6_LINK_LOCAL_ALL_NODES;
+    let group = Ipv6Address::new(0xff02, 0, 0, 0, 0, 0, 0, 2);
+    same(solicits(&none, &asked, 255, &own, &TENTATIVE), true);
+    same(solicits(&none, &asked, 255, &own, &OF_NO_ONE), false);
+    same(solicits(&none, &all, 255, &own, &TO_ALL), false);
+    same(solicits(&peer(), &asked, 255, &group, &FOR_GROUP), false);
 }
 
 #[test]
-fn lifetime_mtu_and_prefix_are_read_from_a_router() {
-    let told = router(&peer(), &IPV6_LINK_LOCAL_ALL_NODES, &ROUTER);
-    let Some(told) = told else {
-        panic!("not read");
+fn a_neighbor_is_read_from_its_advertisement() {
+    let (peer, own) = (peer(), own());
+    let told = NeighborInformation {
+        addr: own,
+        flags: NeighborFlags::SOLICITED | NeighborFlags::OVERRIDE,
+        lladdr: Some(RawHardwareAddress::from(OWN_LINK_ADDRESS)),
     };
-    same(told.lifetime, Duration::from_secs(1_800));
-    same(told.mtu, Some(1_500));
-    let Some(info) = told.prefix_info else {
-        panic!("no prefix");
+    same(neighbor(&own, &peer, 255, &ADVERTISEMENT), Some(told));
+    let told = NeighborInformation {
+        flags: NeighborFlags::OVERRIDE,
+        ..told
     };
-    is_prefix(&info);
+    let all = IPV6_LINK_LOCAL_ALL_NODES;
+    same(neighbor(&own, &all, 255, &UNSOLICITED), Some(told));
 }
 
-fn is_prefix(info: &PrefixInformation) {
-    same(info.prefix_len, 64);
-    let flags = PrefixInfoFlags::ON_LINK | PrefixInfoFlags::ADDRCONF;
-    same(info.flags == flags, true);
-    same(info.valid_lifetime, Duration::from_secs(2_592_000));
-    same(info.preferred_lifetime, Duration::from_secs(604_800));
-    let prefix = Ipv6Address::new(0x2001, 0xdb8, 0, 0, 0, 0, 0, 0);
-    same(info.prefix, prefix);
-}
-
-// To another address the checksum is not good; and no advertisement of a router.
 #[test]
-fn what_no_router_advertises_is_not_read() {
-    same(is_advertised(&peer(), &own(), &ROUTER), false);
-    same(is_advertised(&own(), &peer(), &ADVERTISEMENT), false);
+fn a_neighbor_without_an_option_of_the_target_has_no_address_on_the_link() {
+    let (peer, own) = (peer(), own());
+    let told = NeighborInformation {
+        addr: own,
+        flags: NeighborFlags::SOLICITED | NeighborFlags::OVERRIDE,
+        lladdr: None,
+    };
+    same(neighbor(&own, &peer, 255, &BARE), Some(told));
+    same(neighbor(&own, &peer, 255, &OF_SENDER), Some(told));
 }
 
-fn is_advertised(source: &Ipv6Address, destination: &Ipv6Address, octets: &[u8]) -> bool {
-    router(source, destination, octets).is_some()
+#[test]
+fn advertisements_against_the_rules_are_not_read() {
+    let (peer, own) = (peer(), own());
+    let all = IPV6_LINK_LOCAL_ALL_NODES;
+    // Forwarded, of another checksum, solicited by all nodes, and no advertisement.
+    is_not_read(&own, &peer, 254, &ADVERTISEMENT);
+    is_not_read(&own, &all, 255, &ADVERTISEMENT);
+    is_not_read(&own, &all, 255, &SOLICITED_BY_ALL);
+    is_not_read(&peer, &asked(), 255, &SOLICITATION);
+}
+
+fn is_not_read(source: &Ipv6Address, destination: &Ipv6Address, hop_limit: u8, octets: &[u8]) {
+    same(neighbor(source, destination, hop_limit, octets), None);
 }
