@@ -1,5 +1,6 @@
 """The rules for the library: each looks at one token, and answers None where it does not apply, or else the place to go
 on from. The first line of its text says what it does; `erase.py --rules` prints these lines."""
+import re
 
 CONTRACTS, VALUES, STD, VIEWS = [], [], [], []
 
@@ -313,11 +314,16 @@ COMMENTS = {
 }
 
 
+# What comments say of pictures in specs/, which the Rust crate does not have.
+PICTURE = re.compile(r"; (the|its|their) pictures?( of their header)? (is|are) in specs/\w+\.antt( of wirebase)?\.")
+
+
 def comments(file):
     """Comments that are not true of the Rust crate are others; no token is touched."""
     for token in file.tokens:
         for one, other in COMMENTS.items():
             token.pre = token.pre.replace(one, other)
+        token.pre = PICTURE.sub(".", token.pre)
 
 
 def paths(file, crates, own):

@@ -1,4 +1,4 @@
-//! What stands beside the proved text, by hand: each file says what it has.
+//! What is written by hand, and not proved: each file says what it has.
 
 mod addresses;
 mod octets;

@@ -9,7 +9,7 @@ pub mod quote;
 mod testing;
 mod writing;
 
-// The fields of an error; their picture is in specs/Error.antt.
+// The fields of an error.
 mod field {
     use crate::wirebase::Field;
 

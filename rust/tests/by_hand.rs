@@ -1,4 +1,5 @@
-//! What stands beside the proved text: conversions, order, hashes, errors, and views over what lends a slice.
+//! What is written by hand: the calls of addresses, conversions, order, hashes, errors, and views over what lends a
+//! slice.
 
 use control_wire::icmpv4::{Packet, Repr};
 use control_wire::{
@@ -59,6 +60,101 @@ fn addresses_of_ip_are_debugged_by_their_text() {
     assert_eq!(
         format!("{:?}", Ipv6Address::new(0xff02, 0, 0, 0, 0, 0, 0, 2)),
         "ff02::2"
+    );
+}
+
+// Each call against that of std's address, over addresses of each kind.
+#[test]
+fn addresses_of_ipv4_have_the_calls_of_std() {
+    let texts = [
+        "0.0.0.0",
+        "127.0.0.1",
+        "127.255.255.255",
+        "128.0.0.1",
+        "9.255.255.255",
+        "10.0.0.1",
+        "172.15.255.255",
+        "172.16.0.0",
+        "172.31.255.255",
+        "172.32.0.0",
+        "192.167.0.1",
+        "192.168.0.1",
+        "192.169.0.1",
+        "169.253.0.1",
+        "169.254.0.1",
+        "224.0.0.1",
+        "255.255.255.254",
+        "255.255.255.255",
+    ];
+    for text in texts {
+        let theirs: Ipv4Addr = text.parse().unwrap();
+        let ours: Ipv4Address = text.parse().unwrap();
+        assert_eq!(Ipv4Addr::from(ours), theirs);
+        assert_eq!(ours.is_broadcast(), theirs.is_broadcast(), "{text}");
+        assert_eq!(ours.is_loopback(), theirs.is_loopback(), "{text}");
+        assert_eq!(ours.is_private(), theirs.is_private(), "{text}");
+        assert_eq!(ours.is_link_local(), theirs.is_link_local(), "{text}");
+        assert_eq!(ours.is_unspecified(), theirs.is_unspecified(), "{text}");
+        assert_eq!(ours.is_multicast(), theirs.is_multicast(), "{text}");
+        assert_eq!(ours.to_bits(), theirs.to_bits());
+        assert_eq!(Ipv4Address::from_bits(theirs.to_bits()), ours);
+    }
+    assert_eq!(Ipv4Address::BROADCAST, Ipv4Addr::BROADCAST.into());
+    assert_eq!(Ipv4Address::LOCALHOST, Ipv4Addr::LOCALHOST.into());
+    for text in ["", "1.2.3", "1.2.3.256", "1.2.3.4 ", "01.2.3.4", "::1"] {
+        assert!(text.parse::<Ipv4Address>().is_err(), "{text}");
+    }
+}
+
+#[test]
+fn addresses_of_ipv6_have_the_calls_of_std() {
+    for text in [
+        "::",
+        "::1",
+        "::2",
+        "fe80::5054:ff:fe12:3456",
+        "1:2:3:4:5:6:7:8",
+    ] {
+        let theirs: Ipv6Addr = text.parse().unwrap();
+        let ours: Ipv6Address = text.parse().unwrap();
+        assert_eq!(Ipv6Addr::from(ours), theirs);
+        assert_eq!(ours.segments(), theirs.segments());
+        assert_eq!(ours.is_loopback(), theirs.is_loopback(), "{text}");
+        assert_eq!(ours.to_bits(), theirs.to_bits());
+        assert_eq!(Ipv6Address::from_bits(theirs.to_bits()), ours);
+    }
+    assert_eq!(Ipv6Address::LOCALHOST, Ipv6Addr::LOCALHOST.into());
+    for text in ["", "1:2", "1::2::3", "::g", "127.0.0.1"] {
+        assert!(text.parse::<Ipv6Address>().is_err(), "{text}");
+    }
+}
+
+// The address of RFC 4291 section 2.7.1, and its group there.
+#[test]
+fn a_neighbor_listens_to_its_solicited_node_group() {
+    let address: Ipv6Address = "4037::01:800:200e:8c6c".parse().unwrap();
+    assert_eq!(address.solicited_node().to_string(), "ff02::1:ff0e:8c6c");
+    let address: Ipv6Address = "fe80::ffff:ffff".parse().unwrap();
+    assert_eq!(address.solicited_node().to_string(), "ff02::1:ffff:ffff");
+    assert_eq!(
+        Ipv6Address::UNSPECIFIED.solicited_node().to_string(),
+        "ff02::1:ff00:0"
+    );
+}
+
+#[test]
+fn addresses_of_ethernet_to_many_receivers() {
+    let one = EthernetAddress([0x02, 0xff, 0xff, 0xff, 0xff, 0xff]);
+    let group = EthernetAddress([0x33, 0x33, 0, 0, 0, 1]);
+    let all = EthernetAddress([0xff; 6]);
+    assert_eq!(EthernetAddress::BROADCAST, all);
+    assert_eq!(
+        [one, group, all].map(|it| it.is_broadcast()),
+        [false, false, true]
+    );
+    assert_eq!(
+        [one, group, all].map(|it| it.is_multicast()),
+        [false, true, true]
     );
 }
 

@@ -46,8 +46,8 @@ impl<T: Octets> UdpPacket<T> {
         UdpPacket { buffer }
     }
 
-    /// The view of these octets, where they begin with a whole datagram; refused where they don't. A refusal gives a
-    /// `&mut [u8]` up: who wants the octets back, as they were, takes `new_unchecked` and then `check_len`.
+    /// The view of these octets, where they begin with a whole datagram; refused where they don't. On refusal the
+    /// buffer is dropped: to keep a `&mut [u8]`, call `new_unchecked` and then `check_len`.
     pub fn new_checked(buffer: T) -> Result<UdpPacket<T>>
         ensures accepts { IsOk result ↔ BeginsWhole (T.bytes buffer) }
         ensures buffer { IfOk result (λ view. inner view ≡ buffer) }
@@ -112,8 +112,9 @@ impl<T: Octets> UdpPacket<T> {
         self.buffer.u16_at(field::CHECKSUM)
     }
 
-    /// Whether the datagram carries its checksum, with the pseudo header of these addresses. One without a checksum
-    /// carries none. Requires a whole datagram.
+    /// Whether the checksum is that of the datagram with the pseudo header of these addresses. A checksum of 0 means
+    /// that there is none (RFC 768), and is no exception here: the answer is then almost always false. Requires a whole
+    /// datagram.
     #[tactic(auto, using(wirebase::proofs::PseudoSeals::pseudo_seals))]
     pub fn verify_checksum(&self, addresses: &Addresses) -> bool
         requires { BeginsWhole (T.bytes (inner self.now)) }

@@ -41,9 +41,7 @@ impl<T: Octets> Header<T> {
     }
 
     /// The view of these octets, where they are 8 or more and as many as the length counts; refused where they are
-    /// fewer.
-    /// A refusal gives a `&mut [u8]` up: who wants the octets back, as they were, takes `new_unchecked` and then
-    /// `check_len`.
+    /// fewer. On refusal the buffer is dropped: to keep a `&mut [u8]`, call `new_unchecked` and then `check_len`.
     pub fn new_checked(buffer: T) -> Result<Header<T>>
         ensures accepts { IsOk result ↔ IsWhole (T.bytes buffer) }
         ensures buffer { IfOk result (λ view. inner view ≡ buffer) }
@@ -216,7 +214,7 @@ impl<'a> Repr<'a> {
         self.emit_into(header.buffer.octets_mut());
     }
 
-    /// The same into octets that stand by themselves.
+    /// The same into a slice.
     pub fn emit_into(&self, octets: &mut [u8])
         requires { 2 ≤ length octets.old }
         ensures { Emits (value_of self.now) octets.old octets.new }

@@ -32,9 +32,8 @@ impl<T: Octets> Header<T> {
         Header { buffer }
     }
 
-    /// The view of these octets; refused where there are none.
-    /// A refusal gives a `&mut [u8]` up: who wants the octets back, as they were, takes `new_unchecked` and then
-    /// `check_len`.
+    /// The view of these octets; refused where there are none. On refusal the buffer is dropped: to keep a `&mut [u8]`,
+    /// call `new_unchecked` and then `check_len`.
     pub fn new_checked(buffer: T) -> Result<Header<T>>
         ensures accepts { IsOk result ↔ (T.bytes buffer ≢ []) }
         ensures buffer { IfOk result (λ view. inner view ≡ buffer) }
@@ -182,7 +181,7 @@ impl<'a> Repr<'a> {
         self.emit_into(header.options_mut());
     }
 
-    /// The same into octets that stand by themselves.
+    /// The same into a slice.
     #[tactic(auto, using(wirebase::proofs::Chains::chain))]
     pub fn emit_into(&self, octets: &mut [u8])
         requires enough { HaveData (value_of self.now) }

@@ -57,9 +57,8 @@ impl<T: Octets> Ipv6Option<T> {
         Ipv6Option { buffer }
     }
 
-    /// The view of these octets, where they begin with a whole option; refused where they don't.
-    /// A refusal gives a `&mut [u8]` up: who wants the octets back, as they were, takes `new_unchecked` and then
-    /// `check_len`.
+    /// The view of these octets, where they begin with a whole option; refused where they don't. On refusal the buffer
+    /// is dropped: to keep a `&mut [u8]`, call `new_unchecked` and then `check_len`.
     pub fn new_checked(buffer: T) -> Result<Ipv6Option<T>>
         ensures accepts { IsOk result ↔ BeginsWhole (T.bytes buffer) }
         ensures buffer { IfOk result (λ view. inner view ≡ buffer) }
@@ -309,7 +308,7 @@ impl<'a> Repr<'a> {
         self.emit_into(opt.buffer.octets_mut());
     }
 
-    /// The same into octets that stand by themselves.
+    /// The same into a slice.
     #[tactic(auto, using(wirebase::proofs::Chains::chain))]
     pub fn emit_into(&self, octets: &mut [u8])
         requires enough { HasData (value_of self.now) }

@@ -95,9 +95,8 @@ impl<T: Octets> NdiscOption<T> {
         NdiscOption { buffer }
     }
 
-    /// The view of these octets, where they begin with a whole option of one unit or more; refused where they don't.
-    /// A refusal gives a `&mut [u8]` up: who wants the octets back, as they were, takes `new_unchecked` and then
-    /// `check_len`.
+    /// The view of these octets, where they begin with a whole option of one unit or more; refused where they don't. On
+    /// refusal the buffer is dropped: to keep a `&mut [u8]`, call `new_unchecked` and then `check_len`.
     pub fn new_checked(buffer: T) -> Result<NdiscOption<T>>
         ensures accepts { IsOk result ↔ BeginsWithBlock (T.bytes buffer) }
         ensures buffer { IfOk result (λ view. inner view ≡ buffer) }

@@ -61,9 +61,8 @@ impl<T: Octets> Ipv6Packet<T> {
         Ipv6Packet { buffer }
     }
 
-    /// The view of these octets, where they begin with a whole packet; refused where they don't.
-    /// A refusal gives a `&mut [u8]` up: who wants the octets back, as they were, takes `new_unchecked` and then
-    /// `check_len`.
+    /// The view of these octets, where they begin with a whole packet; refused where they don't. On refusal the buffer
+    /// is dropped: to keep a `&mut [u8]`, call `new_unchecked` and then `check_len`.
     pub fn new_checked(buffer: T) -> Result<Ipv6Packet<T>>
         ensures accepts { IsOk result ↔ BeginsWhole (T.bytes buffer) }
         ensures buffer { IfOk result (λ view. inner view ≡ buffer) }
@@ -264,7 +263,7 @@ impl Ipv6Repr {
         self.emit_into(packet.buffer.octets_mut());
     }
 
-    /// The same into octets that stand by themselves.
+    /// The same into a slice.
     #[tactic(auto, using(crate::proofs::Ipv6Header::header_writes))]
     pub fn emit_into(&self, octets: &mut [u8])
         requires room { Reaches dst_addr_field octets.old }

@@ -6,7 +6,7 @@ use crate::wirebase::{
     ChecksumCapabilities, Error, IpProtocol, Octets, OctetsMut, Result, checksum,
 };
 
-// The fields; their picture is in specs/Udp.antt.
+// The fields.
 mod field {
     use crate::wirebase::Field;
 
@@ -36,8 +36,8 @@ impl<T: Octets> UdpPacket<T> {
         UdpPacket { buffer }
     }
 
-    /// The view of these octets, where they begin with a whole datagram; refused where they don't. A refusal gives a
-    /// `&mut [u8]` up: who wants the octets back, as they were, takes `new_unchecked` and then `check_len`.
+    /// The view of these octets, where they begin with a whole datagram; refused where they don't. On refusal the
+    /// buffer is dropped: to keep a `&mut [u8]`, call `new_unchecked` and then `check_len`.
     pub fn new_checked(buffer: T) -> Result<UdpPacket<T>> {
         let packet = UdpPacket::new_unchecked(buffer);
         packet.check_len()?;
@@ -83,8 +83,9 @@ impl<T: Octets> UdpPacket<T> {
         self.buffer.u16_at(field::CHECKSUM)
     }
 
-    /// Whether the datagram carries its checksum, with the pseudo header of these addresses. One without a checksum
-    /// carries none. Requires a whole datagram.
+    /// Whether the checksum is that of the datagram with the pseudo header of these addresses. A checksum of 0 means
+    /// that there is none (RFC 768), and is no exception here: the answer is then almost always false. Requires a whole
+    /// datagram.
     pub fn verify_checksum(&self, addresses: &Addresses) -> bool {
         let len = self.len();
         let sum = addresses.sum_before(IpProtocol::Udp, len as u32);

@@ -10,7 +10,7 @@ pub use packet::Packet;
 pub use repr::Repr;
 pub use tables::{DstUnreachable, Message, ParamProblem, Redirect, TimeExceeded};
 
-// The fields of a message; their picture is in specs/Icmp.antt of wirebase.
+// The fields of a message.
 mod field {
     use crate::wirebase::Field;
 

@@ -11,7 +11,7 @@ pub use packet::Packet;
 pub use repr::{IgmpVersion, Repr};
 pub use tables::Message;
 
-// The fields of a message; their picture is in specs/Igmp.antt.
+// The fields of a message.
 mod field {
     use crate::wirebase::Field;
 

@@ -18,7 +18,7 @@ const MAX_ERROR_PACKET_LEN: usize = IPV6_MIN_MTU - IPV6_HEADER_LEN;
 
 const MAX_QUOTED_DATA: usize = MAX_ERROR_PACKET_LEN - field::HEADER_END - IPV6_HEADER_LEN;
 
-// The fields of a message; the picture of their header is in specs/Icmp.antt of wirebase.
+// The fields of a message.
 pub(crate) mod field {
     use crate::wirebase::Field;
 

@@ -12,7 +12,7 @@ mod repr;
 pub use flags::{NeighborFlags, RouterFlags};
 pub use repr::Repr;
 
-// The fields behind the checksum (RFC 4861 section 4); their picture is in specs/NdiscPacket.antt.
+// The fields behind the checksum (RFC 4861 section 4).
 mod field {
     use crate::wirebase::Field;
 

@@ -3,7 +3,7 @@
 
 use crate::wirebase::{ByteWriter, Error, IpProtocol, Octets, OctetsMut, Result};
 
-// The fields of a header; their picture is in specs/Ipv6ExtHeader.antt.
+// The fields of a header.
 mod field {
     use crate::wirebase::Field;
 
@@ -30,9 +30,7 @@ impl<T: Octets> Header<T> {
     }
 
     /// The view of these octets, where they are 8 or more and as many as the length counts; refused where they are
-    /// fewer.
-    /// A refusal gives a `&mut [u8]` up: who wants the octets back, as they were, takes `new_unchecked` and then
-    /// `check_len`.
+    /// fewer. On refusal the buffer is dropped: to keep a `&mut [u8]`, call `new_unchecked` and then `check_len`.
     pub fn new_checked(buffer: T) -> Result<Header<T>> {
         let header = Header::new_unchecked(buffer);
         header.check_len()?;
@@ -137,7 +135,7 @@ impl<'a> Repr<'a> {
         self.emit_into(header.buffer.octets_mut());
     }
 
-    /// The same into octets that stand by themselves.
+    /// The same into a slice.
     pub fn emit_into(&self, octets: &mut [u8]) {
         self.write(octets);
     }

@@ -17,9 +17,8 @@ impl<T: Octets> Header<T> {
         Header { buffer }
     }
 
-    /// The view of these octets; refused where there are none.
-    /// A refusal gives a `&mut [u8]` up: who wants the octets back, as they were, takes `new_unchecked` and then
-    /// `check_len`.
+    /// The view of these octets; refused where there are none. On refusal the buffer is dropped: to keep a `&mut [u8]`,
+    /// call `new_unchecked` and then `check_len`.
     pub fn new_checked(buffer: T) -> Result<Header<T>> {
         let header = Header::new_unchecked(buffer);
         header.check_len()?;
@@ -113,7 +112,7 @@ impl<'a> Repr<'a> {
         self.emit_into(header.options_mut());
     }
 
-    /// The same into octets that stand by themselves.
+    /// The same into a slice.
     pub fn emit_into(&self, octets: &mut [u8]) {
         let mut w = ByteWriter::new(octets);
         put_options(&mut w, self.options.as_slice());

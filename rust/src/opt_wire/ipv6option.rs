@@ -12,7 +12,7 @@ pub use options::Ipv6OptionsIterator;
 use tables::AlertName;
 pub use tables::{FailureType, RouterAlert, Type};
 
-// The fields of an option; their picture is in specs/Ipv6Option.antt.
+// The fields of an option.
 mod field {
     use crate::wirebase::Field;
 
@@ -38,9 +38,8 @@ impl<T: Octets> Ipv6Option<T> {
         Ipv6Option { buffer }
     }
 
-    /// The view of these octets, where they begin with a whole option; refused where they don't.
-    /// A refusal gives a `&mut [u8]` up: who wants the octets back, as they were, takes `new_unchecked` and then
-    /// `check_len`.
+    /// The view of these octets, where they begin with a whole option; refused where they don't. On refusal the buffer
+    /// is dropped: to keep a `&mut [u8]`, call `new_unchecked` and then `check_len`.
     pub fn new_checked(buffer: T) -> Result<Ipv6Option<T>> {
         let option = Ipv6Option::new_unchecked(buffer);
         option.check_len()?;
@@ -197,7 +196,7 @@ impl<'a> Repr<'a> {
         self.emit_into(opt.buffer.octets_mut());
     }
 
-    /// The same into octets that stand by themselves.
+    /// The same into a slice.
     pub fn emit_into(&self, octets: &mut [u8]) {
         let mut w = ByteWriter::new(octets);
         self.put(&mut w);

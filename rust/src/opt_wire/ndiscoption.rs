@@ -13,7 +13,7 @@ mod tables;
 pub use repr::{PrefixInformation, RedirectedHeader, Repr};
 pub use tables::{PrefixInfoFlags, Type};
 
-// The fields of an option (RFC 4861 section 4.6), of units of 8 bytes; their picture is in specs/NdiscOption.antt.
+// The fields of an option (RFC 4861 section 4.6), of units of 8 bytes.
 mod field {
     use crate::wirebase::Field;
 
@@ -68,9 +68,8 @@ impl<T: Octets> NdiscOption<T> {
         NdiscOption { buffer }
     }
 
-    /// The view of these octets, where they begin with a whole option of one unit or more; refused where they don't.
-    /// A refusal gives a `&mut [u8]` up: who wants the octets back, as they were, takes `new_unchecked` and then
-    /// `check_len`.
+    /// The view of these octets, where they begin with a whole option of one unit or more; refused where they don't. On
+    /// refusal the buffer is dropped: to keep a `&mut [u8]`, call `new_unchecked` and then `check_len`.
     pub fn new_checked(buffer: T) -> Result<NdiscOption<T>> {
         let option = NdiscOption::new_unchecked(buffer);
         option.check_len()?;

@@ -120,7 +120,8 @@ impl<'a> Repr<'a> {
 
     /// Writes the error over the front of the octets, as far as they go, and then, where the capabilities have it
     /// computed, the checksum of all of them as a message from `src_addr` to `dst_addr`; the others stay. Requires at
-    /// least 8 bytes. Of what is quoted at most 1,232 bytes are written.
+    /// least 8 bytes. Give exactly `buffer_len()`: in a longer buffer the checksum covers what follows the error. Of
+    /// what is quoted at most 1,232 bytes are written.
     pub fn emit_into(
         &self,
         src_addr: &Ipv6Address,

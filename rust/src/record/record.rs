@@ -4,7 +4,7 @@
 use crate::dns_wire::dns::{Type, split_name};
 use crate::wirebase::{Error, Octets, Result};
 
-// What stands behind the name of a question and of a record; the picture is in specs/Record.antt.
+// What stands behind the name of a question and of a record.
 mod field {
     use crate::wirebase::Field;
 

@@ -10,7 +10,7 @@ pub struct Cursor<T> {
     position: usize,
 }
 
-/// Writes bytes into a lent slice, one after another from its front on.
+/// Writes bytes into a lent slice, one after another from its front on, as the library itself does.
 pub type ByteWriter<'a> = Cursor<&'a mut [u8]>;
 
 impl<'a> Cursor<&'a mut [u8]> {

@@ -10,8 +10,7 @@ use crate::wirebase::octets::{Octets, OctetsMut};
 use core::fmt;
 
 /// An IPv4 address, four octets: `a.b.c.d` (RFC 791 section 3.2).
-///
-/// The octets are fields of their own, and so every contract knows that there are four.
+// The octets are four fields, so that every contract knows their number.
 #[derive(PartialEq, Eq, Clone, Copy)]
 pub struct Ipv4Address {
     a: u8,
@@ -71,7 +70,7 @@ impl fmt::Display for Ipv4Address {
     }
 }
 
-// The fields of the header; its picture is in specs/Ipv4.antt.
+// The fields of the header.
 mod field {
     use crate::wirebase::octets::Field;
 
@@ -117,8 +116,8 @@ impl<T: Octets> Ipv4Packet<T> {
         Ipv4Packet { buffer }
     }
 
-    /// The view of these octets, where they begin with a whole packet; refused where they don't. A refusal gives a
-    /// `&mut [u8]` up: who wants the octets back, as they were, takes `new_unchecked` and then `check_len`.
+    /// The view of these octets, where they begin with a whole packet; refused where they don't. On refusal the buffer
+    /// is dropped: to keep a `&mut [u8]`, call `new_unchecked` and then `check_len`.
     pub fn new_checked(buffer: T) -> Result<Ipv4Packet<T>> {
         let packet = Ipv4Packet::new_unchecked(buffer);
         packet.check_len()?;
@@ -258,7 +257,7 @@ impl Ipv4Repr {
         self.emit_into(packet.buffer.octets_mut(), checksum_caps);
     }
 
-    /// The same into octets that stand by themselves.
+    /// The same into a slice.
     pub fn emit_into(&self, octets: &mut [u8], checksum_caps: &ChecksumCapabilities) {
         self.write(&mut octets[..HEADER_LEN], checksum_caps);
     }

@@ -17,7 +17,7 @@ pub const IPV6_HEADER_LEN: usize = field::DST_ADDR.end;
 /// The bytes of a packet that every link can carry whole (RFC 8200 section 5).
 pub const IPV6_MIN_MTU: usize = 1280;
 
-// The fields of the header (RFC 8200 section 3); their picture is in specs/Ipv6.antt.
+// The fields of the header (RFC 8200 section 3).
 mod field {
     use crate::wirebase::octets::Field;
 
@@ -46,9 +46,8 @@ impl<T: Octets> Ipv6Packet<T> {
         Ipv6Packet { buffer }
     }
 
-    /// The view of these octets, where they begin with a whole packet; refused where they don't.
-    /// A refusal gives a `&mut [u8]` up: who wants the octets back, as they were, takes `new_unchecked` and then
-    /// `check_len`.
+    /// The view of these octets, where they begin with a whole packet; refused where they don't. On refusal the buffer
+    /// is dropped: to keep a `&mut [u8]`, call `new_unchecked` and then `check_len`.
     pub fn new_checked(buffer: T) -> Result<Ipv6Packet<T>> {
         let packet = Ipv6Packet::new_unchecked(buffer);
         packet.check_len()?;
@@ -179,7 +178,7 @@ impl Ipv6Repr {
         self.emit_into(packet.buffer.octets_mut());
     }
 
-    /// The same into octets that stand by themselves.
+    /// The same into a slice.
     pub fn emit_into(&self, octets: &mut [u8]) {
         let mut w = ByteWriter::new(octets);
         self.put(&mut w);

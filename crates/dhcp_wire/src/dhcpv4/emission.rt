@@ -54,7 +54,7 @@ impl Repr<'_> {
         self.emit_into(packet.buffer.octets_mut())
     }
 
-    /// The same into octets that stand by themselves.
+    /// The same into a slice.
     pub fn emit_into(&self, octets: &mut [u8]) -> Result<()>
         requires { Reaches magic_field octets.old }
         ensures { Emits (value_of self.now) octets.old result octets.new }

@@ -58,9 +58,8 @@ impl<T: Octets> Packet<T> {
         Packet { buffer }
     }
 
-    /// The view of these octets, where they are 12 or more; refused where they are fewer.
-    /// A refusal gives a `&mut [u8]` up: who wants the octets back, as they were, takes `new_unchecked` and then
-    /// `check_len`.
+    /// The view of these octets, where they are 12 or more; refused where they are fewer. On refusal the buffer is
+    /// dropped: to keep a `&mut [u8]`, call `new_unchecked` and then `check_len`.
     pub fn new_checked(buffer: T) -> Result<Packet<T>>
         ensures accepts { IsOk result ↔ Reaches header (T.bytes buffer) }
         ensures buffer { IfOk result (λ view. inner view ≡ buffer) }

@@ -180,8 +180,9 @@ impl<'a> Repr<'a> {
     }
 
     /// Writes the message over the front of the octets, as far as they go, and then, where the capabilities have it
-    /// computed, the checksum of all of them. Requires at least 8 bytes of an echo; of an error just its length, and
-    /// that the quoted `payload_len` is at most 65,515.
+    /// computed, the checksum of all of them. Give exactly `buffer_len()` bytes: in a longer buffer the checksum covers
+    /// what follows the message, in a shorter one an echo is cut. An echo requires at least 8 bytes; an error requires
+    /// exactly `buffer_len()`, and that the quoted `payload_len` is at most 65,515.
     pub fn emit<T: OctetsMut>(&self, packet: &mut Packet<T>, checksum_caps: &ChecksumCapabilities)
         requires { CanEmit (value_of self.now) (T.bytes (inner packet.old)) }
         ensures place { inner packet.new ≡ T.put (inner packet.old) (T.bytes (inner packet.new)) }
@@ -191,7 +192,8 @@ impl<'a> Repr<'a> {
         self.emit_into(packet.buffer.octets_mut(), checksum_caps);
     }
 
-    /// The same into octets that stand by themselves.
+    /// The same into a slice. Give it exactly `buffer_len()` bytes: in a longer one the checksum covers what follows
+    /// the message, in a shorter one an echo is cut.
     pub fn emit_into(&self, octets: &mut [u8], checksum_caps: &ChecksumCapabilities)
         requires { CanEmit (value_of self.now) octets.old }
         ensures { Emits checksum_caps.now (value_of self.now) octets.old octets.new }

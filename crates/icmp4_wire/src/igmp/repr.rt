@@ -106,7 +106,7 @@ impl Repr {
     }
 
     /// Writes the message over the front of the octets, with the checksum of all of them; the others stay. Requires at
-    /// least 8 bytes.
+    /// least 8 bytes. Give exactly 8: in a longer buffer the checksum covers what follows the message.
     pub fn emit<T: OctetsMut>(&self, packet: &mut Packet<T>)
         requires { Reaches group_field (T.bytes (inner packet.old)) }
         ensures place { inner packet.new ≡ T.put (inner packet.old) (T.bytes (inner packet.new)) }
@@ -115,7 +115,7 @@ impl Repr {
         self.emit_into(packet.buffer.octets_mut());
     }
 
-    /// The same into octets that stand by themselves.
+    /// The same into a slice. Give it exactly 8 bytes: in a longer one the checksum covers what follows the message.
     #[tactic(auto, using(wirebase::proofs::Chains::chain))]
     pub fn emit_into(&self, octets: &mut [u8])
         requires { Reaches group_field octets.old }

@@ -213,10 +213,11 @@ impl<'a> Repr<'a> {
     }
 
     /// Writes the message over the front of the octets, as far as they go, and then, where the capabilities have it
-    /// computed, the checksum of all of them as a message from `src_addr` to `dst_addr`. Requires at least 8 bytes of
-    /// an echo; of an error its length or more, and that the quoted `payload_len` is at most 65,535; of a message of
-    /// multicast listener discovery what `mld::Repr::emit` requires, and of neighbor discovery what
-    /// `ndisc::Repr::emit` requires.
+    /// computed, the checksum of all of them as a message from `src_addr` to `dst_addr`. Give exactly `packet_len()`
+    /// bytes: in a longer buffer the checksum covers what follows the message, in a shorter one an echo is cut. An echo
+    /// requires at least 8 bytes; an error requires at least `packet_len()`, and that the quoted `payload_len` is at
+    /// most 65,535; a message of multicast listener discovery requires what `mld::Repr::emit` does, and one of neighbor
+    /// discovery what `ndisc::Repr::emit` does.
     pub fn emit<T: OctetsMut>(
         &self,
         src_addr: &Ipv6Address,
@@ -237,7 +238,8 @@ impl<'a> Repr<'a> {
         );
     }
 
-    /// The same into octets that stand by themselves.
+    /// The same into a slice. Give it exactly `packet_len()` bytes: in a longer one the checksum covers what follows
+    /// the message, in a shorter one an echo is cut.
     pub fn emit_into(
         &self,
         src_addr: &Ipv6Address,

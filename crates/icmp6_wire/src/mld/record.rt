@@ -32,9 +32,8 @@ impl<T: Octets> AddressRecord<T> {
         AddressRecord { buffer }
     }
 
-    /// The view of these octets, where they are 20 or more; refused where they are fewer.
-    /// A refusal gives a `&mut [u8]` up: who wants the octets back, as they were, takes `new_unchecked` and then
-    /// `check_len`.
+    /// The view of these octets, where they are 20 or more; refused where they are fewer. On refusal the buffer is
+    /// dropped: to keep a `&mut [u8]`, call `new_unchecked` and then `check_len`.
     pub fn new_checked(buffer: T) -> Result<AddressRecord<T>>
         ensures accepts { IsOk result ↔ Reaches mcast_addr_field (T.bytes buffer) }
         ensures buffer { IfOk result (λ view. inner view ≡ buffer) }
@@ -270,7 +269,7 @@ impl<'a> AddressRecordRepr<'a> {
         self.emit_into(view.buffer.octets_mut());
     }
 
-    /// The same into octets that stand by themselves.
+    /// The same into a slice.
     pub fn emit_into(&self, octets: &mut [u8])
         requires room { Reaches mcast_addr_field octets.old }
         requires group { IsMulticast self.now.mcast_addr }

@@ -109,9 +109,9 @@ impl<'a> Repr<'a> {
         }
     }
 
-    /// Writes the message over the front of the octets, with the checksum zero; the others stay. Requires octets of just
-    /// its length, and of a list of records of its length or more; a robustness variable below 8; and of records that
-    /// they are of groups and at most 65,535.
+    /// Writes the message over the front of the octets, with the checksum zero; the others stay. Requires exactly
+    /// `packet_len()` bytes, of a list of records at least as many; a robustness variable below 8; and at most 65,535
+    /// records, each of a group.
     pub fn emit<T: OctetsMut>(&self, packet: &mut Packet<T>)
         requires { CanEmit (value_of self.now) (T.bytes (inner packet.old)) }
         ensures place { inner packet.new ≡ T.put (inner packet.old) (T.bytes (inner packet.new)) }
@@ -121,7 +121,7 @@ impl<'a> Repr<'a> {
         self.emit_into(packet.buffer.octets_mut());
     }
 
-    /// The same into octets that stand by themselves.
+    /// The same into a slice. Give it exactly `packet_len()` bytes.
     pub fn emit_into(&self, octets: &mut [u8])
         requires { CanEmit (value_of self.now) octets.old }
         ensures { Emits (value_of self.now) octets.old octets.new }

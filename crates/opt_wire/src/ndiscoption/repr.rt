@@ -187,7 +187,7 @@ impl<'a> Repr<'a> {
         self.emit_into(opt.buffer.octets_mut());
     }
 
-    /// The same into octets that stand by themselves.
+    /// The same into a slice.
     #[tactic(auto, using(wirebase::proofs::Chains::chain))]
     pub fn emit_into(&self, octets: &mut [u8])
         requires sound { CanEmit (value_of self.now) }

@@ -6,7 +6,7 @@ use crate::order::Order;
 use crate::packet::Packet;
 use crate::time::Time;
 
-// The fields of both headers; their pictures are in specs/Pcap.antt.
+// The fields of both headers.
 mod field {
     use control_wire::Field;
 

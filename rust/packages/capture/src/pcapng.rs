@@ -7,7 +7,7 @@ use crate::packet::Packet;
 use crate::time::Time;
 use control_wire::{Error, Octets};
 
-// The fields of the blocks; their pictures are in specs/Pcapng.antt.
+// The fields of the blocks.
 mod field {
     use control_wire::Field;
 

@@ -30,7 +30,7 @@ impl Repr<'_> {
         self.emit_into(packet.buffer.octets_mut())
     }
 
-    /// The same into octets that stand by themselves.
+    /// The same into a slice.
     pub fn emit_into(&self, octets: &mut [u8]) -> Result<()> {
         let mut w = ByteWriter::new(octets);
         self.put_header(&mut w);

@@ -5,7 +5,7 @@ use super::options::{DhcpOptionWriter, OptionsIter};
 use super::tables::{Flags, OpCode};
 use crate::wirebase::{Error, EthernetAddress, Hardware, Ipv4Address, Octets, OctetsMut, Result};
 
-// The fields of a packet (RFC 2131 section 2); their picture is in specs/Dhcpv4Packet.antt.
+// The fields of a packet (RFC 2131 section 2).
 pub(super) mod field {
     use crate::wirebase::Field;
 
@@ -65,9 +65,8 @@ impl<T: Octets> Packet<T> {
         Packet { buffer }
     }
 
-    /// The view of these octets, where they are 240 or more; refused where they are fewer.
-    /// A refusal gives a `&mut [u8]` up: who wants the octets back, as they were, takes `new_unchecked` and then
-    /// `check_len`.
+    /// The view of these octets, where they are 240 or more; refused where they are fewer. On refusal the buffer is
+    /// dropped: to keep a `&mut [u8]`, call `new_unchecked` and then `check_len`.
     pub fn new_checked(buffer: T) -> Result<Packet<T>> {
         let packet = Packet::new_unchecked(buffer);
         packet.check_len()?;

@@ -5,7 +5,7 @@ use crate::dns_wire::dns::name::{self, NameIter};
 use crate::dns_wire::dns::tables::{Flags, Opcode, Rcode};
 use crate::wirebase::{Error, Octets, OctetsMut, Result};
 
-// The fields of the header (RFC 1035 section 4.1.1); their picture is in specs/DnsPacket.antt.
+// The fields of the header (RFC 1035 section 4.1.1).
 mod field {
     use crate::wirebase::Field;
 
@@ -44,9 +44,8 @@ impl<T: Octets> Packet<T> {
         Packet { buffer }
     }
 
-    /// The view of these octets, where they are 12 or more; refused where they are fewer.
-    /// A refusal gives a `&mut [u8]` up: who wants the octets back, as they were, takes `new_unchecked` and then
-    /// `check_len`.
+    /// The view of these octets, where they are 12 or more; refused where they are fewer. On refusal the buffer is
+    /// dropped: to keep a `&mut [u8]`, call `new_unchecked` and then `check_len`.
     pub fn new_checked(buffer: T) -> Result<Packet<T>> {
         let packet = Packet::new_unchecked(buffer);
         packet.check_len()?;

@@ -79,14 +79,14 @@ impl<'a> Repr<'a> {
         }
     }
 
-    /// Writes the message over the front of the octets, with the checksum zero; the others stay. Requires octets of just
-    /// its length, and of a list of records of its length or more; a robustness variable below 8; and of records that
-    /// they are of groups and at most 65,535.
+    /// Writes the message over the front of the octets, with the checksum zero; the others stay. Requires exactly
+    /// `packet_len()` bytes, of a list of records at least as many; a robustness variable below 8; and at most 65,535
+    /// records, each of a group.
     pub fn emit<T: OctetsMut>(&self, packet: &mut Packet<T>) {
         self.emit_into(packet.buffer.octets_mut());
     }
 
-    /// The same into octets that stand by themselves.
+    /// The same into a slice. Give it exactly `packet_len()` bytes.
     pub fn emit_into(&self, octets: &mut [u8]) {
         self.write(octets);
     }

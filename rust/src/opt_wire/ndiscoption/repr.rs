@@ -146,7 +146,7 @@ impl<'a> Repr<'a> {
         self.emit_into(opt.buffer.octets_mut());
     }
 
-    /// The same into octets that stand by themselves.
+    /// The same into a slice.
     pub fn emit_into(&self, octets: &mut [u8]) {
         let mut w = ByteWriter::new(octets);
         self.put(&mut w);
