@@ -172,7 +172,7 @@ fn run() -> Result<()> {
         [interface, had] => (interface, Some(had.parse::<Ipv4Addr>()?.into())),
         _ => return Err("usage: lease INTERFACE [ADDRESS] [--renew] [--release]".into()),
     };
-    let host = Host::new(interface)?;
+    let mut host = Host::new(interface)?;
     let route = format!("255.255.255.255 dev {interface}");
     let lease = with("route", &route, || host.lease(had))?;
     print(&lease);
@@ -180,6 +180,7 @@ fn run() -> Result<()> {
         let mask = lease.subnet_mask.map_or([255; 4], |mask| mask.octets());
         let bits = u32::from_be_bytes(mask).count_ones();
         let address = format!("{}/{bits} dev {interface}", lease.address);
+        host.client.broadcast = false; // it has an address by then
         let keep = || host.keep(&lease, renew, release);
         with("address", &address, keep)?;
     }
