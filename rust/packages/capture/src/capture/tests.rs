@@ -80,7 +80,7 @@ fn row(number: u64, row: &Row) -> Record {
             nanoseconds,
         },
         link_type,
-        captured_len: octets.len() as u32,
+        captured_len: octets.len().min(262_144) as u32,
         original_len,
     }
 }
