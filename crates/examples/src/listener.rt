@@ -361,6 +361,3 @@ fn write_options(out: &mut [u8])
     options.push_padn_option(0);
     options.emit_into(out);
 }
-
-#[cfg(test)]
-mod tests;

@@ -202,6 +202,3 @@ fn is_error_v6(packet: &Ipv6Packet<&[u8]>) -> bool {
         [] => false,
     }
 }
-
-#[cfg(test)]
-mod tests;
