@@ -201,8 +201,8 @@ fn protocol<'a>(octets: &'a [u8], tags: &'a [u8]) -> Result<Frame<'a>>
     })
 }
 
-// A frame of PPP, with or without the address and control bytes ff 03 in front (RFC 1661 section 2, RFC 1662
-// section 3.1). Refused where the protocol is cut short.
+// A frame of PPP, with or without the address and control bytes ff 03 in front (RFC 1661 section 2,
+// RFC 1662 section 3.1). Refused where the protocol is cut short.
 fn ppp(octets: &[u8]) -> Result<Frame<'_>>
     ensures sound { IfOk result (λ f. IsPpp octets.now (value_of f)) }
     ensures complete { (v : FrameValue) → IsPpp octets.now v → IsOkAnd result (λ f. value_of f ≡ v) }

@@ -165,8 +165,8 @@ fn protocol<'a>(octets: &'a [u8], tags: &'a [u8]) -> Result<Frame<'a>> {
     })
 }
 
-// A frame of PPP, with or without the address and control bytes ff 03 in front (RFC 1661 section 2, RFC 1662
-// section 3.1). Refused where the protocol is cut short.
+// A frame of PPP, with or without the address and control bytes ff 03 in front (RFC 1661 section 2,
+// RFC 1662 section 3.1). Refused where the protocol is cut short.
 fn ppp(octets: &[u8]) -> Result<Frame<'_>> {
     if octets.len() >= 2 && octets.u16_at(0..2) == 0xff03 {
         return protocol(behind(octets, 2), &[]);
