@@ -1,0 +1,318 @@
+//! A host answers echo requests of both families, sends errors that quote the datagram that they are about, and reads
+//! such errors; and the checksums of other protocols.
+
+ghost use Rattle.std.specs.Prelude.{◌≤◌, ◌≡◌, length};
+
+use crate::digest::Digest;
+use crate::random::{Pool, Random};
+use byteorder::{BigEndian, ByteOrder};
+use control_wire::{ChecksumCapabilities, Ipv6Address, checksum, icmpv4, icmpv6};
+use quote_wire::{icmpv4_error, icmpv6_error};
+use std::alloc::Global;
+use std::io;
+
+// The bytes of the longest packet of a link, and of IPv4 over ICMP.
+const PACKET_LEN: usize = 1_500;
+
+const LONG_PACKET_LEN: usize = 65_515;
+
+// The bytes of data that an echo has in common, and in one round of many.
+const COMMON_LEN: u32 = 1_344;
+
+const LONG_LEN: usize = 65_507;
+
+// How often an echo has as much data as IPv4 carries.
+const LONG_EVERY: u32 = 1_024;
+
+// The lengths of what has a checksum: a header, a header with options, a segment, and packets of links.
+const SUMMED_LENGTHS: [usize; 6] = [20, 40, 64, 576, 1_500, 9_000];
+
+// The buffers of a host.
+#[derive(Drop)]
+struct Buffers {
+    // A datagram of IPv4 and a packet of IPv6, about which errors are sent.
+    datagram: [u8; PACKET_LEN],
+    packet: [u8; PACKET_LEN],
+    // What a peer sends, and what the host answers.
+    request: [u8; PACKET_LEN],
+    reply: [u8; PACKET_LEN],
+}
+
+/// Answers echoes and sends errors, each round others, and gives a digest of what was read and written.
+pub fn digest(alloc: Global, seed: u64, rounds: u32) -> io::Result<u64> {
+    let mut random = Random::new(seed);
+    let pool = Pool::new(alloc, &mut random)?;
+    let mut digest = Digest::new();
+    let mut buffers = Buffers {
+        datagram: [0; PACKET_LEN],
+        packet: [0; PACKET_LEN],
+        request: [0; PACKET_LEN],
+        reply: [0; PACKET_LEN],
+    };
+    let mut long_request = vec![in alloc; 0; LONG_PACKET_LEN]?;
+    let mut long_reply = vec![in alloc; 0; LONG_PACKET_LEN]?;
+    for round in 0..rounds {
+        answer(&mut random, &pool, &mut buffers, &mut digest);
+        send_errors(&mut random, &mut buffers, &mut digest);
+        if round % LONG_EVERY == 0 {
+            let number = random.next();
+            let payload = pool.part(number, LONG_LEN);
+            let request = long_request.as_mut_slice();
+            echo(
+                number,
+                payload,
+                request,
+                long_reply.as_mut_slice(),
+                &mut digest,
+            );
+        }
+        let number = random.next();
+        let len = SUMMED_LENGTHS[(number % 6) as usize];
+        digest.add(checksum::data(pool.part(number >> 8, len)) as u64);
+    }
+    Ok(digest.value())
+}
+
+// Answers an echo request of each family.
+fn answer(random: &mut Random, pool: &Pool, buffers: &mut Buffers, digest: &mut Digest) {
+    let len = 56 + random.below(COMMON_LEN) as usize;
+    let number = random.next();
+    let payload = pool.part(number >> 32, len);
+    echo(
+        number,
+        payload,
+        &mut buffers.request,
+        &mut buffers.reply,
+        digest,
+    );
+    let len = 56 + random.below(COMMON_LEN) as usize;
+    let number = random.next();
+    let payload = pool.part(number >> 32, len);
+    echo_v6(
+        number,
+        payload,
+        &mut buffers.request,
+        &mut buffers.reply,
+        digest,
+    );
+}
+
+// The lower 16 bits of a number.
+fn low(number: u64) -> u16 {
+    (number % 65_536) as u16
+}
+
+// An address of a host that the number gives.
+fn address(number: u64) -> Ipv6Address {
+    let interface = low(number >> 16);
+    Ipv6Address::new(0x2001, 0xdb8, 0, low(number), 0, 0, 0, interface)
+}
+
+// Sends an echo request over IPv4, answers it, and reads the answer.
+fn echo(number: u64, payload: &[u8], request: &mut [u8], reply: &mut [u8], digest: &mut Digest)
+    requires { length payload.now ≤ 65507 }
+{
+    let caps = ChecksumCapabilities::default();
+    let message = icmpv4::Repr::EchoRequest {
+        ident: low(number),
+        seq_no: low(number >> 16),
+        data: payload,
+    };
+    let len = message.buffer_len();
+    if len > request.len() || len > reply.len() {
+        return;
+    }
+    message.emit_into(&mut request[..len], &caps);
+    let packet = icmpv4::Packet::new_unchecked(&request[..len]);
+    let Ok(
+        icmpv4::Repr::EchoRequest {
+            ident,
+            seq_no,
+            data,
+        },
+    ) = icmpv4::Repr::parse(&packet, &caps)
+    else {
+        return;
+    };
+    let answer = icmpv4::Repr::EchoReply {
+        ident,
+        seq_no,
+        data,
+    };
+    if answer.buffer_len() != len {
+        return;
+    }
+    answer.emit_into(&mut reply[..len], &caps);
+    let packet = icmpv4::Packet::new_unchecked(&reply[..len]);
+    if let Ok(
+        icmpv4::Repr::EchoReply {
+            ident,
+            seq_no,
+            data,
+        },
+    ) = icmpv4::Repr::parse(&packet, &caps)
+    {
+        digest.add(ident as u64);
+        digest.add(seq_no as u64);
+        digest.add_front(data);
+        digest.add(packet.checksum() as u64);
+    }
+}
+
+// Sends an echo request over IPv6, answers it, and reads the answer.
+fn echo_v6(number: u64, payload: &[u8], request: &mut [u8], reply: &mut [u8], digest: &mut Digest)
+    requires { length payload.now ≤ 65507 }
+{
+    let caps = ChecksumCapabilities::default();
+    let peer = address(number);
+    let own = address(number >> 20);
+    let message = icmpv6::Repr::EchoRequest {
+        ident: low(number),
+        seq_no: low(number >> 16),
+        data: payload,
+    };
+    let len = message.buffer_len();
+    if len > request.len() || len > reply.len() || len < 8 {
+        return;
+    }
+    message.emit_into(&peer, &own, &mut request[..len], &caps);
+    let packet = icmpv6::Packet::new_unchecked(&request[..len]);
+    let Ok(message) = icmpv6::Repr::parse(&peer, &own, &packet, &caps) else {
+        return;
+    };
+    let icmpv6::Repr::EchoRequest {
+        ident,
+        seq_no,
+        data,
+    } = message
+    else {
+        return;
+    };
+    let answer = icmpv6::Repr::EchoReply {
+        ident,
+        seq_no,
+        data,
+    };
+    if answer.buffer_len() != len {
+        return;
+    }
+    answer.emit_into(&own, &peer, &mut reply[..len], &caps);
+    let packet = icmpv6::Packet::new_unchecked(&reply[..len]);
+    let Ok(message) = icmpv6::Repr::parse(&own, &peer, &packet, &caps) else {
+        return;
+    };
+    if let icmpv6::Repr::EchoReply {
+        ident,
+        seq_no,
+        data,
+    } = message
+    {
+        digest.add(ident as u64);
+        digest.add(seq_no as u64);
+        digest.add_front(data);
+        digest.add(packet.checksum() as u64);
+    }
+}
+
+// Sends an error about a datagram of each family, and reads it.
+fn send_errors(random: &mut Random, buffers: &mut Buffers, digest: &mut Digest) {
+    let len = 28 + random.below(1_240) as usize;
+    let number = random.next();
+    write_datagram(number, &mut buffers.datagram[..len]);
+    send_error(number, &buffers.datagram[..len], &mut buffers.reply, digest);
+    let len = 48 + random.below(1_240) as usize;
+    let number = random.next();
+    write_packet(number, &mut buffers.packet[..len]);
+    send_error_v6(number, &buffers.packet[..len], &mut buffers.reply, digest);
+}
+
+// Writes the header of a datagram of UDP over just its octets.
+fn write_datagram(number: u64, datagram: &mut [u8])
+    requires least { 28 ≤ length datagram.old }
+    requires most { length datagram.old ≤ 1500 }
+{
+    let len = datagram.len() as u16;
+    datagram[0] = 0x45;
+    BigEndian::write_u16(&mut datagram[2..4], len);
+    datagram[8] = 64;
+    datagram[9] = 17;
+    BigEndian::write_u64(&mut datagram[12..20], number);
+    BigEndian::write_u64(&mut datagram[20..28], number.wrapping_mul(3));
+}
+
+// Writes the header of a packet of UDP over just its octets.
+fn write_packet(number: u64, packet: &mut [u8])
+    requires least { 48 ≤ length packet.old }
+    requires most { length packet.old ≤ 1500 }
+{
+    let len = packet.len() as u16 - 40;
+    packet[0] = 0x60;
+    BigEndian::write_u16(&mut packet[4..6], len);
+    packet[6] = 17;
+    packet[7] = 64;
+    BigEndian::write_u64(&mut packet[8..16], 0x2001_0db8_0000_0000);
+    BigEndian::write_u64(&mut packet[16..24], number);
+    BigEndian::write_u64(&mut packet[24..32], 0x2001_0db8_0000_0001);
+    BigEndian::write_u64(&mut packet[32..40], number.wrapping_mul(3));
+    BigEndian::write_u64(&mut packet[40..48], number.wrapping_mul(5));
+}
+
+// Sends an error about a datagram, and reads it both with the bytes that it quotes and with the header that they have.
+fn send_error(number: u64, datagram: &[u8], reply: &mut [u8], digest: &mut Digest) {
+    let caps = ChecksumCapabilities::default();
+    let error = icmpv4_error::Repr {
+        kind: icmpv4_error::Kind::DstUnreachable,
+        code: (number % 16) as u8,
+        rest: (number % 1_500) as u32,
+        quoted: datagram,
+    };
+    let len = error.buffer_len();
+    if len > reply.len() || len < 8 {
+        return;
+    }
+    error.emit_into(&mut reply[..len], &caps);
+    if let Ok(error) = icmpv4_error::Repr::parse(&reply[..len], &caps) {
+        digest.add(error.code as u64);
+        digest.add(error.rest as u64);
+        digest.add_front(error.quoted);
+    }
+    let packet = icmpv4::Packet::new_unchecked(&reply[..len]);
+    match icmpv4::Repr::parse(&packet, &caps) {
+        Ok(icmpv4::Repr::DstUnreachable { header, data, .. }) => {
+            digest.add(header.payload_len as u64);
+            digest.add_front(data);
+        }
+        _ => digest.add(1),
+    }
+}
+
+// The same about a packet of IPv6.
+fn send_error_v6(number: u64, quoted: &[u8], reply: &mut [u8], digest: &mut Digest) {
+    let caps = ChecksumCapabilities::default();
+    let own = address(number);
+    let peer = address(number >> 16);
+    let error = icmpv6_error::Repr {
+        kind: icmpv6_error::Kind::PktTooBig,
+        code: 0,
+        rest: 1_280 + (number % 256) as u32,
+        quoted,
+    };
+    let len = error.buffer_len();
+    if len > reply.len() || len < 8 {
+        return;
+    }
+    error.emit_into(&own, &peer, &mut reply[..len], &caps);
+    if let Ok(error) = icmpv6_error::Repr::parse(&own, &peer, &reply[..len], &caps) {
+        digest.add(error.rest as u64);
+        digest.add_front(error.quoted);
+    }
+    let packet = icmpv6::Packet::new_unchecked(&reply[..len]);
+    match icmpv6::Repr::parse(&own, &peer, &packet, &caps) {
+        Ok(icmpv6::Repr::PktTooBig { mtu, header, data }) => {
+            digest.add(mtu as u64);
+            digest.add(header.payload_len as u64);
+            digest.add_front(data);
+        }
+        _ => digest.add(1),
+    }
+}

@@ -1,0 +1,420 @@
+//! Hosts and routers of a link speak with their neighbors: solicitations and advertisements, reports of multicast
+//! groups of both families, and the hop-by-hop header that reports stand behind.
+
+ghost use Rattle.std.specs.Prelude.{◌≤◌, ◌≡◌, ℕ, List, length};
+ghost use Rattle.control_wire.specs.Mld.{CanEmit as CanEmitListener, text_len as text_len_of, value_of as listener_of};
+ghost use Rattle.control_wire.specs.Ndisc.{CanEmit, text_len, value_of as content_of};
+
+use crate::digest::Digest;
+use crate::random::{Pool, Random};
+use bitflags::Flags as _;
+use control_wire::mld::{self, AddressRecord, AddressRecordRepr, RecordType};
+use control_wire::ndisc::{self, NeighborFlags, RouterFlags};
+use control_wire::ndiscoption::{PrefixInfoFlags, PrefixInformation};
+use control_wire::{
+    ChecksumCapabilities, Duration, EthernetAddress, IPV6_LINK_LOCAL_ALL_NODES, Ipv4Address,
+    Ipv6Address, RawHardwareAddress, icmpv6, igmp, ipv6hbh,
+};
+use std::alloc::Global;
+use std::io;
+
+// The bytes of a packet of the link.
+const PACKET_LEN: usize = 1_500;
+
+// The most records of a report, and the bytes of one without sources.
+const MOST_RECORDS: usize = 60;
+
+const RECORD_LEN: usize = 20;
+
+// The bytes of a source.
+const SOURCE_LEN: usize = 16;
+
+/// Exchanges messages, in each round others, and gives a digest of what was read and written.
+pub fn digest(alloc: Global, seed: u64, rounds: u32) -> io::Result<u64> {
+    let mut random = Random::new(seed);
+    let pool = Pool::new(alloc, &mut random)?;
+    let mut digest = Digest::new();
+    let mut packet = [0; PACKET_LEN];
+    for round in 0..rounds {
+        solicit(&mut random, &mut packet, &mut digest);
+        advertise_router(&mut random, &mut packet, &mut digest);
+        query(&mut random, &pool, &mut packet, &mut digest);
+        match round % 4 {
+            0 => report(&mut random, &mut packet, &mut digest),
+            1 => join(&mut random, &mut packet, &mut digest),
+            _ => report_sources(&mut random, &pool, &mut packet, &mut digest),
+        }
+        ask_members(&mut random, &mut packet, &mut digest);
+        lead(&mut random, &mut packet, &mut digest);
+    }
+    Ok(digest.value())
+}
+
+// The lower 16 bits of a number.
+fn low(number: u64) -> u16 {
+    (number % 65_536) as u16
+}
+
+// The lower 8 bits of a number.
+fn lowest(number: u64) -> u8 {
+    (number % 256) as u8
+}
+
+// A link-local address that the number gives.
+fn host(number: u64) -> Ipv6Address {
+    Ipv6Address::new(
+        0xfe80,
+        0,
+        0,
+        0,
+        0x5054,
+        low(number >> 16),
+        low(number >> 32),
+        low(number),
+    )
+}
+
+// A multicast group of the link that the number gives.
+fn group(number: u64) -> Ipv6Address {
+    Ipv6Address::new(0xff02, 0, 0, 0, 0, 1, low(number >> 16), low(number))
+}
+
+// An address on an Ethernet that the number gives.
+fn link_address(number: u64) -> RawHardwareAddress {
+    let address = EthernetAddress([
+        0x52,
+        0x54,
+        0,
+        lowest(number),
+        lowest(number >> 8),
+        lowest(number >> 16),
+    ]);
+    RawHardwareAddress::from(address)
+}
+
+// Adds an address on a link.
+fn add_link_address(digest: &mut Digest, address: &Option<RawHardwareAddress>) {
+    match address {
+        Some(address) => digest.add_octets(address.as_bytes()),
+        None => digest.add(0),
+    }
+}
+
+// Sends a solicitation of a neighbor, and the advertisement that answers it.
+fn solicit(random: &mut Random, packet: &mut [u8], digest: &mut Digest) {
+    let number = random.next();
+    let own = host(number);
+    let target = host(number.rotate_left(17));
+    let message = ndisc::Repr::NeighborSolicit {
+        target_addr: target,
+        lladdr: Some(link_address(number)),
+    };
+    exchange(&message, &own, &target, packet, digest);
+    let message = ndisc::Repr::NeighborAdvert {
+        flags: NeighborFlags::SOLICITED.union(NeighborFlags::OVERRIDE),
+        target_addr: target,
+        lladdr: Some(link_address(number >> 24)),
+    };
+    exchange(&message, &target, &own, packet, digest);
+}
+
+// Sends the advertisement of a router.
+fn advertise_router(random: &mut Random, packet: &mut [u8], digest: &mut Digest) {
+    let number = random.next();
+    let prefix = PrefixInformation {
+        prefix_len: 64,
+        flags: PrefixInfoFlags::ON_LINK.union(PrefixInfoFlags::ADDRCONF),
+        valid_lifetime: Duration::from_secs(number % 2_592_000),
+        preferred_lifetime: Duration::from_secs(number % 604_800),
+        prefix: Ipv6Address::new(0x2001, 0xdb8, low(number), low(number >> 16), 0, 0, 0, 0),
+    };
+    let message = ndisc::Repr::RouterAdvert {
+        hop_limit: 64,
+        flags: RouterFlags::OTHER,
+        router_lifetime: Duration::from_secs(number % 9_000),
+        reachable_time: Duration::from_millis(number % 3_600_000),
+        retrans_time: Duration::from_millis(number % 1_000),
+        lladdr: Some(link_address(number)),
+        mtu: if number % 2 == 0 { Some(1_500) } else { None },
+        prefix_info: if number % 8 == 0 { None } else { Some(prefix) },
+    };
+    exchange(
+        &message,
+        &host(number),
+        &IPV6_LINK_LOCAL_ALL_NODES,
+        packet,
+        digest,
+    );
+}
+
+// Writes a message, and reads it.
+fn exchange(
+    message: &ndisc::Repr<'_>,
+    source: &Ipv6Address,
+    destination: &Ipv6Address,
+    packet: &mut [u8],
+    digest: &mut Digest,
+)
+    requires can_emit { CanEmit (content_of message.now) }
+    requires small { text_len (content_of message.now) ≤ 1280 }
+{
+    let caps = ChecksumCapabilities::default();
+    let message = icmpv6::Repr::Ndisc(*message);
+    let len = message.buffer_len();
+    if len > packet.len() {
+        return;
+    }
+    message.emit_into(source, destination, &mut packet[..len], &caps);
+    let view = icmpv6::Packet::new_unchecked(&packet[..len]);
+    match icmpv6::Repr::parse(source, destination, &view, &caps) {
+        Ok(icmpv6::Repr::Ndisc(message)) => add_neighbors(digest, &message),
+        _ => digest.add(1),
+    }
+}
+
+// Adds what a message of neighbor discovery says.
+fn add_neighbors(digest: &mut Digest, message: &ndisc::Repr<'_>) {
+    match message {
+        ndisc::Repr::NeighborSolicit {
+            target_addr,
+            lladdr,
+        } => {
+            digest.add_octets(&target_addr.octets());
+            add_link_address(digest, lladdr);
+        }
+        ndisc::Repr::NeighborAdvert {
+            flags,
+            target_addr,
+            lladdr,
+        } => {
+            digest.add(flags.bits() as u64);
+            digest.add_octets(&target_addr.octets());
+            add_link_address(digest, lladdr);
+        }
+        ndisc::Repr::RouterAdvert {
+            router_lifetime,
+            reachable_time,
+            lladdr,
+            mtu,
+            prefix_info,
+            ..
+        } => {
+            digest.add(router_lifetime.secs());
+            digest.add(reachable_time.total_millis());
+            add_link_address(digest, lladdr);
+            digest.add(mtu.unwrap_or(0) as u64);
+            if let Some(prefix) = prefix_info {
+                digest.add(prefix.valid_lifetime.secs());
+                digest.add(prefix.preferred_lifetime.secs());
+                digest.add_octets(&prefix.prefix.octets());
+            }
+        }
+        _ => digest.add(2),
+    }
+}
+
+// Writes a message of multicast listener discovery with its checksum, and reads it.
+fn exchange_listener(
+    message: &mld::Repr<'_>,
+    source: &Ipv6Address,
+    packet: &mut [u8],
+    digest: &mut Digest,
+)
+    requires can_emit { (octets : List ℕ) → length octets ≡ text_len_of (listener_of message.now)
+        → CanEmitListener (listener_of message.now) octets }
+    requires small { text_len_of (listener_of message.now) ≤ 1500 }
+{
+    let caps = ChecksumCapabilities::default();
+    let message = icmpv6::Repr::Mld(*message);
+    let len = message.packet_len();
+    if len > packet.len() {
+        return;
+    }
+    message.emit_into(
+        source,
+        &IPV6_LINK_LOCAL_ALL_NODES,
+        &mut packet[..len],
+        &caps,
+    );
+    let view = icmpv6::Packet::new_unchecked(&packet[..len]);
+    match icmpv6::Repr::parse(source, &IPV6_LINK_LOCAL_ALL_NODES, &view, &caps) {
+        Ok(icmpv6::Repr::Mld(message)) => add_listener(digest, &message),
+        _ => digest.add(1),
+    }
+}
+
+// Adds what a message of multicast listener discovery says.
+fn add_listener(digest: &mut Digest, message: &mld::Repr<'_>) {
+    match message {
+        mld::Repr::Query {
+            max_resp_code,
+            mcast_addr,
+            s_flag,
+            qqic,
+            num_srcs,
+            data,
+            ..
+        } => {
+            digest.add(*max_resp_code as u64);
+            digest.add_octets(&mcast_addr.octets());
+            digest.add(*s_flag as u64);
+            digest.add(*qqic as u64);
+            digest.add(*num_srcs as u64);
+            digest.add_octets(data);
+        }
+        mld::Repr::Report {
+            nr_mcast_addr_rcrds,
+            data,
+        } => {
+            digest.add(*nr_mcast_addr_rcrds as u64);
+            add_records(digest, data);
+        }
+        mld::Repr::ReportRecordReprs(_) => digest.add(2),
+    }
+}
+
+// Adds the records of a report, each with the sources that it counts.
+fn add_records(digest: &mut Digest, records: &[u8]) {
+    let mut rest = records;
+    while rest.len() >= RECORD_LEN {
+        let Ok(record) = AddressRecordRepr::parse(&AddressRecord::new_unchecked(rest)) else {
+            return;
+        };
+        digest.add((record.record_type == RecordType::ModeIsExclude) as u64);
+        digest.add(record.aux_data_len as u64);
+        digest.add_octets(&record.mcast_addr.octets());
+        let len = RECORD_LEN + SOURCE_LEN * record.num_srcs as usize;
+        digest.add(len as u64);
+        rest = &rest[len.min(rest.len())..];
+    }
+}
+
+// Sends a query for a group and some of its sources.
+fn query(random: &mut Random, pool: &Pool, packet: &mut [u8], digest: &mut Digest) {
+    let number = random.next();
+    let sources = number % 8;
+    let message = mld::Repr::Query {
+        max_resp_code: low(number),
+        mcast_addr: group(number),
+        s_flag: number % 2 == 0,
+        qrv: 2,
+        qqic: lowest(number >> 40),
+        num_srcs: sources as u16,
+        data: pool.part(number >> 16, SOURCE_LEN * sources as usize),
+    };
+    exchange_listener(&message, &host(number), packet, digest);
+}
+
+// Sends a report of the groups that a host listens to.
+fn report(random: &mut Random, packet: &mut [u8], digest: &mut Digest) {
+    let number = random.next();
+    let mut records = [0; RECORD_LEN * MOST_RECORDS];
+    let count = 1 + (number % MOST_RECORDS as u64) as usize;
+    for place in 0..count {
+        let start = RECORD_LEN * place;
+        let group_addr = group(number.wrapping_mul(2 * place as u64 + 1));
+        write_record(group_addr, &mut records[start..start + RECORD_LEN]);
+    }
+    let message = mld::Repr::Report {
+        nr_mcast_addr_rcrds: count as u16,
+        data: &records[..RECORD_LEN * count],
+    };
+    exchange_listener(&message, &host(number), packet, digest);
+}
+
+// Writes the record of a group.
+fn write_record(group_addr: Ipv6Address, octets: &mut [u8])
+    requires { 20 ≤ length octets.old }
+    ensures { length octets.new ≡ length octets.old }
+{
+    if group_addr.is_multicast() {
+        AddressRecordRepr::new(RecordType::ModeIsExclude, group_addr).emit_into(octets);
+    }
+}
+
+// Sends a report that a host joins a group.
+fn join(random: &mut Random, packet: &mut [u8], digest: &mut Digest) {
+    let number = random.next();
+    let group_addr = group(number);
+    if group_addr.is_multicast() {
+        let records = [AddressRecordRepr::new(RecordType::ChangeToExclude, group_addr)];
+        let message = mld::Repr::ReportRecordReprs(&records);
+        exchange_listener(&message, &host(number), packet, digest);
+    }
+}
+
+// Sends a report of one group and the sources from which a host listens.
+fn report_sources(random: &mut Random, pool: &Pool, packet: &mut [u8], digest: &mut Digest) {
+    let number = random.next();
+    let message = mld::Repr::Report {
+        nr_mcast_addr_rcrds: 1,
+        data: pool.part(number, RECORD_LEN + SOURCE_LEN * (number % 4) as usize),
+    };
+    exchange_listener(&message, &host(number), packet, digest);
+}
+
+// Sends a query and a report of IGMP.
+fn ask_members(random: &mut Random, packet: &mut [u8], digest: &mut Digest) {
+    let number = random.next();
+    let group_addr = Ipv4Address::new(
+        224 + lowest(number) % 16,
+        lowest(number >> 8),
+        lowest(number >> 16),
+        1,
+    );
+    let message = igmp::Repr::MembershipQuery {
+        max_resp_time: Duration::from_millis(100 * (number % 128)),
+        group_addr,
+        version: igmp::IgmpVersion::Version2,
+    };
+    exchange_member(&message, packet, digest);
+    let message = igmp::Repr::MembershipReport {
+        group_addr,
+        version: igmp::IgmpVersion::Version2,
+    };
+    exchange_member(&message, packet, digest);
+}
+
+// Writes a message of IGMP, and reads it.
+fn exchange_member(message: &igmp::Repr, packet: &mut [u8], digest: &mut Digest) {
+    let len = message.buffer_len();
+    if len > packet.len() {
+        return;
+    }
+    message.emit_into(&mut packet[..len]);
+    let view = igmp::Packet::new_unchecked(&packet[..len]);
+    digest.add(view.verify_checksum() as u64);
+    match igmp::Repr::parse(&view) {
+        Ok(
+            igmp::Repr::MembershipQuery {
+                max_resp_time,
+                group_addr,
+                ..
+            },
+        ) => {
+            digest.add(max_resp_time.total_millis());
+            digest.add_octets(&group_addr.octets());
+        }
+        Ok(igmp::Repr::MembershipReport { group_addr, .. }) => digest.add_octets(
+            &group_addr.octets(),
+        ),
+        _ => digest.add(1),
+    }
+}
+
+// Writes the header that a report stands behind, and reads it.
+fn lead(random: &mut Random, packet: &mut [u8], digest: &mut Digest) {
+    let number = random.next();
+    let mut options = ipv6hbh::Repr::mldv2_router_alert();
+    options.push_padn_option(lowest(number) % 64);
+    let len = options.buffer_len();
+    if len > packet.len() {
+        return;
+    }
+    options.emit_into(&mut packet[..len]);
+    let header = ipv6hbh::Header::new_unchecked(&packet[..len]);
+    match ipv6hbh::Repr::parse(&header) {
+        Ok(options) => digest.add(options.options.len() as u64 + len as u64),
+        Err(_) => digest.add(1),
+    }
+}
