@@ -16,7 +16,7 @@ use crate::name::label::{is_label, push_label, split_label};
 use crate::name::text::{LabelText, is_root, read_labels};
 use arrayvec::ArrayVec;
 use dns_wire::dns::{NameIter, Packet};
-use std::fmt;
+use std::fmt::{self, Display};
 use wirebase::{Error, Result};
 
 /// The most octets that a name has (RFC 1035 section 2.3.4).
@@ -114,8 +114,11 @@ impl fmt::Display for Name {
 
     fn fmt<W: fmt::Write>(&self, f: &mut fmt::Formatter<W>) -> fmt::Result {
         match split_label(self.octets.as_slice()) {
-            Some((label, rest)) => write!(f, "{}{}", LabelText(label), BehindDots(rest)),
-            None => write!(f, "."),
+            Some((label, rest)) => {
+                LabelText(label).fmt(f)?;
+                BehindDots(rest).fmt(f)
+            }
+            None => f.write_str("."),
         }
     }
 }
@@ -133,7 +136,8 @@ impl fmt::Display for BehindDots<'_> {
     fn fmt<W: fmt::Write>(&self, f: &mut fmt::Formatter<W>) -> fmt::Result {
         let mut left = self.0;
         while let Some((label, rest)) = split_label(left) {
-            write!(f, ".{}", LabelText(label))?;
+            f.write_str(".")?;
+            LabelText(label).fmt(f)?;
             left = rest;
         }
         Ok(())

@@ -9,7 +9,7 @@ use crate::record::name::label::{is_label, push_label, split_label};
 use crate::record::name::text::{LabelText, is_root, read_labels};
 use crate::wirebase::{Error, Result};
 use arrayvec::ArrayVec;
-use core::fmt;
+use core::fmt::{self, Display};
 
 /// The most octets that a name has (RFC 1035 section 2.3.4).
 pub const MAX_NAME_LEN: usize = 255;
@@ -75,8 +75,11 @@ fn given_labels(mut walk: NameIter<'_>) -> Result<ArrayVec<u8, MAX_NAME_LEN>> {
 impl fmt::Display for Name {
     fn fmt(&self, f: &mut fmt::Formatter<'_>) -> fmt::Result {
         match split_label(self.octets.as_slice()) {
-            Some((label, rest)) => write!(f, "{}{}", LabelText(label), BehindDots(rest)),
-            None => write!(f, "."),
+            Some((label, rest)) => {
+                LabelText(label).fmt(f)?;
+                BehindDots(rest).fmt(f)
+            }
+            None => f.write_str("."),
         }
     }
 }
@@ -88,7 +91,8 @@ impl fmt::Display for BehindDots<'_> {
     fn fmt(&self, f: &mut fmt::Formatter<'_>) -> fmt::Result {
         let mut left = self.0;
         while let Some((label, rest)) = split_label(left) {
-            write!(f, ".{}", LabelText(label))?;
+            f.write_str(".")?;
+            LabelText(label).fmt(f)?;
             left = rest;
         }
         Ok(())

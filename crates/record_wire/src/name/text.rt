@@ -11,7 +11,7 @@ ghost use Rattle.record_wire.specs.NameText.{is_special, IsNameText};
 use crate::name::MAX_NAME_LEN;
 use crate::name::label::{MAX_LABEL_LEN, push_label};
 use arrayvec::ArrayVec;
-use std::fmt;
+use std::fmt::{self, Display};
 use wirebase::{Error, Result};
 
 /// Whether this is the text of the root, a dot alone.
@@ -154,7 +154,7 @@ impl fmt::Display for LabelText<'_> {
 
     fn fmt<W: fmt::Write>(&self, f: &mut fmt::Formatter<W>) -> fmt::Result {
         for byte in self.0 {
-            write!(f, "{}", Character(*byte))?;
+            Character(*byte).fmt(f)?;
         }
         Ok(())
     }
@@ -175,7 +175,9 @@ impl fmt::Display for Character {
         if is_special(byte) {
             write!(f, "\\{}", char::from(byte))
         } else if byte.is_ascii_graphic() {
-            write!(f, "{}", char::from(byte))
+            // One write of one byte, with none of the work that `write!` does for a formatter's options.
+            let mut encoded = [0; 4];
+            f.write_str(char::from(byte).encode_utf8(&mut encoded))
         } else {
             write!(f, "\\{}{}{}", byte / 100, byte / 10 % 10, byte % 10)
         }

@@ -5,7 +5,7 @@ use crate::record::name::MAX_NAME_LEN;
 use crate::record::name::label::{MAX_LABEL_LEN, push_label};
 use crate::wirebase::{Error, Result};
 use arrayvec::ArrayVec;
-use core::fmt;
+use core::fmt::{self, Display};
 
 /// Whether this is the text of the root, a dot alone.
 pub(super) fn is_root(text: &[u8]) -> bool {
@@ -114,7 +114,7 @@ pub(super) struct LabelText<'a>(pub(super) &'a [u8]);
 impl fmt::Display for LabelText<'_> {
     fn fmt(&self, f: &mut fmt::Formatter<'_>) -> fmt::Result {
         for byte in self.0 {
-            write!(f, "{}", Character(*byte))?;
+            Character(*byte).fmt(f)?;
         }
         Ok(())
     }
@@ -129,7 +129,9 @@ impl fmt::Display for Character {
         if is_special(byte) {
             write!(f, "\\{}", char::from(byte))
         } else if byte.is_ascii_graphic() {
-            write!(f, "{}", char::from(byte))
+            // One write of one byte, with none of the work that `write!` does for a formatter's options.
+            let mut encoded = [0; 4];
+            f.write_str(char::from(byte).encode_utf8(&mut encoded))
         } else {
             write!(f, "\\{}{}{}", byte / 100, byte / 10 % 10, byte % 10)
         }
