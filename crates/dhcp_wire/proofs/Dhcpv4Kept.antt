@@ -12,9 +12,10 @@ use Rattle.wirebase.specs.declared.ipv4.Ipv4Address.{Ipv4Address}
 use Rattle.wirebase.proofs.Ipv4Header.{same_address}
 use Rattle.wirebase.proofs.LastOf.{kept}
 use Rattle.dhcp_wire.specs.declared.dhcpv4.tables.MessageType.{MessageType}
-use Rattle.dhcp_wire.specs.Dhcpv4.{Value, HasHeader, IsPacket, AreOfEthernet, said, of_len, number_in}
+use Rattle.dhcp_wire.specs.declared.dhcpv4.found.Found.{Found}
+use Rattle.dhcp_wire.specs.Dhcpv4.{Value, value_of, HasHeader, IsPacket, AreOfEthernet, said, of_len, number_in}
 use Rattle.dhcp_wire.specs.Dhcpv4.{identifier_in, addresses_in, type_in}
-use Rattle.dhcp_wire.specs.Dhcpv4Found.{nothing, keep, IsMadeOf}
+use Rattle.dhcp_wire.specs.Dhcpv4Found.{kept_of, bare, nothing, keep, IsMadeOf}
 use Rattle.dhcp_wire.specs.Dhcpv4Options.{OptionValue}
 use Rattle.dhcp_wire.specs.Dhcpv4OptionsAhead.{list_of}
 use Rattle.dhcp_wire.specs.Dhcpv4Packet.{op_field, options_in}
@@ -28,6 +29,34 @@ use Rattle.dhcp_wire.proofs.Dhcpv4Lists.{list-options, options-unique}
 pub kept-type : (op : ℕ) (os : List OptionValue) → (keep_all (keep op) nothing os).message_type
     ≡ last_of (said 53 (type_in op)) os
 kept-type op os = kept (keep op) (λ k. k.message_type) (said 53 (type_in op)) (λ k o. refl) nothing refl os
+
+-- the header, and what the options said
+pub made-of-found : (bytes : List ℕ) (t : MessageType) (v0 : Value) (found : Found)
+    → IsMadeOf bytes v0.message_type nothing v0 → bare (value_of found.repr) ≡ bare v0
+    → IsMadeOf bytes t (kept_of found) (record (value_of found.repr) { message_type = t })
+made-of-found bytes t v0 found made same = record {
+  message_type = refl;
+  transaction_id = ap (λ v. v.transaction_id) same ∙ made.transaction_id;
+  secs = ap (λ v. v.secs) same ∙ made.secs;
+  client_hardware_address = ap (λ v. ethernet_octets v.client_hardware_address) same ∙ made.client_hardware_address;
+  client_ip = ap (λ v. octets_of v.client_ip) same ∙ made.client_ip;
+  your_ip = ap (λ v. octets_of v.your_ip) same ∙ made.your_ip;
+  server_ip = ap (λ v. octets_of v.server_ip) same ∙ made.server_ip;
+  relay_agent_ip = ap (λ v. octets_of v.relay_agent_ip) same ∙ made.relay_agent_ip;
+  broadcast = ap (λ v. v.broadcast) same ∙ made.broadcast;
+  router = refl;
+  subnet_mask = refl;
+  requested_ip = refl;
+  server_identifier = refl;
+  client_identifier = refl;
+  parameter_request_list = refl;
+  dns_servers = refl;
+  max_size = refl;
+  lease_duration = refl;
+  renew_duration = refl;
+  rebind_duration = refl;
+  additional_options = ap (λ v. v.additional_options) same ∙ made.additional_options;
+}
 
 -- a packet is what was made of it
 pub packet-made : (bytes : List ℕ) (t : MessageType) (v : Value) → HasHeader bytes

@@ -8,6 +8,7 @@ use Rattle.wirebase.specs.HardwareAddress.{ethernet_of}
 use Rattle.wirebase.specs.Ipv4.{octets_of}
 use Rattle.dhcp_wire.specs.declared.dhcpv4.found.Found.{Found}
 use Rattle.dhcp_wire.specs.declared.dhcpv4.tables.MessageType.{MessageType}
+use Rattle.dhcp_wire.specs.declared.dhcpv4.tables.MessageType.TheVariants as type_of
 use Rattle.dhcp_wire.specs.Dhcpv4.{Value, has_broadcast, said, of_len, number_in, identifier_in, addresses_in, type_in}
 use Rattle.dhcp_wire.specs.Dhcpv4Packet.{xid_field, secs_field, flags_field, ciaddr_field, yiaddr_field, siaddr_field}
 use Rattle.dhcp_wire.specs.Dhcpv4Packet.{giaddr_field, chaddr_field}
@@ -31,17 +32,34 @@ pub record Kept : Type 0 where
 abbrev pub kept_of : Found → Kept
 kept_of found = record {
   message_type = found.message_type;
-  requested_ip = option_map octets_of found.requested_ip;
-  client_identifier = option_map ethernet_octets (option_map ethernet_of found.client_identifier);
-  server_identifier = option_map octets_of found.server_identifier;
-  router = option_map octets_of found.router;
-  subnet_mask = option_map octets_of found.subnet_mask;
-  parameter_request_list = option_map (λ l. l.now) found.parameter_request_list;
-  dns_servers = option_map (flat_map octets_of) (option_map (λ l. l.items) found.dns_servers);
-  max_size = found.max_size;
-  lease_duration = found.lease_duration;
-  renew_duration = found.renew_duration;
-  rebind_duration = found.rebind_duration;
+  requested_ip = option_map octets_of found.repr.requested_ip;
+  client_identifier = option_map ethernet_octets (option_map ethernet_of found.repr.client_identifier);
+  server_identifier = option_map octets_of found.repr.server_identifier;
+  router = option_map octets_of found.repr.router;
+  subnet_mask = option_map octets_of found.repr.subnet_mask;
+  parameter_request_list = option_map (λ l. l.now) found.repr.parameter_request_list;
+  dns_servers = option_map (flat_map octets_of) (option_map (λ l. l.items) found.repr.dns_servers);
+  max_size = found.repr.max_size;
+  lease_duration = found.repr.lease_duration;
+  renew_duration = found.repr.renew_duration;
+  rebind_duration = found.repr.rebind_duration;
+}
+
+-- a value without what options say
+abbrev pub bare : Value → Value
+bare v = record v {
+  message_type = type_of.Unknown 0;
+  router = None;
+  subnet_mask = None;
+  requested_ip = None;
+  client_identifier = None;
+  server_identifier = None;
+  parameter_request_list = None;
+  dns_servers = None;
+  max_size = None;
+  lease_duration = None;
+  renew_duration = None;
+  rebind_duration = None;
 }
 
 abbrev pub nothing : Kept

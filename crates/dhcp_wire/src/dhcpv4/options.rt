@@ -61,6 +61,7 @@ impl<'a> Iterator for OptionsIter<'a> {
 
     ghost remaining = { λ options. at_most (length options) };
 
+    #[inline]
     fn next(&mut self) -> Option<DhcpOption<'a>> {
         let [kind, count, rest @ ..] = after_padding(self.rest) else {
             return None;
@@ -75,6 +76,7 @@ impl<'a> Iterator for OptionsIter<'a> {
 }
 
 // The octets from the first on that is no padding.
+#[inline]
 fn after_padding(octets: &[u8]) -> &[u8]
     ensures same { list_of result.now ≡ list_of octets.now }
     ensures none { HasNoPadding result.now }

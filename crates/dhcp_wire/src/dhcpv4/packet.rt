@@ -401,6 +401,7 @@ impl<T: OctetsMut> Packet<T> {
 }
 
 // The address of four octets.
+#[inline]
 fn ipv4_address(octets: &[u8]) -> Ipv4Address
     requires { length octets.now ≡ 4 }
     ensures { octets_of result ≡ octets.now }

@@ -9,83 +9,61 @@ use super::kinds::{
 };
 use super::options::DhcpOption;
 use super::packet::Packet;
+use super::repr::Repr;
 use super::tables::MessageType;
 use crate::wirebase::{Error, EthernetAddress, Ipv4Address, Result};
 use arrayvec::ArrayVec;
 use byteorder::{BigEndian, ByteOrder};
 
-// What the options said so far, each field as the last option of its kind and length.
+// What the options of a packet said so far: each field of the value as the last option of its kind and length, and the
+// type of the message, where one gives it.
 pub(super) struct Found<'a> {
     pub(super) message_type: Option<MessageType>,
-    pub(super) requested_ip: Option<Ipv4Address>,
-    pub(super) client_identifier: Option<EthernetAddress>,
-    pub(super) server_identifier: Option<Ipv4Address>,
-    pub(super) router: Option<Ipv4Address>,
-    pub(super) subnet_mask: Option<Ipv4Address>,
-    pub(super) parameter_request_list: Option<&'a [u8]>,
-    pub(super) dns_servers: Option<ArrayVec<Ipv4Address, MAX_DNS_SERVER_COUNT>>,
-    pub(super) max_size: Option<u16>,
-    pub(super) lease_duration: Option<u32>,
-    pub(super) renew_duration: Option<u32>,
-    pub(super) rebind_duration: Option<u32>,
+    pub(super) repr: Repr<'a>,
 }
 
 impl<'a> Found<'a> {
-    // What the options of a packet say. Refused where one is a client identifier of another hardware.
-    pub(super) fn read<B: AsRef<[u8]> + ?Sized>(packet: &Packet<&'a B>) -> Result<Found<'a>> {
+    // Notes what the options of a packet say, of which none was noted. Refused where one is a client identifier of
+    // another hardware.
+    pub(super) fn note_all<B: AsRef<[u8]> + ?Sized>(
+        &mut self,
+        packet: &Packet<&'a B>,
+    ) -> Result<()> {
         let op = packet.opcode().into();
-        let mut found = Found::nothing();
         for option in packet.options() {
             if !is_of_ethernet(option) {
                 return Err(Error);
             }
-            found.note(option, op);
+            self.note(option.kind, option.data, op);
         }
-        Ok(found)
+        Ok(())
     }
 
-    // No option was seen.
-    fn nothing() -> Found<'a> {
-        Found {
-            message_type: None,
-            requested_ip: None,
-            client_identifier: None,
-            server_identifier: None,
-            router: None,
-            subnet_mask: None,
-            parameter_request_list: None,
-            dns_servers: None,
-            max_size: None,
-            lease_duration: None,
-            renew_duration: None,
-            rebind_duration: None,
-        }
-    }
-
-    // One more option, of a packet with this operation.
-    fn note(&mut self, option: DhcpOption<'a>, op: u8) {
-        let data = option.data;
-        match option.kind {
-            OPT_DHCP_MESSAGE_TYPE => {
-                self.message_type = message_type(data, op).or(self.message_type)
-            }
-            OPT_REQUESTED_IP => self.requested_ip = address(data).or(self.requested_ip),
-            OPT_CLIENT_ID => self.client_identifier = identifier(data).or(self.client_identifier),
-            OPT_SERVER_IDENTIFIER => {
-                self.server_identifier = address(data).or(self.server_identifier)
-            }
-            OPT_ROUTER => self.router = address(data).or(self.router),
-            OPT_SUBNET_MASK => self.subnet_mask = address(data).or(self.subnet_mask),
-            OPT_PARAMETER_REQUEST_LIST => self.parameter_request_list = Some(data),
-            OPT_DOMAIN_NAME_SERVER => self.dns_servers = Some(addresses(data)),
-            OPT_MAX_DHCP_MESSAGE_SIZE => self.max_size = size(data).or(self.max_size),
-            OPT_IP_LEASE_TIME => self.lease_duration = seconds(data).or(self.lease_duration),
-            OPT_RENEWAL_TIME_VALUE => self.renew_duration = seconds(data).or(self.renew_duration),
-            OPT_REBINDING_TIME_VALUE => {
-                self.rebind_duration = seconds(data).or(self.rebind_duration)
-            }
+    // One more option, of a packet with this operation. It is no part of the loop, and the value stays in its place.
+    #[inline(never)]
+    fn note(&mut self, kind: u8, body: &'a [u8], op: u8) {
+        match kind {
+            OPT_DHCP_MESSAGE_TYPE => set(&mut self.message_type, message_type(body, op)),
+            OPT_REQUESTED_IP => set(&mut self.repr.requested_ip, address(body)),
+            OPT_CLIENT_ID => set(&mut self.repr.client_identifier, identifier(body)),
+            OPT_SERVER_IDENTIFIER => set(&mut self.repr.server_identifier, address(body)),
+            OPT_ROUTER => set(&mut self.repr.router, address(body)),
+            OPT_SUBNET_MASK => set(&mut self.repr.subnet_mask, address(body)),
+            OPT_PARAMETER_REQUEST_LIST => self.repr.parameter_request_list = Some(body),
+            OPT_DOMAIN_NAME_SERVER => self.repr.dns_servers = Some(addresses(body)),
+            OPT_MAX_DHCP_MESSAGE_SIZE => set(&mut self.repr.max_size, size(body)),
+            OPT_IP_LEASE_TIME => set(&mut self.repr.lease_duration, seconds(body)),
+            OPT_RENEWAL_TIME_VALUE => set(&mut self.repr.renew_duration, seconds(body)),
+            OPT_REBINDING_TIME_VALUE => set(&mut self.repr.rebind_duration, seconds(body)),
             _ => {}
         }
+    }
+}
+
+// What an option says takes the place of what one before it said.
+fn set<T: Copy>(field: &mut Option<T>, said: Option<T>) {
+    if said.is_some() {
+        *field = said;
     }
 }
 

@@ -34,6 +34,7 @@ impl<'a> OptionsIter<'a> {
 impl<'a> Iterator for OptionsIter<'a> {
     type Item = DhcpOption<'a>;
 
+    #[inline]
     fn next(&mut self) -> Option<DhcpOption<'a>> {
         let [kind, count, rest @ ..] = after_padding(self.rest) else {
             return None;
@@ -48,6 +49,7 @@ impl<'a> Iterator for OptionsIter<'a> {
 }
 
 // The octets from the first on that is no padding.
+#[inline]
 fn after_padding(octets: &[u8]) -> &[u8] {
     for (i, kind) in octets.iter().enumerate() {
         if *kind != OPT_PAD {

@@ -240,6 +240,7 @@ impl<T: OctetsMut> Packet<T> {
 }
 
 // The address of four octets.
+#[inline]
 fn ipv4_address(octets: &[u8]) -> Ipv4Address {
     Ipv4Address::from_octets(octets.try_into().unwrap())
 }

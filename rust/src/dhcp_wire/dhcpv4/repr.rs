@@ -73,40 +73,43 @@ impl<'a> Repr<'a> {
     // What a packet says.
     fn read<B: AsRef<[u8]> + ?Sized>(packet: &Packet<&'a B>) -> Result<Repr<'a>> {
         check_header(packet)?;
-        let found = Found::read(packet)?;
+        let mut found = Found {
+            message_type: None,
+            repr: Repr::of(packet),
+        };
+        found.note_all(packet)?;
         let Some(message_type) = found.message_type else {
             return Err(Error);
         };
-        Ok(Repr::of(packet, message_type, found))
+        Ok(Repr {
+            message_type,
+            ..found.repr
+        })
     }
 
-    // The value of a packet whose options were read.
-    fn of<B: AsRef<[u8]> + ?Sized>(
-        packet: &Packet<&'a B>,
-        message_type: MessageType,
-        found: Found<'a>,
-    ) -> Repr<'a> {
+    // The value of a packet of which no option was read; its type of message is none that a packet has.
+    fn of<B: AsRef<[u8]> + ?Sized>(packet: &Packet<&'a B>) -> Repr<'a> {
         Repr {
-            message_type,
+            message_type: MessageType::Unknown(0),
             transaction_id: packet.transaction_id(),
             secs: packet.secs(),
             client_hardware_address: packet.client_hardware_address(),
             client_ip: packet.client_ip(),
             your_ip: packet.your_ip(),
             server_ip: packet.server_ip(),
-            router: found.router,
-            subnet_mask: found.subnet_mask,
+            router: None,
+            subnet_mask: None,
             relay_agent_ip: packet.relay_agent_ip(),
             broadcast: is_broadcast(packet),
-            requested_ip: found.requested_ip,
-            client_identifier: found.client_identifier,
-            server_identifier: found.server_identifier,
-            parameter_request_list: found.parameter_request_list,
-            dns_servers: found.dns_servers,
-            max_size: found.max_size,
-            lease_duration: found.lease_duration,
-            renew_duration: found.renew_duration,
-            rebind_duration: found.rebind_duration,
+            requested_ip: None,
+            client_identifier: None,
+            server_identifier: None,
+            parameter_request_list: None,
+            dns_servers: None,
+            max_size: None,
+            lease_duration: None,
+            renew_duration: None,
+            rebind_duration: None,
             additional_options: &[],
         }
     }

@@ -1,4 +1,4 @@
-use Rattle.std.proofs.Common.{◌≡◌, ℕ, true, false, List, sym, ap, subst, ◌∙◌}
+use Rattle.std.proofs.Common.{◌≡◌, ℕ, true, false, List, refl, sym, ap, subst, ◌∙◌}
 use Rattle.wirebase.specs.Bytes.{byte_of}
 use Rattle.wirebase.specs.LastOf.{keep_all}
 use Rattle.wirebase.proofs.LastOf.{keep_all-none, keep_all-more}
@@ -10,7 +10,7 @@ use Rattle.dhcp_wire.specs.Dhcpv4Packet.{inner, op_field, options_in}
 use Rattle.dhcp_wire.specs.Dhcpv4Tables.{opcode_number}
 use Rattle.dhcp_wire.proofs.Dhcpv4Kept.{opcode_back}
 use Rattle.dhcp_wire.proofs.Dhcpv4Lists.{list-options}
-use Rattle.dhcp_wire.proofs.dhcpv4.found.Found.read.Goals as goal
+use Rattle.dhcp_wire.proofs.dhcpv4.found.Found.note_all.Goals as goal
 
 pub loop-option-init : goal.loop-option-init
 loop-option-init c =
@@ -21,7 +21,8 @@ loop-option-init c =
     c.options-option-items.ensures.unique whole (list-options (options_in bytes))
     ∙ sym c.into_iter-option-iterator.ensures.into_iter_gives in
     record {
-      kept = ap (λ (k : Kept). keep_all (keep op) k c.into_iter-option-iterator.result) c.nothing-found.ensures
+      header = refl;
+      kept = ap (λ (k : Kept). keep_all (keep op) k c.into_iter-option-iterator.result) c.requires.fresh
           ∙ ap (λ (os : List OptionValue). keep_all (keep op) nothing os) (sym same);
       good = λ h. subst (λ (os : List OptionValue). AreOfEthernet os) (sym same) h;
       all_good = λ h. subst (λ (os : List OptionValue). AreOfEthernet os) same h;
@@ -37,13 +38,14 @@ returns-then-not-is_of_ethernet-clause-refused c = λ all.
 pub loop-option-preserved : goal.loop-option-preserved
 loop-option-preserved c =
     let op = byte_of op_field (inner c.args.packet.now).now in
-    let k = kept_of c.loop-option.found in
+    let k = kept_of c.loop-option.self in
     let o = value_of_option c.in-Some.option in
     let rest = c.next.new.self in
     let steps = c.in-Some.ensures.steps in
     let same : c.into-op.result ≡ op = c.into-op.ensures ∙ ap opcode_number c.opcode.ensures ∙ opcode_back op in
     record {
-      kept = ap (λ (l : Kept). keep_all (keep op) l rest) (c.note.ensures ∙ ap (λ (n : ℕ). keep n k o) same)
+      header = c.note.ensures.header ∙ c.loop-option.invariant.header;
+      kept = ap (λ (l : Kept). keep_all (keep op) l rest) (c.note.ensures.kept ∙ ap (λ (n : ℕ). keep n k o) same)
           ∙ sym (keep_all-more (keep op) k o rest) ∙ ap (λ (os : List OptionValue). keep_all (keep op) k os) (sym steps)
           ∙ c.loop-option.invariant.kept;
       good = λ h. c.loop-option.invariant.good
@@ -56,7 +58,7 @@ loop-option-preserved c =
 pub returns-clause-found : goal.returns-clause-found
 returns-clause-found c =
     let op = byte_of op_field (inner c.args.packet.now).now in
-    let k = kept_of c.loop-option.found in
+    let k = kept_of c.loop-option.self in
     sym (keep_all-none (keep op) k)
     ∙ ap (λ (os : List OptionValue). keep_all (keep op) k os) (sym c.in-None.ensures.steps.0)
     ∙ c.loop-option.invariant.kept
