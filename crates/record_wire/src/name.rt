@@ -3,7 +3,7 @@
 mod label;
 mod text;
 
-ghost use Rattle.std.specs.Prelude.{◌≡◌, ◌≤◌, ◌<◌, ◌↔◌, ℕ, List, length, IfOk, IsOk, IsOkAnd};
+ghost use Rattle.std.specs.Prelude.{◌≡◌, ◌≤◌, ◌<◌, ◌↔◌, ℕ, List, [], length, IfOk, IsOk, IsOkAnd, OnOk};
 ghost use Rattle.std.specs.List.{AllByRecursion};
 ghost use Rattle.wirebase.specs.Bytes.{IsBytes};
 ghost use Rattle.dns_wire.specs.DnsName.{IsName, IsLabel};
@@ -42,7 +42,12 @@ impl Name {
             → IsName bytes.entry.now (view_octets packet.entry.now) labels → AreOfName labels
             → IsOkAnd result (λ name. labels_of name ≡ labels) }
     {
-        Name::finish(given_labels(packet.parse_name(bytes))?)
+        let mut octets = ArrayVec::new();
+        put_given(&mut octets, packet.parse_name(bytes))?;
+        if octets.try_push(0).is_err() {
+            return Err(Error);
+        }
+        Ok(Name { octets })
     }
 
     /// The name of this text: labels with dots between them, a last dot allowed, and a dot alone for the root. A
@@ -83,14 +88,14 @@ impl Name {
     }
 }
 
-// The octets of the labels that a walk gives. Refused where it gives an error, and where they have more than 255
-// octets.
-fn given_labels(mut walk: NameIter<'_>) -> Result<ArrayVec<u8, MAX_NAME_LEN>>
-    ensures sound { IfOk result (λ octets. AreGiven walk.entry.ahead octets.items) }
+// Writes the labels that a walk gives, where nothing stands yet: a name is large, so it is written where it stays.
+// Refused where the walk gives an error, and where they have more than 255 octets.
+fn put_given(octets: &mut ArrayVec<u8, MAX_NAME_LEN>, mut walk: NameIter<'_>) -> Result<()>
+    requires { octets.old.items ≡ [] }
+    ensures sound { OnOk result (AreGiven walk.entry.ahead octets.new.items) }
     ensures complete { (labels : List (List ℕ)) → Gives walk.entry.ahead labels → AreOfName labels
-        → IsOkAnd result (λ octets. octets.items ≡ written_all labels) }
+        → IsOk result × (octets.new.items ≡ written_all labels) }
 {
-    let mut octets = ArrayVec::new();
     while let Some(item) = walk.next() {
         let label = match item {
             Ok(label) => label,
@@ -99,9 +104,9 @@ fn given_labels(mut walk: NameIter<'_>) -> Result<ArrayVec<u8, MAX_NAME_LEN>>
         if !is_label(label) {
             return Err(Error);
         }
-        push_label(&mut octets, label)?;
+        push_label(octets, label)?;
     }
-    Ok(octets)
+    Ok(())
 }
 
 /// Labels with dots between them, and a dot alone for the root.

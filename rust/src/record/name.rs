@@ -26,7 +26,12 @@ impl Name {
         packet: &Packet<&'a B>,
         bytes: &'a [u8],
     ) -> Result<Name> {
-        Name::finish(given_labels(packet.parse_name(bytes))?)
+        let mut octets = ArrayVec::new();
+        put_given(&mut octets, packet.parse_name(bytes))?;
+        if octets.try_push(0).is_err() {
+            return Err(Error);
+        }
+        Ok(Name { octets })
     }
 
     /// The name of this text: labels with dots between them, a last dot allowed, and a dot alone for the root. A
@@ -54,10 +59,9 @@ impl Name {
     }
 }
 
-// The octets of the labels that a walk gives. Refused where it gives an error, and where they have more than 255
-// octets.
-fn given_labels(mut walk: NameIter<'_>) -> Result<ArrayVec<u8, MAX_NAME_LEN>> {
-    let mut octets = ArrayVec::new();
+// Writes the labels that a walk gives, where nothing stands yet: a name is large, so it is written where it stays.
+// Refused where the walk gives an error, and where they have more than 255 octets.
+fn put_given(octets: &mut ArrayVec<u8, MAX_NAME_LEN>, mut walk: NameIter<'_>) -> Result<()> {
     while let Some(item) = walk.next() {
         let label = match item {
             Ok(label) => label,
@@ -66,9 +70,9 @@ fn given_labels(mut walk: NameIter<'_>) -> Result<ArrayVec<u8, MAX_NAME_LEN>> {
         if !is_label(label) {
             return Err(Error);
         }
-        push_label(&mut octets, label)?;
+        push_label(octets, label)?;
     }
-    Ok(octets)
+    Ok(())
 }
 
 /// Labels with dots between them, and a dot alone for the root.

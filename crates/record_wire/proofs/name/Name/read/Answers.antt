@@ -1,25 +1,45 @@
+use Rattle.std.proofs.Common.{◌≡◌, Bool, true, not, [], ◌∷◌, ◌++◌, IsOk, sym, ap, ◌∙◌, subst, rules}
 use Rattle.dns_wire.specs.DnsName.{IsName}
 use Rattle.dns_wire.specs.DnsPacket.{view_octets}
-use Rattle.record_wire.specs.Name.{labels_of}
-use Rattle.record_wire.proofs.LabelLists.{written_in}
-use Rattle.record_wire.proofs.Outcomes.{ended_sound, ended_complete}
+use Rattle.record_wire.specs.Labels.{wire, labels_in}
+use Rattle.record_wire.proofs.LabelLists.{written_in, whole_wire, ended, in_written, room_for_end}
 use Rattle.record_wire.proofs.name.Name.read.Goals as goal
 
-pub finish-requires : goal.finish-requires
-finish-requires c =
-    let given = c.in_ok-given_labels.ensures.sound in
-    written_in c.in_ok-given_labels.field-0.items given.labels given.each given.written
+pub invariant_of-result : goal.invariant_of-result
+invariant_of-result c =
+    let given = c.in_ok-put_given.ensures.sound in
+    let octets = c.put_given.new.octets.items in
+    let pushed : c.try_push.new.self.items ≡ octets ++ 0 ∷ [] = search rules in
+    record {
+      whole = subst (λ o. wire (labels_in o) ≡ o) (sym pushed)
+          (whole_wire octets (written_in octets given.labels given.each given.written));
+    }
 
 pub returns-clause-sound : goal.returns-clause-sound
 returns-clause-sound c =
-    let given = c.in_ok-given_labels.ensures.sound in
-    ended_sound c.finish.result labels_of c.in_ok-given_labels.field-0.items given.labels
-    (λ labels. IsName c.args.bytes.now (view_octets c.args.packet.now) labels)
-    (record { room = c.finish.ensures.room; labels = c.finish.ensures.labels }) given.each given.written
-    (λ name. (c.parse_name.ensures.names given.labels).0 given.gives)
+    let given = c.in_ok-put_given.ensures.sound in
+    let octets = c.put_given.new.octets.items in
+    let pushed : c.try_push.new.self.items ≡ octets ++ 0 ∷ [] = search rules in
+    let same = ap labels_in pushed ∙ (ended octets (written_in octets given.labels given.each given.written)
+    ∙ in_written octets given.labels given.each given.written) in
+    subst (λ labels. IsName c.args.bytes.now (view_octets c.args.packet.now) labels) (sym same)
+    ((c.parse_name.ensures.names given.labels).0 given.gives)
 
 pub returns-clause-complete : goal.returns-clause-complete
 returns-clause-complete c = λ labels is name.
-    ended_complete c.finish.result labels_of c.in_ok-given_labels.field-0.items labels
-    (record { room = c.finish.ensures.room; labels = c.finish.ensures.labels }) name
-    (c.in_ok-given_labels.ensures.complete labels ((c.parse_name.ensures.names labels).1 is) name)
+    let octets = c.put_given.new.octets.items in
+    let written = (c.in_ok-put_given.ensures.complete labels ((c.parse_name.ensures.names labels).1 is) name).1 in
+    let pushed : c.try_push.new.self.items ≡ octets ++ 0 ∷ [] = search rules in
+    ap labels_in pushed ∙ (ended octets (written_in octets labels name.each written)
+    ∙ in_written octets labels name.each written)
+
+not_both : (failed ok : Bool) → failed ≡ true → ok ≡ not failed → ok ≡ true → ⊥
+not_both failed ok e f g = cc
+
+pub returns-then-is_err-clause-complete : goal.returns-then-is_err-clause-complete
+returns-then-is_err-clause-complete c = λ labels is name.
+    let octets = c.put_given.new.octets.items in
+    let written = (c.in_ok-put_given.ensures.complete labels ((c.parse_name.ensures.names labels).1 is) name).1 in
+    let room = room_for_end octets labels written name.fits in
+    let ok : IsOk c.try_push.result = c.try_push.ensures.variant.1 room in
+    absurd (not_both c.is_err.result _ c.if-is_err.true c.is_err.ensures.negation ok)

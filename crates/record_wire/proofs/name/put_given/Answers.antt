@@ -1,7 +1,7 @@
-use Rattle.std.proofs.Common.{◌≡◌, Some, ap, arith}
+use Rattle.std.proofs.Common.{◌≡◌, Some, refl, ap, arith}
 use Rattle.dns_wire.specs.DnsNameWalk.{answer_of, label, fault}
 use Rattle.record_wire.proofs.NameWalks.{one_given, all_given, given_same, given_no_fault, given_label}
-use Rattle.record_wire.proofs.name.given_labels.Goals as goal
+use Rattle.record_wire.proofs.name.put_given.Goals as goal
 
 pub loop-item-preserved : goal.loop-item-preserved
 loop-item-preserved c =
@@ -43,6 +43,8 @@ returns-clause-sound c =
     c.loop-item.invariant.given c.next.ensures.steps (ap answer_of c.in_default.is)
 
 pub returns-clause-complete : goal.returns-clause-complete
-returns-clause-complete c = λ labels gives name.
-    given_same c.args.walk.ahead c.loop-item.octets.items c.loop-item.walk c.next.new.self c.next.result
-    c.loop-item.invariant.given c.next.ensures.steps (ap answer_of c.in_default.is) labels gives
+returns-clause-complete c = λ labels gives name. (
+  refl,
+  given_same c.args.walk.ahead c.loop-item.octets.items c.loop-item.walk c.next.new.self c.next.result
+      c.loop-item.invariant.given c.next.ensures.steps (ap answer_of c.in_default.is) labels gives,
+)

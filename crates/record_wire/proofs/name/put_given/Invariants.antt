@@ -1,5 +1,5 @@
 use Rattle.record_wire.proofs.NameWalks.{GivenSoFar}
-use Rattle.record_wire.proofs.name.given_labels.Given as goal
+use Rattle.record_wire.proofs.name.put_given.Given as goal
 
 abbrev pub invariant-loop-item : goal.invariant-loop-item
 invariant-loop-item l = record {
