@@ -16,10 +16,12 @@ mod mld;
 mod name;
 mod ndisc;
 mod ndopt;
+mod pairs;
 mod printer;
 mod question;
 mod reading;
 mod run;
+mod search;
 mod shape;
 #[cfg(test)]
 mod testing;

@@ -1,6 +1,7 @@
 // Made from crates/wiredump/src/printer.rt by rust/erase.
 //! What each value is printed with: names and fields, one a line.
 
+use crate::pairs::encode;
 use control_wire::{Duration, Ipv4Address};
 use rattle_std::io;
 use rattle_std::io::Write;
@@ -98,7 +99,7 @@ impl Value for &[u8] {
 fn write_digits<W: Write>(output: &mut W, octets: &[u8]) -> io::Result<()> {
     let mut room = [0u8; DIGITS];
     let digits = &mut room[..2 * octets.len()];
-    rattle_std::hex::encode_to_slice(octets, digits).unwrap();
+    encode(octets, digits);
     output.write_all(digits)
 }
 

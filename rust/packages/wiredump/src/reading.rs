@@ -5,6 +5,7 @@
 //! or too many words is bad whatever follows, so that nothing more of it is kept.
 
 use crate::Fault;
+use crate::search::{len_before_either, spaces_len};
 use crate::shape::Shape;
 use crate::words::{MOST_OCTETS, MOST_WORDS};
 use rattle_std::io::{BufRead, ErrorKind};
@@ -133,22 +134,7 @@ fn take_front(line: &mut Line, shown: &[u8]) -> Result<usize, Fault> {
     Ok(end)
 }
 
-// How many spaces are in front.
-fn spaces_len(octets: &[u8]) -> usize {
-    for (i, octet) in octets.iter().enumerate() {
-        if *octet != b' ' {
-            return i;
-        }
-    }
-    octets.len()
-}
-
 // How many octets are in front of the first space or LF.
 fn word_len(octets: &[u8]) -> usize {
-    for (i, octet) in octets.iter().enumerate() {
-        if *octet == b' ' || *octet == b'\n' {
-            return i;
-        }
-    }
-    octets.len()
+    len_before_either(octets, b' ', b'\n')
 }

@@ -2,8 +2,9 @@
 //! The words of a line, and the octets that a word spells.
 
 use crate::Fault;
+use crate::pairs::{are_digits, decode};
+use crate::search::{len_before, spaces_len};
 use arrayvec::ArrayVec;
-use rattle_std::hex::FromHexError;
 #[allow(unused_imports)]
 use rattle_std::prelude::*;
 
@@ -22,16 +23,21 @@ const MOST_OFFSET: usize = 65_535;
 // The fewest digits of a packet.
 const FEWEST_DIGITS: usize = 2;
 
+// The digits of an address.
+const ADDRESS_DIGITS: usize = 32;
+
 /// The first five words of a line: what stands between its spaces, where that is not empty.
 pub fn words_of<'a>(line: &'a [u8]) -> ArrayVec<&'a [u8], KEPT_WORDS> {
     let mut words = ArrayVec::new();
-    for word in line.split(|byte| *byte == b' ') {
-        if words.is_full() {
-            break;
+    let mut rest = line;
+    for _ in 0..KEPT_WORDS {
+        let text = &rest[spaces_len(rest)..];
+        if text.is_empty() {
+            return words;
         }
-        if !word.is_empty() {
-            words.push(word);
-        }
+        let len = len_before(text, b' ');
+        words.push(&text[..len]);
+        rest = &text[len..];
     }
     words
 }
@@ -49,24 +55,34 @@ pub fn read_word(text: &[u8]) -> Result<Option<Vec<u8>>, Fault> {
     if is(text, "-") {
         return Ok(Some(Vec::new()));
     }
-    if text.len() < FEWEST_DIGITS || text.len() > MOST_OCTETS {
+    if !are_pairs(text) {
         return Ok(None);
     }
-    match rattle_std::hex::decode(text) {
-        Ok(octets) => Ok(Some(octets)),
-        Err(FromHexError::OutOfMemory) => Err(Fault::Memory),
-        Err(_) => Ok(None),
-    }
+    let Ok(mut octets) = rattle_std::vec![ 0u8; text.len() / 2] else {
+        return Err(Fault::Memory);
+    };
+    decode(text, octets.as_mut_slice());
+    Ok(Some(octets))
+}
+
+// Whether these are digits, and as many as a packet may have.
+fn are_pairs(text: &[u8]) -> bool {
+    is_even_length(text.len()) && are_digits(text)
+}
+
+fn is_even_length(count: usize) -> bool {
+    (count % 2 == 0) & (count >= FEWEST_DIGITS) & (count <= MOST_OCTETS)
 }
 
 /// The 16 octets of an address of IPv6, from 32 hexadecimal digits of either case; None where a word is anything
 /// else.
 pub fn read_address(text: &[u8]) -> Option<[u8; 16]> {
-    let mut octets = [0; 16];
-    match rattle_std::hex::decode_to_slice(text, &mut octets) {
-        Ok(()) => Some(octets),
-        Err(_) => None,
+    if text.len() != ADDRESS_DIGITS || !are_digits(text) {
+        return None;
     }
+    let mut octets = [0; 16];
+    decode(text, &mut octets);
+    Some(octets)
 }
 
 /// An offset in a packet, from decimal digits alone, leading zeros or not; None where a word is anything else, or

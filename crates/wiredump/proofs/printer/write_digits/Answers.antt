@@ -3,6 +3,4 @@ use Rattle.wiredump.proofs.Printing.{gained_on_ok}
 use Rattle.wiredump.proofs.printer.write_digits.Goals as goal
 
 pub returns : goal.returns
-returns g c =
-    let digits = rw c.unwrap.ensures at c.encode_to_slice.ensures.written in
-    gained_on_ok _ _ _ _ (rw digits at c.write_all.ensures.bytes)
+returns g c = gained_on_ok _ _ _ _ (rw c.encode.ensures at c.write_all.ensures.bytes)

@@ -1,12 +1,14 @@
--- What was decoded is what the digits spell.
+-- The word has another number of digits, or other octets.
 use Rattle.std.proofs.Common.{◌∙◌, sym}
-use Rattle.wiredump.proofs.Numbers.{address_of-decoded, decoded_ok, decoded_err}
+use Rattle.wiredump.proofs.Spelling.{address_of-length, address_of-none}
+use Rattle.wiredump.proofs.words.read_address.Goals.{then-text-ne-ADDRESS_DIGITS-via-then-text-ne-ADDRESS_DIGITS}
+use Rattle.wiredump.proofs.words.read_address.Goals.{then-text-ne-ADDRESS_DIGITS-via-else-text-ne-ADDRESS_DIGITS+then-not-are_digits}
 use Rattle.wiredump.proofs.words.read_address.Goals as goal
 
-pub returns-in-Ok : goal.returns-in-Ok
-returns-in-Ok c =
-    decoded_ok _ _ _ _ c.decode_to_slice.ensures.value c.in-Ok.is ∙ sym (address_of-decoded c.args.text.now)
-
-pub returns-in-Err : goal.returns-in-Err
-returns-in-Err c =
-    decoded_err _ _ _ _ c.decode_to_slice.ensures.value c.in-Err.is ∙ sym (address_of-decoded c.args.text.now)
+pub returns-then-text-ne-ADDRESS_DIGITS : goal.returns-then-text-ne-ADDRESS_DIGITS
+returns-then-text-ne-ADDRESS_DIGITS c = elim c.then-text-ne-ADDRESS_DIGITS.branch [
+  | then-text-ne-ADDRESS_DIGITS-via-then-text-ne-ADDRESS_DIGITS w ↦
+      address_of-length c.args.text.now w.if-text-ne-ADDRESS_DIGITS.true
+  | then-text-ne-ADDRESS_DIGITS-via-else-text-ne-ADDRESS_DIGITS+then-not-are_digits w ↦
+      address_of-none c.args.text.now (sym w.are_digits.ensures ∙ w.if-not-are_digits.true)
+]

@@ -1,0 +1,55 @@
+// Made from crates/wiredump/src/search.rt by rust/erase.
+//! Where an octet stands among others: a word's end or a line's, looked for in sixteen octets at a time.
+
+// How many octets are looked at in one step.
+const STEP: usize = 16;
+
+/// How many spaces are in front.
+pub fn spaces_len(octets: &[u8]) -> usize {
+    for (i, octet) in octets.iter().enumerate() {
+        if *octet != b' ' {
+            return i;
+        }
+    }
+    octets.len()
+}
+
+/// How many octets are in front of the first that is this one.
+pub fn len_before(octets: &[u8], wanted: u8) -> usize {
+    len_before_either(octets, wanted, wanted)
+}
+
+/// How many octets are in front of the first that is one of these two. Nothing behind it is looked at but the rest of
+/// its step, so that short words cost no search of all that follows them.
+pub fn len_before_either(octets: &[u8], first: u8, second: u8) -> usize {
+    let start = steps_before(octets, first, second);
+    for i in start..octets.len() {
+        if octets[i] == first || octets[i] == second {
+            return i;
+        }
+    }
+    octets.len()
+}
+
+// How many octets are in front of the first whole step in which one of them stands, or else of the octets behind the
+// last step.
+fn steps_before(octets: &[u8], first: u8, second: u8) -> usize {
+    let steps = octets.len() / STEP;
+    for step in 0..steps {
+        let start = step * STEP;
+        let octets_of_step = &octets[start..start + STEP];
+        if has(octets_of_step, first) || has(octets_of_step, second) {
+            return start;
+        }
+    }
+    steps * STEP
+}
+
+// Whether it stands among these. There is no branch between the octets, so that all are compared at once.
+fn has(octets: &[u8], wanted: u8) -> bool {
+    let mut found = false;
+    for octet in octets {
+        found |= *octet == wanted;
+    }
+    found
+}
