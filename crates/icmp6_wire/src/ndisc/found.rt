@@ -23,24 +23,26 @@ pub(super) struct Found<'a> {
 }
 
 impl<'a> Found<'a> {
-    // What the options of a payload say. Refused where it isn't blocks one after another.
-    pub(super) fn read(payload: &'a [u8]) -> Result<Found<'a>>
-        ensures sound { IfOk result (λ found. Says payload.now (kept_of found)) }
+    // Notes all options of a payload, where none was seen before. Refused where it isn't blocks one after another. What
+    // they say stays where the caller has it, and is not handed from call to call.
+    #[inline(never)]
+    pub(super) fn note_all(&mut self, payload: &'a [u8]) -> Result<()>
+        requires { kept_of self.old ≡ nothing }
+        ensures sound { IsOk result → Says payload.now (kept_of self.new) }
         ensures reads { (options : List OptionValue) → AreBlocks payload.now options
             → IsOk result }
     {
-        let mut found = Found::nothing();
         let mut rest = payload;
         while !rest.is_empty() {
             let (block, behind) = split_block(rest)?;
-            found.note_block(block);
+            self.note_block(block);
             rest = behind;
         }
-        Ok(found)
+        Ok(())
     }
 
     // No option was seen.
-    fn nothing() -> Found<'a>
+    pub(super) fn nothing() -> Found<'a>
         ensures { kept_of result ≡ nothing }
     {
         Found {

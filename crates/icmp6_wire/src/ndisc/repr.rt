@@ -110,41 +110,28 @@ impl<'a> Repr<'a> {
             → IsOk result }
     {
         packet.check_len()?;
-        let Ok(found) = Found::read(packet.payload()) else {
-            return Err(Error);
-        };
-        Repr::read_content(packet, &found)
-    }
-
-    // The message in octets that begin with a whole header, whose options say this.
-    fn read_content(packet: &Packet<&'a [u8]>, found: &Found<'a>) -> Result<Repr<'a>>
-        requires whole { BeginsWhole (view_octets packet.now) }
-        requires says { Says (payload_in (view_octets packet.now)) (kept_of found.now) }
-        ensures sound { IfOk result (λ repr. IsMessage (view_octets packet.now) (value_of repr)) }
-        ensures reads { (value : NdiscValue) → IsMessage (view_octets packet.now) value
-            → IsOk result }
-    {
+        let mut found = Found::nothing();
+        found.note_all(packet.payload())?;
+        // A return in each arm: the value is then written once, where the caller has room for it.
         match packet.msg_type() {
-            Message::RouterSolicit => Ok(Repr::RouterSolicit {
-                lladdr: found.source,
-            }),
-            Message::RouterAdvert => Ok(read_router_advert(packet, found)),
-            Message::NeighborSolicit => Ok(Repr::NeighborSolicit {
-                target_addr: packet.target_addr(),
-                lladdr: found.source,
-            }),
-            Message::NeighborAdvert => Ok(Repr::NeighborAdvert {
-                flags: packet.neighbor_flags(),
-                target_addr: packet.target_addr(),
-                lladdr: found.target,
-            }),
-            Message::Redirect => Ok(Repr::Redirect {
-                target_addr: packet.target_addr(),
-                dest_addr: packet.dest_addr(),
-                lladdr: found.target,
-                redirected_hdr: found.redirected_hdr,
-            }),
-            _ => Err(Error),
+            Message::RouterSolicit => {
+                return Ok(read_router_solicit(packet, &found));
+            }
+            Message::RouterAdvert => {
+                return Ok(read_router_advert(packet, &found));
+            }
+            Message::NeighborSolicit => {
+                return Ok(read_neighbor_solicit(packet, &found));
+            }
+            Message::NeighborAdvert => {
+                return Ok(read_neighbor_advert(packet, &found));
+            }
+            Message::Redirect => {
+                return Ok(read_redirect(packet, &found));
+            }
+            _ => {
+                return Err(Error);
+            }
         }
     }
 
@@ -304,7 +291,21 @@ impl<'a> Repr<'a> {
     }
 }
 
-// The router advertisement in octets of that type, whose options say this.
+// The router solicitation in octets of that type, whose options say this.
+#[inline(always)]
+fn read_router_solicit<'a>(packet: &Packet<&'a [u8]>, found: &Found<'a>) -> Repr<'a>
+    requires whole { BeginsWhole (view_octets packet.now) }
+    requires kind { byte_of type_field (view_octets packet.now) ≡ 0x85 }
+    requires says { Says (payload_in (view_octets packet.now)) (kept_of found.now) }
+    ensures { IsMessage (view_octets packet.now) (value_of result) }
+{
+    Repr::RouterSolicit {
+        lladdr: found.source,
+    }
+}
+
+// The same of a router advertisement.
+#[inline(always)]
 fn read_router_advert<'a>(packet: &Packet<&'a [u8]>, found: &Found<'a>) -> Repr<'a>
     requires whole { BeginsWhole (view_octets packet.now) }
     requires kind { byte_of type_field (view_octets packet.now) ≡ 0x86 }
@@ -320,6 +321,51 @@ fn read_router_advert<'a>(packet: &Packet<&'a [u8]>, found: &Found<'a>) -> Repr<
         lladdr: found.source,
         mtu: found.mtu,
         prefix_info: found.prefix_info,
+    }
+}
+
+// The same of a neighbor solicitation.
+#[inline(always)]
+fn read_neighbor_solicit<'a>(packet: &Packet<&'a [u8]>, found: &Found<'a>) -> Repr<'a>
+    requires whole { BeginsWhole (view_octets packet.now) }
+    requires kind { byte_of type_field (view_octets packet.now) ≡ 0x87 }
+    requires says { Says (payload_in (view_octets packet.now)) (kept_of found.now) }
+    ensures { IsMessage (view_octets packet.now) (value_of result) }
+{
+    Repr::NeighborSolicit {
+        target_addr: packet.target_addr(),
+        lladdr: found.source,
+    }
+}
+
+// The same of a neighbor advertisement.
+#[inline(always)]
+fn read_neighbor_advert<'a>(packet: &Packet<&'a [u8]>, found: &Found<'a>) -> Repr<'a>
+    requires whole { BeginsWhole (view_octets packet.now) }
+    requires kind { byte_of type_field (view_octets packet.now) ≡ 0x88 }
+    requires says { Says (payload_in (view_octets packet.now)) (kept_of found.now) }
+    ensures { IsMessage (view_octets packet.now) (value_of result) }
+{
+    Repr::NeighborAdvert {
+        flags: packet.neighbor_flags(),
+        target_addr: packet.target_addr(),
+        lladdr: found.target,
+    }
+}
+
+// The same of a redirect.
+#[inline(always)]
+fn read_redirect<'a>(packet: &Packet<&'a [u8]>, found: &Found<'a>) -> Repr<'a>
+    requires whole { BeginsWhole (view_octets packet.now) }
+    requires kind { byte_of type_field (view_octets packet.now) ≡ 0x89 }
+    requires says { Says (payload_in (view_octets packet.now)) (kept_of found.now) }
+    ensures { IsMessage (view_octets packet.now) (value_of result) }
+{
+    Repr::Redirect {
+        target_addr: packet.target_addr(),
+        dest_addr: packet.dest_addr(),
+        lladdr: found.target,
+        redirected_hdr: found.redirected_hdr,
     }
 }
 

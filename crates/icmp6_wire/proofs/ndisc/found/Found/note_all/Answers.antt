@@ -4,7 +4,7 @@ use Rattle.std.proofs.lemmas.List.{nil_from_length}
 use Rattle.icmp6_wire.specs.NdiscBlocks.{AreBlocks}
 use Rattle.icmp6_wire.specs.NdiscFound.{kept_of}
 use Rattle.icmp6_wire.proofs.NdiscTiling.{front_lacks, blocks_behind, says_more, says_all}
-use Rattle.icmp6_wire.proofs.ndisc.found.Found.read.Goals as goal
+use Rattle.icmp6_wire.proofs.ndisc.found.Found.note_all.Goals as goal
 
 pub returns-in_err-block-clause-reads : goal.returns-in_err-block-clause-reads
 returns-in_err-block-clause-reads c = λ options blocks.
@@ -20,7 +20,7 @@ loop-rest-preserved c =
     let behind = c.in_ok-block.behind.now in
     let parts = c.in_ok-block.ensures.sound in
     record {
-      said = says_more c.args.payload.now rest block behind (kept_of c.loop-rest.found)
+      said = says_more c.args.payload.now rest block behind (kept_of c.loop-rest.self)
           (kept_of c.note_block.new.self) parts.0 parts.1 c.note_block.ensures c.loop-rest.invariant.said;
       tiled = λ options blocks.
           let has = c.loop-rest.invariant.tiled options blocks in
@@ -28,9 +28,9 @@ loop-rest-preserved c =
     }
 
 pub returns-clause-sound : goal.returns-clause-sound
-returns-clause-sound c =
+returns-clause-sound c = λ ok.
     let rest = c.loop-rest.rest.now in
     let none = nil_from_length rest (eqb-true (length rest) 0 (sym c.loop-rest-test.ensures)) in
-    says_all c.args.payload.now (kept_of c.loop-rest.found)
+    says_all c.args.payload.now (kept_of c.loop-rest.self)
     (λ more blocks. c.loop-rest.invariant.said more
     (subst (λ (bytes : List ℕ). AreBlocks bytes more) (sym none) blocks))

@@ -1,0 +1,14 @@
+use Rattle.std.proofs.Common.{refl}
+use Rattle.icmp6_wire.proofs.NdiscTiling.{said_target, said_packet, message_said}
+use Rattle.icmp6_wire.proofs.ndisc.repr.read_redirect.Goals as goal
+
+pub returns : goal.returns
+returns c =
+    let s = c.requires.says in
+    message_said c.requires.whole refl s (
+      c.requires.kind,
+      c.target_addr.ensures,
+      c.dest_addr.ensures,
+      said_target s,
+      said_packet s,
+    )
