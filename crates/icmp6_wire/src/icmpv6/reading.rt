@@ -2,19 +2,20 @@
 
 ghost use Rattle.std.specs.Prelude.{true, ◌≡◌, ◌≤◌, ◌<◌, length, IsOk, IfOk};
 ghost use Rattle.wirebase.specs.Bytes.{byte_of};
-ghost use Rattle.wirebase.specs.Icmp.{type_field, code_field};
-ghost use Rattle.icmp6_wire.specs.Icmpv6Tables.{message_number, is_ndisc, is_mld};
+ghost use Rattle.wirebase.specs.Icmp.{type_field, code_field, data_in};
+ghost use Rattle.icmp6_wire.specs.Icmpv6Tables.{message_number};
 ghost use Rattle.icmp6_wire.specs.Icmpv6Packet.{view_octets, message_in, BeginsWhole};
 ghost use Rattle.icmp6_wire.specs.Icmpv6.{MessageValue, value_of, IsContent};
 
+use super::field;
 use super::packet::Packet;
 use super::quote::read_quote;
 use super::repr::Repr;
 use super::tables::Message;
-use crate::{mld, ndisc};
 use wirebase::{Error, IPV6_HEADER_LEN, Result};
 
 // The error in octets of such a type.
+#[inline(always)]
 pub(super) fn read_error<'a>(packet: &Packet<&'a [u8]>) -> Result<Repr<'a>>
     requires whole { BeginsWhole (view_octets packet.now) }
     requires kind { message_number (message_in (view_octets packet.now)) < 128 }
@@ -22,7 +23,7 @@ pub(super) fn read_error<'a>(packet: &Packet<&'a [u8]>) -> Result<Repr<'a>>
     ensures reads { (value : MessageValue) → IsContent (view_octets packet.now) value
         → IsOk result }
 {
-    let payload = packet.payload();
+    let payload = behind_header(packet);
     if payload.len() < IPV6_HEADER_LEN {
         return Err(Error);
     }
@@ -55,7 +56,7 @@ fn read_unreachable<'a>(packet: &Packet<&'a [u8]>) -> Repr<'a>
     requires quote_ { 48 ≤ length (view_octets packet.now) }
     ensures { IsContent (view_octets packet.now) (value_of result) }
 {
-    let (header, data) = read_quote(packet.payload());
+    let (header, data) = read_quote(behind_header(packet));
     Repr::DstUnreachable {
         reason: packet.msg_code().into(),
         header,
@@ -71,7 +72,7 @@ fn read_too_big<'a>(packet: &Packet<&'a [u8]>) -> Repr<'a>
     requires quote_ { 48 ≤ length (view_octets packet.now) }
     ensures { IsContent (view_octets packet.now) (value_of result) }
 {
-    let (header, data) = read_quote(packet.payload());
+    let (header, data) = read_quote(behind_header(packet));
     Repr::PktTooBig {
         mtu: packet.pkt_too_big_mtu(),
         header,
@@ -86,7 +87,7 @@ fn read_time_exceeded<'a>(packet: &Packet<&'a [u8]>) -> Repr<'a>
     requires quote_ { 48 ≤ length (view_octets packet.now) }
     ensures { IsContent (view_octets packet.now) (value_of result) }
 {
-    let (header, data) = read_quote(packet.payload());
+    let (header, data) = read_quote(behind_header(packet));
     Repr::TimeExceeded {
         reason: packet.msg_code().into(),
         header,
@@ -101,7 +102,7 @@ fn read_param_problem<'a>(packet: &Packet<&'a [u8]>) -> Repr<'a>
     requires quote_ { 48 ≤ length (view_octets packet.now) }
     ensures { IsContent (view_octets packet.now) (value_of result) }
 {
-    let (header, data) = read_quote(packet.payload());
+    let (header, data) = read_quote(behind_header(packet));
     Repr::ParamProblem {
         reason: packet.msg_code().into(),
         pointer: packet.param_problem_ptr(),
@@ -121,7 +122,7 @@ pub(super) fn read_echo_request<'a>(packet: &Packet<&'a [u8]>) -> Repr<'a>
     Repr::EchoRequest {
         ident: packet.echo_ident(),
         seq_no: packet.echo_seq_no(),
-        data: packet.payload(),
+        data: behind_header(packet),
     }
 }
 
@@ -136,44 +137,15 @@ pub(super) fn read_echo_reply<'a>(packet: &Packet<&'a [u8]>) -> Repr<'a>
     Repr::EchoReply {
         ident: packet.echo_ident(),
         seq_no: packet.echo_seq_no(),
-        data: packet.payload(),
+        data: behind_header(packet),
     }
 }
 
-// The message of multicast listener discovery in octets of code 0.
+// What stands behind the header of an error or an echo, which has 8 bytes.
 #[inline(always)]
-pub(super) fn read_listener<'a>(packet: &Packet<&'a [u8]>) -> Result<Repr<'a>>
-    requires kind { is_mld (message_in (view_octets packet.now)) ≡ true }
-    requires code { byte_of code_field (view_octets packet.now) ≡ 0 }
-    ensures sound { IfOk result (λ repr. IsContent (view_octets packet.now) (value_of repr)) }
-    ensures reads { (value : MessageValue) → IsContent (view_octets packet.now) value
-        → IsOk result }
+fn behind_header<'a>(packet: &Packet<&'a [u8]>) -> &'a [u8]
+    requires { 8 ≤ length (view_octets packet.now) }
+    ensures { result.now ≡ data_in (view_octets packet.now) }
 {
-    match mld::Repr::parse(packet) {
-        Ok(message) => {
-            return Ok(Repr::Mld(message));
-        }
-        Err(_) => {
-            return Err(Error);
-        }
-    }
-}
-
-// The message of neighbor discovery in octets of such a type and of code 0.
-#[inline(always)]
-pub(super) fn read_neighbor<'a>(packet: &Packet<&'a [u8]>) -> Result<Repr<'a>>
-    requires kind { is_ndisc (message_in (view_octets packet.now)) ≡ true }
-    requires code { byte_of code_field (view_octets packet.now) ≡ 0 }
-    ensures sound { IfOk result (λ repr. IsContent (view_octets packet.now) (value_of repr)) }
-    ensures reads { (value : MessageValue) → IsContent (view_octets packet.now) value
-        → IsOk result }
-{
-    match ndisc::Repr::parse(packet) {
-        Ok(message) => {
-            return Ok(Repr::Ndisc(message));
-        }
-        Err(_) => {
-            return Err(Error);
-        }
-    }
+    &packet.buffer[field::HEADER_END..]
 }

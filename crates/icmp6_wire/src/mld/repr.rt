@@ -71,12 +71,9 @@ impl<'a> Repr<'a> {
     {
         packet.check_len()?;
         match packet.msg_type() {
-            Message::MldQuery => Ok(read_query(packet)),
-            Message::MldReport => Ok(Repr::Report {
-                nr_mcast_addr_rcrds: packet.nr_mcast_addr_rcrds(),
-                data: packet.payload(),
-            }),
-            _ => Err(Error),
+            Message::MldQuery => return Ok(read_query(packet)),
+            Message::MldReport => return Ok(read_report(packet)),
+            _ => return Err(Error),
         }
     }
 
@@ -178,7 +175,8 @@ impl<'a> Repr<'a> {
 }
 
 // The query in octets of that type.
-fn read_query<'a>(packet: &Packet<&'a [u8]>) -> Repr<'a>
+#[inline(always)]
+pub(crate) fn read_query<'a>(packet: &Packet<&'a [u8]>) -> Repr<'a>
     requires whole { BeginsWhole (view_octets packet.now) }
     requires kind { byte_of type_field (view_octets packet.now) ≡ 0x82 }
     ensures { IsMessage (view_octets packet.now) (value_of result) }
@@ -190,6 +188,19 @@ fn read_query<'a>(packet: &Packet<&'a [u8]>) -> Repr<'a>
         qrv: packet.qrv(),
         qqic: packet.qqic(),
         num_srcs: packet.num_srcs(),
+        data: packet.payload(),
+    }
+}
+
+// The report in octets of that type.
+#[inline(always)]
+pub(crate) fn read_report<'a>(packet: &Packet<&'a [u8]>) -> Repr<'a>
+    requires whole { BeginsWhole (view_octets packet.now) }
+    requires kind { byte_of type_field (view_octets packet.now) ≡ 0x8f }
+    ensures { IsMessage (view_octets packet.now) (value_of result) }
+{
+    Repr::Report {
+        nr_mcast_addr_rcrds: packet.nr_mcast_addr_rcrds(),
         data: packet.payload(),
     }
 }

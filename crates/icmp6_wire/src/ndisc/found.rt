@@ -14,7 +14,7 @@ const UNIT: usize = 8;
 
 // What the options said so far, each field as the last option of its kind.
 #[derive(Clone, Copy)]
-pub(super) struct Found<'a> {
+pub(crate) struct Found<'a> {
     pub(super) source: Option<RawHardwareAddress>,
     pub(super) target: Option<RawHardwareAddress>,
     pub(super) mtu: Option<u32>,
@@ -26,7 +26,7 @@ impl<'a> Found<'a> {
     // Notes all options of a payload, where none was seen before. Refused where it isn't blocks one after another. What
     // they say stays where the caller has it, and is not handed from call to call.
     #[inline(never)]
-    pub(super) fn note_all(&mut self, payload: &'a [u8]) -> Result<()>
+    pub(crate) fn note_all(&mut self, payload: &'a [u8]) -> Result<()>
         requires { kept_of self.old ≡ nothing }
         ensures sound { IsOk result → Says payload.now (kept_of self.new) }
         ensures reads { (options : List OptionValue) → AreBlocks payload.now options
@@ -42,7 +42,7 @@ impl<'a> Found<'a> {
     }
 
     // No option was seen.
-    pub(super) fn nothing() -> Found<'a>
+    pub(crate) fn nothing() -> Found<'a>
         ensures { kept_of result ≡ nothing }
     {
         Found {

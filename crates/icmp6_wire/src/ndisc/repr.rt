@@ -115,19 +115,19 @@ impl<'a> Repr<'a> {
         // A return in each arm: the value is then written once, where the caller has room for it.
         match packet.msg_type() {
             Message::RouterSolicit => {
-                return Ok(read_router_solicit(packet, &found));
+                return Ok(router_solicit(packet, &found));
             }
             Message::RouterAdvert => {
-                return Ok(read_router_advert(packet, &found));
+                return Ok(router_advert(packet, &found));
             }
             Message::NeighborSolicit => {
-                return Ok(read_neighbor_solicit(packet, &found));
+                return Ok(neighbor_solicit(packet, &found));
             }
             Message::NeighborAdvert => {
-                return Ok(read_neighbor_advert(packet, &found));
+                return Ok(neighbor_advert(packet, &found));
             }
             Message::Redirect => {
-                return Ok(read_redirect(packet, &found));
+                return Ok(redirect(packet, &found));
             }
             _ => {
                 return Err(Error);
@@ -293,7 +293,7 @@ impl<'a> Repr<'a> {
 
 // The router solicitation in octets of that type, whose options say this.
 #[inline(always)]
-fn read_router_solicit<'a>(packet: &Packet<&'a [u8]>, found: &Found<'a>) -> Repr<'a>
+pub(crate) fn router_solicit<'a>(packet: &Packet<&'a [u8]>, found: &Found<'a>) -> Repr<'a>
     requires whole { BeginsWhole (view_octets packet.now) }
     requires kind { byte_of type_field (view_octets packet.now) ≡ 0x85 }
     requires says { Says (payload_in (view_octets packet.now)) (kept_of found.now) }
@@ -306,7 +306,7 @@ fn read_router_solicit<'a>(packet: &Packet<&'a [u8]>, found: &Found<'a>) -> Repr
 
 // The same of a router advertisement.
 #[inline(always)]
-fn read_router_advert<'a>(packet: &Packet<&'a [u8]>, found: &Found<'a>) -> Repr<'a>
+pub(crate) fn router_advert<'a>(packet: &Packet<&'a [u8]>, found: &Found<'a>) -> Repr<'a>
     requires whole { BeginsWhole (view_octets packet.now) }
     requires kind { byte_of type_field (view_octets packet.now) ≡ 0x86 }
     requires says { Says (payload_in (view_octets packet.now)) (kept_of found.now) }
@@ -326,7 +326,7 @@ fn read_router_advert<'a>(packet: &Packet<&'a [u8]>, found: &Found<'a>) -> Repr<
 
 // The same of a neighbor solicitation.
 #[inline(always)]
-fn read_neighbor_solicit<'a>(packet: &Packet<&'a [u8]>, found: &Found<'a>) -> Repr<'a>
+pub(crate) fn neighbor_solicit<'a>(packet: &Packet<&'a [u8]>, found: &Found<'a>) -> Repr<'a>
     requires whole { BeginsWhole (view_octets packet.now) }
     requires kind { byte_of type_field (view_octets packet.now) ≡ 0x87 }
     requires says { Says (payload_in (view_octets packet.now)) (kept_of found.now) }
@@ -340,7 +340,7 @@ fn read_neighbor_solicit<'a>(packet: &Packet<&'a [u8]>, found: &Found<'a>) -> Re
 
 // The same of a neighbor advertisement.
 #[inline(always)]
-fn read_neighbor_advert<'a>(packet: &Packet<&'a [u8]>, found: &Found<'a>) -> Repr<'a>
+pub(crate) fn neighbor_advert<'a>(packet: &Packet<&'a [u8]>, found: &Found<'a>) -> Repr<'a>
     requires whole { BeginsWhole (view_octets packet.now) }
     requires kind { byte_of type_field (view_octets packet.now) ≡ 0x88 }
     requires says { Says (payload_in (view_octets packet.now)) (kept_of found.now) }
@@ -355,7 +355,7 @@ fn read_neighbor_advert<'a>(packet: &Packet<&'a [u8]>, found: &Found<'a>) -> Rep
 
 // The same of a redirect.
 #[inline(always)]
-fn read_redirect<'a>(packet: &Packet<&'a [u8]>, found: &Found<'a>) -> Repr<'a>
+pub(crate) fn redirect<'a>(packet: &Packet<&'a [u8]>, found: &Found<'a>) -> Repr<'a>
     requires whole { BeginsWhole (view_octets packet.now) }
     requires kind { byte_of type_field (view_octets packet.now) ≡ 0x89 }
     requires says { Says (payload_in (view_octets packet.now)) (kept_of found.now) }

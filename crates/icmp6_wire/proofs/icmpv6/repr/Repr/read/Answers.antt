@@ -1,11 +1,25 @@
-use Rattle.wirebase.proofs.Parses.{reads-complete}
-use Rattle.icmp6_wire.specs.Icmpv6.{value_of, IsContent}
+use Rattle.std.proofs.Common.{sym, ◌∙◌}
 use Rattle.icmp6_wire.specs.Icmpv6Packet.{view_octets}
-use Rattle.icmp6_wire.proofs.Icmpv6Grammar.{content-one}
+use Rattle.icmp6_wire.specs.declared.icmpv6.tables.Message.TheVariants as message
+use Rattle.icmp6_wire.proofs.NdiscTiling.{kind_read}
 use Rattle.icmp6_wire.proofs.icmpv6.repr.Repr.read.Goals as goal
 
-pub returns-clause-complete : goal.returns-clause-complete
-returns-clause-complete c = λ value is.
-    let octets = view_octets c.args.packet.now in
-    reads-complete (IsContent octets) (content-one octets) value_of c.read_content.result c.read_content.ensures.sound
-    (c.read_content.ensures.reads value is.content) value is.content
+pub router_solicit-requires-clause-kind : goal.router_solicit-requires-clause-kind
+router_solicit-requires-clause-kind c =
+    kind_read (view_octets c.args.packet.now) message.RouterSolicit (sym c.msg_type-kind.ensures ∙ c.in-RouterSolicit.is)
+
+pub router_advert-requires-clause-kind : goal.router_advert-requires-clause-kind
+router_advert-requires-clause-kind c =
+    kind_read (view_octets c.args.packet.now) message.RouterAdvert (sym c.msg_type-kind.ensures ∙ c.in-RouterAdvert.is)
+
+pub neighbor_solicit-requires-clause-kind : goal.neighbor_solicit-requires-clause-kind
+neighbor_solicit-requires-clause-kind c =
+    kind_read (view_octets c.args.packet.now) message.NeighborSolicit (sym c.msg_type-kind.ensures ∙ c.in-NeighborSolicit.is)
+
+pub neighbor_advert-requires-clause-kind : goal.neighbor_advert-requires-clause-kind
+neighbor_advert-requires-clause-kind c =
+    kind_read (view_octets c.args.packet.now) message.NeighborAdvert (sym c.msg_type-kind.ensures ∙ c.in-NeighborAdvert.is)
+
+pub redirect-requires-clause-kind : goal.redirect-requires-clause-kind
+redirect-requires-clause-kind c =
+    kind_read (view_octets c.args.packet.now) message.Redirect (sym c.msg_type-kind.ensures ∙ c.in-Redirect.is)
