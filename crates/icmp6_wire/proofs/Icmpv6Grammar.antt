@@ -1,19 +1,18 @@
 -- The grammar of ICMPv6 messages: the bytes are one message at the most, by the type that stands in front.
-use Rattle.std.proofs.Common.{◌≡◌, ℕ, ◌≤◌, true, false, List, length, refl, sym, ap, ◌∙◌, arith}
+use Rattle.std.proofs.Common.{◌≡◌, ℕ, ◌≤◌, true, List, length, refl, sym, ap, ◌∙◌, arith}
 use Rattle.wirebase.specs.declared.capabilities.ChecksumCapabilities.{ChecksumCapabilities}
 use Rattle.wirebase.specs.declared.ipv6.address.Ipv6Address.{Ipv6Address}
 use Rattle.wirebase.specs.declared.ipv6.Ipv6Repr.{Ipv6Repr}
 use Rattle.wirebase.specs.Bytes.{byte_of}
 use Rattle.wirebase.specs.Icmp.{type_field}
 use Rattle.wirebase.proofs.Ipv6Header.{one_header}
-use Rattle.icmp6_wire.specs.Icmpv6Tables.{message_of, is_ndisc}
+use Rattle.icmp6_wire.specs.Icmpv6Tables.{message_of}
 use Rattle.icmp6_wire.specs.Icmpv6Packet.{message_in, header_len_of, is_read, BeginsWhole}
 use Rattle.icmp6_wire.specs.declared.icmpv6.tables.Message.{Message}
 use Rattle.icmp6_wire.specs.declared.icmpv6.tables.Message.TheVariants as message
 use Rattle.icmp6_wire.specs.Icmpv6.{MessageValue, unreachable, too_big, time_exceeded, param_problem, echo_request}
 use Rattle.icmp6_wire.specs.Icmpv6.{echo_reply, mld, ndisc, IsError, IsContent, IsMessage}
 use Rattle.icmp6_wire.specs.Mld.{MldValue, query, report, records}
-use Rattle.icmp6_wire.specs.Ndisc as neighbors
 use Rattle.icmp6_wire.specs.Ndisc.{NdiscValue, router_solicit, router_advert, neighbor_solicit, neighbor_advert}
 use Rattle.icmp6_wire.specs.Ndisc.{redirect}
 use Rattle.icmp6_wire.proofs.MldTexts.{message-one}
@@ -142,24 +141,3 @@ whole-content bytes (mld (query code group flag qrv qqic sources d)) some c =
     header-known 0x82 28 bytes some refl refl c.0.whole c.0.kind
 whole-content bytes (mld (report count d)) some c = header-known 0x8f 8 bytes some refl refl c.0.whole c.0.kind
 whole-content bytes (mld (records rs)) some c = absurd c.0
-
-other_class : (t : ℕ) (bytes : List ℕ) → is_ndisc (message_of t) ≡ false → byte_of type_field bytes ≡ t
-    → is_ndisc (message_in bytes) ≡ true → ⊥
-other_class t bytes other is kind =
-    let no : false ≡ true = sym other ∙ sym (ap (λ (n : ℕ). is_ndisc (message_of n)) is) ∙ kind in
-    cc
-
--- bytes of a type of neighbor discovery that hold no such message hold none
-pub no_neighbor : (bytes : List ℕ) (v : MessageValue) → IsContent bytes v → is_ndisc (message_in bytes) ≡ true
-    → ((m : NdiscValue) → neighbors.IsMessage bytes m → ⊥) → ⊥
-no_neighbor bytes (unreachable reason quoted d) c kind none = other_class 1 bytes refl c.0.kind kind
-no_neighbor bytes (too_big mtu quoted d) c kind none = other_class 2 bytes refl c.0.kind kind
-no_neighbor bytes (time_exceeded reason quoted d) c kind none = other_class 3 bytes refl c.0.kind kind
-no_neighbor bytes (param_problem reason pointer quoted d) c kind none = other_class 4 bytes refl c.0.kind kind
-no_neighbor bytes (echo_request ident seq_no d) c kind none = other_class 0x80 bytes refl c.kind kind
-no_neighbor bytes (echo_reply ident seq_no d) c kind none = other_class 0x81 bytes refl c.kind kind
-no_neighbor bytes (ndisc m) c kind none = none m c.0
-no_neighbor bytes (mld (query code group flag qrv qqic sources d)) c kind none =
-    other_class 0x82 bytes refl c.0.kind kind
-no_neighbor bytes (mld (report count d)) c kind none = other_class 0x8f bytes refl c.0.kind kind
-no_neighbor bytes (mld (records rs)) c kind none = absurd c.0

@@ -9,10 +9,10 @@ ghost use Rattle.wirebase.specs.declared.capabilities.ChecksumCapabilities.{Chec
 ghost use Rattle.wirebase.specs.declared.ipv6.address.Ipv6Address.{Ipv6Address};
 ghost use Rattle.wirebase.specs.declared.ipv6.Ipv6Repr.{Ipv6Repr};
 ghost use Rattle.icmp6_wire.specs.Icmpv6Tables.{message_number};
-ghost use Rattle.icmp6_wire.specs.Icmpv6Packet.{inner, view_octets, BeginsWhole};
+ghost use Rattle.icmp6_wire.specs.Icmpv6Packet.{inner, view_octets};
 ghost use Rattle.icmp6_wire.specs.Icmpv6.{MessageValue, value_of, text};
 ghost use Rattle.icmp6_wire.specs.Icmpv6.{text_len, told_len};
-ghost use Rattle.icmp6_wire.specs.Icmpv6.{IsErrorValue, seal, packet_text, CanEmit, IsContent, IsMessage, format};
+ghost use Rattle.icmp6_wire.specs.Icmpv6.{IsErrorValue, seal, packet_text, CanEmit, IsMessage, format};
 ghost use Rattle.icmp6_wire.specs.Icmpv6.{Emits};
 
 use super::field;
