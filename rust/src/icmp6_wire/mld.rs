@@ -8,6 +8,7 @@ mod tables;
 
 pub use record::{AddressRecord, AddressRecordRepr};
 pub use repr::Repr;
+pub(crate) use repr::{read_query, read_report};
 pub use tables::RecordType;
 
 mod field {

@@ -10,7 +10,9 @@ mod options;
 mod repr;
 
 pub use flags::{NeighborFlags, RouterFlags};
+pub(crate) use found::Found;
 pub use repr::Repr;
+pub(crate) use repr::{neighbor_advert, neighbor_solicit, redirect, router_advert, router_solicit};
 
 // The fields behind the checksum (RFC 4861 section 4).
 mod field {

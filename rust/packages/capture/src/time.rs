@@ -3,7 +3,12 @@
 
 use crate::pcap::Precision;
 
-// The nanoseconds in a second.
+// The nanoseconds and the microseconds in a second.
+const NANOS_A_SECOND: u64 = 1_000_000_000;
+
+const MICROS_A_SECOND: u64 = 1_000_000;
+
+// The nanoseconds in a second, among those of any resolution.
 const NANOS: u128 = 1_000_000_000;
 
 /// A time, since 1970-01-01 00:00:00 UTC.
@@ -24,17 +29,37 @@ impl Time {
 
     /// The time of a second and a fraction behind it, which may be more than a second.
     pub fn of_fraction(seconds: u32, fraction: u32, precision: Precision) -> Time {
-        let nanoseconds = match precision {
-            Precision::Micro => fraction as u128 * 1000,
-            Precision::Nano => fraction as u128,
-        };
-        Time::of_nanoseconds(seconds as u128 * NANOS + nanoseconds)
+        match precision {
+            Precision::Micro => Time::of_micros(seconds as u64 * MICROS_A_SECOND + fraction as u64),
+            Precision::Nano => Time::of_nanos(seconds as u64 * NANOS_A_SECOND + fraction as u64),
+        }
     }
 
     /// The time of so many units of a resolution, less what is below a nanosecond. A resolution below 128 is a number
     /// of decimal digits, and one from 128 on is 128 more than a number of binary digits.
     pub fn of_ticks(ticks: u64, resolution: u8) -> Time {
-        Time::of_nanoseconds(nanoseconds(ticks, resolution))
+        // What nearly all captures count needs no more than 64 bits.
+        match resolution {
+            6 => Time::of_micros(ticks),
+            9 => Time::of_nanos(ticks),
+            _ => Time::of_nanoseconds(nanoseconds(ticks, resolution)),
+        }
+    }
+
+    // The time of so many microseconds.
+    fn of_micros(micros: u64) -> Time {
+        Time {
+            seconds: micros / MICROS_A_SECOND,
+            nanoseconds: (micros % MICROS_A_SECOND) as u32 * 1000,
+        }
+    }
+
+    // The time of so many nanoseconds that 64 bits hold.
+    fn of_nanos(nanos: u64) -> Time {
+        Time {
+            seconds: nanos / NANOS_A_SECOND,
+            nanoseconds: (nanos % NANOS_A_SECOND) as u32,
+        }
     }
 
     // The time of so many nanoseconds.

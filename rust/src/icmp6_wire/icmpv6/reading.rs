@@ -1,16 +1,17 @@
 // Made from crates/icmp6_wire/src/icmpv6/reading.rt by rust/erase.
 //! Messages read from the octets of a packet, by their types.
 
+use super::field;
 use super::packet::Packet;
 use super::quote::read_quote;
 use super::repr::Repr;
 use super::tables::Message;
-use crate::icmp6_wire::{mld, ndisc};
 use crate::wirebase::{Error, IPV6_HEADER_LEN, Result};
 
 // The error in octets of such a type.
+#[inline(always)]
 pub(super) fn read_error<'a, B: AsRef<[u8]> + ?Sized>(packet: &Packet<&'a B>) -> Result<Repr<'a>> {
-    let payload = packet.payload();
+    let payload = behind_header(packet);
     if payload.len() < IPV6_HEADER_LEN {
         return Err(Error);
     }
@@ -39,7 +40,7 @@ pub(super) fn read_error<'a, B: AsRef<[u8]> + ?Sized>(packet: &Packet<&'a B>) ->
 // The error of an unreachable destination in octets of that type that hold a quoted header.
 #[inline(always)]
 fn read_unreachable<'a, B: AsRef<[u8]> + ?Sized>(packet: &Packet<&'a B>) -> Repr<'a> {
-    let (header, data) = read_quote(packet.payload());
+    let (header, data) = read_quote(behind_header(packet));
     Repr::DstUnreachable {
         reason: packet.msg_code().into(),
         header,
@@ -50,7 +51,7 @@ fn read_unreachable<'a, B: AsRef<[u8]> + ?Sized>(packet: &Packet<&'a B>) -> Repr
 // The same of a packet that is too big, whose code is 0.
 #[inline(always)]
 fn read_too_big<'a, B: AsRef<[u8]> + ?Sized>(packet: &Packet<&'a B>) -> Repr<'a> {
-    let (header, data) = read_quote(packet.payload());
+    let (header, data) = read_quote(behind_header(packet));
     Repr::PktTooBig {
         mtu: packet.pkt_too_big_mtu(),
         header,
@@ -61,7 +62,7 @@ fn read_too_big<'a, B: AsRef<[u8]> + ?Sized>(packet: &Packet<&'a B>) -> Repr<'a>
 // The same of a time that was exceeded.
 #[inline(always)]
 fn read_time_exceeded<'a, B: AsRef<[u8]> + ?Sized>(packet: &Packet<&'a B>) -> Repr<'a> {
-    let (header, data) = read_quote(packet.payload());
+    let (header, data) = read_quote(behind_header(packet));
     Repr::TimeExceeded {
         reason: packet.msg_code().into(),
         header,
@@ -72,7 +73,7 @@ fn read_time_exceeded<'a, B: AsRef<[u8]> + ?Sized>(packet: &Packet<&'a B>) -> Re
 // The same of a parameter problem.
 #[inline(always)]
 fn read_param_problem<'a, B: AsRef<[u8]> + ?Sized>(packet: &Packet<&'a B>) -> Repr<'a> {
-    let (header, data) = read_quote(packet.payload());
+    let (header, data) = read_quote(behind_header(packet));
     Repr::ParamProblem {
         reason: packet.msg_code().into(),
         pointer: packet.param_problem_ptr(),
@@ -87,7 +88,7 @@ pub(super) fn read_echo_request<'a, B: AsRef<[u8]> + ?Sized>(packet: &Packet<&'a
     Repr::EchoRequest {
         ident: packet.echo_ident(),
         seq_no: packet.echo_seq_no(),
-        data: packet.payload(),
+        data: behind_header(packet),
     }
 }
 
@@ -97,36 +98,12 @@ pub(super) fn read_echo_reply<'a, B: AsRef<[u8]> + ?Sized>(packet: &Packet<&'a B
     Repr::EchoReply {
         ident: packet.echo_ident(),
         seq_no: packet.echo_seq_no(),
-        data: packet.payload(),
+        data: behind_header(packet),
     }
 }
 
-// The message of multicast listener discovery in octets of code 0.
+// What stands behind the header of an error or an echo, which has 8 bytes.
 #[inline(always)]
-pub(super) fn read_listener<'a, B: AsRef<[u8]> + ?Sized>(
-    packet: &Packet<&'a B>,
-) -> Result<Repr<'a>> {
-    match mld::Repr::parse(packet) {
-        Ok(message) => {
-            return Ok(Repr::Mld(message));
-        }
-        Err(_) => {
-            return Err(Error);
-        }
-    }
-}
-
-// The message of neighbor discovery in octets of such a type and of code 0.
-#[inline(always)]
-pub(super) fn read_neighbor<'a, B: AsRef<[u8]> + ?Sized>(
-    packet: &Packet<&'a B>,
-) -> Result<Repr<'a>> {
-    match ndisc::Repr::parse(packet) {
-        Ok(message) => {
-            return Ok(Repr::Ndisc(message));
-        }
-        Err(_) => {
-            return Err(Error);
-        }
-    }
+fn behind_header<'a, B: AsRef<[u8]> + ?Sized>(packet: &Packet<&'a B>) -> &'a [u8] {
+    &packet.buffer.as_ref()[field::HEADER_END..]
 }

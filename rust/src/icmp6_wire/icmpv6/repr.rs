@@ -4,10 +4,12 @@
 use super::field;
 use super::packet::{Packet, fill};
 use super::quote::{error_len, write_error};
-use super::reading::{
-    read_echo_reply, read_echo_request, read_error, read_listener, read_neighbor,
-};
+use super::reading::{read_echo_reply, read_echo_request, read_error};
 use super::tables::{DstUnreachable, Message, ParamProblem, TimeExceeded};
+use crate::icmp6_wire::mld::{read_query, read_report};
+use crate::icmp6_wire::ndisc::{
+    Found, neighbor_advert, neighbor_solicit, redirect, router_advert, router_solicit,
+};
 use crate::icmp6_wire::writing::put_type;
 use crate::icmp6_wire::{mld, ndisc};
 use crate::wirebase::{
@@ -96,7 +98,6 @@ impl<'a> Repr<'a> {
     }
 
     // The message in the octets.
-    #[inline(always)]
     fn read<B: AsRef<[u8]> + ?Sized>(
         src_addr: &Ipv6Address,
         dst_addr: &Ipv6Address,
@@ -107,12 +108,6 @@ impl<'a> Repr<'a> {
         if checksum_caps.icmpv6.rx() && !packet.verify_checksum(src_addr, dst_addr) {
             return Err(Error);
         }
-        Repr::read_content(packet)
-    }
-
-    // The message in octets that begin with a whole header, whatever their checksum.
-    #[inline(always)]
-    fn read_content<B: AsRef<[u8]> + ?Sized>(packet: &Packet<&'a B>) -> Result<Repr<'a>> {
         let kind = packet.msg_type();
         if kind.is_error() {
             return read_error(packet);
@@ -120,23 +115,26 @@ impl<'a> Repr<'a> {
         if packet.msg_code() != 0 {
             return Err(Error);
         }
-        // A return in each arm: the value is then written once, where the caller has room for it.
+        // Each arm returns, and what it returns is made by calls that have one way out: the value is then written once,
+        // where the caller has room for it.
+        if !kind.is_ndisc() {
+            match kind {
+                Message::EchoRequest => return Ok(read_echo_request(packet)),
+                Message::EchoReply => return Ok(read_echo_reply(packet)),
+                Message::MldQuery => return Ok(Repr::Mld(read_query(packet))),
+                Message::MldReport => return Ok(Repr::Mld(read_report(packet))),
+                _ => return Err(Error),
+            }
+        }
+        let mut found = Found::nothing();
+        found.note_all(packet.payload())?;
         match kind {
-            Message::EchoRequest => {
-                return Ok(read_echo_request(packet));
-            }
-            Message::EchoReply => {
-                return Ok(read_echo_reply(packet));
-            }
-            _ if kind.is_mld() => {
-                return read_listener(packet);
-            }
-            _ if kind.is_ndisc() => {
-                return read_neighbor(packet);
-            }
-            _ => {
-                return Err(Error);
-            }
+            Message::RouterSolicit => return Ok(Repr::Ndisc(router_solicit(packet, &found))),
+            Message::RouterAdvert => return Ok(Repr::Ndisc(router_advert(packet, &found))),
+            Message::NeighborSolicit => return Ok(Repr::Ndisc(neighbor_solicit(packet, &found))),
+            Message::NeighborAdvert => return Ok(Repr::Ndisc(neighbor_advert(packet, &found))),
+            Message::Redirect => return Ok(Repr::Ndisc(redirect(packet, &found))),
+            _ => return Err(Error),
         }
     }
 

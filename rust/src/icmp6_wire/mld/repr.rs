@@ -49,12 +49,9 @@ impl<'a> Repr<'a> {
     fn read<B: AsRef<[u8]> + ?Sized>(packet: &Packet<&'a B>) -> Result<Repr<'a>> {
         packet.check_len()?;
         match packet.msg_type() {
-            Message::MldQuery => Ok(read_query(packet)),
-            Message::MldReport => Ok(Repr::Report {
-                nr_mcast_addr_rcrds: packet.nr_mcast_addr_rcrds(),
-                data: packet.payload(),
-            }),
-            _ => Err(Error),
+            Message::MldQuery => return Ok(read_query(packet)),
+            Message::MldReport => return Ok(read_report(packet)),
+            _ => return Err(Error),
         }
     }
 
@@ -128,7 +125,8 @@ impl<'a> Repr<'a> {
 }
 
 // The query in octets of that type.
-fn read_query<'a, B: AsRef<[u8]> + ?Sized>(packet: &Packet<&'a B>) -> Repr<'a> {
+#[inline(always)]
+pub(crate) fn read_query<'a, B: AsRef<[u8]> + ?Sized>(packet: &Packet<&'a B>) -> Repr<'a> {
     Repr::Query {
         max_resp_code: packet.max_resp_code(),
         mcast_addr: packet.mcast_addr(),
@@ -136,6 +134,15 @@ fn read_query<'a, B: AsRef<[u8]> + ?Sized>(packet: &Packet<&'a B>) -> Repr<'a> {
         qrv: packet.qrv(),
         qqic: packet.qqic(),
         num_srcs: packet.num_srcs(),
+        data: packet.payload(),
+    }
+}
+
+// The report in octets of that type.
+#[inline(always)]
+pub(crate) fn read_report<'a, B: AsRef<[u8]> + ?Sized>(packet: &Packet<&'a B>) -> Repr<'a> {
+    Repr::Report {
+        nr_mcast_addr_rcrds: packet.nr_mcast_addr_rcrds(),
         data: packet.payload(),
     }
 }

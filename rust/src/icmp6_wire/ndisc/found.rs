@@ -10,7 +10,7 @@ const UNIT: usize = 8;
 
 // What the options said so far, each field as the last option of its kind.
 #[derive(Clone, Copy)]
-pub(super) struct Found<'a> {
+pub(crate) struct Found<'a> {
     pub(super) source: Option<RawHardwareAddress>,
     pub(super) target: Option<RawHardwareAddress>,
     pub(super) mtu: Option<u32>,
@@ -19,20 +19,21 @@ pub(super) struct Found<'a> {
 }
 
 impl<'a> Found<'a> {
-    // What the options of a payload say. Refused where it isn't blocks one after another.
-    pub(super) fn read(payload: &'a [u8]) -> Result<Found<'a>> {
-        let mut found = Found::nothing();
+    // Notes all options of a payload, where none was seen before. Refused where it isn't blocks one after another. What
+    // they say stays where the caller has it, and is not handed from call to call.
+    #[inline(never)]
+    pub(crate) fn note_all(&mut self, payload: &'a [u8]) -> Result<()> {
         let mut rest = payload;
         while !rest.is_empty() {
             let (block, behind) = split_block(rest)?;
-            found.note_block(block);
+            self.note_block(block);
             rest = behind;
         }
-        Ok(found)
+        Ok(())
     }
 
     // No option was seen.
-    fn nothing() -> Found<'a> {
+    pub(crate) fn nothing() -> Found<'a> {
         Found {
             source: None,
             target: None,

@@ -82,38 +82,28 @@ impl<'a> Repr<'a> {
     // The message in the octets.
     fn read<B: AsRef<[u8]> + ?Sized>(packet: &Packet<&'a B>) -> Result<Repr<'a>> {
         packet.check_len()?;
-        let Ok(found) = Found::read(packet.payload()) else {
-            return Err(Error);
-        };
-        Repr::read_content(packet, &found)
-    }
-
-    // The message in octets that begin with a whole header, whose options say this.
-    fn read_content<B: AsRef<[u8]> + ?Sized>(
-        packet: &Packet<&'a B>,
-        found: &Found<'a>,
-    ) -> Result<Repr<'a>> {
+        let mut found = Found::nothing();
+        found.note_all(packet.payload())?;
+        // A return in each arm: the value is then written once, where the caller has room for it.
         match packet.msg_type() {
-            Message::RouterSolicit => Ok(Repr::RouterSolicit {
-                lladdr: found.source,
-            }),
-            Message::RouterAdvert => Ok(read_router_advert(packet, found)),
-            Message::NeighborSolicit => Ok(Repr::NeighborSolicit {
-                target_addr: packet.target_addr(),
-                lladdr: found.source,
-            }),
-            Message::NeighborAdvert => Ok(Repr::NeighborAdvert {
-                flags: packet.neighbor_flags(),
-                target_addr: packet.target_addr(),
-                lladdr: found.target,
-            }),
-            Message::Redirect => Ok(Repr::Redirect {
-                target_addr: packet.target_addr(),
-                dest_addr: packet.dest_addr(),
-                lladdr: found.target,
-                redirected_hdr: found.redirected_hdr,
-            }),
-            _ => Err(Error),
+            Message::RouterSolicit => {
+                return Ok(router_solicit(packet, &found));
+            }
+            Message::RouterAdvert => {
+                return Ok(router_advert(packet, &found));
+            }
+            Message::NeighborSolicit => {
+                return Ok(neighbor_solicit(packet, &found));
+            }
+            Message::NeighborAdvert => {
+                return Ok(neighbor_advert(packet, &found));
+            }
+            Message::Redirect => {
+                return Ok(redirect(packet, &found));
+            }
+            _ => {
+                return Err(Error);
+            }
         }
     }
 
@@ -231,8 +221,20 @@ impl<'a> Repr<'a> {
     }
 }
 
-// The router advertisement in octets of that type, whose options say this.
-fn read_router_advert<'a, B: AsRef<[u8]> + ?Sized>(
+// The router solicitation in octets of that type, whose options say this.
+#[inline(always)]
+pub(crate) fn router_solicit<'a, B: AsRef<[u8]> + ?Sized>(
+    packet: &Packet<&'a B>,
+    found: &Found<'a>,
+) -> Repr<'a> {
+    Repr::RouterSolicit {
+        lladdr: found.source,
+    }
+}
+
+// The same of a router advertisement.
+#[inline(always)]
+pub(crate) fn router_advert<'a, B: AsRef<[u8]> + ?Sized>(
     packet: &Packet<&'a B>,
     found: &Found<'a>,
 ) -> Repr<'a> {
@@ -245,6 +247,45 @@ fn read_router_advert<'a, B: AsRef<[u8]> + ?Sized>(
         lladdr: found.source,
         mtu: found.mtu,
         prefix_info: found.prefix_info,
+    }
+}
+
+// The same of a neighbor solicitation.
+#[inline(always)]
+pub(crate) fn neighbor_solicit<'a, B: AsRef<[u8]> + ?Sized>(
+    packet: &Packet<&'a B>,
+    found: &Found<'a>,
+) -> Repr<'a> {
+    Repr::NeighborSolicit {
+        target_addr: packet.target_addr(),
+        lladdr: found.source,
+    }
+}
+
+// The same of a neighbor advertisement.
+#[inline(always)]
+pub(crate) fn neighbor_advert<'a, B: AsRef<[u8]> + ?Sized>(
+    packet: &Packet<&'a B>,
+    found: &Found<'a>,
+) -> Repr<'a> {
+    Repr::NeighborAdvert {
+        flags: packet.neighbor_flags(),
+        target_addr: packet.target_addr(),
+        lladdr: found.target,
+    }
+}
+
+// The same of a redirect.
+#[inline(always)]
+pub(crate) fn redirect<'a, B: AsRef<[u8]> + ?Sized>(
+    packet: &Packet<&'a B>,
+    found: &Found<'a>,
+) -> Repr<'a> {
+    Repr::Redirect {
+        target_addr: packet.target_addr(),
+        dest_addr: packet.dest_addr(),
+        lladdr: found.target,
+        redirected_hdr: found.redirected_hdr,
     }
 }
 
