@@ -1,14 +1,17 @@
 -- What the parts of the reader answer, beside what their bytes are.
-use Rattle.std.specs.Prelude.{◌≡◌, ℕ, ◌<◌, ◌≤◌, ◌⊎◌, List, [], ◌∷◌, ◌++◌, length, take, drop, Option, None, Some}
+use Rattle.std.specs.Prelude.{◌≡◌, ℕ, ◌+◌, ◌<◌, ◌≤◌, ◌⊎◌, List, [], ◌∷◌, ◌++◌, length, take, drop, Option, None, Some}
 use Rattle.capture.specs.Capture.{State, state, IsBlock, BlockEnds, Refused, IsUnit, Ends, most_octets, most_interfaces}
 use Rattle.capture.specs.Packet.{PacketValue, packet_in, IsPlace}
-use Rattle.capture.specs.Pcap.{IsRecord, RecordEnds}
+use Rattle.std.specs.Io.KnownBytes.{Consumes, Keeps, IsAtEnd}
+use Rattle.capture.specs.Pcap.{IsRecord, IsRecordHeader, RecordEnds}
 use Rattle.capture.specs.Pcapng.{IsRead, IsHead, IsSection, SectionEnds, IsInterface, IsPacket}
 use Rattle.capture.specs.declared.ending.Ending.TheVariants.{TooLarge, Malformed}
 use Rattle.capture.specs.declared.packet.Packet.{Packet}
 use Rattle.capture.specs.declared.capture.Stage.TheVariants as stage
 use Rattle.capture.specs.declared.capture.Block.{Block}
 use Rattle.capture.specs.declared.capture.Block.TheVariants as block
+use Rattle.capture.specs.declared.capture.Shown.{Shown}
+use Rattle.capture.specs.declared.capture.Shown.TheVariants as shown
 use Rattle.capture.specs.declared.capture.Step.{Step}
 use Rattle.capture.specs.declared.capture.Step.TheVariants as step
 use Rattle.capture.specs.declared.order.Order.{Order}
@@ -46,6 +49,14 @@ RecordGives h all step.Passed octets left = ⊥
 RecordGives h all (step.Packet k) octets left =
     Splits all octets left × IsRecord most_octets h octets (packet_in k octets)
 RecordGives h all (step.Ended ending) octets left = RecordEnds most_octets h all ending
+
+-- a record was taken into `octets`, or nothing was: it isn't there as a whole, or nothing is left
+abbrev pub TakesShown : Order → Option (List ℕ) → Option (List ℕ) → List ℕ → Shown → Type 0
+TakesShown order old new octets (shown.Record r) =
+    Consumes old new octets × IsRecordHeader order (take 16 octets) r × (r.captured_len ≤ most_octets)
+    × (length octets ≡ 16 + r.captured_len)
+TakesShown order old new octets shown.Part = (octets ≡ []) × Keeps old new
+TakesShown order old new octets shown.End = IsAtEnd old
 
 -- a block was read into `octets`, or passed over
 abbrev pub BlockReads : Order → List ℕ → Block → List ℕ → Option (List ℕ) → Type 0

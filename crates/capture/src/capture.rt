@@ -1,12 +1,14 @@
 //! The records of a capture, read one after another in bounded memory.
 
-ghost use Rattle.std.specs.Prelude.{◌≡◌, ◌≤◌, ◌⊎◌, ℕ, List, [], IfOk, IfErr, IfSome, length};
+ghost use Rattle.std.specs.Prelude.{◌≡◌, ◌≤◌, ◌+◌, ◌⊎◌, ℕ, List, [], IfOk, IfErr, IfSome, length, take};
 ghost use Rattle.capture.specs.Capture.{IfRecord, state, state_of, octets_of, count_of, GivesNext, IsInOrder, packet_of};
+ghost use Rattle.capture.specs.Capture.{most_octets};
 ghost use Rattle.capture.specs.Packet.{packet_in, IsPlace};
 ghost use Rattle.capture.specs.Reader.{Reads};
 ghost use Rattle.capture.specs.Taken.{RecordGives, BlockReads, BlockTakes, BlockGives, StepGives};
 ghost use Rattle.capture.specs.Taken.{SectionTakes, InterfaceTakes, PacketTakes};
-ghost use Rattle.capture.specs.Taken.{IfPacket, IfRead, IsWholeBlock};
+ghost use Rattle.capture.specs.Taken.{IfPacket, IfRead, IsWholeBlock, TakesShown};
+ghost use Rattle.capture.specs.Pcap.{IsRecordHeader};
 
 use crate::ending::{Ending, Fault};
 use crate::order::Order;
@@ -16,7 +18,7 @@ use crate::pcapng::{self, Head, Interface};
 use crate::reader::{fill, skip};
 use crate::time::Time;
 use std::alloc::Global;
-use std::io::BufRead;
+use std::io::{BufRead, ErrorKind};
 
 /// The most bytes that are kept of a packet.
 pub const MOST_OCTETS: u32 = 262_144;
@@ -78,6 +80,17 @@ enum Block {
     Passed(Head),
     Read(Head),
     Ended(Ending),
+}
+
+// What the buffer of an input shows of the next record.
+#[derive(Debug, PartialEq, Eq, Clone, Copy)]
+enum Shown {
+    // The whole of it, which is taken, and this is its header.
+    Record(RecordHeader),
+    // A part, of which nothing is taken.
+    Part,
+    // The input has ended.
+    End,
 }
 
 /// A capture file, read from its front on. What it keeps is the record or block that was read last, and the interfaces
@@ -333,6 +346,73 @@ fn read_octets<R: BufRead>(
 
 // Reads the next record of a file with a header.
 fn read_record<R: BufRead>(
+    input: &mut R,
+    octets: &mut Vec<u8>,
+    header: FileHeader,
+) -> Result<Step, Fault>
+    requires { octets.old.items ≡ [] }
+    ensures gives { IfOk result (λ step. (all : List ℕ) → Reads all (R.remaining input.old) [] 0
+        → RecordGives header all step octets.new.items (R.remaining input.new)) }
+    ensures place { IfOk result (λ step. IfPacket step (λ k. IsPlace k octets.new.items)) }
+    ensures fault { IfErr result (λ fault. (fault ≡ Fault.Read) ⊎ (fault ≡ Fault.Memory)) }
+{
+    match take_shown(input, octets, header.order)? {
+        Shown::Record(record) => Ok(Step::Packet(pcap::packet(&header, &record))),
+        Shown::Part => read_parts(input, octets, header),
+        Shown::End => Ok(Step::Ended(Ending::Whole)),
+    }
+}
+
+// Takes the next record in one step, where the buffer of the input shows the whole of it.
+fn take_shown<R: BufRead>(input: &mut R, octets: &mut Vec<u8>, order: Order) -> Result<Shown, Fault>
+    requires { octets.old.items ≡ [] }
+    ensures takes { IfOk result (λ shown. TakesShown order (R.remaining input.old) (R.remaining input.new)
+        octets.new.items shown) }
+    ensures fault { IfErr result (λ fault. (fault ≡ Fault.Read) ⊎ (fault ≡ Fault.Memory)) }
+{
+    let shown = match input.fill_buf() {
+        Ok(shown) => shown,
+        Err(error) => {
+            return if error.kind() == ErrorKind::Interrupted {
+                Ok(Shown::Part)
+            } else {
+                Err(Fault::Read)
+            };
+        }
+    };
+    if shown.is_empty() {
+        return Ok(Shown::End);
+    }
+    let Some(record) = whole_record(order, shown) else {
+        return Ok(Shown::Part);
+    };
+    let end = pcap::RECORD_HEADER_LEN + record.captured_len as usize;
+    let Ok(()) = octets.extend_from_slice(&shown[..end]) else {
+        return Err(Fault::Memory);
+    };
+    input.consume(end);
+    Ok(Shown::Record(record))
+}
+
+// The header of the record of some bytes at the front of the octets, where the whole of it is there.
+fn whole_record(order: Order, octets: &[u8]) -> Option<RecordHeader>
+    ensures { IfSome result (λ r. IsRecordHeader order (take 16 octets.now) r × (r.captured_len ≤ most_octets)
+        × (16 + r.captured_len ≤ length octets.now)) }
+{
+    if octets.len() <= pcap::RECORD_HEADER_LEN {
+        return None;
+    }
+    let record = RecordHeader::parse(order, &octets[..pcap::RECORD_HEADER_LEN]);
+    let len = record.captured_len;
+    let room = octets.len() - pcap::RECORD_HEADER_LEN;
+    if len == 0 || len > MOST_OCTETS || room < len as usize {
+        return None;
+    }
+    Some(record)
+}
+
+// Reads the next record of a file with a header, its header first and then its packet.
+fn read_parts<R: BufRead>(
     input: &mut R,
     octets: &mut Vec<u8>,
     header: FileHeader,
