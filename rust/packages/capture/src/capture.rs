@@ -8,7 +8,7 @@ use crate::pcap::{self, FileHeader, RecordHeader};
 use crate::pcapng::{self, Head, Interface};
 use crate::reader::{fill, skip};
 use crate::time::Time;
-use rattle_std::io::BufRead;
+use rattle_std::io::{BufRead, ErrorKind};
 #[allow(unused_imports)]
 use rattle_std::prelude::*;
 
@@ -72,6 +72,17 @@ enum Block {
     Passed(Head),
     Read(Head),
     Ended(Ending),
+}
+
+// What the buffer of an input shows of the next record.
+#[derive(Debug, PartialEq, Eq, Clone, Copy)]
+enum Shown {
+    // The whole of it, which is taken, and this is its header.
+    Record(RecordHeader),
+    // A part, of which nothing is taken.
+    Part,
+    // The input has ended.
+    End,
 }
 
 /// A capture file, read from its front on. What it keeps is the record or block that was read last, and the interfaces
@@ -259,6 +270,63 @@ fn read_octets<R: BufRead>(
 
 // Reads the next record of a file with a header.
 fn read_record<R: BufRead>(
+    input: &mut R,
+    octets: &mut Vec<u8>,
+    header: FileHeader,
+) -> Result<Step, Fault> {
+    match take_shown(input, octets, header.order)? {
+        Shown::Record(record) => Ok(Step::Packet(pcap::packet(&header, &record))),
+        Shown::Part => read_parts(input, octets, header),
+        Shown::End => Ok(Step::Ended(Ending::Whole)),
+    }
+}
+
+// Takes the next record in one step, where the buffer of the input shows the whole of it.
+fn take_shown<R: BufRead>(
+    input: &mut R,
+    octets: &mut Vec<u8>,
+    order: Order,
+) -> Result<Shown, Fault> {
+    let shown = match input.fill_buf() {
+        Ok(shown) => shown,
+        Err(error) => {
+            return if error.kind() == ErrorKind::Interrupted {
+                Ok(Shown::Part)
+            } else {
+                Err(Fault::Read)
+            };
+        }
+    };
+    if shown.is_empty() {
+        return Ok(Shown::End);
+    }
+    let Some(record) = whole_record(order, shown) else {
+        return Ok(Shown::Part);
+    };
+    let end = pcap::RECORD_HEADER_LEN + record.captured_len as usize;
+    let Ok(()) = octets.extend_from_slice(&shown[..end]) else {
+        return Err(Fault::Memory);
+    };
+    input.consume(end);
+    Ok(Shown::Record(record))
+}
+
+// The header of the record of some bytes at the front of the octets, where the whole of it is there.
+fn whole_record(order: Order, octets: &[u8]) -> Option<RecordHeader> {
+    if octets.len() <= pcap::RECORD_HEADER_LEN {
+        return None;
+    }
+    let record = RecordHeader::parse(order, &octets[..pcap::RECORD_HEADER_LEN]);
+    let len = record.captured_len;
+    let room = octets.len() - pcap::RECORD_HEADER_LEN;
+    if len == 0 || len > MOST_OCTETS || room < len as usize {
+        return None;
+    }
+    Some(record)
+}
+
+// Reads the next record of a file with a header, its header first and then its packet.
+fn read_parts<R: BufRead>(
     input: &mut R,
     octets: &mut Vec<u8>,
     header: FileHeader,

@@ -70,7 +70,7 @@ fn read_label(text: &[u8]) -> Result<(ArrayVec<u8, MAX_LABEL_LEN>, &[u8])> {
 fn read_byte(text: &[u8]) -> Option<(u8, &[u8])> {
     match text {
         [b'\\', rest @ ..] => read_quoted(rest),
-        [byte, rest @ ..] if byte.is_ascii_graphic() && !is_special(*byte) => Some((*byte, rest)),
+        [byte, rest @ ..] if *byte < ASCII_END && is_plain(*byte) => Some((*byte, rest)),
         _ => None,
     }
 }
@@ -103,6 +103,18 @@ fn digit_value(digit: u8) -> u16 {
     (digit - b'0') as u16
 }
 
+// The bytes from here on are no ASCII.
+const ASCII_END: u8 = 128;
+
+// A bit for each byte below 64, and for each one below 128: whether it is visible and has no meaning of its own.
+const PLAIN: [u64; 2] = [0xf7ff_bcea_0000_0000, 0x7fff_ffff_efff_fffe];
+
+// Whether a byte of ASCII is written as itself. A look-up, since a name's bytes are of no order that a processor could
+// foresee.
+fn is_plain(byte: u8) -> bool {
+    PLAIN[(byte / 64) as usize] >> (byte % 64) & 1 == 1
+}
+
 // Whether a byte has a meaning of its own in a zone file.
 fn is_special(byte: u8) -> bool {
     matches!(byte, b'"' | b'$' | b'(' | b')' | b'.' | b';' | b'@' | b'\\')
@@ -126,12 +138,12 @@ struct Character(u8);
 impl fmt::Display for Character {
     fn fmt(&self, f: &mut fmt::Formatter<'_>) -> fmt::Result {
         let byte = self.0;
-        if is_special(byte) {
-            write!(f, "\\{}", char::from(byte))
-        } else if byte.is_ascii_graphic() {
+        if byte < ASCII_END && is_plain(byte) {
             // One write of one byte, with none of the work that `write!` does for a formatter's options.
             let mut encoded = [0; 4];
             f.write_str(char::from(byte).encode_utf8(&mut encoded))
+        } else if is_special(byte) {
+            write!(f, "\\{}", char::from(byte))
         } else {
             write!(f, "\\{}{}{}", byte / 100, byte / 10 % 10, byte % 10)
         }
