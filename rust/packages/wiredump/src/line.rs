@@ -13,8 +13,8 @@ pub fn show_line<W: Write>(output: &mut W, line: &Line) -> Result<bool, Fault> {
     show_shape(output, &line.shape()?)
 }
 
-// The same of its shape.
-fn show_shape<W: Write>(output: &mut W, shape: &Shape) -> Result<bool, Fault> {
+/// The same of its shape.
+pub fn show_shape<W: Write>(output: &mut W, shape: &Shape) -> Result<bool, Fault> {
     let (shown, known) = match shape {
         Shape::Blank => (Ok(()), true),
         Shape::Packet(command, packet) => (command.show(output, packet.as_slice()), true),

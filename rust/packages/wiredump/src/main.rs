@@ -6,6 +6,7 @@
 mod command;
 mod dhcp;
 mod fault;
+mod glance;
 mod hbh;
 mod icmp4;
 mod icmp6;

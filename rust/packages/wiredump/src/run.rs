@@ -2,7 +2,8 @@
 //! The lines of an input, in one pass.
 
 use crate::Fault;
-use crate::line::show_line;
+use crate::glance::{Glance, look};
+use crate::line::{show_line, show_shape};
 use crate::reading::{Line, read_line};
 use rattle_std::io::{BufRead, BufReader, BufWriter, Read, Write};
 
@@ -45,14 +46,46 @@ fn show_lines<R: BufRead, W: Write>(input: &mut R, output: &mut W) -> Result<boo
     let mut line = Line::new();
     let mut all_known = true;
     for _ in 0..u64::MAX {
-        let more = read_line(input, &mut line)?;
-        if !more {
-            return Ok(all_known);
+        match show_next(input, output, &mut line)? {
+            Some(known) => {
+                all_known &= known;
+            }
+            None => return Ok(all_known),
         }
-        let known = show_line(output, &line)?;
-        all_known &= known;
     }
     Err(Fault::Read)
+}
+
+// Prints what the next line holds, and answers whether its shape is known, or None where there is no line. What is kept
+// of a line that is not at hand whole is kept in `line`.
+fn show_next<R: BufRead, W: Write>(
+    input: &mut R,
+    output: &mut W,
+    line: &mut Line,
+) -> Result<Option<bool>, Fault> {
+    let glance = look(input)?;
+    match glance {
+        Glance::Line(shape) => {
+            let known = show_shape(output, &shape)?;
+            Ok(Some(known))
+        }
+        Glance::Part => show_part(input, output, line),
+        Glance::End => Ok(None),
+    }
+}
+
+// The same of a line that is not at hand whole.
+fn show_part<R: BufRead, W: Write>(
+    input: &mut R,
+    output: &mut W,
+    line: &mut Line,
+) -> Result<Option<bool>, Fault> {
+    let more = read_line(input, line)?;
+    if !more {
+        return Ok(None);
+    }
+    let known = show_line(output, line)?;
+    Ok(Some(known))
 }
 
 /// The exit status of a run's answer.

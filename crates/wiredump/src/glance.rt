@@ -1,0 +1,62 @@
+//! One look at an input for its next line, which is read where it stands if it is at hand whole.
+
+ghost use Rattle.std.specs.Prelude.{◌≡◌, ◌≤◌, ◌⊎◌, ℕ, IfOk, IfErr, IfSome, OnSome, List, Option, length, take};
+ghost use Rattle.std.specs.Io.KnownBytes.{Consumes, IsAtEnd};
+ghost use Rattle.wiredump.specs.Glances.{Sees};
+
+use crate::Fault;
+use crate::search::len_before;
+use crate::shape::Shape;
+use std::alloc::Global;
+use std::io::{BufRead, ErrorKind};
+
+/// What a look at an input tells of its next line.
+#[derive(Drop)]
+pub enum Glance {
+    /// The line was at hand whole, has this shape, and is taken.
+    Line(Shape),
+    /// Not all of it is at hand, and nothing is taken.
+    Part,
+    /// There is no line.
+    End,
+}
+
+/// Looks for the next line.
+pub fn look<R: BufRead>(alloc: Global, input: &mut R) -> Result<Glance, Fault>
+    ensures sees { IfOk result (λ glance. IfSome (R.remaining input.old) (λ octets.
+        Sees octets (R.remaining input.new) glance)) }
+    ensures fault { IfErr result (λ fault. (fault ≡ Fault.Read) ⊎ (fault ≡ Fault.Memory)) }
+{
+    let available = match input.fill_buf() {
+        Ok(available) => available,
+        Err(error) => {
+            return if error.kind() == ErrorKind::Interrupted {
+                Ok(Glance::Part)
+            } else {
+                Err(Fault::Read)
+            };
+        }
+    };
+    let (count, glance) = look_at(alloc, available)?;
+    input.consume(count);
+    Ok(glance)
+}
+
+// The same of the octets at hand, of which there are none at the input's end alone; answers how many are taken too.
+fn look_at(alloc: Global, shown: &[u8]) -> Result<(usize, Glance), Fault>
+    ensures bound { IfOk result (λ taken. taken.0 ≤ length shown.now) }
+    ensures sees { IfOk result (λ taken. (old new : Option (List ℕ)) → Consumes old new (take taken.0 shown.now)
+        → (length shown.now ≡ 0 → OnSome old (IsAtEnd new))
+        → IfSome old (λ octets. Sees octets new taken.1)) }
+    ensures fault { IfErr result (λ fault. fault ≡ Fault.Memory) }
+{
+    if shown.is_empty() {
+        return Ok((0, Glance::End));
+    }
+    let end = len_before(shown, b'\n');
+    if end == shown.len() {
+        return Ok((0, Glance::Part));
+    }
+    let shape = Shape::of_line(alloc, &shown[..end])?;
+    Ok((end + 1, Glance::Line(shape)))
+}
