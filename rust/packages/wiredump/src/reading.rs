@@ -5,7 +5,7 @@
 //! or too many words is bad whatever follows, so that nothing more of it is kept.
 
 use crate::Fault;
-use crate::search::{len_before_either, spaces_len};
+use crate::search::{len_before, len_before_either, spaces_len};
 use crate::shape::Shape;
 use crate::words::{MOST_OCTETS, MOST_WORDS};
 use rattle_std::io::{BufRead, ErrorKind};
@@ -125,8 +125,13 @@ fn take_shown(line: &mut Line, shown: &[u8]) -> Result<(usize, bool), Fault> {
     Ok((end, shown.is_empty()))
 }
 
-// Takes the spaces in front and the word behind them, and answers how many octets these are.
+// Takes the spaces in front and the word behind them, or all that a bad line has at hand, and answers how many octets
+// these are.
 fn take_front(line: &mut Line, shown: &[u8]) -> Result<usize, Fault> {
+    if line.is_bad {
+        // Whatever follows, the line stays as it is.
+        return Ok(len_before(shown, b'\n'));
+    }
     let spaces = spaces_len(shown);
     let end = spaces + word_len(&shown[spaces..]);
     line.take_spaces(&shown[..spaces])?;
