@@ -128,13 +128,7 @@ impl<'a> Repr<'a> {
     {
         header.check_len()?;
         let mut options = ArrayVec::new();
-        for option in Ipv6OptionsIterator::new(header.options()) {
-            let option = option?;
-            if options.is_full() {
-                break;
-            }
-            options.push(option);
-        }
+        read_options(header.options(), &mut options)?;
         Ok(Repr { options })
     }
 
@@ -197,6 +191,30 @@ impl<'a> Repr<'a> {
     pub fn same_text(a: &Self, b: &Self)
         ensures { SameText (format IPV6_HBH_MAX_OPTIONS) (value_of a.now) (value_of b.now) }
     {}
+}
+
+// Reads the options of a header into a list that has none yet, up to one more than it has room for. They stay where the
+// caller has them, in place of a copy that each turn merges.
+#[inline(never)]
+fn read_options<'a>(
+    octets: &'a [u8],
+    options: &mut ArrayVec<ipv6option::Repr<'a>, IPV6_HBH_MAX_OPTIONS>,
+) -> Result<()>
+    requires some { octets.now ≢ [] }
+    requires fresh { options.old.items ≡ [] }
+    ensures sound { IsOk result
+        → IsHeader IPV6_HBH_MAX_OPTIONS octets.now (map option_value options.new.items) }
+    ensures reads { (other : List OptionValue) → IsHeader IPV6_HBH_MAX_OPTIONS octets.now other
+        → IsOk result }
+{
+    for option in Ipv6OptionsIterator::new(octets) {
+        let option = option?;
+        if options.is_full() {
+            break;
+        }
+        options.push(option);
+    }
+    Ok(())
 }
 
 // Writes options one after another.

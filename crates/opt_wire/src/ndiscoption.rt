@@ -17,10 +17,7 @@ ghost use Rattle.opt_wire.specs.contracts.ndiscoption.NdiscOption.{the_row};
 
 use bitflags::Flags as _;
 use std::fmt;
-use wirebase::{
-    Duration, Error, Ipv6Address, MAX_HARDWARE_ADDRESS_LEN, Octets, OctetsMut, RawHardwareAddress,
-    Result,
-};
+use wirebase::{Duration, Error, Ipv6Address, Octets, OctetsMut, RawHardwareAddress, Result};
 
 mod repr;
 mod tables;
@@ -70,6 +67,11 @@ mod field {
     {
         REDIRECTED_RESERVED.end..UNIT * units as usize
     }
+
+    // A link-layer address that is read from an option of one unit, and from a longer one.
+    pub const SHORT_ADDR: Field = 2..8;
+
+    pub const LONG_ADDR: Field = 2..10;
 
     // A link-layer address of so many bytes.
     pub fn link_layer_addr(len: usize) -> Field
@@ -164,9 +166,12 @@ impl<T: Octets> NdiscOption<T> {
         ensures { raw_bytes result ≡ bytes_of (link_addr_field (T.bytes (inner self.now)))
             (T.bytes (inner self.now)) }
     {
-        let room = field::UNIT * self.data_len() as usize - field::LENGTH.end;
-        let len = MAX_HARDWARE_ADDRESS_LEN.min(room);
-        RawHardwareAddress::from_bytes(self.buffer.field(field::link_layer_addr(len)))
+        // The number of bytes is a constant at each call, so that they are copied by moves.
+        if self.data_len() == 1 {
+            RawHardwareAddress::from_bytes(self.buffer.field(field::SHORT_ADDR))
+        } else {
+            RawHardwareAddress::from_bytes(self.buffer.field(field::LONG_ADDR))
+        }
     }
 
     /// The greatest packet of the link, in bytes. Requires at least 8 bytes.

@@ -56,6 +56,7 @@ impl<'a> Iterator for Ipv6OptionsIterator<'a> {
 
     ghost remaining = { λ answers. at_most (length answers) };
 
+    #[inline]
     fn next(&mut self) -> Option<Result<Repr<'a>>> {
         if self.hit_error || self.data.is_empty() {
             return None;

@@ -1,0 +1,36 @@
+use Rattle.std.proofs.Common.{◌++◌, ◌∷◌, List, length, map, Ok, Result, sym, ap, ◌∙◌, arith}
+use Rattle.std.proofs.lemmas.List.{append-nil, length-map}
+use Rattle.std.proofs.lemmas.Bool.{eqb-true}
+use Rattle.wirebase.specs.declared.error.Error.{Error}
+use Rattle.wirebase.specs.Answers.{seen}
+use Rattle.opt_wire.specs.declared.ipv6option.Repr.{Repr}
+use Rattle.opt_wire.specs.Ipv6Option.{value_of}
+use Rattle.opt_wire.specs.Ipv6OptionAnswers.{Answer}
+use Rattle.opt_wire.proofs.Ipv6HbhGrammar.{header-end, header-full, header-refused}
+use Rattle.opt_wire.proofs.ipv6hbh.read_options.Goals as goal
+
+pub returns-in_err-option-clause-reads : goal.returns-in_err-option-clause-reads
+returns-in_err-option-clause-reads c = λ other header.
+    let read = map value_of c.loop-option.options.items in
+    let next = c.in-Some.ensures.steps
+    ∙ ap (λ (r : Result Repr Error). seen value_of r ∷ c.next.new.self) c.in_err-option.was in
+    absurd (header-refused 8 c.args.octets.now read other c.in_err-option.field-0.0 _ c.next.new.self
+    c.loop-option.invariant.tile (ap (λ (l : List Answer). map Ok read ++ l) next)
+    (omega (arith, c.loop-option.invariant.few, length-map c.loop-option.options.items value_of)) header)
+
+pub returns-in-None-clause-sound : goal.returns-in-None-clause-sound
+returns-in-None-clause-sound c = λ ok.
+    let read = map value_of c.loop-option.options.items in
+    header-end 8 c.args.octets.now read _ c.requires.some c.loop-option.invariant.tile
+    (ap (λ (l : List Answer). map Ok read ++ l) c.in-None.ensures.steps.0 ∙ append-nil (map Ok read))
+    (omega (arith, c.loop-option.invariant.few, length-map c.loop-option.options.items value_of))
+
+pub returns-then-is_full-clause-sound : goal.returns-then-is_full-clause-sound
+returns-then-is_full-clause-sound c = λ ok.
+    let read = map value_of c.loop-option.options.items in
+    let next = c.in-Some.ensures.steps
+    ∙ ap (λ (r : Result Repr Error). seen value_of r ∷ c.next.new.self) c.in_ok-option.was in
+    let full = length-map c.loop-option.options.items value_of
+    ∙ eqb-true (length c.loop-option.options.items) 8 (sym c.is_full.ensures.value ∙ c.if-is_full.true) in
+    header-full 8 c.args.octets.now read (value_of c.in_ok-option.option) _ c.next.new.self c.requires.some
+    c.loop-option.invariant.tile (ap (λ (l : List Answer). map Ok read ++ l) next) full
