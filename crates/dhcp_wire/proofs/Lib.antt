@@ -1,5 +1,6 @@
 pub mod Dhcpv4Data
 pub mod Dhcpv4Lists
+pub mod Dhcpv4Padding
 pub mod Dhcpv4Writes
 pub mod Dhcpv4Text
 pub mod Dhcpv4Addresses

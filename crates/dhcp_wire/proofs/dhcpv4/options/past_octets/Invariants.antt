@@ -1,6 +1,6 @@
 use Rattle.std.proofs.Common.{◌≡◌, drop}
 use Rattle.dhcp_wire.specs.Dhcpv4OptionsAhead.{list_of}
-use Rattle.dhcp_wire.proofs.dhcpv4.options.after_padding.Given as goal
+use Rattle.dhcp_wire.proofs.dhcpv4.options.past_octets.Given as goal
 
 abbrev pub invariant-loop-i : goal.invariant-loop-i
 invariant-loop-i l = list_of (drop l.i l.octets) ≡ list_of l.octets

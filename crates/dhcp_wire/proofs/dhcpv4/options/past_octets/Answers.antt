@@ -1,7 +1,7 @@
 use Rattle.std.proofs.Common.{ℕ, ◌∷◌, suc, drop, ap, sym, ◌∙◌, add-one, drop-cons}
 use Rattle.dhcp_wire.specs.Dhcpv4OptionsAhead.{list_of}
 use Rattle.dhcp_wire.proofs.Dhcpv4Lists.{list-padding}
-use Rattle.dhcp_wire.proofs.dhcpv4.options.after_padding.Goals as goal
+use Rattle.dhcp_wire.proofs.dhcpv4.options.past_octets.Goals as goal
 
 pub loop-i-preserved : goal.loop-i-preserved
 loop-i-preserved c =
