@@ -8,7 +8,8 @@ ghost use Rattle.wirebase.specs.Checksum.{fold, IsGood, sealed};
 ghost use Rattle.wirebase.specs.Icmp.{type_field, code_field, checksum_field, ident_field, seq_no_field};
 ghost use Rattle.icmp6_wire.specs.Icmpv6Tables.{message_number, message_of};
 ghost use Rattle.icmp6_wire.specs.Icmpv6Packet.{inner, with_inner, view_octets, Sets, KeepsLen, word_field, message_in};
-ghost use Rattle.icmp6_wire.specs.Icmpv6Packet.{header_len_in, payload_in, BeginsWhole, cleared, CanClear, message_sum};
+ghost use Rattle.icmp6_wire.specs.Icmpv6Packet.{header_len_of, header_len_in, payload_in, BeginsWhole, cleared};
+ghost use Rattle.icmp6_wire.specs.Icmpv6Packet.{CanClear, message_sum};
 ghost use Rattle.icmp6_wire.specs.contracts.icmpv6.packet.Packet.{the_row};
 
 use super::field;
@@ -45,13 +46,26 @@ impl<T: Octets> Packet<T> {
     pub fn check_len(&self) -> Result<()>
         ensures accepts { IsOk result ↔ BeginsWhole (T.bytes (inner self.now)) }
     {
+        let _kind = self.checked_type()?;
+        Ok(())
+    }
+
+    // The type, looked up once. Refused where the octets don't begin with a header of a type that is read here.
+    pub(crate) fn checked_type(&self) -> Result<Message>
+        ensures accepts { IsOk result ↔ BeginsWhole (T.bytes (inner self.now)) }
+        ensures value { IfOk result (λ kind. kind ≡ message_in (T.bytes (inner self.now))) }
+    {
         let len = self.buffer.octets().len();
-        if len < field::HEADER_END || len < self.header_len() {
+        if len < field::HEADER_END {
             return Err(Error);
         }
-        match self.msg_type() {
+        let kind = self.msg_type();
+        if len < header_len_of(kind) {
+            return Err(Error);
+        }
+        match kind {
             Message::RplControl | Message::Unknown(_) => Err(Error),
-            _ => Ok(()),
+            _ => Ok(kind),
         }
     }
 
@@ -132,19 +146,7 @@ impl<T: Octets> Packet<T> {
         requires { Reaches type_field (T.bytes (inner self.now)) }
         ensures { result ≡ header_len_in (T.bytes (inner self.now)) }
     {
-        match self.msg_type() {
-            Message::DstUnreachable | Message::TimeExceeded => field::UNUSED.end,
-            Message::PktTooBig => field::MTU.end,
-            Message::ParamProblem => field::POINTER.end,
-            Message::EchoRequest | Message::EchoReply => field::ECHO_SEQNO.end,
-            Message::MldQuery => field::QUERY_NUM_SRCS.end,
-            Message::MldReport => field::NR_MCAST_RCRDS.end,
-            Message::RouterSolicit => field::UNUSED.end,
-            Message::RouterAdvert => field::RETRANS_TM.end,
-            Message::NeighborSolicit | Message::NeighborAdvert => field::TARGET_ADDR.end,
-            Message::Redirect => field::DEST_ADDR.end,
-            Message::RplControl | Message::Unknown(_) => field::CHECKSUM.end,
-        }
+        header_len_of(self.msg_type())
     }
 
     /// Whether the octets, as many as they are, carry the checksum of a message from `src_addr` to `dst_addr` (RFC 4443
@@ -166,7 +168,16 @@ impl<'a> Packet<&'a [u8]> {
         requires whole { header_len_in (view_octets self.now) ≤ length (view_octets self.now) }
         ensures { result.now ≡ payload_in (view_octets self.now) }
     {
-        &self.buffer[self.header_len()..]
+        self.behind(self.msg_type())
+    }
+
+    // The same where the type is known.
+    pub(crate) fn behind(&self, kind: Message) -> &'a [u8]
+        requires kind { kind ≡ message_in (view_octets self.now) }
+        requires whole { header_len_in (view_octets self.now) ≤ length (view_octets self.now) }
+        ensures { result.now ≡ payload_in (view_octets self.now) }
+    {
+        &self.buffer[header_len_of(kind)..]
     }
 }
 
@@ -316,6 +327,25 @@ impl<T: Octets> Eq for Packet<T> {
     ghost use Rattle.std.specs.Cmp.Rules.{comparing};
 
     ghost laws = { Prim.search (comparing, rules) };
+}
+
+// The bytes of the header of a type; 4 of one that is not read here.
+fn header_len_of(kind: Message) -> usize
+    ensures { result ≡ header_len_of kind }
+{
+    match kind {
+        Message::DstUnreachable | Message::TimeExceeded => field::UNUSED.end,
+        Message::PktTooBig => field::MTU.end,
+        Message::ParamProblem => field::POINTER.end,
+        Message::EchoRequest | Message::EchoReply => field::ECHO_SEQNO.end,
+        Message::MldQuery => field::QUERY_NUM_SRCS.end,
+        Message::MldReport => field::NR_MCAST_RCRDS.end,
+        Message::RouterSolicit => field::UNUSED.end,
+        Message::RouterAdvert => field::RETRANS_TM.end,
+        Message::NeighborSolicit | Message::NeighborAdvert => field::TARGET_ADDR.end,
+        Message::Redirect => field::DEST_ADDR.end,
+        Message::RplControl | Message::Unknown(_) => field::CHECKSUM.end,
+    }
 }
 
 /// Writes the checksum of a message from `src_addr` to `dst_addr` that is all the octets. Requires at least 4 bytes.

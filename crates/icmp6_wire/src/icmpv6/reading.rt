@@ -16,9 +16,10 @@ use wirebase::{Error, IPV6_HEADER_LEN, Result};
 
 // The error in octets of such a type.
 #[inline(always)]
-pub(super) fn read_error<'a>(packet: &Packet<&'a [u8]>) -> Result<Repr<'a>>
+pub(super) fn read_error<'a>(packet: &Packet<&'a [u8]>, kind: Message) -> Result<Repr<'a>>
     requires whole { BeginsWhole (view_octets packet.now) }
-    requires kind { message_number (message_in (view_octets packet.now)) < 128 }
+    requires kind { kind ≡ message_in (view_octets packet.now) }
+    requires error { message_number kind < 128 }
     ensures sound { IfOk result (λ repr. IsContent (view_octets packet.now) (value_of repr)) }
     ensures reads { (value : MessageValue) → IsContent (view_octets packet.now) value
         → IsOk result }
@@ -27,7 +28,7 @@ pub(super) fn read_error<'a>(packet: &Packet<&'a [u8]>) -> Result<Repr<'a>>
     if payload.len() < IPV6_HEADER_LEN {
         return Err(Error);
     }
-    match packet.msg_type() {
+    match kind {
         Message::DstUnreachable => {
             return Ok(read_unreachable(packet));
         }

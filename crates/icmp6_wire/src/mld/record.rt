@@ -275,6 +275,16 @@ impl<'a> AddressRecordRepr<'a> {
         requires group { IsMulticast self.now.mcast_addr }
         ensures { Emits (value_of self.now) octets.old octets.new }
     {
+        self.write_record(octets);
+    }
+
+    // The same, for the report around the record, of whose code it becomes a part where the two are compiled apart.
+    #[inline]
+    pub(super) fn write_record(&self, octets: &mut [u8])
+        requires room { Reaches mcast_addr_field octets.old }
+        requires group { IsMulticast self.now.mcast_addr }
+        ensures { Emits (value_of self.now) octets.old octets.new }
+    {
         self.write(octets);
     }
 
@@ -285,6 +295,7 @@ impl<'a> AddressRecordRepr<'a> {
     {}
 
     // Writes the fields.
+    #[inline]
     #[tactic(auto, using(wirebase::proofs::Chains::chain))]
     fn write(&self, octets: &mut [u8])
         requires { Reaches mcast_addr_field octets.old }

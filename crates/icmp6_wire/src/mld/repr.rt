@@ -69,8 +69,7 @@ impl<'a> Repr<'a> {
         ensures reads { (value : MldValue) → IsMessage (view_octets packet.now) value
             → IsOk result }
     {
-        packet.check_len()?;
-        match packet.msg_type() {
+        match packet.checked_type()? {
             Message::MldQuery => return Ok(read_query(packet)),
             Message::MldReport => return Ok(read_report(packet)),
             _ => return Err(Error),
@@ -188,7 +187,7 @@ pub(crate) fn read_query<'a>(packet: &Packet<&'a [u8]>) -> Repr<'a>
         qrv: packet.qrv(),
         qqic: packet.qqic(),
         num_srcs: packet.num_srcs(),
-        data: packet.payload(),
+        data: packet.behind(Message::MldQuery),
     }
 }
 
@@ -201,7 +200,7 @@ pub(crate) fn read_report<'a>(packet: &Packet<&'a [u8]>) -> Repr<'a>
 {
     Repr::Report {
         nr_mcast_addr_rcrds: packet.nr_mcast_addr_rcrds(),
-        data: packet.payload(),
+        data: packet.behind(Message::MldReport),
     }
 }
 
@@ -283,5 +282,5 @@ fn put_record(w: &mut ByteWriter<'_>, repr: &AddressRecordRepr<'_>)
     ensures puts { Puts w.old w.new (record_text (record_value repr.now) ∷ []) }
     ensures room { length (free w.old) ≡ 20 + length (free w.new) }
 {
-    repr.emit_into(w.part(repr.buffer_len()));
+    repr.write_record(w.part(repr.buffer_len()));
 }

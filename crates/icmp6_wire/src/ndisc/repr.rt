@@ -21,8 +21,8 @@ use super::field;
 use super::flags::{NeighborFlags, RouterFlags};
 use super::found::Found;
 use super::options::{
-    mtu_option, option_len, prefix_option, put_option, put_source, put_target, redirected_option,
-    source_len, target_len,
+    mtu_len, prefix_len, put_mtu, put_prefix, put_redirected, put_source, put_target,
+    redirected_len, source_len, target_len,
 };
 use crate::icmpv6::{Message, Packet};
 use crate::writing::{put_address, put_type};
@@ -109,11 +109,11 @@ impl<'a> Repr<'a> {
         ensures reads { (value : NdiscValue) → IsMessage (view_octets packet.now) value
             → IsOk result }
     {
-        packet.check_len()?;
+        let kind = packet.checked_type()?;
         let mut found = Found::nothing();
-        found.note_all(packet.payload())?;
+        found.note_all(packet.behind(kind))?;
         // A return in each arm: the value is then written once, where the caller has room for it.
-        match packet.msg_type() {
+        match kind {
             Message::RouterSolicit => {
                 return Ok(router_solicit(packet, &found));
             }
@@ -380,7 +380,7 @@ fn router_options_len(
     ensures { result
         ≡ option_lens (sources (link_of lladdr.now) ∷ mtus mtu.now ∷ prefixes prefix_info.now ∷ []) }
 {
-    source_len(lladdr) + option_len(&mtu_option(mtu)) + option_len(&prefix_option(prefix_info))
+    source_len(lladdr) + mtu_len(mtu) + prefix_len(prefix_info)
 }
 
 // The bytes of the options of a redirect.
@@ -393,7 +393,7 @@ fn redirect_options_len(
     ensures { result
         ≡ option_lens (targets (link_of lladdr.now) ∷ packets (option_map packet_of header.now) ∷ []) }
 {
-    target_len(lladdr) + option_len(&redirected_option(header))
+    target_len(lladdr) + redirected_len(header)
 }
 
 // Writes a router advertisement up to its times.
@@ -423,8 +423,8 @@ fn put_router_options(
         (option_texts (sources (link_of lladdr.now) ∷ mtus mtu.now ∷ prefixes prefix_info.now ∷ [])) }
 {
     put_source(w, lladdr);
-    put_option(w, &mtu_option(mtu));
-    put_option(w, &prefix_option(prefix_info));
+    put_mtu(w, mtu);
+    put_prefix(w, prefix_info);
 }
 
 // Writes the options of a redirect.
@@ -442,7 +442,7 @@ fn put_redirect_options(
         (option_texts (targets (link_of lladdr.now) ∷ packets (option_map packet_of header.now) ∷ [])) }
 {
     put_target(w, lladdr);
-    put_option(w, &redirected_option(header));
+    put_redirected(w, header);
 }
 
 // Writes a neighbor advertisement up to its address.
