@@ -2,5 +2,6 @@
 #![tactic(auto)]
 
 pub mod dns;
+pub mod message;
 #[cfg(test)]
 mod testing;

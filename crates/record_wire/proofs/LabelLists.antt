@@ -48,7 +48,7 @@ first_is (n ∷ more) label rest e =
 test_true : {A : Type 0} (a b c : Bool) (x y : A) → a ≡ true → b ≡ true → c ≡ true → cond (a && b && c) x y ≡ x
 test_true a b c x y e f g = rw (e, f, g) refl
 
-drop_seam : (xs ys : List ℕ) → drop (length xs) (xs ++ ys) ≡ ys
+pub drop_seam : (xs ys : List ℕ) → drop (length xs) (xs ++ ys) ≡ ys
 drop_seam [] ys = refl
 drop_seam (x ∷ xs) ys = drop_seam xs ys
 

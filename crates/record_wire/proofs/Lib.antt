@@ -2,7 +2,7 @@ pub mod Characters
 pub mod Spelling
 pub mod LabelLists
 pub mod NameLabels
-pub mod NameWalks
+pub mod NameParts
 pub mod NameTexts
 pub mod Outcomes
 pub mod RecordFormat

@@ -7,7 +7,6 @@ use Rattle.record_wire.specs.declared.name.text.Behind.{Behind}
 use Rattle.record_wire.specs.declared.name.text.Behind.TheVariants.{End, Label, Other}
 use Rattle.std.specs.List.{AllByRecursion}
 use Rattle.dns_wire.specs.DnsName.{IsLabel}
-use Rattle.dns_wire.specs.DnsNameWalk.{Coming, Gives}
 use Rattle.record_wire.specs.Labels.{written_all}
 use Rattle.record_wire.specs.NameText.{is_special, Spells, IsTextOf}
 
@@ -75,10 +74,3 @@ pub record AreSpelled (text octets : List ℕ) : Type 0 where
   pub each : AllByRecursion IsLabel (first ∷ more)
   pub is : IsTextOf (first ∷ more) text
   pub written : octets ≡ written_all (first ∷ more)
-
--- the octets of the labels that a walk gives
-pub record AreGiven (ahead : List Coming) (octets : List ℕ) : Type 0 where
-  pub labels : List (List ℕ)
-  pub each : AllByRecursion IsLabel labels
-  pub gives : Gives ahead labels
-  pub written : octets ≡ written_all labels

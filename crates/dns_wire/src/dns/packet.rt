@@ -47,7 +47,7 @@ const OPCODE_SHIFT: u32 = 11;
 /// A view of the octets of a message.
 #[derive(Debug, Drop)]
 pub struct Packet<T: Octets> {
-    pub(super) buffer: T,
+    pub(crate) buffer: T,
 }
 
 impl<T: Octets> Packet<T> {

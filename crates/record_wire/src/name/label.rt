@@ -1,7 +1,7 @@
 //! The labels in the octets of a name (RFC 1035 section 3.1).
 
-ghost use Rattle.std.specs.Prelude.{◌≡◌, ◌↔◌, ◌+◌, ◌≤◌, ◌++◌, length, IsOk, IsTrue, OnOk};
-ghost use Rattle.dns_wire.specs.DnsName.{IsLabel, written};
+ghost use Rattle.std.specs.Prelude.{◌≡◌, ◌↔◌, ◌+◌, ◌≤◌, ◌++◌, length, IsOk, OnOk};
+ghost use Rattle.dns_wire.specs.DnsName.{written};
 ghost use Rattle.record_wire.specs.Labels.{first_label};
 ghost use Rattle.record_wire.specs.NameReading.{seen_label};
 
@@ -25,13 +25,6 @@ pub(super) fn split_label(octets: &[u8]) -> Option<(&[u8], &[u8])>
     }
 }
 
-/// Whether these bytes may be a label.
-pub(super) fn is_label(bytes: &[u8]) -> bool
-    ensures { IsTrue result ↔ IsLabel bytes.now }
-{
-    !bytes.is_empty() && bytes.len() <= MAX_LABEL_LEN
-}
-
 /// Writes a label behind its length. Refused where there is no room; then less may be written.
 pub(super) fn push_label(octets: &mut ArrayVec<u8, MAX_NAME_LEN>, label: &[u8]) -> Result<()>
     requires { length label.now ≤ 63 }
@@ -42,6 +35,17 @@ pub(super) fn push_label(octets: &mut ArrayVec<u8, MAX_NAME_LEN>, label: &[u8]) 
         return Err(Error);
     }
     if octets.try_extend_from_slice(label).is_err() {
+        return Err(Error);
+    }
+    Ok(())
+}
+
+/// Writes octets behind the others. Refused where there is no room.
+pub(super) fn push_octets(octets: &mut ArrayVec<u8, MAX_NAME_LEN>, more: &[u8]) -> Result<()>
+    ensures room { IsOk result ↔ (length octets.old.items + length more.now ≤ 255) }
+    ensures pushes { OnOk result (octets.new.items ≡ octets.old.items ++ more.now) }
+{
+    if octets.try_extend_from_slice(more).is_err() {
         return Err(Error);
     }
     Ok(())

@@ -7,28 +7,29 @@ use Rattle.record_wire.proofs.name.Name.read.Goals as goal
 
 pub invariant_of-result : goal.invariant_of-result
 invariant_of-result c =
-    let given = c.in_ok-put_given.ensures.sound in
-    let octets = c.put_given.new.octets.items in
+    let named = c.in_ok-put_name.ensures.sound in
+    let octets = c.put_name.new.octets.items in
     let pushed : c.try_push.new.self.items ≡ octets ++ 0 ∷ [] = search rules in
     record {
       whole = subst (λ o. wire (labels_in o) ≡ o) (sym pushed)
-          (whole_wire octets (written_in octets given.labels given.each given.written));
+          (whole_wire octets (written_in octets named.labels named.each named.written));
     }
 
 pub returns-clause-sound : goal.returns-clause-sound
 returns-clause-sound c =
-    let given = c.in_ok-put_given.ensures.sound in
-    let octets = c.put_given.new.octets.items in
+    let named = c.in_ok-put_name.ensures.sound in
+    let octets = c.put_name.new.octets.items in
     let pushed : c.try_push.new.self.items ≡ octets ++ 0 ∷ [] = search rules in
-    let same = ap labels_in pushed ∙ (ended octets (written_in octets given.labels given.each given.written)
-    ∙ in_written octets given.labels given.each given.written) in
+    let same = ap labels_in pushed ∙ (ended octets (written_in octets named.labels named.each named.written)
+    ∙ in_written octets named.labels named.each named.written) in
     subst (λ labels. IsName c.args.bytes.now (view_octets c.args.packet.now) labels) (sym same)
-    ((c.parse_name.ensures.names given.labels).0 given.gives)
+    (subst (λ m. IsName c.args.bytes.now m named.labels) c.octets_of.ensures named.name)
 
 pub returns-clause-complete : goal.returns-clause-complete
 returns-clause-complete c = λ labels is name.
-    let octets = c.put_given.new.octets.items in
-    let written = (c.in_ok-put_given.ensures.complete labels ((c.parse_name.ensures.names labels).1 is) name).1 in
+    let octets = c.put_name.new.octets.items in
+    let written = (c.in_ok-put_name.ensures.complete labels
+    (subst (λ m. IsName c.args.bytes.now m labels) (sym c.octets_of.ensures) is) name).1 in
     let pushed : c.try_push.new.self.items ≡ octets ++ 0 ∷ [] = search rules in
     ap labels_in pushed ∙ (ended octets (written_in octets labels name.each written)
     ∙ in_written octets labels name.each written)
@@ -38,8 +39,9 @@ not_both failed ok e f g = cc
 
 pub returns-then-is_err-clause-complete : goal.returns-then-is_err-clause-complete
 returns-then-is_err-clause-complete c = λ labels is name.
-    let octets = c.put_given.new.octets.items in
-    let written = (c.in_ok-put_given.ensures.complete labels ((c.parse_name.ensures.names labels).1 is) name).1 in
+    let octets = c.put_name.new.octets.items in
+    let written = (c.in_ok-put_name.ensures.complete labels
+    (subst (λ m. IsName c.args.bytes.now m labels) (sym c.octets_of.ensures) is) name).1 in
     let room = room_for_end octets labels written name.fits in
     let ok : IsOk c.try_push.result = c.try_push.ensures.variant.1 room in
     absurd (not_both c.is_err.result _ c.if-is_err.true c.is_err.ensures.negation ok)

@@ -1,0 +1,14 @@
+//! The octets behind the view of a message, for the crates above.
+
+ghost use Rattle.std.specs.Prelude.{◌≡◌};
+ghost use Rattle.dns_wire.specs.DnsPacket.{view_octets};
+
+use crate::dns::Packet;
+
+/// The octets of a message, for as long as they live.
+#[inline]
+pub fn octets_of<'a>(packet: &Packet<&'a [u8]>) -> &'a [u8]
+    ensures { result.now ≡ view_octets packet.now }
+{
+    packet.buffer
+}

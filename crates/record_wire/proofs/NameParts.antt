@@ -1,0 +1,255 @@
+-- The labels of a name that were read, part by part, and those that are still to come.
+use Rattle.std.proofs.Common.{◌≡◌, ℕ, ◌+◌, ◌-◌, ◌<◌, ◌≤◌, false, List, [], ◌∷◌, ◌++◌, length, take, drop, Some, None}
+use Rattle.std.proofs.Common.{refl, sym, ap, ◌∙◌, subst, arith, append_assoc, length-append}
+use Rattle.std.proofs.lemmas.List.{append-nil, take_all, length-drop}
+use Rattle.std.proofs.lemmas.Grind.{flat_map-append}
+use Rattle.std.proofs.Math.Seq.{take-append_seam}
+use Rattle.std.specs.List.{AllByRecursion}
+use Rattle.dns_wire.specs.DnsName.{IsLabel, IsName, written}
+use Rattle.dns_wire.specs.DnsNameAhead.{Front, whole, pointer, stop, torn, front_of, ahead_of}
+use Rattle.dns_wire.specs.DnsNameWalk.{Coming, Gives, in_window, at_end, at_fault}
+use Rattle.dns_wire.proofs.DnsNameTurns.{Whole-front, ahead_pointer, ahead_far, ahead_stop, ahead_torn}
+use Rattle.dns_wire.proofs.DnsNameRoutes.{labels_ahead}
+use Rattle.dns_wire.proofs.DnsNameTheorem.{walks_over}
+use Rattle.record_wire.specs.declared.name.part.Mark.TheVariants.{End, Pointer, Other}
+use Rattle.record_wire.specs.Labels.{first_label, written_all, wire, AreOfName}
+use Rattle.record_wire.specs.NameParts.{mark_of, AreInFront, AreNamed}
+use Rattle.record_wire.proofs.LabelLists.{first_is, first_written, drop_seam, written_more, each_more}
+
+-- what stands behind so many bytes, as a range up to the end
+pub drop_whole : (n : ℕ) (xs : List ℕ) → take (length xs - n) (drop n xs) ≡ drop n xs
+drop_whole n xs = take_all (length xs - n) (drop n xs) (omega (arith, length-drop n xs))
+
+-- ---- labels at the front of a text
+
+pub none_in_front : (text : List ℕ) → AreInFront text 0
+none_in_front text = record { labels = []; rest = text; each = tt; is = refl; count = refl }
+
+pub behind_front : (text : List ℕ) (len : ℕ) (so : AreInFront text len) → drop len text ≡ so.rest
+behind_front text len so =
+    ap (λ t. drop len t) so.is
+    ∙ (ap (λ n. drop n (written_all so.labels ++ so.rest)) (sym so.count) ∙ drop_seam (written_all so.labels) so.rest)
+
+pub in_front : (text : List ℕ) (len : ℕ) (so : AreInFront text len) → take len text ≡ written_all so.labels
+in_front text len so =
+    ap (λ t. take len t) so.is
+    ∙ (ap (λ n. take n (written_all so.labels ++ so.rest)) (sym so.count)
+    ∙ take-append_seam (written_all so.labels) so.rest)
+
+pub front_fits : (text : List ℕ) (len : ℕ) → AreInFront text len → len ≤ length text
+front_fits text len so = omega (arith, ap length so.is, length-append (written_all so.labels) so.rest, so.count)
+
+-- one label more
+pub one_more_in_front : (text bytes rest : List ℕ) (len : ℕ) → AreInFront text len
+    → first_label (drop len text) ≡ Some (bytes, rest) → AreInFront text (len + (1 + length bytes))
+one_more_in_front text bytes rest len so e =
+    let f = first_is (drop len text) bytes rest e in
+    let at : so.rest ≡ written bytes ++ rest = sym (behind_front text len so) ∙ f.whole in
+    let more = written_more so.labels bytes in
+    record {
+      labels = so.labels ++ bytes ∷ [];
+      rest = rest;
+      each = each_more so.labels bytes so.each f.one;
+      is = so.is
+          ∙ (ap (λ (r : List ℕ). written_all so.labels ++ r) at
+          ∙ (sym (append_assoc (written_all so.labels) (written bytes) rest)
+          ∙ ap (λ (o : List ℕ). o ++ rest) (sym more)));
+      count = omega (arith, ap length more, length-append (written_all so.labels) (written bytes), so.count);
+    }
+
+-- where no label stands, and no end and no pointer, nothing whole does
+pub torn_by : (f : Front) (text : List ℕ) → front_of text ≡ f → Other ≡ mark_of f → first_label text ≡ None → torn ≡ f
+torn_by (whole bytes rest) text e m none =
+    let w = Whole-front text bytes rest e in
+    let some = ap first_label w.is ∙ first_written bytes rest (w.some, w.few) in
+    cc (sym none ∙ some)
+torn_by (pointer place) text e m none = cc
+torn_by stop text e m none = cc
+torn_by torn text e m none = refl
+
+pub stop_by : (f : Front) → End ≡ mark_of f → stop ≡ f
+stop_by (whole bytes rest) m = cc
+stop_by (pointer place) m = cc
+stop_by stop m = refl
+stop_by torn m = cc
+
+pub pointer_by : (f : Front) (target : ℕ) → Pointer target ≡ mark_of f → pointer target ≡ f
+pointer_by (whole bytes rest) target m = cc
+pointer_by (pointer place) target m = let same : target ≡ place = cc in ap pointer same
+pointer_by stop target m = cc
+pointer_by torn target m = cc
+
+-- ---- labels in front of what else comes
+
+before : (i n : ℕ) (labels more : List (List ℕ)) (ahead : List Coming) → Gives ahead more
+    → Gives (in_window i n labels ++ ahead) (labels ++ more)
+before i n [] more ahead g = g
+before i n (bytes ∷ labels) more ahead g = (refl, before i (n + 1) labels more ahead g)
+
+behind : (i n : ℕ) (labels all : List (List ℕ)) (ahead : List Coming) → Gives (in_window i n labels ++ ahead) all
+    → (more : List (List ℕ)) × (all ≡ labels ++ more) × Gives ahead more
+behind i n [] all ahead g = (all, refl, g)
+behind i n (bytes ∷ labels) [] ahead g = cc
+behind i n (bytes ∷ labels) (first ∷ all) ahead g =
+    let rest = behind i (n + 1) labels all ahead g.1 in
+    let same : first ≡ bytes = cc g.0 in
+    (rest.0, ap (λ (b : List ℕ). b ∷ all) same ∙ ap (λ (ls : List (List ℕ)). bytes ∷ ls) rest.1, rest.2)
+
+none_at_end : (n : ℕ) (more : List (List ℕ)) → Gives (at_end n) more → more ≡ []
+none_at_end n [] g = refl
+none_at_end n (bytes ∷ more) g = cc g.0
+
+none_at_fault : (n : ℕ) (more : List (List ℕ)) → Gives (at_fault n) more → ⊥
+none_at_fault n [] g = cc g
+none_at_fault n (bytes ∷ more) g = cc g.0
+
+each_of_both : (done labels : List (List ℕ)) → AllByRecursion IsLabel done → AllByRecursion IsLabel labels
+    → AllByRecursion IsLabel (done ++ labels)
+each_of_both [] labels each more = more
+each_of_both (d ∷ done) labels each more = (each.0, each_of_both done labels each.1 more)
+
+-- ---- the name so far
+
+-- The octets are those of the labels that were read. The labels of the name are these, and then those that come from
+-- the text that is left, with these bytes of the message open.
+pub record IsReadTo (text message octets left reach : List ℕ) : Type 0 where
+  pub steps : ℕ
+  pub done : List (List ℕ)
+  pub each : AllByRecursion IsLabel done
+  pub written_ : octets ≡ written_all done
+  pub back : (labels : List (List ℕ)) → Gives (ahead_of false steps left reach) labels
+      → Gives (ahead_of false 0 text message) (done ++ labels)
+  pub forth : (labels : List (List ℕ)) → Gives (ahead_of false 0 text message) labels
+      → (more : List (List ℕ)) × (labels ≡ done ++ more) × Gives (ahead_of false steps left reach) more
+
+pub nothing_read : (text message octets : List ℕ) → octets ≡ [] → IsReadTo text message octets text message
+nothing_read text message octets e = record {
+  steps = 0;
+  done = [];
+  each = tt;
+  written_ = e;
+  back = λ labels g. g;
+  forth = λ labels g. (labels, refl, g);
+}
+
+pub pointer_read : (text message octets left reach : List ℕ) (target : ℕ) → IsReadTo text message octets left reach
+    → pointer target ≡ front_of left → target < length reach
+    → IsReadTo text message octets (drop target reach) (take target reach)
+pointer_read text message octets left reach target so e l =
+    let same : ahead_of false (so.steps + 1) (drop target reach) (take target reach)
+    ≡ ahead_of false so.steps left reach =
+    ahead_pointer so.steps left reach target (ahead_of false so.steps left reach) e l refl in
+    record {
+      steps = so.steps + 1;
+      done = so.done;
+      each = so.each;
+      written_ = so.written_;
+      back = λ labels g. so.back labels (subst (λ cs. Gives cs labels) same g);
+      forth = λ labels g.
+          let f = so.forth labels g in
+          (f.0, f.1, subst (λ cs. Gives cs f.0) (sym same) f.2);
+    }
+
+pub labels_read : (text message octets next left reach : List ℕ) (len : ℕ) → IsReadTo text message octets left reach
+    → AreInFront left len → next ≡ octets ++ take len left
+    → IsReadTo text message next (drop len left) reach
+labels_read text message octets next left reach len so front pushed =
+    let n = (so.steps + length front.labels) + 0 in
+    let ahead = ahead_of false n (drop len left) reach in
+    let zero_more : so.steps ≡ so.steps + 0 = omega arith in
+    let same : ahead_of false so.steps left reach ≡ in_window 0 so.steps front.labels ++ ahead =
+    ap (λ m. ahead_of false m left reach) zero_more
+    ∙ (labels_ahead front.labels 0 so.steps left front.rest reach front.each front.is
+    ∙ ap (λ t. in_window 0 so.steps front.labels ++ ahead_of false n t reach) (sym (behind_front left len front))) in
+    record {
+      steps = n;
+      done = so.done ++ front.labels;
+      each = each_of_both so.done front.labels so.each front.each;
+      written_ = pushed
+          ∙ (ap (λ (o : List ℕ). o ++ take len left) so.written_
+          ∙ (ap (λ (o : List ℕ). written_all so.done ++ o) (in_front left len front)
+          ∙ sym (flat_map-append written so.done front.labels)));
+      back = λ labels g.
+          rw (append_assoc so.done front.labels labels)
+          (so.back (front.labels ++ labels) (subst (λ cs. Gives cs (front.labels ++ labels)) (sym same)
+          (before 0 so.steps front.labels labels ahead g)));
+      forth = λ labels g.
+          let f = so.forth labels g in
+          let b = behind 0 so.steps front.labels f.0 ahead (subst (λ cs. Gives cs f.0) same f.2) in (
+            b.0,
+            f.1
+                ∙ (ap (λ (ls : List (List ℕ)). so.done ++ ls) b.1 ∙ sym (append_assoc so.done front.labels b.0)),
+            b.2,
+          );
+    }
+
+pub all_read : (text message octets left reach : List ℕ) → IsReadTo text message octets left reach
+    → stop ≡ front_of left → AreNamed text message octets
+all_read text message octets left reach so e =
+    let end = ahead_stop so.steps left reach (ahead_of false so.steps left reach) e refl in
+    let last : Gives (ahead_of false so.steps left reach) [] =
+    subst (λ cs. Gives cs []) (sym end) refl in
+    record {
+      labels = so.done;
+      each = so.each;
+      name = ((walks_over text message).names so.done).0
+          (subst (λ ls. Gives (ahead_of false 0 text message) ls) (append-nil so.done) (so.back [] last));
+      written = so.written_;
+    }
+
+-- the labels of a name, after those that were read
+pub still_read : (text message octets left reach : List ℕ) (so : IsReadTo text message octets left reach)
+    (labels : List (List ℕ)) → IsName text message labels
+    → (more : List (List ℕ)) × (labels ≡ so.done ++ more) × Gives (ahead_of false so.steps left reach) more
+still_read text message octets left reach so labels name =
+    so.forth labels (((walks_over text message).names labels).1 name)
+
+pub all_same : (text message octets left reach : List ℕ) → IsReadTo text message octets left reach
+    → stop ≡ front_of left → (labels : List (List ℕ)) → IsName text message labels → octets ≡ written_all labels
+all_same text message octets left reach so e labels name =
+    let f = still_read text message octets left reach so labels name in
+    let end = ahead_stop so.steps left reach (ahead_of false so.steps left reach) e refl in
+    let none = none_at_end so.steps f.0 (subst (λ cs. Gives cs f.0) end f.2) in
+    let all : labels ≡ so.done =
+    f.1 ∙ (ap (λ (ls : List (List ℕ)). so.done ++ ls) none ∙ append-nil so.done) in
+    so.written_ ∙ ap written_all (sym all)
+
+pub no_name_far : (text message octets left reach : List ℕ) (target : ℕ) → IsReadTo text message octets left reach
+    → pointer target ≡ front_of left → length reach ≤ target → (labels : List (List ℕ))
+    → IsName text message labels → ⊥
+no_name_far text message octets left reach target so e l labels name =
+    let f = still_read text message octets left reach so labels name in
+    let bad = ahead_far so.steps left reach target (ahead_of false so.steps left reach) e l refl in
+    none_at_fault so.steps f.0 (subst (λ cs. Gives cs f.0) bad f.2)
+
+pub no_name_torn : (text message octets left reach : List ℕ) → IsReadTo text message octets left reach
+    → torn ≡ front_of left → (labels : List (List ℕ)) → IsName text message labels → ⊥
+no_name_torn text message octets left reach so e labels name =
+    let f = still_read text message octets left reach so labels name in
+    let bad = ahead_torn so.steps left reach (ahead_of false so.steps left reach) e refl in
+    none_at_fault so.steps f.0 (subst (λ cs. Gives cs f.0) bad f.2)
+
+-- there is room for what was read of a name, and for byte 0
+pub room_read : (text message octets left reach : List ℕ) → IsReadTo text message octets left reach
+    → (labels : List (List ℕ)) → IsName text message labels → AreOfName labels → length octets < 255
+room_read text message octets left reach so labels name fit =
+    let f = still_read text message octets left reach so labels name in
+    omega (
+      arith,
+      fit.fits,
+      ap (λ (ls : List (List ℕ)). length (wire ls)) f.1,
+      length-append (written_all (so.done ++ f.0)) (0 ∷ []),
+      ap length (flat_map-append written so.done f.0),
+      length-append (written_all so.done) (written_all f.0),
+      ap length so.written_,
+    )
+
+-- the same of labels that have no room
+pub room_for_labels : (text message octets left reach : List ℕ) (len : ℕ) → IsReadTo text message octets left reach
+    → AreInFront left len → (labels : List (List ℕ)) → IsName text message labels → AreOfName labels
+    → length octets + length (take len left) ≤ 255
+room_for_labels text message octets left reach len so front labels name fit =
+    let next = labels_read text message octets (octets ++ take len left) left reach len so front refl in
+    let room =
+    room_read text message (octets ++ take len left) (drop len left) reach next labels name fit in
+    omega (arith, room, length-append octets (take len left))

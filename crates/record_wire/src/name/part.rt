@@ -1,0 +1,55 @@
+//! What stands at the front of a part of a name (RFC 1035 section 4.1.4).
+
+ghost use Rattle.std.specs.Prelude.{◌≡◌, ◌≤◌, length, None};
+ghost use Rattle.dns_wire.specs.DnsNameAhead.{front_of};
+ghost use Rattle.record_wire.specs.Labels.{first_label};
+ghost use Rattle.record_wire.specs.NameParts.{mark_of, AreInFront};
+
+use crate::name::MAX_NAME_LEN;
+use crate::name::label::split_label;
+
+/// What stands at the front of a text.
+#[derive(Clone, Copy)]
+pub(super) enum Mark {
+    /// The end of the name.
+    End,
+    /// The place of the message where the name goes on.
+    Pointer(usize),
+    /// A label, or nothing whole.
+    Other,
+}
+
+// The first byte of a pointer is this or above, and its other six bits are the higher ones of the place.
+const POINTER: u8 = 0xc0;
+
+/// Reads what stands at the front of a text.
+#[inline]
+pub(super) fn read_mark(text: &[u8]) -> Mark
+    ensures { result ≡ mark_of (front_of text.now) }
+{
+    match text {
+        [0, ..] => Mark::End,
+        [first, second, ..] if *first >= POINTER => {
+            Mark::Pointer(256 * (*first % 64) as usize + *second as usize)
+        }
+        _ => Mark::Other,
+    }
+}
+
+/// How many bytes the whole labels at the front of a text take. Labels that begin behind the most octets that a name
+/// has are not looked at.
+#[inline]
+pub(super) fn labels_len(text: &[u8]) -> usize
+    ensures front { AreInFront text.now result }
+    ensures fits { result ≤ length text.now }
+    ensures some { result ≡ 0 → first_label text.now ≡ None }
+{
+    let mut len = 0;
+    while len < MAX_NAME_LEN {
+        match split_label(&text[len..]) {
+            Some((label, _)) => len += 1 + label.len(),
+            None => return len,
+        }
+    }
+    len
+}
