@@ -50,6 +50,7 @@ impl Link {
 
     /// The frame in these octets. Refused where its headers are cut short, and where a session is of another version
     /// or code than data has.
+    #[inline]
     pub fn frame(self, octets: &[u8]) -> Result<Frame<'_>>
         ensures sound { IfOk result (λ f. IsFrame self octets.now (value_of f)) }
         ensures complete { (v : FrameValue) → IsFrame self octets.now v → IsOkAnd result (λ f. value_of f ≡ v) }
