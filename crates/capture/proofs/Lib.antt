@@ -3,4 +3,5 @@ pub mod Filling
 pub mod Reading
 pub mod Records
 pub mod Sections
+pub mod Shown
 pub mod Units

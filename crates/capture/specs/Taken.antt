@@ -5,7 +5,7 @@ use Rattle.capture.specs.Packet.{PacketValue, packet_in, IsPlace}
 use Rattle.std.specs.Io.KnownBytes.{Consumes, Keeps, IsAtEnd}
 use Rattle.capture.specs.Pcap.{IsRecord, IsRecordHeader, RecordEnds}
 use Rattle.capture.specs.Pcapng.{IsRead, IsHead, IsSection, SectionEnds, IsInterface, IsPacket}
-use Rattle.capture.specs.declared.ending.Ending.TheVariants.{TooLarge, Malformed}
+use Rattle.capture.specs.declared.ending.Ending.TheVariants.{Whole, TooLarge, Malformed}
 use Rattle.capture.specs.declared.packet.Packet.{Packet}
 use Rattle.capture.specs.declared.capture.Stage.TheVariants as stage
 use Rattle.capture.specs.declared.capture.Block.{Block}
@@ -57,6 +57,15 @@ TakesShown order old new octets (shown.Record r) =
     × (length octets ≡ 16 + r.captured_len)
 TakesShown order old new octets shown.Part = (octets ≡ []) × Keeps old new
 TakesShown order old new octets shown.End = IsAtEnd old
+
+-- a block was taken into `octets`, or passed over, or nothing was: it isn't there as a whole, or nothing is left
+abbrev pub TakesBlock : Order → Option (List ℕ) → Option (List ℕ) → List ℕ → Option Block → Type 0
+TakesBlock section old new octets (Some (block.Read h)) = Consumes old new octets × IsWholeBlock section octets h
+TakesBlock section old new octets (Some (block.Passed h)) =
+    (passed : List ℕ) × Consumes old new passed × IsHead section (take 12 passed) h × (IsRead h.kind → ⊥)
+    × (length passed ≡ h.total_len)
+TakesBlock section old new octets (Some (block.Ended ending)) = IsAtEnd old × (ending ≡ Whole)
+TakesBlock section old new octets None = (octets ≡ []) × Keeps old new
 
 -- a block was read into `octets`, or passed over
 abbrev pub BlockReads : Order → List ℕ → Block → List ℕ → Option (List ℕ) → Type 0

@@ -7,8 +7,9 @@ ghost use Rattle.capture.specs.Packet.{packet_in, IsPlace};
 ghost use Rattle.capture.specs.Reader.{Reads};
 ghost use Rattle.capture.specs.Taken.{RecordGives, BlockReads, BlockTakes, BlockGives, StepGives};
 ghost use Rattle.capture.specs.Taken.{SectionTakes, InterfaceTakes, PacketTakes};
-ghost use Rattle.capture.specs.Taken.{IfPacket, IfRead, IsWholeBlock, TakesShown};
+ghost use Rattle.capture.specs.Taken.{IfPacket, IfRead, IsWholeBlock, TakesShown, TakesBlock};
 ghost use Rattle.capture.specs.Pcap.{IsRecordHeader};
+ghost use Rattle.capture.specs.Pcapng.{IsHead};
 
 use crate::ending::{Ending, Fault};
 use crate::order::Order;
@@ -312,6 +313,84 @@ impl Capture {
 
 // Reads the octets of the next block, of which some may be read, or passes over it.
 fn read_octets<R: BufRead>(
+    input: &mut R,
+    octets: &mut Vec<u8>,
+    section: Order,
+) -> Result<Block, Fault>
+    requires { length octets.old.items ≤ 12 }
+    ensures reads { IfOk result (λ block. (all : List ℕ) (done : ℕ) → done ≤ 12
+        → Reads all (R.remaining input.old) octets.old.items done
+        → BlockReads section all block octets.new.items (R.remaining input.new)) }
+    ensures whole { IfOk result (λ block. IfRead block (λ h. IsWholeBlock section octets.new.items h)) }
+    ensures fault { IfErr result (λ fault. (fault ≡ Fault.Read) ⊎ (fault ≡ Fault.Memory)) }
+{
+    if !octets.as_slice().is_empty() {
+        return read_block_parts(input, octets, section);
+    }
+    match take_shown_block(input, octets, section)? {
+        Some(block) => Ok(block),
+        None => read_block_parts(input, octets, section),
+    }
+}
+
+// Takes the next block in one step, or passes over it, where the buffer of the input shows the whole of it.
+fn take_shown_block<R: BufRead>(
+    input: &mut R,
+    octets: &mut Vec<u8>,
+    section: Order,
+) -> Result<Option<Block>, Fault>
+    requires { octets.old.items ≡ [] }
+    ensures takes { IfOk result (λ taken. TakesBlock section (R.remaining input.old) (R.remaining input.new)
+        octets.new.items taken) }
+    ensures fault { IfErr result (λ fault. (fault ≡ Fault.Read) ⊎ (fault ≡ Fault.Memory)) }
+{
+    let shown = match input.fill_buf() {
+        Ok(shown) => shown,
+        Err(error) => {
+            return if error.kind() == ErrorKind::Interrupted {
+                Ok(None)
+            } else {
+                Err(Fault::Read)
+            };
+        }
+    };
+    if shown.is_empty() {
+        return Ok(Some(Block::Ended(Ending::Whole)));
+    }
+    let Some(head) = whole_block(section, shown) else {
+        return Ok(None);
+    };
+    let len = head.total_len as usize;
+    if !pcapng::is_read(head.kind) {
+        input.consume(len);
+        return Ok(Some(Block::Passed(head)));
+    }
+    let Ok(()) = octets.extend_from_slice(&shown[..len]) else {
+        return Err(Fault::Memory);
+    };
+    input.consume(len);
+    Ok(Some(Block::Read(head)))
+}
+
+// The head of the block at the front of the octets, where the whole of it is there, and more than a head.
+fn whole_block(section: Order, octets: &[u8]) -> Option<Head>
+    ensures { IfSome result (λ h. IsHead section (take 12 octets.now) h × (h.total_len ≤ length octets.now)) }
+{
+    if octets.len() <= pcapng::HEAD_LEN {
+        return None;
+    }
+    let Ok(head) = Head::parse(section, &octets[..pcapng::HEAD_LEN]) else {
+        return None;
+    };
+    let len = head.total_len as usize;
+    if len == pcapng::HEAD_LEN || octets.len() < len {
+        return None;
+    }
+    Some(head)
+}
+
+// Reads the octets of the next block, its head first and then the rest, or passes over it.
+fn read_block_parts<R: BufRead>(
     input: &mut R,
     octets: &mut Vec<u8>,
     section: Order,
