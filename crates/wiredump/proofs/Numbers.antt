@@ -1,6 +1,7 @@
--- The numbers that offsets are.
-use Rattle.std.proofs.Common.{◌≡◌, ℕ, ◌+◌, ◌*◌, ◌-◌, ◌<◌, ◌≤◌, Bool, true, false, List, [], ◌∷◌, length, get_or, drop}
-use Rattle.std.proofs.Common.{Option, None, refl, arith, add-one, drop-cons}
+-- The numbers that offsets are, and the digits of numbers.
+use Rattle.std.proofs.Common.{◌≡◌, ℕ, ◌+◌, ◌*◌, ◌-◌, ◌/◌, ◌^◌, ◌<◌, ◌≤◌, Bool, true, false, List, [], ◌∷◌, length, get_or}
+use Rattle.std.proofs.Common.{drop, decimal, Option, None, refl, ap, ◌∙◌, arith, add-one, drop-cons, length-append}
+use Rattle.std.proofs.lemmas.Fmt.{decimal_digit, decimal_step, length-decimal-le}
 use Rattle.std.proofs.lemmas.Bool.{le-leb}
 use Rattle.std.specs.Prelude.{◌&&◌, nat_le, if◌then◌else◌}
 use Rattle.wiredump.specs.Words.{number_behind, packet_offset}
@@ -42,3 +43,13 @@ module _ (n i : ℕ) (text : List ℕ) (within : i < length text) where
           (if b && false then number_behind (10 * n + (get_or text i 0 - 48)) (drop (i + 1) text) else None) ≡ None
       at true = refl
       at false = refl
+
+-- how many digits a number has: few, and one more than those of its tenth
+pub digits_few : (n : ℕ) → n < 2 ^ 64 → length (decimal n) ≤ 20
+digits_few n fits = length-decimal-le 20 n (omega arith) (omega (arith, fits)) fits
+
+pub digits_more : (n : ℕ) → 10 ≤ n → n < 2 ^ 64 → length (decimal n) ≡ length (decimal (n / 10)) + 1
+digits_more n more fits = ap length (decimal_step n more fits) ∙ length-append _ _
+
+pub digits_one : (n : ℕ) → n < 10 → length (decimal n) ≡ 1
+digits_one n one = ap length (decimal_digit n one)

@@ -11,18 +11,23 @@ use std::alloc::Global;
 use std::io::{BufRead, ErrorKind};
 
 /// What a look at an input tells of its next line.
-#[derive(Drop)]
-pub enum Glance {
+#[derive(Clone, Copy)]
+pub enum Glance<'a> {
     /// The line was at hand whole, has this shape, and is taken.
-    Line(Shape),
+    Line(Shape<'a>),
     /// Not all of it is at hand, and nothing is taken.
     Part,
     /// There is no line.
     End,
 }
 
-/// Looks for the next line.
-pub fn look<R: BufRead>(alloc: Global, input: &mut R) -> Result<Glance, Fault>
+/// Looks for the next line, whose packet stands in the room.
+#[inline]
+pub fn look<'a, R: BufRead>(
+    alloc: Global,
+    room: &'a mut Vec<u8>,
+    input: &mut R,
+) -> Result<Glance<'a>, Fault>
     ensures sees { IfOk result (λ glance. IfSome (R.remaining input.old) (λ octets.
         Sees octets (R.remaining input.new) glance)) }
     ensures fault { IfErr result (λ fault. (fault ≡ Fault.Read) ⊎ (fault ≡ Fault.Memory)) }
@@ -37,13 +42,18 @@ pub fn look<R: BufRead>(alloc: Global, input: &mut R) -> Result<Glance, Fault>
             };
         }
     };
-    let (count, glance) = look_at(alloc, available)?;
+    let (count, glance) = look_at(alloc, room, available)?;
     input.consume(count);
     Ok(glance)
 }
 
 // The same of the octets at hand, of which there are none at the input's end alone; answers how many are taken too.
-fn look_at(alloc: Global, shown: &[u8]) -> Result<(usize, Glance), Fault>
+#[inline]
+fn look_at<'a>(
+    alloc: Global,
+    room: &'a mut Vec<u8>,
+    shown: &[u8],
+) -> Result<(usize, Glance<'a>), Fault>
     ensures bound { IfOk result (λ taken. taken.0 ≤ length shown.now) }
     ensures sees { IfOk result (λ taken. (old new : Option (List ℕ)) → Consumes old new (take taken.0 shown.now)
         → (length shown.now ≡ 0 → OnSome old (IsAtEnd new))
@@ -57,6 +67,6 @@ fn look_at(alloc: Global, shown: &[u8]) -> Result<(usize, Glance), Fault>
     if end == shown.len() {
         return Ok((0, Glance::Part));
     }
-    let shape = Shape::of_line(alloc, &shown[..end])?;
+    let shape = Shape::of_line(alloc, room, &shown[..end])?;
     Ok((end + 1, Glance::Line(shape)))
 }

@@ -1,6 +1,6 @@
 //! Octets as hexadecimal digits, two for each. No step branches by a digit, so that many are turned at once.
 
-ghost use Rattle.std.specs.Prelude.{◌≡◌, ◌*◌, ◌<◌, Some, length, true, slice_index};
+ghost use Rattle.std.specs.Prelude.{◌≡◌, ◌*◌, ◌/◌, ◌<◌, ◌≤◌, Some, length, take, true, slice_index};
 ghost use Rattle.std.specs.List.{list_all};
 ghost use Rattle.hex.specs.Hex.{encode_lower, hex_digit_value, is_hex_digit, lower_digits};
 ghost use Rattle.wiredump.specs.Words.{spelled_by};
@@ -34,6 +34,17 @@ pub fn decode(text: &[u8], octets: &mut [u8])
     'octets: for i in 0..octets.len() {
         octets[i] = 16 * digit_value(text[2 * i]) + digit_value(text[2 * i + 1]);
     }
+}
+
+/// The octets that digits spell, at the front of a room for them.
+pub fn decode_front(text: &[u8], room: &mut [u8])
+    requires even { length text.now ≡ 2 * (length text.now / 2) }
+    requires room { length text.now / 2 ≤ length room.old }
+    requires digits { list_all is_hex_digit text.now ≡ true }
+    ensures { spelled_by text.now ≡ Some (take (length text.now / 2) room.new) }
+{
+    let count = text.len() / 2;
+    decode(text, &mut room[..count]);
 }
 
 // The value of a digit: its low four bits, and 9 more for a letter, which alone has the bit of 64.

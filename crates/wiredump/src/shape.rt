@@ -1,74 +1,127 @@
 //! The shape of a line: a command and a packet, or nothing that is known.
 
-ghost use Rattle.std.specs.Prelude.{◌≡◌, IfOk, IfErr, map, option_map};
-ghost use Rattle.std.specs.Vec.{vec_items};
+ghost use Rattle.std.specs.Prelude.{◌≡◌, [], ◌∷◌, IfOk, IfErr, map, option_map};
 ghost use Rattle.std.specs.Io.BufRead.{strip_last};
 ghost use Rattle.wiredump.specs.Lines.{are_short as all_short, words_in};
 ghost use Rattle.wiredump.specs.Listing.{line_shape, shape_of, shape_with};
 ghost use Rattle.wiredump.specs.Shapes.{seen};
 
+use crate::Fault;
 use crate::command::Command;
-use crate::words::{MOST_OCTETS, MOST_WORDS, words_of};
-use crate::{Fault, read_word};
+use crate::words::{MOST_OCTETS, next_word, read_word_into};
 use std::alloc::Global;
 
 /// The shape of a line.
-#[derive(Drop)]
-pub enum Shape {
+#[derive(Clone, Copy)]
+pub enum Shape<'a> {
     /// No word.
     Blank,
     /// A command and a packet.
-    Packet(Command, Vec<u8>),
+    Packet(Command, &'a [u8]),
     /// None that is known.
     Bad,
 }
 
-impl Shape {
-    /// The shape of a line without its LF.
-    pub fn of_line(alloc: Global, line: &[u8]) -> Result<Shape, Fault>
+impl<'a> Shape<'a> {
+    /// The shape of a line without its LF. Its packet stands in the room.
+    pub fn of_line(alloc: Global, room: &'a mut Vec<u8>, line: &[u8]) -> Result<Shape<'a>, Fault>
         ensures shape { IfOk result (λ shape. seen shape ≡ line_shape line.now) }
         ensures fault { IfErr result (λ fault. fault ≡ Fault.Memory) }
     {
-        Shape::of_text(alloc, without_cr(line))
+        Shape::of_text(alloc, room, without_cr(line))
     }
 
     // The shape of a line without its end.
-    fn of_text(alloc: Global, text: &[u8]) -> Result<Shape, Fault>
+    fn of_text(alloc: Global, room: &'a mut Vec<u8>, text: &[u8]) -> Result<Shape<'a>, Fault>
         ensures shape { IfOk result (λ shape. seen shape ≡ shape_of (words_in text.now)) }
         ensures fault { IfErr result (λ fault. fault ≡ Fault.Memory) }
     {
-        let words = words_of(text);
-        Shape::of_words(alloc, words.as_slice())
-    }
-
-    // The shape of a line of these words.
-    fn of_words(alloc: Global, words: &[&[u8]]) -> Result<Shape, Fault>
-        ensures shape { IfOk result (λ shape.
-            seen shape ≡ shape_of (map (λ word. word.now) words.now)) }
-        ensures fault { IfErr result (λ fault. fault ≡ Fault.Memory) }
-    {
-        let count = words.len();
-        if count == 0 {
+        let (word, rest) = next_word(text);
+        if word.is_empty() {
             return Ok(Shape::Blank);
         }
-        if count < 2 || count > MOST_WORDS {
+        let (first, rest) = next_word(rest);
+        if first.is_empty() {
             return Ok(Shape::Bad);
         }
-        if !are_short(words) {
-            return Ok(Shape::Bad);
+        let (second, rest) = next_word(rest);
+        if second.is_empty() {
+            return Shape::of_two(alloc, room, word, first);
         }
-        let last = count - 1;
-        let packet = read_word(alloc, words[last])?;
-        Ok(Shape::with(Command::of(words[0], &words[1..last]), packet))
+        let (third, rest) = next_word(rest);
+        if third.is_empty() {
+            return Shape::of_three(alloc, room, word, first, second);
+        }
+        let (fourth, _) = next_word(rest);
+        if fourth.is_empty() {
+            return Shape::of_four(alloc, room, word, first, second, third);
+        }
+        Ok(Shape::Bad)
     }
 
-    fn with(command: Option<Command>, packet: Option<Vec<u8>>) -> Shape
-        ensures { seen result ≡ shape_with command (option_map vec_items packet) }
+    // The shape of a line of two words: a command and a packet.
+    fn of_two(
+        alloc: Global,
+        room: &'a mut Vec<u8>,
+        word: &[u8],
+        packet: &[u8],
+    ) -> Result<Shape<'a>, Fault>
+        ensures shape { IfOk result (λ shape. seen shape ≡ shape_of (word.now ∷ packet.now ∷ [])) }
+        ensures fault { IfErr result (λ fault. fault ≡ Fault.Memory) }
+    {
+        if !are_short(&[word, packet]) {
+            return Ok(Shape::Bad);
+        }
+        let packet = read_word_into(alloc, room, packet)?;
+        Ok(Shape::with(Command::alone(word), packet))
+    }
+
+    // The same with a word between.
+    fn of_three(
+        alloc: Global,
+        room: &'a mut Vec<u8>,
+        word: &[u8],
+        first: &[u8],
+        packet: &[u8],
+    ) -> Result<Shape<'a>, Fault>
+        ensures shape { IfOk result (λ shape.
+            seen shape ≡ shape_of (word.now ∷ first.now ∷ packet.now ∷ [])) }
+        ensures fault { IfErr result (λ fault. fault ≡ Fault.Memory) }
+    {
+        if !are_short(&[word, first, packet]) {
+            return Ok(Shape::Bad);
+        }
+        let packet = read_word_into(alloc, room, packet)?;
+        Ok(Shape::with(Command::at(word, first), packet))
+    }
+
+    // The same with two words between.
+    fn of_four(
+        alloc: Global,
+        room: &'a mut Vec<u8>,
+        word: &[u8],
+        first: &[u8],
+        second: &[u8],
+        packet: &[u8],
+    ) -> Result<Shape<'a>, Fault>
+        ensures shape { IfOk result (λ shape.
+            seen shape ≡ shape_of (word.now ∷ first.now ∷ second.now ∷ packet.now ∷ [])) }
+        ensures fault { IfErr result (λ fault. fault ≡ Fault.Memory) }
+    {
+        if !are_short(&[word, first, second, packet]) {
+            return Ok(Shape::Bad);
+        }
+        let packet = read_word_into(alloc, room, packet)?;
+        Ok(Shape::with(Command::between(word, first, second), packet))
+    }
+
+    fn with(command: Option<Command>, packet: Option<&'a [u8]>) -> Shape<'a>
+        ensures { seen result ≡ shape_with command (option_map (λ octets. octets.now) packet.entry) }
     {
         match command {
             Some(command) => match packet {
                 Some(packet) => {
-                    if command.reads(packet.as_slice()) {
+                    if command.reads(packet) {
                         Shape::Packet(command, packet)
                     } else {
                         Shape::Bad

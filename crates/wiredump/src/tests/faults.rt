@@ -294,6 +294,7 @@ fn check_line(
 ) -> bool {
     let mut output = Vec::new(alloc);
     let mut failed = (0, 0);
+    let mut room = Vec::new(alloc);
     let mut sink = Sink {
         output: &mut output,
         failed: &mut failed,
@@ -302,7 +303,7 @@ fn check_line(
         for_good: false,
         kind: ErrorKind::BrokenPipe,
     };
-    let answers = (show_line(alloc, &mut sink, line), known);
+    let answers = (show_line(alloc, &mut room, &mut sink, line), known);
     let (taken, _) = failed;
     let (fault, output) = (Fault::Write, output.as_slice());
     check_written(rt, fails_at, answers, fault, output, undisturbed, taken)
@@ -327,7 +328,7 @@ fn faults_of(
 fn check_faults(rt: &impl Abort, alloc: Global, text: &str) {
     let line = only_line(rt, alloc, text.as_bytes());
     let mut undisturbed = Vec::new(alloc);
-    let known = show_line(alloc, &mut undisturbed, &line);
+    let known = show_line(alloc, &mut Vec::new(alloc), &mut undisturbed, &line);
     holds_of(rt, text, known.is_ok());
     let faults = faults_of(rt, alloc, &line, known, undisturbed.as_slice());
     holds_of(rt, text, faults > 1 && faults < 500);

@@ -15,6 +15,8 @@ fn check_field<V: Value>(rt: &impl Abort, alloc: Global, value: V, want: &str) {
 #[test]
 fn fields_of_values(rt: HostRuntime) {
     let alloc = rt.alloc();
+    check_field(&rt, alloc, 0u8, "delay=0\n");
+    check_field(&rt, alloc, 10u8, "delay=10\n");
     check_field(&rt, alloc, u8::MAX, "delay=255\n");
     check_field(&rt, alloc, 1_280u16, "delay=1280\n");
     check_field(&rt, alloc, u32::MAX, "delay=4294967295\n");
