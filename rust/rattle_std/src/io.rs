@@ -59,6 +59,10 @@ impl<W: Write> Write for BufWriter<W> {
         self.0.write(bytes)
     }
 
+    fn write_all(&mut self, bytes: &[u8]) -> Result<()> {
+        self.0.write_all(bytes)
+    }
+
     fn flush(&mut self) -> Result<()> {
         self.0.flush()
     }

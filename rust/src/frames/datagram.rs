@@ -66,6 +66,7 @@ impl<'a> Datagram<'a> {
     /// The datagram of IPv4 at the front of the octets, by its total length; what stands behind it, as padding, is no
     /// part. The header's checksum is not verified, since machines that leave it to their network cards capture none; a
     /// receive path calls `Ipv4Packet::verify_checksum` too.
+    #[inline]
     pub fn parse_v4(octets: &'a [u8]) -> Result<Datagram<'a>, Refusal> {
         if octets.len() < IPV4_HEADER_LEN {
             return Err(Refusal::Cut);

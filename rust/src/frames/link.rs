@@ -40,6 +40,7 @@ impl Link {
 
     /// The frame in these octets. Refused where its headers are cut short, and where a session is of another version
     /// or code than data has.
+    #[inline]
     pub fn frame(self, octets: &[u8]) -> Result<Frame<'_>> {
         match self {
             Link::Null => family(octets),

@@ -72,13 +72,7 @@ impl<'a> Repr<'a> {
     fn read<B: AsRef<[u8]> + ?Sized>(header: &Header<&'a B>) -> Result<Repr<'a>> {
         header.check_len()?;
         let mut options = ArrayVec::new();
-        for option in Ipv6OptionsIterator::new(header.options()) {
-            let option = option?;
-            if options.is_full() {
-                break;
-            }
-            options.push(option);
-        }
+        read_options(header.options(), &mut options)?;
         Ok(Repr { options })
     }
 
@@ -117,6 +111,23 @@ impl<'a> Repr<'a> {
         let mut w = ByteWriter::new(octets);
         put_options(&mut w, self.options.as_slice());
     }
+}
+
+// Reads the options of a header into a list that has none yet, up to one more than it has room for. They stay where the
+// caller has them, in place of a copy that each turn merges.
+#[inline(never)]
+fn read_options<'a>(
+    octets: &'a [u8],
+    options: &mut ArrayVec<ipv6option::Repr<'a>, IPV6_HBH_MAX_OPTIONS>,
+) -> Result<()> {
+    for option in Ipv6OptionsIterator::new(octets) {
+        let option = option?;
+        if options.is_full() {
+            break;
+        }
+        options.push(option);
+    }
+    Ok(())
 }
 
 // Writes options one after another.

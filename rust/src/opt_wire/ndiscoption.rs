@@ -2,8 +2,7 @@
 //! Options of neighbor discovery (RFC 4861 section 4.6).
 
 use crate::wirebase::{
-    Duration, Error, Ipv6Address, MAX_HARDWARE_ADDRESS_LEN, Octets, OctetsMut, RawHardwareAddress,
-    Result,
+    Duration, Error, Ipv6Address, Octets, OctetsMut, RawHardwareAddress, Result,
 };
 use core::fmt;
 
@@ -49,6 +48,11 @@ mod field {
     pub fn redirected(units: u8) -> Field {
         REDIRECTED_RESERVED.end..UNIT * units as usize
     }
+
+    // A link-layer address that is read from an option of one unit, and from a longer one.
+    pub const SHORT_ADDR: Field = 2..8;
+
+    pub const LONG_ADDR: Field = 2..10;
 
     // A link-layer address of so many bytes.
     pub fn link_layer_addr(len: usize) -> Field {
@@ -117,9 +121,12 @@ impl<T: Octets> NdiscOption<T> {
     /// The link-layer address of a source or target: what the option has room for, but no more than 8 bytes. Requires
     /// those bytes, and that the option counts one unit or more.
     pub fn link_layer_addr(&self) -> RawHardwareAddress {
-        let room = field::UNIT * self.data_len() as usize - field::LENGTH.end;
-        let len = MAX_HARDWARE_ADDRESS_LEN.min(room);
-        RawHardwareAddress::from_bytes(self.buffer.field(field::link_layer_addr(len)))
+        // The number of bytes is a constant at each call, so that they are copied by moves.
+        if self.data_len() == 1 {
+            RawHardwareAddress::from_bytes(self.buffer.field(field::SHORT_ADDR))
+        } else {
+            RawHardwareAddress::from_bytes(self.buffer.field(field::LONG_ADDR))
+        }
     }
 
     /// The greatest packet of the link, in bytes. Requires at least 8 bytes.

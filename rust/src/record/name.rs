@@ -2,10 +2,13 @@
 //! Whole names: read from a message or from text, and written as text (RFC 1035 sections 2.3.4, 3.1 and 5.1).
 
 mod label;
+mod part;
 mod text;
 
-use crate::dns_wire::dns::{NameIter, Packet};
-use crate::record::name::label::{is_label, push_label, split_label};
+use crate::dns_wire::dns::Packet;
+use crate::dns_wire::message::octets_of;
+use crate::record::name::label::{push_octets, split_label};
+use crate::record::name::part::{Mark, labels_len, read_mark};
 use crate::record::name::text::{LabelText, is_root, read_labels};
 use crate::wirebase::{Error, Result};
 use arrayvec::ArrayVec;
@@ -27,7 +30,7 @@ impl Name {
         bytes: &'a [u8],
     ) -> Result<Name> {
         let mut octets = ArrayVec::new();
-        put_given(&mut octets, packet.parse_name(bytes))?;
+        put_name(&mut octets, octets_of(packet), bytes)?;
         if octets.try_push(0).is_err() {
             return Err(Error);
         }
@@ -59,20 +62,34 @@ impl Name {
     }
 }
 
-// Writes the labels that a walk gives, where nothing stands yet: a name is large, so it is written where it stays.
-// Refused where the walk gives an error, and where they have more than 255 octets.
-fn put_given(octets: &mut ArrayVec<u8, MAX_NAME_LEN>, mut walk: NameIter<'_>) -> Result<()> {
-    while let Some(item) = walk.next() {
-        let label = match item {
-            Ok(label) => label,
-            Err(_) => return Err(Error),
-        };
-        if !is_label(label) {
-            return Err(Error);
+// Writes the labels of the name that begins in `bytes` and goes on in a message, where nothing stands yet: a name is
+// large, so it is written where it stays, and labels that stand side by side are copied as one. A pointer leads to one
+// of the bytes that are open, and leaves those below that place open, so this ends. Refused where there is no name, and
+// where its labels have more than 255 octets.
+fn put_name(octets: &mut ArrayVec<u8, MAX_NAME_LEN>, message: &[u8], bytes: &[u8]) -> Result<()> {
+    let mut left = bytes;
+    // The bytes of the message that are open.
+    let mut reach = message;
+    loop {
+        match read_mark(left) {
+            Mark::End => return Ok(()),
+            Mark::Pointer(target) => {
+                if target >= reach.len() {
+                    return Err(Error);
+                }
+                left = &reach[target..];
+                reach = &reach[..target];
+            }
+            Mark::Other => {
+                let len = labels_len(left);
+                if len == 0 {
+                    return Err(Error);
+                }
+                push_octets(octets, &left[..len])?;
+                left = &left[len..];
+            }
         }
-        push_label(octets, label)?;
     }
-    Ok(())
 }
 
 /// Labels with dots between them, and a dot alone for the root.

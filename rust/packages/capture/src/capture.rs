@@ -247,6 +247,70 @@ fn read_octets<R: BufRead>(
     octets: &mut Vec<u8>,
     section: Order,
 ) -> Result<Block, Fault> {
+    if !octets.as_slice().is_empty() {
+        return read_block_parts(input, octets, section);
+    }
+    match take_shown_block(input, octets, section)? {
+        Some(block) => Ok(block),
+        None => read_block_parts(input, octets, section),
+    }
+}
+
+// Takes the next block in one step, or passes over it, where the buffer of the input shows the whole of it.
+fn take_shown_block<R: BufRead>(
+    input: &mut R,
+    octets: &mut Vec<u8>,
+    section: Order,
+) -> Result<Option<Block>, Fault> {
+    let shown = match input.fill_buf() {
+        Ok(shown) => shown,
+        Err(error) => {
+            return if error.kind() == ErrorKind::Interrupted {
+                Ok(None)
+            } else {
+                Err(Fault::Read)
+            };
+        }
+    };
+    if shown.is_empty() {
+        return Ok(Some(Block::Ended(Ending::Whole)));
+    }
+    let Some(head) = whole_block(section, shown) else {
+        return Ok(None);
+    };
+    let len = head.total_len as usize;
+    if !pcapng::is_read(head.kind) {
+        input.consume(len);
+        return Ok(Some(Block::Passed(head)));
+    }
+    let Ok(()) = octets.extend_from_slice(&shown[..len]) else {
+        return Err(Fault::Memory);
+    };
+    input.consume(len);
+    Ok(Some(Block::Read(head)))
+}
+
+// The head of the block at the front of the octets, where the whole of it is there, and more than a head.
+fn whole_block(section: Order, octets: &[u8]) -> Option<Head> {
+    if octets.len() <= pcapng::HEAD_LEN {
+        return None;
+    }
+    let Ok(head) = Head::parse(section, &octets[..pcapng::HEAD_LEN]) else {
+        return None;
+    };
+    let len = head.total_len as usize;
+    if len == pcapng::HEAD_LEN || octets.len() < len {
+        return None;
+    }
+    Some(head)
+}
+
+// Reads the octets of the next block, its head first and then the rest, or passes over it.
+fn read_block_parts<R: BufRead>(
+    input: &mut R,
+    octets: &mut Vec<u8>,
+    section: Order,
+) -> Result<Block, Fault> {
     fill(input, octets, pcapng::HEAD_LEN)?;
     let head = match Head::parse(section, octets.as_slice()) {
         Ok(head) => head,

@@ -38,23 +38,8 @@ pub enum Command {
 }
 
 impl Command {
-    /// The command of a word and the words between it and the packet, or None where there is none.
-    pub fn of(word: &[u8], arguments: &[&[u8]]) -> Option<Command> {
-        let count = arguments.len();
-        if count == 0 {
-            return Command::alone(word);
-        }
-        if count == 1 {
-            return Command::at(word, arguments[0]);
-        }
-        if count == 2 {
-            return Command::between(word, arguments[0], arguments[1]);
-        }
-        None
-    }
-
-    // The command of a word alone.
-    fn alone(word: &[u8]) -> Option<Command> {
+    /// The command of a word alone, or None where there is none.
+    pub fn alone(word: &[u8]) -> Option<Command> {
         if is(word, "hbh") {
             Some(Command::Hbh)
         } else if is(word, "icmp4") {
@@ -74,8 +59,8 @@ impl Command {
         }
     }
 
-    // The command of a word and an offset.
-    fn at(word: &[u8], offset: &[u8]) -> Option<Command> {
+    /// The command of a word and an offset, or None where there is none.
+    pub fn at(word: &[u8], offset: &[u8]) -> Option<Command> {
         if !is(word, "name") {
             return None;
         }
@@ -85,8 +70,8 @@ impl Command {
         }
     }
 
-    // The command of a word and two addresses.
-    fn between(word: &[u8], source: &[u8], destination: &[u8]) -> Option<Command> {
+    /// The command of a word and two addresses, or None where there is none.
+    pub fn between(word: &[u8], source: &[u8], destination: &[u8]) -> Option<Command> {
         if !is(word, "icmp6") {
             return None;
         }

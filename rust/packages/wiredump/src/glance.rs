@@ -5,19 +5,23 @@ use crate::Fault;
 use crate::search::len_before;
 use crate::shape::Shape;
 use rattle_std::io::{BufRead, ErrorKind};
+#[allow(unused_imports)]
+use rattle_std::prelude::*;
 
 /// What a look at an input tells of its next line.
-pub enum Glance {
+#[derive(Clone, Copy)]
+pub enum Glance<'a> {
     /// The line was at hand whole, has this shape, and is taken.
-    Line(Shape),
+    Line(Shape<'a>),
     /// Not all of it is at hand, and nothing is taken.
     Part,
     /// There is no line.
     End,
 }
 
-/// Looks for the next line.
-pub fn look<R: BufRead>(input: &mut R) -> Result<Glance, Fault> {
+/// Looks for the next line, whose packet stands in the room.
+#[inline]
+pub fn look<'a, R: BufRead>(room: &'a mut Vec<u8>, input: &mut R) -> Result<Glance<'a>, Fault> {
     let available = match input.fill_buf() {
         Ok(available) => available,
         Err(error) => {
@@ -28,13 +32,14 @@ pub fn look<R: BufRead>(input: &mut R) -> Result<Glance, Fault> {
             };
         }
     };
-    let (count, glance) = look_at(available)?;
+    let (count, glance) = look_at(room, available)?;
     input.consume(count);
     Ok(glance)
 }
 
 // The same of the octets at hand, of which there are none at the input's end alone; answers how many are taken too.
-fn look_at(shown: &[u8]) -> Result<(usize, Glance), Fault> {
+#[inline]
+fn look_at<'a>(room: &'a mut Vec<u8>, shown: &[u8]) -> Result<(usize, Glance<'a>), Fault> {
     if shown.is_empty() {
         return Ok((0, Glance::End));
     }
@@ -42,6 +47,6 @@ fn look_at(shown: &[u8]) -> Result<(usize, Glance), Fault> {
     if end == shown.len() {
         return Ok((0, Glance::Part));
     }
-    let shape = Shape::of_line(&shown[..end])?;
+    let shape = Shape::of_line(room, &shown[..end])?;
     Ok((end + 1, Glance::Line(shape)))
 }

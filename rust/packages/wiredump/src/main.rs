@@ -17,6 +17,7 @@ mod mld;
 mod name;
 mod ndisc;
 mod ndopt;
+mod number;
 mod pairs;
 mod printer;
 mod question;

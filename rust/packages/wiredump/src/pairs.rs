@@ -24,6 +24,12 @@ pub fn decode(text: &[u8], octets: &mut [u8]) {
     }
 }
 
+/// The octets that digits spell, at the front of a room for them.
+pub fn decode_front(text: &[u8], room: &mut [u8]) {
+    let count = text.len() / 2;
+    decode(text, &mut room[..count]);
+}
+
 // The value of a digit: its low four bits, and 9 more for a letter, which alone has the bit of 64.
 fn digit_value(digit: u8) -> u8 {
     digit % 16 + 9 * (digit / 64)

@@ -1,6 +1,7 @@
 // Made from crates/wiredump/src/printer.rt by rust/erase.
 //! What each value is printed with: names and fields, one a line.
 
+use crate::number::write_number;
 use crate::pairs::encode;
 use control_wire::{Duration, Ipv4Address};
 use rattle_std::io;
@@ -14,31 +15,31 @@ pub trait Value {
 
 impl Value for u8 {
     fn write_to<W: Write>(self, output: &mut W) -> io::Result<()> {
-        write!(output, "{self}")
+        write_number(output, u64::from(self))
     }
 }
 
 impl Value for u16 {
     fn write_to<W: Write>(self, output: &mut W) -> io::Result<()> {
-        write!(output, "{self}")
+        write_number(output, u64::from(self))
     }
 }
 
 impl Value for u32 {
     fn write_to<W: Write>(self, output: &mut W) -> io::Result<()> {
-        write!(output, "{self}")
+        write_number(output, u64::from(self))
     }
 }
 
 impl Value for u64 {
     fn write_to<W: Write>(self, output: &mut W) -> io::Result<()> {
-        write!(output, "{self}")
+        write_number(output, self)
     }
 }
 
 impl Value for usize {
     fn write_to<W: Write>(self, output: &mut W) -> io::Result<()> {
-        write!(output, "{self}")
+        write_number(output, self as u64)
     }
 }
 
@@ -57,7 +58,14 @@ impl Value for &str {
 // An address with dots.
 impl Value for Ipv4Address {
     fn write_to<W: Write>(self, output: &mut W) -> io::Result<()> {
-        write!(output, "{self}")
+        let [a, b, c, d] = self.octets();
+        a.write_to(output)?;
+        output.write_all(b".")?;
+        b.write_to(output)?;
+        output.write_all(b".")?;
+        c.write_to(output)?;
+        output.write_all(b".")?;
+        d.write_to(output)
     }
 }
 

@@ -42,12 +42,12 @@ impl Line {
         self.is_bad = false;
     }
 
-    /// Its shape, once it is read.
-    pub fn shape(&self) -> Result<Shape, Fault> {
+    /// Its shape, once it is read. Its packet stands in the room.
+    pub fn shape<'a>(&self, room: &'a mut Vec<u8>) -> Result<Shape<'a>, Fault> {
         if self.is_bad {
             return Ok(Shape::Bad);
         }
-        Shape::of_line(self.octets.as_slice())
+        Shape::of_line(room, self.octets.as_slice())
     }
 
     // Takes spaces, of which one is kept where a word stands before them.

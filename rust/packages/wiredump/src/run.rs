@@ -6,6 +6,8 @@ use crate::glance::{Glance, look};
 use crate::line::{show_line, show_shape};
 use crate::reading::{Line, read_line};
 use rattle_std::io::{BufRead, BufReader, BufWriter, Read, Write};
+#[allow(unused_imports)]
+use rattle_std::prelude::*;
 
 /// Prints what each line of the input holds; true where each line had a known shape.
 ///
@@ -44,9 +46,10 @@ fn show_flushed<R: BufRead, W: Write>(input: &mut R, output: &mut W) -> Result<b
 // Prints what each line holds; true where each line had a known shape.
 fn show_lines<R: BufRead, W: Write>(input: &mut R, output: &mut W) -> Result<bool, Fault> {
     let mut line = Line::new();
+    let mut room = Vec::new();
     let mut all_known = true;
     for _ in 0..u64::MAX {
-        match show_next(input, output, &mut line)? {
+        match show_next(input, output, &mut line, &mut room)? {
             Some(known) => {
                 all_known &= known;
             }
@@ -57,16 +60,17 @@ fn show_lines<R: BufRead, W: Write>(input: &mut R, output: &mut W) -> Result<boo
 }
 
 // Prints what the next line holds, and answers whether its shape is known, or None where there is no line. What is kept
-// of a line that is not at hand whole is kept in `line`.
+// of a line that is not at hand whole is kept in `line`, and the packet of one that is in `room`.
 fn show_next<R: BufRead, W: Write>(
     input: &mut R,
     output: &mut W,
     line: &mut Line,
+    room: &mut Vec<u8>,
 ) -> Result<Option<bool>, Fault> {
-    let glance = look(input)?;
+    let glance = look(room, input)?;
     match glance {
         Glance::Line(shape) => {
-            let known = show_shape(output, &shape)?;
+            let known = show_shape(output, shape)?;
             Ok(Some(known))
         }
         Glance::Part => show_part(input, output, line),
@@ -74,7 +78,7 @@ fn show_next<R: BufRead, W: Write>(
     }
 }
 
-// The same of a line that is not at hand whole.
+// The same of a line that is not at hand whole. Its packet may be long, and is not kept for the lines after it.
 fn show_part<R: BufRead, W: Write>(
     input: &mut R,
     output: &mut W,
@@ -84,7 +88,7 @@ fn show_part<R: BufRead, W: Write>(
     if !more {
         return Ok(None);
     }
-    let known = show_line(output, line)?;
+    let known = show_line(&mut Vec::new(), output, line)?;
     Ok(Some(known))
 }
 

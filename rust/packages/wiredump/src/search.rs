@@ -21,6 +21,8 @@ pub fn len_before(octets: &[u8], wanted: u8) -> usize {
 
 /// How many octets are in front of the first that is one of these two. Nothing behind it is looked at but the rest of
 /// its step, so that short words cost no search of all that follows them.
+// This and what it calls are inlined, so that one octet is looked for once where the two are one.
+#[inline(always)]
 pub fn len_before_either(octets: &[u8], first: u8, second: u8) -> usize {
     let start = steps_before(octets, first, second);
     for i in start..octets.len() {
@@ -33,6 +35,7 @@ pub fn len_before_either(octets: &[u8], first: u8, second: u8) -> usize {
 
 // How many octets are in front of the first whole step in which one of them stands, or else of the octets behind the
 // last step.
+#[inline(always)]
 fn steps_before(octets: &[u8], first: u8, second: u8) -> usize {
     let steps = octets.len() / STEP;
     for step in 0..steps {
@@ -46,6 +49,7 @@ fn steps_before(octets: &[u8], first: u8, second: u8) -> usize {
 }
 
 // Whether it stands among these. There is no branch between the octets, so that all are compared at once.
+#[inline(always)]
 fn has(octets: &[u8], wanted: u8) -> bool {
     let mut found = false;
     for octet in octets {

@@ -2,9 +2,8 @@
 //! The words of a line, and the octets that a word spells.
 
 use crate::Fault;
-use crate::pairs::{are_digits, decode};
+use crate::pairs::{are_digits, decode, decode_front};
 use crate::search::{len_before, spaces_len};
-use arrayvec::ArrayVec;
 #[allow(unused_imports)]
 use rattle_std::prelude::*;
 
@@ -13,9 +12,6 @@ pub const MOST_WORDS: usize = 4;
 
 /// The most octets of a word.
 pub const MOST_OCTETS: usize = 131_070;
-
-// One more word than a line may have.
-const KEPT_WORDS: usize = MOST_WORDS + 1;
 
 // The greatest offset in a packet.
 const MOST_OFFSET: usize = 65_535;
@@ -26,20 +22,11 @@ const FEWEST_DIGITS: usize = 2;
 // The digits of an address.
 const ADDRESS_DIGITS: usize = 32;
 
-/// The first five words of a line: what stands between its spaces, where that is not empty.
-pub fn words_of<'a>(line: &'a [u8]) -> ArrayVec<&'a [u8], KEPT_WORDS> {
-    let mut words = ArrayVec::new();
-    let mut rest = line;
-    for _ in 0..KEPT_WORDS {
-        let text = &rest[spaces_len(rest)..];
-        if text.is_empty() {
-            return words;
-        }
-        let len = len_before(text, b' ');
-        words.push(&text[..len]);
-        rest = &text[len..];
-    }
-    words
+/// The first word of a text, which has no octet where there is none, and what stands behind it.
+pub fn next_word<'a>(text: &'a [u8]) -> (&'a [u8], &'a [u8]) {
+    let rest = &text[spaces_len(text)..];
+    let len = len_before(rest, b' ');
+    (&rest[..len], &rest[len..])
 }
 
 /// Whether a word is this one.
@@ -63,6 +50,34 @@ pub fn read_word(text: &[u8]) -> Result<Option<Vec<u8>>, Fault> {
     };
     decode(text, octets.as_mut_slice());
     Ok(Some(octets))
+}
+
+/// The same, in a room that is kept from word to word and grows where it is too small.
+pub fn read_word_into<'a>(room: &'a mut Vec<u8>, text: &[u8]) -> Result<Option<&'a [u8]>, Fault> {
+    if is(text, "-") {
+        return Ok(Some(&[]));
+    }
+    if !are_pairs(text) {
+        return Ok(None);
+    }
+    let count = text.len() / 2;
+    grow(room, count)?;
+    decode_front(text, room.as_mut_slice());
+    Ok(Some(&room.as_slice()[..count]))
+}
+
+// Makes room for so many octets at the least. What stood there is lost where there was less.
+fn grow(room: &mut Vec<u8>, count: usize) -> Result<(), Fault> {
+    if room.len() >= count {
+        return Ok(());
+    }
+    // What was held is given back first.
+    *room = Vec::new();
+    let Ok(octets) = rattle_std::vec![ 0u8; count] else {
+        return Err(Fault::Memory);
+    };
+    *room = octets;
+    Ok(())
 }
 
 // Whether these are digits, and as many as a packet may have.

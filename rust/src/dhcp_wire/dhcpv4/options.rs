@@ -4,6 +4,7 @@
 use super::data::Data;
 use super::kinds::{OPT_END, OPT_PAD};
 use crate::wirebase::{ByteWriter, Error, Result};
+use byteorder::{ByteOrder, LittleEndian};
 
 // The greatest number of bytes of data: an option counts them in one byte.
 const MAX_DATA_LEN: usize = 255;
@@ -48,9 +49,32 @@ impl<'a> Iterator for OptionsIter<'a> {
     }
 }
 
-// The octets from the first on that is no padding.
+// The octets from the first on that is no padding. Most options have none before them.
 #[inline]
 fn after_padding(octets: &[u8]) -> &[u8] {
+    if octets.is_empty() || octets[0] != OPT_PAD {
+        return octets;
+    }
+    past_words(octets)
+}
+
+// The same, eight octets at a time: the lowest bit that is set in a word of them is in the first that is no padding. It
+// stands apart, so that a loop over options stays small.
+#[inline(never)]
+fn past_words(octets: &[u8]) -> &[u8] {
+    let mut rest = octets;
+    while rest.len() >= 8 {
+        let word = LittleEndian::read_u64(rest);
+        if word != 0 {
+            return &rest[(word.trailing_zeros() / 8) as usize..];
+        }
+        rest = &rest[8..];
+    }
+    past_octets(rest)
+}
+
+// The same, octet by octet.
+fn past_octets(octets: &[u8]) -> &[u8] {
     for (i, kind) in octets.iter().enumerate() {
         if *kind != OPT_PAD {
             return &octets[i..];

@@ -103,6 +103,23 @@ fn a_thousand_bytes_of_padding_before_an_option() {
     check_options(octets.as_mut_slice(), &[DISCOVER, MASK]);
 }
 
+#[test]
+fn padding_of_up_to_20_bytes_before_and_behind_options() {
+    // Of this kind only the highest bit is set.
+    const EMPTY: DhcpOption<'static> = DhcpOption {
+        kind: 128,
+        data: b"",
+    };
+    const PADDING: &[u8] = &[0; 20];
+    for count in 0..=20 {
+        let padding = &PADDING[..count];
+        let parts: [&[u8]; 5] = [padding, &[128, 0], padding, &[12, 1, 0x61], padding];
+        let options = joined(&parts);
+        let mut octets = packet(1, options.as_slice());
+        check_options(octets.as_mut_slice(), &[EMPTY, NAME]);
+    }
+}
+
 // Compares both names of a packet of this byte, whose names begin with another one.
 fn check_names(first: u8, rest: u8, wanted: Option<&str>) {
     let mut octets = [rest; 240];

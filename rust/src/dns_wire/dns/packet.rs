@@ -35,7 +35,7 @@ const OPCODE_SHIFT: u32 = 11;
 /// A view of the octets of a message.
 #[derive(Debug)]
 pub struct Packet<T: Octets> {
-    pub(super) buffer: T,
+    pub(crate) buffer: T,
 }
 
 impl<T: Octets> Packet<T> {

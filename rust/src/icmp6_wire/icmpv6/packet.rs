@@ -28,13 +28,23 @@ impl<T: Octets> Packet<T> {
     /// Accepts octets that begin with a header of a type that is read here: every named type but that of RPL. Then each
     /// accessor of the type may be called.
     pub fn check_len(&self) -> Result<()> {
+        let _kind = self.checked_type()?;
+        Ok(())
+    }
+
+    // The type, looked up once. Refused where the octets don't begin with a header of a type that is read here.
+    pub(crate) fn checked_type(&self) -> Result<Message> {
         let len = self.buffer.octets().len();
-        if len < field::HEADER_END || len < self.header_len() {
+        if len < field::HEADER_END {
             return Err(Error);
         }
-        match self.msg_type() {
+        let kind = self.msg_type();
+        if len < header_len_of(kind) {
+            return Err(Error);
+        }
+        match kind {
             Message::RplControl | Message::Unknown(_) => Err(Error),
-            _ => Ok(()),
+            _ => Ok(kind),
         }
     }
 
@@ -87,19 +97,7 @@ impl<T: Octets> Packet<T> {
 
     /// The bytes of the header, by the type; 4 of a type that is not read here. Requires at least 1 byte.
     pub fn header_len(&self) -> usize {
-        match self.msg_type() {
-            Message::DstUnreachable | Message::TimeExceeded => field::UNUSED.end,
-            Message::PktTooBig => field::MTU.end,
-            Message::ParamProblem => field::POINTER.end,
-            Message::EchoRequest | Message::EchoReply => field::ECHO_SEQNO.end,
-            Message::MldQuery => field::QUERY_NUM_SRCS.end,
-            Message::MldReport => field::NR_MCAST_RCRDS.end,
-            Message::RouterSolicit => field::UNUSED.end,
-            Message::RouterAdvert => field::RETRANS_TM.end,
-            Message::NeighborSolicit | Message::NeighborAdvert => field::TARGET_ADDR.end,
-            Message::Redirect => field::DEST_ADDR.end,
-            Message::RplControl | Message::Unknown(_) => field::CHECKSUM.end,
-        }
+        header_len_of(self.msg_type())
     }
 
     /// Whether the octets, as many as they are, carry the checksum of a message from `src_addr` to `dst_addr` (RFC 4443
@@ -113,7 +111,12 @@ impl<T: Octets> Packet<T> {
 impl<'a, B: AsRef<[u8]> + ?Sized> Packet<&'a B> {
     /// What stands after the header, for as long as the octets live. Requires the header of the type.
     pub fn payload(&self) -> &'a [u8] {
-        &self.buffer.as_ref()[self.header_len()..]
+        self.behind(self.msg_type())
+    }
+
+    // The same where the type is known.
+    pub(crate) fn behind(&self, kind: Message) -> &'a [u8] {
+        &self.buffer.as_ref()[header_len_of(kind)..]
     }
 }
 
@@ -192,6 +195,23 @@ impl<T: Octets> PartialEq for Packet<T> {
 }
 
 impl<T: Octets> Eq for Packet<T> {}
+
+// The bytes of the header of a type; 4 of one that is not read here.
+fn header_len_of(kind: Message) -> usize {
+    match kind {
+        Message::DstUnreachable | Message::TimeExceeded => field::UNUSED.end,
+        Message::PktTooBig => field::MTU.end,
+        Message::ParamProblem => field::POINTER.end,
+        Message::EchoRequest | Message::EchoReply => field::ECHO_SEQNO.end,
+        Message::MldQuery => field::QUERY_NUM_SRCS.end,
+        Message::MldReport => field::NR_MCAST_RCRDS.end,
+        Message::RouterSolicit => field::UNUSED.end,
+        Message::RouterAdvert => field::RETRANS_TM.end,
+        Message::NeighborSolicit | Message::NeighborAdvert => field::TARGET_ADDR.end,
+        Message::Redirect => field::DEST_ADDR.end,
+        Message::RplControl | Message::Unknown(_) => field::CHECKSUM.end,
+    }
+}
 
 /// Writes the checksum of a message from `src_addr` to `dst_addr` that is all the octets. Requires at least 4 bytes.
 pub(crate) fn fill(octets: &mut [u8], src_addr: &Ipv6Address, dst_addr: &Ipv6Address) {

@@ -10,12 +10,15 @@ use crate::wirebase::{Error, IPV6_HEADER_LEN, Result};
 
 // The error in octets of such a type.
 #[inline(always)]
-pub(super) fn read_error<'a, B: AsRef<[u8]> + ?Sized>(packet: &Packet<&'a B>) -> Result<Repr<'a>> {
+pub(super) fn read_error<'a, B: AsRef<[u8]> + ?Sized>(
+    packet: &Packet<&'a B>,
+    kind: Message,
+) -> Result<Repr<'a>> {
     let payload = behind_header(packet);
     if payload.len() < IPV6_HEADER_LEN {
         return Err(Error);
     }
-    match packet.msg_type() {
+    match kind {
         Message::DstUnreachable => {
             return Ok(read_unreachable(packet));
         }

@@ -104,13 +104,12 @@ impl<'a> Repr<'a> {
         packet: &Packet<&'a B>,
         checksum_caps: &ChecksumCapabilities,
     ) -> Result<Repr<'a>> {
-        packet.check_len()?;
+        let kind = packet.checked_type()?;
         if checksum_caps.icmpv6.rx() && !packet.verify_checksum(src_addr, dst_addr) {
             return Err(Error);
         }
-        let kind = packet.msg_type();
         if kind.is_error() {
-            return read_error(packet);
+            return read_error(packet, kind);
         }
         if packet.msg_code() != 0 {
             return Err(Error);
@@ -127,7 +126,7 @@ impl<'a> Repr<'a> {
             }
         }
         let mut found = Found::nothing();
-        found.note_all(packet.payload())?;
+        found.note_all(packet.behind(kind))?;
         match kind {
             Message::RouterSolicit => return Ok(Repr::Ndisc(router_solicit(packet, &found))),
             Message::RouterAdvert => return Ok(Repr::Ndisc(router_advert(packet, &found))),

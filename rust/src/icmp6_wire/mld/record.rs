@@ -171,10 +171,17 @@ impl<'a> AddressRecordRepr<'a> {
 
     /// The same into a slice.
     pub fn emit_into(&self, octets: &mut [u8]) {
+        self.write_record(octets);
+    }
+
+    // The same, for the report around the record, of whose code it becomes a part where the two are compiled apart.
+    #[inline]
+    pub(super) fn write_record(&self, octets: &mut [u8]) {
         self.write(octets);
     }
 
     // Writes the fields.
+    #[inline]
     fn write(&self, octets: &mut [u8]) {
         let mut w = ByteWriter::new(octets);
         w.put_u8(self.record_type.into());

@@ -47,8 +47,7 @@ impl<'a> Repr<'a> {
 
     // The message in the octets.
     fn read<B: AsRef<[u8]> + ?Sized>(packet: &Packet<&'a B>) -> Result<Repr<'a>> {
-        packet.check_len()?;
-        match packet.msg_type() {
+        match packet.checked_type()? {
             Message::MldQuery => return Ok(read_query(packet)),
             Message::MldReport => return Ok(read_report(packet)),
             _ => return Err(Error),
@@ -134,7 +133,7 @@ pub(crate) fn read_query<'a, B: AsRef<[u8]> + ?Sized>(packet: &Packet<&'a B>) ->
         qrv: packet.qrv(),
         qqic: packet.qqic(),
         num_srcs: packet.num_srcs(),
-        data: packet.payload(),
+        data: packet.behind(Message::MldQuery),
     }
 }
 
@@ -143,7 +142,7 @@ pub(crate) fn read_query<'a, B: AsRef<[u8]> + ?Sized>(packet: &Packet<&'a B>) ->
 pub(crate) fn read_report<'a, B: AsRef<[u8]> + ?Sized>(packet: &Packet<&'a B>) -> Repr<'a> {
     Repr::Report {
         nr_mcast_addr_rcrds: packet.nr_mcast_addr_rcrds(),
-        data: packet.payload(),
+        data: packet.behind(Message::MldReport),
     }
 }
 
@@ -197,5 +196,5 @@ fn put_records(w: &mut ByteWriter<'_>, records: &[AddressRecordRepr<'_>]) {
 
 // Writes a record.
 fn put_record(w: &mut ByteWriter<'_>, repr: &AddressRecordRepr<'_>) {
-    repr.emit_into(w.part(repr.buffer_len()));
+    repr.write_record(w.part(repr.buffer_len()));
 }

@@ -5,8 +5,8 @@ use super::field;
 use super::flags::{NeighborFlags, RouterFlags};
 use super::found::Found;
 use super::options::{
-    mtu_option, option_len, prefix_option, put_option, put_source, put_target, redirected_option,
-    source_len, target_len,
+    mtu_len, prefix_len, put_mtu, put_prefix, put_redirected, put_source, put_target,
+    redirected_len, source_len, target_len,
 };
 use crate::icmp6_wire::icmpv6::{Message, Packet};
 use crate::icmp6_wire::writing::{put_address, put_type};
@@ -81,11 +81,11 @@ impl<'a> Repr<'a> {
 
     // The message in the octets.
     fn read<B: AsRef<[u8]> + ?Sized>(packet: &Packet<&'a B>) -> Result<Repr<'a>> {
-        packet.check_len()?;
+        let kind = packet.checked_type()?;
         let mut found = Found::nothing();
-        found.note_all(packet.payload())?;
+        found.note_all(packet.behind(kind))?;
         // A return in each arm: the value is then written once, where the caller has room for it.
-        match packet.msg_type() {
+        match kind {
             Message::RouterSolicit => {
                 return Ok(router_solicit(packet, &found));
             }
@@ -295,7 +295,7 @@ fn router_options_len(
     mtu: &Option<u32>,
     prefix_info: &Option<PrefixInformation>,
 ) -> usize {
-    source_len(lladdr) + option_len(&mtu_option(mtu)) + option_len(&prefix_option(prefix_info))
+    source_len(lladdr) + mtu_len(mtu) + prefix_len(prefix_info)
 }
 
 // The bytes of the options of a redirect.
@@ -303,7 +303,7 @@ fn redirect_options_len(
     lladdr: &Option<RawHardwareAddress>,
     header: &Option<RedirectedHeader<'_>>,
 ) -> usize {
-    target_len(lladdr) + option_len(&redirected_option(header))
+    target_len(lladdr) + redirected_len(header)
 }
 
 // Writes a router advertisement up to its times.
@@ -321,8 +321,8 @@ fn put_router_options(
     prefix_info: &Option<PrefixInformation>,
 ) {
     put_source(w, lladdr);
-    put_option(w, &mtu_option(mtu));
-    put_option(w, &prefix_option(prefix_info));
+    put_mtu(w, mtu);
+    put_prefix(w, prefix_info);
 }
 
 // Writes the options of a redirect.
@@ -332,7 +332,7 @@ fn put_redirect_options(
     header: &Option<RedirectedHeader<'_>>,
 ) {
     put_target(w, lladdr);
-    put_option(w, &redirected_option(header));
+    put_redirected(w, header);
 }
 
 // Writes a neighbor advertisement up to its address.

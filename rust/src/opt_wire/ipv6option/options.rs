@@ -27,6 +27,7 @@ impl<'a> Ipv6OptionsIterator<'a> {
 impl<'a> Iterator for Ipv6OptionsIterator<'a> {
     type Item = Result<Repr<'a>>;
 
+    #[inline]
     fn next(&mut self) -> Option<Result<Repr<'a>>> {
         if self.hit_error || self.data.is_empty() {
             return None;

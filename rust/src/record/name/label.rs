@@ -19,17 +19,20 @@ pub(super) fn split_label(octets: &[u8]) -> Option<(&[u8], &[u8])> {
     }
 }
 
-/// Whether these bytes may be a label.
-pub(super) fn is_label(bytes: &[u8]) -> bool {
-    !bytes.is_empty() && bytes.len() <= MAX_LABEL_LEN
-}
-
 /// Writes a label behind its length. Refused where there is no room; then less may be written.
 pub(super) fn push_label(octets: &mut ArrayVec<u8, MAX_NAME_LEN>, label: &[u8]) -> Result<()> {
     if octets.try_push(label.len() as u8).is_err() {
         return Err(Error);
     }
     if octets.try_extend_from_slice(label).is_err() {
+        return Err(Error);
+    }
+    Ok(())
+}
+
+/// Writes octets behind the others. Refused where there is no room.
+pub(super) fn push_octets(octets: &mut ArrayVec<u8, MAX_NAME_LEN>, more: &[u8]) -> Result<()> {
+    if octets.try_extend_from_slice(more).is_err() {
         return Err(Error);
     }
     Ok(())

@@ -276,6 +276,7 @@ fn check_line(
 ) -> bool {
     let mut output = Vec::new();
     let mut failed = (0, 0);
+    let mut room = Vec::new();
     let mut sink = Sink {
         output: &mut output,
         failed: &mut failed,
@@ -284,7 +285,7 @@ fn check_line(
         for_good: false,
         kind: ErrorKind::BrokenPipe,
     };
-    let answers = (show_line(&mut sink, line), known);
+    let answers = (show_line(&mut room, &mut sink, line), known);
     let (taken, _) = failed;
     let (fault, output) = (Fault::Write, output.as_slice());
     check_written(fails_at, answers, fault, output, undisturbed, taken)
@@ -303,7 +304,7 @@ fn faults_of(line: &Line, known: Result<bool, Fault>, undisturbed: &[u8]) -> usi
 fn check_faults(text: &str) {
     let line = only_line(text.as_bytes());
     let mut undisturbed = Vec::new();
-    let known = show_line(&mut undisturbed, &line);
+    let known = show_line(&mut Vec::new(), &mut undisturbed, &line);
     holds_of(text, known.is_ok());
     let faults = faults_of(&line, known, undisturbed.as_slice());
     holds_of(text, faults > 1 && faults < 500);

@@ -15,6 +15,8 @@ fn check_field<V: Value>(value: V, want: &str) {
 
 #[test]
 fn fields_of_values() {
+    check_field(0u8, "delay=0\n");
+    check_field(10u8, "delay=10\n");
     check_field(u8::MAX, "delay=255\n");
     check_field(1_280u16, "delay=1280\n");
     check_field(u32::MAX, "delay=4294967295\n");

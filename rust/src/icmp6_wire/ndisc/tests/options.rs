@@ -1,7 +1,8 @@
 // Made from crates/icmp6_wire/src/ndisc/tests/options.rt by rust/erase.
-use super::{REDIRECT, THREE_MTUS, check_read, check_refused, here, read, there};
+use super::{REDIRECT, THREE_MTUS, check_read, check_refused, check_written, here, read, there};
 use crate::icmp6_wire::ndisc::Repr;
 use crate::icmp6_wire::testing::{holds_of, same_of};
+use crate::wirebase::RawHardwareAddress;
 
 // The MTU that a router advertisement with these options tells; nothing where it is refused.
 fn mtu_of(bytes: &[u8]) -> Option<Option<u32>> {
@@ -95,4 +96,16 @@ fn a_redirected_packet_that_is_not_whole_is_left_out() {
     };
     check_read(&octets, &repr);
     check_refused(&octets[..39]);
+}
+
+#[test]
+fn link_layer_addresses_that_are_none_of_ethernet_are_padded() {
+    let lladdr = Some(RawHardwareAddress::from_bytes(&[0x0a]));
+    let octets = [0x85, 0, 0, 0, 0, 0, 0, 0, 0x01, 0x01, 0x0a, 0, 0, 0, 0, 0];
+    check_written(&Repr::RouterSolicit { lladdr }, &octets);
+    let lladdr = Some(RawHardwareAddress::from_bytes(&[1, 2, 3, 4, 5, 6, 7, 8]));
+    let octets = [
+        0x85, 0, 0, 0, 0, 0, 0, 0, 0x01, 0x02, 1, 2, 3, 4, 5, 6, 7, 8, 0, 0, 0, 0, 0, 0,
+    ];
+    check_written(&Repr::RouterSolicit { lladdr }, &octets);
 }

@@ -1,0 +1,10 @@
+// Made from crates/dns_wire/src/message.rt by rust/erase.
+//! The octets behind the view of a message, for the crates above.
+
+use crate::dns_wire::dns::Packet;
+
+/// The octets of a message, for as long as they live.
+#[inline]
+pub fn octets_of<'a, B: AsRef<[u8]> + ?Sized>(packet: &Packet<&'a B>) -> &'a [u8] {
+    packet.buffer.as_ref()
+}
