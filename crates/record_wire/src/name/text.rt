@@ -1,6 +1,6 @@
 //! The characters and the labels of a name's text (RFC 1035 section 5.1).
 
-ghost use Rattle.std.specs.Prelude.{◌≡◌, ◌↔◌, ◌≤◌, ◌<◌, ◌-◌, ◌∷◌, ℕ, List, length, codes};
+ghost use Rattle.std.specs.Prelude.{◌≡◌, ◌↔◌, ◌≤◌, ◌<◌, ◌-◌, ◌∷◌, [], ℕ, List, length, codes, decimal};
 ghost use Rattle.std.specs.Prelude.{IfOk, IsOk, IsOkAnd, IsTrue};
 ghost use Rattle.std.specs.Prelude.{◌&&◌, not};
 ghost use Rattle.std.specs.Char.{is_ascii_digit, is_ascii_graphic};
@@ -189,13 +189,43 @@ impl fmt::Display for Character {
     fn fmt<W: fmt::Write>(&self, f: &mut fmt::Formatter<W>) -> fmt::Result {
         let byte = self.0;
         if byte < ASCII_END && is_plain(byte) {
-            // One write of one byte, with none of the work that `write!` does for a formatter's options.
-            let mut encoded = [0; 4];
-            f.write_str(char::from(byte).encode_utf8(&mut encoded))
+            Ascii { byte }.fmt(f)
         } else if is_special(byte) {
-            write!(f, "\\{}", char::from(byte))
+            f.write_str("\\")?;
+            Ascii { byte }.fmt(f)
         } else {
-            write!(f, "\\{}{}{}", byte / 100, byte / 10 % 10, byte % 10)
+            f.write_str("\\")?;
+            digit(byte / 100).fmt(f)?;
+            digit(byte / 10 % 10).fmt(f)?;
+            digit(byte % 10).fmt(f)
         }
+    }
+}
+
+// The digit of this value.
+#[tactic(auto, using(std::proofs::lemmas::Fmt::decimal_digit))]
+fn digit(value: u8) -> Ascii
+    requires { value < 10 }
+    ensures { result.byte ∷ [] ≡ decimal value }
+{
+    Ascii { byte: b'0' + value }
+}
+
+// A byte of ASCII, which is written as itself: in one write, with none of the work that `write!` does for a formatter's
+// options.
+#[derive(Drop)]
+struct Ascii {
+    byte: u8,
+    ghost ascii: { byte < 128 },
+}
+
+impl fmt::Display for Ascii {
+    ghost use Rattle.std.specs.Prelude.{Some, ◌∷◌, []};
+
+    ghost output = { λ it. Some (it.byte ∷ []) };
+
+    fn fmt<W: fmt::Write>(&self, f: &mut fmt::Formatter<W>) -> fmt::Result {
+        let mut encoded = [0; 4];
+        f.write_str(char::from(self.byte).encode_utf8(&mut encoded))
     }
 }
