@@ -7,8 +7,8 @@ use Rattle.capture.specs.Capture.{no_head}
 use Rattle.capture.specs.Pcapng.{IsHead, HeadEnds, IsRead}
 use Rattle.capture.specs.Reader.{Reads}
 use Rattle.capture.specs.Taken.{IsWholeBlock, TakesBlock, BlockReads}
-use Rattle.capture.specs.declared.capture.Block.{Block}
-use Rattle.capture.specs.declared.capture.Block.TheVariants as block
+use Rattle.capture.specs.declared.capture.shown.Block.{Block}
+use Rattle.capture.specs.declared.capture.shown.Block.TheVariants as block
 use Rattle.capture.specs.declared.order.Order.{Order}
 use Rattle.capture.specs.declared.pcapng.Head.{Head}
 
