@@ -1,5 +1,5 @@
 -- The block was taken in one step.
-use Rattle.std.proofs.Common.{◌≡◌, ap, sym, subst, ◌∙◌, length, eqb-true}
+use Rattle.std.proofs.Common.{ap, sym, subst, ◌∙◌, length, eqb-true}
 use Rattle.capture.specs.Reader.{Reads}
 use Rattle.capture.proofs.Filling.{no_byte}
 use Rattle.capture.proofs.Shown.{shown_reads}

@@ -1,5 +1,5 @@
 -- The block that was shown is consumed.
-use Rattle.std.proofs.Common.{◌≡◌, ◌++◌, ap, subst, ◌∙◌, take}
+use Rattle.std.proofs.Common.{◌++◌, ap, subst, ◌∙◌, take}
 use Rattle.std.specs.Io.BufRead.{FillKeeps}
 use Rattle.std.proofs.BufReadLemmas.{Consumes_shown}
 use Rattle.capture.proofs.Sections.{told, told_not}
