@@ -1,6 +1,6 @@
 -- Kinds of blocks, the resolution that options tell, and packets by their kind.
-use Rattle.std.proofs.Common.{◌≡◌, ◌≢◌, ℕ, ◌+◌, ◌-◌, ◌*◌, ◌/◌, ◌<◌, ◌≤◌, List, length, take, drop, take_all, slice_index, Result, Ok, Err}
-use Rattle.std.proofs.Common.{IfOk, IsOkAnd, refl, sym, ap, subst, ◌∙◌, arith}
+use Rattle.std.proofs.Common.{◌≡◌, ◌≢◌, ℕ, ◌-◌, ◌≤◌, List, length, take, drop, take_all, Result, Ok, Err}
+use Rattle.std.proofs.Common.{IfOk, refl, sym, subst, ◌∙◌, arith}
 use Rattle.wirebase.specs.Bytes.{field, part}
 use Rattle.wirebase.specs.declared.error.Error.{Error}
 use Rattle.capture.specs.Order.{number_in}

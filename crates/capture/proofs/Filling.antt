@@ -4,7 +4,6 @@ use Rattle.std.proofs.Common.{Option, None, Some, IfSome, refl, ap, sym, subst, 
 use Rattle.std.proofs.lemmas.List.{append-nil, take_all, drop_all, take_at, drop_at, length-take, take-append-drop}
 use Rattle.std.proofs.lemmas.List.{drop-drop}
 use Rattle.std.proofs.Math.Seq.{take-add}
-use Rattle.std.specs.Io.KnownBytes.{Consumes, IsAtEnd}
 use Rattle.capture.specs.Reader.{Takes, Reads, Skips}
 use Rattle.capture.specs.Taken.{Splits}
 

@@ -1,13 +1,12 @@
 -- A block of a pcapng file is read.
-use Rattle.std.proofs.Common.{◌≡◌, ◌≢◌, ℕ, ◌+◌, ◌-◌, ◌*◌, ◌<◌, ◌≤◌, ◌⊎◌, inl, inr, true, false, List, [], ◌∷◌, ◌++◌}
+use Rattle.std.proofs.Common.{◌≡◌, ◌≢◌, ℕ, ◌+◌, ◌-◌, ◌<◌, ◌≤◌, inl, inr, true, false, List, ◌++◌}
 use Rattle.std.proofs.Common.{length, take, drop, Option, None, Some, refl, ap, sym, subst, ◌∙◌, arith, length-append}
 use Rattle.std.proofs.Common.{Result, Ok, Err, IfOk, Bool, IsTrue, ◌↔◌}
 use Rattle.std.proofs.lemmas.List.{length-take, take-take, take_at, take-append-drop}
-use Rattle.wirebase.specs.Bytes.{part}
 use Rattle.wirebase.proofs.Pieces.{length-part}
-use Rattle.capture.specs.Capture.{State, state, most_octets, IsBlock, passed, header, described, held, BlockEnds, no_head}
+use Rattle.capture.specs.Capture.{State, state, IsBlock, passed, header, described, held, BlockEnds}
 use Rattle.capture.specs.Capture.{cut, refused, Refused, no_section, no_interface, many, no_packet, large}
-use Rattle.capture.specs.Packet.{packet_in, IsPlace}
+use Rattle.capture.specs.Packet.{packet_in}
 use Rattle.capture.specs.Pcapng.{IsHead, IsRead, IsClosed, section_kind}
 use Rattle.capture.specs.Reader.{Reads, Skips, Takes}
 use Rattle.capture.specs.Taken.{Splits, SectionTakes, InterfaceTakes, PacketTakes, BlockTakes, BlockGives, IsWholeBlock}
@@ -15,11 +14,10 @@ use Rattle.capture.specs.declared.capture.Stage.TheVariants.{Section}
 use Rattle.capture.specs.declared.capture.Step.{Step}
 use Rattle.capture.specs.declared.capture.Step.TheVariants as step
 use Rattle.capture.specs.declared.ending.Ending.TheVariants.{Cut}
-use Rattle.capture.specs.declared.ending.Fault.{Fault}
 use Rattle.capture.specs.declared.order.Order.{Order}
 use Rattle.capture.specs.declared.pcapng.Head.{Head}
 use Rattle.capture.specs.declared.pcapng.Interface.{Interface}
-use Rattle.capture.proofs.Filling.{reads_splits, reads_length, reads_fits, skips_reads, skips_short}
+use Rattle.capture.proofs.Filling.{reads_length, skips_reads, skips_short}
 
 pub if_ok : {T E : Type 0} (P Q : T → Type 0) (r : Result T E) → ((x : T) → P x → Q x) → IfOk r P → IfOk r Q
 if_ok P Q (Ok x) f h = f x h

@@ -1,5 +1,5 @@
 -- A block that the buffer of an input shows is taken in one step, or passed over.
-use Rattle.std.proofs.Common.{◌≡◌, ℕ, ◌<◌, ◌≤◌, List, [], ◌++◌, length, take, drop, Option, None, Some, refl, ap, sym}
+use Rattle.std.proofs.Common.{◌≡◌, ℕ, ◌≤◌, List, [], ◌++◌, length, take, drop, Option, None, Some, refl, ap, sym}
 use Rattle.std.proofs.Common.{subst, ◌∙◌, arith, length-append}
 use Rattle.std.proofs.lemmas.List.{length-take, take-take, take_at, drop_at, take-append-drop}
 use Rattle.std.specs.Io.KnownBytes.{Consumes, IsAtEnd}
@@ -7,8 +7,8 @@ use Rattle.capture.specs.Capture.{no_head}
 use Rattle.capture.specs.Pcapng.{IsHead, HeadEnds, IsRead}
 use Rattle.capture.specs.Reader.{Reads}
 use Rattle.capture.specs.Taken.{IsWholeBlock, TakesBlock, BlockReads}
-use Rattle.capture.specs.declared.capture.Block.{Block}
-use Rattle.capture.specs.declared.capture.Block.TheVariants as block
+use Rattle.capture.specs.declared.capture.shown.Block.{Block}
+use Rattle.capture.specs.declared.capture.shown.Block.TheVariants as block
 use Rattle.capture.specs.declared.order.Order.{Order}
 use Rattle.capture.specs.declared.pcapng.Head.{Head}
 

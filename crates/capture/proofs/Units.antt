@@ -1,9 +1,9 @@
 -- A capture is read one header, record or block after another.
-use Rattle.std.proofs.Common.{◌≡◌, ◌≢◌, ℕ, ◌+◌, ◌-◌, ◌<◌, ◌≤◌, min, inl, inr, true, false, List, [], ◌∷◌, ◌++◌, length, take, drop, Option}
+use Rattle.std.proofs.Common.{◌≡◌, ℕ, ◌-◌, ◌≤◌, min, inl, inr, List, [], ◌∷◌, length, take, drop, Option}
 use Rattle.std.proofs.Common.{None, Some, IfSome, refl, ap, sym, subst, ◌∙◌, arith, length-drop}
 use Rattle.std.proofs.lemmas.List.{length-take, take_all, take-append-le}
 use Rattle.wirebase.specs.Bytes.{part}
-use Rattle.capture.specs.Capture.{State, state, most_octets, IsBlock, passed, header, described, held, BlockEnds, IsUnit}
+use Rattle.capture.specs.Capture.{State, state, IsBlock, passed, header, described, held, IsUnit}
 use Rattle.capture.specs.Capture.{file, kept, first, block, Ends, no_file, no_record, no_first, no_block, BeginsSection}
 use Rattle.capture.specs.Capture.{Holds, ends, passes, packet, packet_of, GivesNext}
 use Rattle.capture.specs.Packet.{PacketValue, packet_in}

@@ -8,10 +8,10 @@ use Rattle.capture.specs.Pcapng.{IsRead, IsHead, IsSection, SectionEnds, IsInter
 use Rattle.capture.specs.declared.ending.Ending.TheVariants.{Whole, TooLarge, Malformed}
 use Rattle.capture.specs.declared.packet.Packet.{Packet}
 use Rattle.capture.specs.declared.capture.Stage.TheVariants as stage
-use Rattle.capture.specs.declared.capture.Block.{Block}
-use Rattle.capture.specs.declared.capture.Block.TheVariants as block
-use Rattle.capture.specs.declared.capture.Shown.{Shown}
-use Rattle.capture.specs.declared.capture.Shown.TheVariants as shown
+use Rattle.capture.specs.declared.capture.shown.Block.{Block}
+use Rattle.capture.specs.declared.capture.shown.Block.TheVariants as block
+use Rattle.capture.specs.declared.capture.shown.Shown.{Shown}
+use Rattle.capture.specs.declared.capture.shown.Shown.TheVariants as shown
 use Rattle.capture.specs.declared.capture.Step.{Step}
 use Rattle.capture.specs.declared.capture.Step.TheVariants as step
 use Rattle.capture.specs.declared.order.Order.{Order}

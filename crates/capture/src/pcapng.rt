@@ -258,6 +258,7 @@ fn resolution(order: Order, options: &[u8]) -> u8
 
 /// The packet that a block of a kind holds, in a section with these interfaces. Refused where the block is too
 /// short for it, names an interface that is not described, or is of no kind of packet.
+#[inline]
 pub fn parse_packet(
     order: Order,
     kind: u32,

@@ -1,5 +1,4 @@
 -- Some bytes were taken.
-use Rattle.std.proofs.Common.{length, ◌≤◌}
 use Rattle.capture.proofs.Reading.{SoFar}
 use Rattle.capture.proofs.reader.fill.Given as goal
 

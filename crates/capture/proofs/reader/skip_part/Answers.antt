@@ -1,5 +1,5 @@
 -- What was shown is consumed, as far as it is wanted.
-use Rattle.std.proofs.Common.{◌≡◌, ap, sym, subst, ◌∙◌, arith, length, refl}
+use Rattle.std.proofs.Common.{subst, arith}
 use Rattle.std.specs.Io.BufRead.{FillKeeps}
 use Rattle.std.proofs.BufReadLemmas.{Consumes_shown}
 use Rattle.capture.proofs.Reading.{skips-shown}

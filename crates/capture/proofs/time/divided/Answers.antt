@@ -1,5 +1,5 @@
 -- One division more is a division by the next power.
-use Rattle.std.proofs.Common.{◌≡◌, ◌/◌, ◌^◌, ap, sym, ◌∙◌, add-one}
+use Rattle.std.proofs.Common.{◌/◌, ◌^◌, ap, ◌∙◌, add-one}
 use Rattle.std.proofs.Math.Nat.{div-div-eq-div-mul, pow-suc}
 use Rattle.capture.proofs.time.divided.Goals as goal
 

@@ -1,5 +1,5 @@
 -- So many divisions are done.
-use Rattle.std.proofs.Common.{◌≡◌, ◌/◌, ◌^◌, ◌<◌}
+use Rattle.std.proofs.Common.{◌≡◌, ◌/◌, ◌^◌}
 use Rattle.capture.proofs.time.divided.Given as goal
 
 abbrev pub invariant-loop : goal.invariant-loop

@@ -1,5 +1,5 @@
 -- The resolution tells which power it is.
-use Rattle.std.proofs.Common.{◌≡◌, ap, sym, ◌∙◌, arith, lt-ltb, le-ltb}
+use Rattle.std.proofs.Common.{lt-ltb, le-ltb}
 use Rattle.capture.specs.Time.{units}
 use Rattle.capture.proofs.time.nanoseconds.Goals as goal
 

@@ -1,5 +1,5 @@
 -- The places are clamped to the octets.
-use Rattle.std.proofs.Common.{◌≡◌, ◌-◌, take, drop, length, min, ap, ◌∙◌}
+use Rattle.std.proofs.Common.{◌-◌, take, drop, length, min, ap, ◌∙◌}
 use Rattle.capture.proofs.Units.{clamped}
 use Rattle.capture.proofs.capture.Capture.octets.Goals as goal
 

@@ -1,6 +1,5 @@
 -- A packet that is none is refused.
-use Rattle.std.proofs.Common.{inl, sym, subst, refl}
-use Rattle.capture.specs.Pcapng.{IsPacket}
+use Rattle.std.proofs.Common.{inl, refl}
 use Rattle.capture.proofs.capture.Capture.take_packet.Goals as goal
 
 pub returns-in-Err-clause-takes : goal.returns-in-Err-clause-takes

@@ -3,7 +3,7 @@ use Rattle.std.proofs.Common.{◌+◌, ◌++◌, ap, subst, ◌∙◌, take}
 use Rattle.std.specs.Io.BufRead.{FillKeeps}
 use Rattle.std.proofs.BufReadLemmas.{Consumes_shown}
 use Rattle.capture.proofs.Records.{shown_taken}
-use Rattle.capture.proofs.capture.take_shown.Goals as goal
+use Rattle.capture.proofs.capture.shown.take_shown.Goals as goal
 
 pub returns-clause-takes : goal.returns-clause-takes
 returns-clause-takes g c =

@@ -3,7 +3,7 @@ use Rattle.std.proofs.Common.{◌≡◌, ◌≢◌, ◌+◌, ◌<◌, ◌≤◌,
 use Rattle.capture.specs.Pcap.{IsRecordHeader}
 use Rattle.capture.proofs.Filling.{first_reads, fills_reads}
 use Rattle.capture.proofs.Records.{record_whole, record_head_cut, record_large, record_cut, record_read, record_place}
-use Rattle.capture.proofs.capture.read_parts.Goals as goal
+use Rattle.capture.proofs.capture.shown.read_parts.Goals as goal
 
 pub returns-then-len-eq0-clause-gives : goal.returns-then-len-eq0-clause-gives
 returns-then-len-eq0-clause-gives g c all none =

@@ -1,11 +1,10 @@
 -- The head is read, and then the block, or it is passed over.
-use Rattle.std.proofs.Common.{◌≡◌, ◌+◌, ◌-◌, ◌<◌, ◌≤◌, ap, sym, subst, ◌∙◌, arith, length}
+use Rattle.std.proofs.Common.{◌<◌, ◌≤◌, subst, ◌∙◌, length}
 use Rattle.capture.specs.Capture.{no_head}
 use Rattle.capture.specs.Pcapng.{IsHead, HeadEnds}
-use Rattle.capture.specs.Reader.{Skips}
 use Rattle.capture.proofs.Filling.{fills_reads, reads_fits}
 use Rattle.capture.proofs.Sections.{passed_over, cut_passed, cut_read, whole_block, told, told_not}
-use Rattle.capture.proofs.capture.read_block_parts.Goals as goal
+use Rattle.capture.proofs.capture.shown.read_block_parts.Goals as goal
 
 pub returns-in-Err-clause-reads : goal.returns-in-Err-clause-reads
 returns-in-Err-clause-reads g c all done order before interfaces =

@@ -1,9 +1,9 @@
 -- The block was taken in one step.
-use Rattle.std.proofs.Common.{◌≡◌, ap, sym, subst, ◌∙◌, length, eqb-true}
+use Rattle.std.proofs.Common.{ap, sym, subst, ◌∙◌, length, eqb-true}
 use Rattle.capture.specs.Reader.{Reads}
 use Rattle.capture.proofs.Filling.{no_byte}
 use Rattle.capture.proofs.Shown.{shown_reads}
-use Rattle.capture.proofs.capture.read_octets.Goals as goal
+use Rattle.capture.proofs.capture.shown.read_octets.Goals as goal
 
 pub returns-in-Some-clause-reads : goal.returns-in-Some-clause-reads
 returns-in-Some-clause-reads g c all done order before =

@@ -1,10 +1,10 @@
 -- The block that was shown is consumed.
-use Rattle.std.proofs.Common.{◌≡◌, ◌++◌, ap, subst, ◌∙◌, take}
+use Rattle.std.proofs.Common.{◌++◌, ap, subst, ◌∙◌, take}
 use Rattle.std.specs.Io.BufRead.{FillKeeps}
 use Rattle.std.proofs.BufReadLemmas.{Consumes_shown}
 use Rattle.capture.proofs.Sections.{told, told_not}
 use Rattle.capture.proofs.Shown.{shown_block, shown_passed}
-use Rattle.capture.proofs.capture.take_shown_block.Goals as goal
+use Rattle.capture.proofs.capture.shown.take_shown_block.Goals as goal
 
 pub returns-then-not-is_read-clause-takes : goal.returns-then-not-is_read-clause-takes
 returns-then-not-is_read-clause-takes g c =
