@@ -189,16 +189,34 @@ impl fmt::Display for Character {
     fn fmt<W: fmt::Write>(&self, f: &mut fmt::Formatter<W>) -> fmt::Result {
         let byte = self.0;
         if byte < ASCII_END && is_plain(byte) {
-            Ascii { byte }.fmt(f)
-        } else if is_special(byte) {
-            f.write_str("\\")?;
-            Ascii { byte }.fmt(f)
-        } else {
-            f.write_str("\\")?;
-            digit(byte / 100).fmt(f)?;
-            digit(byte / 10 % 10).fmt(f)?;
-            digit(byte % 10).fmt(f)
+            return Ascii { byte }.fmt(f);
         }
+        Quoted(byte).fmt(f)
+    }
+}
+
+// A byte behind a backslash: itself where it has a meaning of its own, and else its number.
+#[derive(Drop)]
+struct Quoted(u8);
+
+impl fmt::Display for Quoted {
+    ghost use Rattle.std.specs.Prelude.{Some, ◌∷◌, [], ◌++◌, ◌/◌, ◌%◌, if◌then◌else◌, codes, decimal};
+    ghost use Rattle.record_wire.specs.NameText.{is_special};
+
+    ghost output = { λ byte. Some (codes "\\" ++ (if is_special byte.0 then byte.0 ∷ []
+        else decimal (byte.0 / 100) ++ decimal (byte.0 / 10 % 10) ++ decimal (byte.0 % 10))) };
+
+    // It stands apart, so that the loop over plain characters stays small.
+    #[inline(never)]
+    fn fmt<W: fmt::Write>(&self, f: &mut fmt::Formatter<W>) -> fmt::Result {
+        let byte = self.0;
+        f.write_str("\\")?;
+        if is_special(byte) {
+            return Ascii { byte }.fmt(f);
+        }
+        digit(byte / 100).fmt(f)?;
+        digit(byte / 10 % 10).fmt(f)?;
+        digit(byte % 10).fmt(f)
     }
 }
 
