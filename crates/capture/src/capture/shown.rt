@@ -148,6 +148,7 @@ fn read_block_parts<R: BufRead>(
 }
 
 // Reads the next record of a file with a header.
+#[inline]
 pub(super) fn read_record<R: BufRead>(
     input: &mut R,
     octets: &mut Vec<u8>,
@@ -167,6 +168,7 @@ pub(super) fn read_record<R: BufRead>(
 }
 
 // Takes the next record in one step, where the buffer of the input shows the whole of it.
+#[inline]
 fn take_shown<R: BufRead>(input: &mut R, octets: &mut Vec<u8>, order: Order) -> Result<Shown, Fault>
     requires { octets.old.items ≡ [] }
     ensures takes { IfOk result (λ shown. TakesShown order (R.remaining input.old) (R.remaining input.new)
