@@ -2,7 +2,7 @@
 //! The characters and the labels of a name's text (RFC 1035 section 5.1).
 
 use crate::record::name::MAX_NAME_LEN;
-use crate::record::name::label::{MAX_LABEL_LEN, push_label};
+use crate::record::name::label::MAX_LABEL_LEN;
 use crate::wirebase::{Error, Result};
 use arrayvec::ArrayVec;
 use core::fmt::{self, Display};
@@ -18,8 +18,7 @@ pub(super) fn read_labels(text: &[u8]) -> Result<ArrayVec<u8, MAX_NAME_LEN>> {
     let mut octets = ArrayVec::new();
     let mut left = text;
     loop {
-        let (label, rest) = read_label(left)?;
-        push_label(&mut octets, label.as_slice())?;
+        let rest = read_label(&mut octets, left)?;
         match read_behind(rest) {
             Behind::End => return Ok(octets),
             Behind::Label(next) => left = next,
@@ -49,21 +48,28 @@ fn read_behind(text: &[u8]) -> Behind<'_> {
     }
 }
 
-// Reads a label's text, up to where no more characters stand, and gives what stands there. Refused where the label
-// would be empty or has more than 63 bytes.
-fn read_label(text: &[u8]) -> Result<(ArrayVec<u8, MAX_LABEL_LEN>, &[u8])> {
-    let mut label = ArrayVec::new();
-    let mut left = text;
-    while let Some((byte, rest)) = read_byte(left) {
-        if label.try_push(byte).is_err() {
-            return Err(Error);
-        }
-        left = rest;
-    }
-    if label.is_empty() {
+// Reads a label's text, up to where no more characters stand, and gives what stands there. The label is written where
+// it stays, behind a byte that becomes its length. Refused where it would be empty or have more than 63 bytes, and where
+// there is no room; then less may be written.
+fn read_label<'a>(octets: &mut ArrayVec<u8, MAX_NAME_LEN>, text: &'a [u8]) -> Result<&'a [u8]> {
+    let start = octets.len();
+    if octets.try_push(0).is_err() {
         return Err(Error);
     }
-    Ok((label, left))
+    let mut left = text;
+    let mut len = 0;
+    while let Some((byte, rest)) = read_byte(left) {
+        if octets.try_push(byte).is_err() {
+            return Err(Error);
+        }
+        len += 1;
+        left = rest;
+    }
+    if len == 0 || len > MAX_LABEL_LEN {
+        return Err(Error);
+    }
+    octets[start] = len as u8;
+    Ok(left)
 }
 
 // The byte that the first character of a text stands for, and what stands behind the character.
@@ -139,13 +145,33 @@ impl fmt::Display for Character {
     fn fmt(&self, f: &mut fmt::Formatter<'_>) -> fmt::Result {
         let byte = self.0;
         if byte < ASCII_END && is_plain(byte) {
-            // One write of one byte, with none of the work that `write!` does for a formatter's options.
-            let mut encoded = [0; 4];
-            f.write_str(char::from(byte).encode_utf8(&mut encoded))
+            Ascii { byte }.fmt(f)
         } else if is_special(byte) {
-            write!(f, "\\{}", char::from(byte))
+            f.write_str("\\")?;
+            Ascii { byte }.fmt(f)
         } else {
-            write!(f, "\\{}{}{}", byte / 100, byte / 10 % 10, byte % 10)
+            f.write_str("\\")?;
+            digit(byte / 100).fmt(f)?;
+            digit(byte / 10 % 10).fmt(f)?;
+            digit(byte % 10).fmt(f)
         }
+    }
+}
+
+// The digit of this value.
+fn digit(value: u8) -> Ascii {
+    Ascii { byte: b'0' + value }
+}
+
+// A byte of ASCII, which is written as itself: in one write, with none of the work that `write!` does for a formatter's
+// options.
+struct Ascii {
+    byte: u8,
+}
+
+impl fmt::Display for Ascii {
+    fn fmt(&self, f: &mut fmt::Formatter<'_>) -> fmt::Result {
+        let mut encoded = [0; 4];
+        f.write_str(char::from(self.byte).encode_utf8(&mut encoded))
     }
 }

@@ -1,35 +1,39 @@
-use Rattle.std.proofs.Common.{◌≡◌, ◌<◌, [], ◌∷◌, ◌++◌, length, ap, sym, subst, rules, arith}
-use Rattle.std.proofs.Common.{length-append}
-use Rattle.record_wire.specs.NameText.{Spells}
-use Rattle.record_wire.proofs.Spelling.{spells_more, spelling_one, spelling_longer}
+use Rattle.std.proofs.Common.{◌≡◌, length, sym, rules, arith}
 use Rattle.record_wire.proofs.Characters.{first_shorter}
+use Rattle.record_wire.proofs.Spelling.{byte_more, label_read, label_full, label_same}
 use Rattle.record_wire.proofs.name.text.read_label.Goals as goal
+use Rattle.record_wire.proofs.name.text.read_label.Goals.{then-len-eq0-via-then-len-eq0}
+use Rattle.record_wire.proofs.name.text.read_label.Goals.{then-len-eq0-via-else-len-eq0+then-len-gt-MAX_LABEL_LEN}
+
+pub returns-then-is_err-2-clause-complete : goal.returns-then-is_err-2-clause-complete
+returns-then-is_err-2-clause-complete c = λ label rest spelling one room.
+    let full : length c.loop-byte.octets.items ≡ 255 = search rules in
+    absurd (label_full c.args.text.now c.loop-byte.left.now c.args.octets.now.items c.loop-byte.octets.items
+    c.loop-byte.len c.in-Some.byte c.in-Some.rest.now label rest c.loop-byte.invariant (sym c.in-Some.ensures) full
+    spelling room)
 
 pub loop-byte-preserved : goal.loop-byte-preserved
 loop-byte-preserved c =
-    let more = spells_more c.loop-byte.label.items c.args.text.now c.loop-byte.left.now c.in-Some.byte
-    c.in-Some.rest.now c.loop-byte.invariant.spells (sym c.in-Some.ensures) in
-    let pushed : c.try_push.new.self.items ≡ c.loop-byte.label.items ++ c.in-Some.byte ∷ [] = search rules in
-    let room : length c.loop-byte.label.items < 63 = search rules in
-    record {
-      spells = subst (λ label. Spells c.args.text.now label c.in-Some.rest.now) (sym pushed) more;
-      few = omega (arith, ap length pushed, room, length-append c.loop-byte.label.items (c.in-Some.byte ∷ []));
-    }
+    byte_more c.args.text.now c.loop-byte.left.now c.args.octets.now.items c.loop-byte.octets.items c.loop-byte.len
+    c.in-Some.byte c.in-Some.rest.now c.try_push-in-Some.new.self.items c.loop-byte.invariant (sym c.in-Some.ensures)
+    (search rules)
 
 pub loop-byte-smaller : goal.loop-byte-smaller
 loop-byte-smaller c =
     first_shorter c.in-Some.byte c.loop-byte.left.now c.in-Some.rest.now (sym c.in-Some.ensures)
 
-pub returns-then-is_err-clause-complete : goal.returns-then-is_err-clause-complete
-returns-then-is_err-clause-complete c = λ label rest spelling some few.
-    let longer = spelling_longer c.loop-byte.label.items label c.args.text.now c.loop-byte.left.now c.in-Some.byte
-    c.in-Some.rest.now rest c.loop-byte.invariant.spells (sym c.in-Some.ensures) spelling.spells spelling.no_more in
-    let full : length c.loop-byte.label.items ≡ 63 = search rules in
-    absurd (omega (arith, longer, full, few))
+pub returns-then-len-eq0-clause-complete : goal.returns-then-len-eq0-clause-complete
+returns-then-len-eq0-clause-complete c = λ label rest spelling one room.
+    let same = label_same c.args.text.now c.loop-byte.left.now c.args.octets.now.items c.loop-byte.octets.items
+    c.loop-byte.len label rest c.loop-byte.invariant (sym c.in_default.ensures) spelling in
+    elim c.then-len-eq0.branch [
+      | then-len-eq0-via-then-len-eq0 w ↦ absurd (omega (arith, same, one.0, w.if-len-eq0.true))
+      | then-len-eq0-via-else-len-eq0+then-len-gt-MAX_LABEL_LEN w ↦
+          absurd (omega (arith, same, one.1, w.if-len-gt-MAX_LABEL_LEN.true))
+    ]
 
-pub returns-then-is_empty-clause-complete : goal.returns-then-is_empty-clause-complete
-returns-then-is_empty-clause-complete c = λ label rest spelling some few.
-    let one = spelling_one c.loop-byte.label.items label c.args.text.now c.loop-byte.left.now rest
-    c.loop-byte.invariant.spells (sym c.in_default.ensures) spelling.spells spelling.no_more in
-    let empty : length c.loop-byte.label.items ≡ 0 = search rules in
-    absurd (omega (arith, some, ap length one.0, empty))
+pub returns-clause-sound : goal.returns-clause-sound
+returns-clause-sound c =
+    label_read c.args.text.now c.loop-byte.left.now c.args.octets.now.items c.loop-byte.octets c.deref_mut.result.now
+    c.len-start.result c.loop-byte.len c.loop-byte.invariant (sym c.in_default.ensures) c.len-start.ensures.value
+    c.deref_mut.ensures.value (search rules) (search rules)
