@@ -1,5 +1,5 @@
 -- The text of a label: its characters one after another, as many as there are.
-use Rattle.std.proofs.Common.{◌≡◌, ℕ, ◌+◌, ◌≤◌, List, [], ◌∷◌, ◌++◌, length, None, Some, refl, sym, ap, ◌∙◌, subst}
+use Rattle.std.proofs.Common.{◌≡◌, ℕ, ◌+◌, ◌<◌, ◌≤◌, List, [], ◌∷◌, ◌++◌, length, None, Some, refl, sym, ap, ◌∙◌, subst}
 use Rattle.std.proofs.Common.{inl, inr, arith, slice_set, append_assoc, length-append}
 use Rattle.std.proofs.lemmas.List.{set_at, length-set}
 use Rattle.arrayvec.specs.ArrayVec.{ArrayVec, with_items}
@@ -81,16 +81,18 @@ pub record LabelSoFar (text left old octets : List ℕ) (len : ℕ) : Type 0 whe
   pub spells : Spells text label left
   pub behind : octets ≡ old ++ 0 ∷ label
   pub counts : len ≡ length label
+  pub few : len ≤ 63
 
 pub byte_more : (text left old octets : List ℕ) (len byte : ℕ) (rest next : List ℕ)
-    → LabelSoFar text left old octets len → first_byte left ≡ Some (byte, rest) → next ≡ octets ++ byte ∷ []
-    → LabelSoFar text rest old next (len + 1)
-byte_more text left old octets len byte rest next so e pushed = record {
+    → LabelSoFar text left old octets len → len < 63 → first_byte left ≡ Some (byte, rest)
+    → next ≡ octets ++ byte ∷ [] → LabelSoFar text rest old next (len + 1)
+byte_more text left old octets len byte rest next so room e pushed = record {
   label = so.label ++ byte ∷ [];
   spells = spells_more so.label text left byte rest so.spells e;
   behind = pushed
       ∙ (ap (λ (o : List ℕ). o ++ byte ∷ []) so.behind ∙ append_assoc old (0 ∷ so.label) (byte ∷ []));
   counts = omega (arith, so.counts, length-append so.label (byte ∷ []));
+  few = omega (arith, room);
 }
 
 octets_len : (text left old octets : List ℕ) (len : ℕ) → LabelSoFar text left old octets len
@@ -101,14 +103,14 @@ octets_len text left old octets len so =
 -- its length is written where it stays, once no more characters stand
 pub label_read : (text left old : List ℕ) (octets : ArrayVec ℕ) (shown : List ℕ) (start len : ℕ)
     → LabelSoFar text left old octets.items len → first_byte left ≡ None → start ≡ length old
-    → shown ≡ octets.items → 1 ≤ len → len ≤ 63
+    → shown ≡ octets.items → 1 ≤ len
     → IsLabelRead text left old (with_items octets (slice_set shown start len)).items
-label_read text left old octets shown start len so none at e some few =
+label_read text left old octets shown start len so none at e some =
     let kept : length (slice_set shown start len) ≡ length octets.items = length-set shown start len ∙ ap length e in
     record {
       label = so.label;
       spelling = record { spells = so.spells; no_more = none };
-      one = (omega (arith, so.counts, some), omega (arith, so.counts, few));
+      one = (omega (arith, so.counts, some), omega (arith, so.counts, so.few));
       behind = items-with_items octets (slice_set shown start len) kept
           ∙ (ap (λ (o : List ℕ). slice_set o start len) (e ∙ so.behind)
           ∙ (set_at old 0 so.label len start (sym at) ∙ ap (λ (n : ℕ). old ++ n ∷ so.label) so.counts));
@@ -122,6 +124,14 @@ label_full text left old octets len byte after label rest so e full is room =
     let all = octets_len text left old octets len so in
     let longer = spelling_longer so.label label text left byte after rest so.spells e is.spells is.no_more in
     absurd (omega (arith, all, so.counts, longer, full, room))
+
+-- where one more byte stands behind the most that a label has, there is no label
+pub label_long : (text left old octets : List ℕ) (len byte : ℕ) (after label rest : List ℕ)
+    → LabelSoFar text left old octets len → first_byte left ≡ Some (byte, after) → len ≡ 63
+    → IsSpelling text label rest → length label ≤ 63 → ⊥
+label_long text left old octets len byte after label rest so e most is few =
+    let longer = spelling_longer so.label label text left byte after rest so.spells e is.spells is.no_more in
+    absurd (omega (arith, so.counts, longer, most, few))
 
 -- where no more characters stand, the label is all there is
 pub label_same : (text left old octets : List ℕ) (len : ℕ) (label rest : List ℕ)

@@ -80,13 +80,16 @@ fn read_label<'a>(octets: &mut ArrayVec<u8, MAX_NAME_LEN>, text: &'a [u8]) -> Re
     let mut left = text;
     let mut len = 0;
     while let Some((byte, rest)) = read_byte(left) {
+        if len == MAX_LABEL_LEN {
+            return Err(Error);
+        }
         if octets.try_push(byte).is_err() {
             return Err(Error);
         }
         len += 1;
         left = rest;
     }
-    if len == 0 || len > MAX_LABEL_LEN {
+    if len == 0 {
         return Err(Error);
     }
     octets[start] = len as u8;

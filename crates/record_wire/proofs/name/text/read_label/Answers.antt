@@ -1,9 +1,13 @@
 use Rattle.std.proofs.Common.{◌≡◌, length, sym, rules, arith}
 use Rattle.record_wire.proofs.Characters.{first_shorter}
-use Rattle.record_wire.proofs.Spelling.{byte_more, label_read, label_full, label_same}
+use Rattle.record_wire.proofs.Spelling.{byte_more, label_read, label_full, label_long, label_same}
 use Rattle.record_wire.proofs.name.text.read_label.Goals as goal
-use Rattle.record_wire.proofs.name.text.read_label.Goals.{then-len-eq0-via-then-len-eq0}
-use Rattle.record_wire.proofs.name.text.read_label.Goals.{then-len-eq0-via-else-len-eq0+then-len-gt-MAX_LABEL_LEN}
+
+pub returns-then-len-eq-MAX_LABEL_LEN-clause-complete : goal.returns-then-len-eq-MAX_LABEL_LEN-clause-complete
+returns-then-len-eq-MAX_LABEL_LEN-clause-complete c = λ label rest spelling one room.
+    absurd (label_long c.args.text.now c.loop-byte.left.now c.args.octets.now.items c.loop-byte.octets.items
+    c.loop-byte.len c.in-Some.byte c.in-Some.rest.now label rest c.loop-byte.invariant (sym c.in-Some.ensures)
+    c.if-len-eq-MAX_LABEL_LEN.true spelling one.1)
 
 pub returns-then-is_err-2-clause-complete : goal.returns-then-is_err-2-clause-complete
 returns-then-is_err-2-clause-complete c = λ label rest spelling one room.
@@ -15,8 +19,8 @@ returns-then-is_err-2-clause-complete c = λ label rest spelling one room.
 pub loop-byte-preserved : goal.loop-byte-preserved
 loop-byte-preserved c =
     byte_more c.args.text.now c.loop-byte.left.now c.args.octets.now.items c.loop-byte.octets.items c.loop-byte.len
-    c.in-Some.byte c.in-Some.rest.now c.try_push-in-Some.new.self.items c.loop-byte.invariant (sym c.in-Some.ensures)
-    (search rules)
+    c.in-Some.byte c.in-Some.rest.now c.try_push-in-Some.new.self.items c.loop-byte.invariant
+    (omega (arith, c.loop-byte.invariant.few, c.if-len-eq-MAX_LABEL_LEN.false)) (sym c.in-Some.ensures) (search rules)
 
 pub loop-byte-smaller : goal.loop-byte-smaller
 loop-byte-smaller c =
@@ -26,14 +30,10 @@ pub returns-then-len-eq0-clause-complete : goal.returns-then-len-eq0-clause-comp
 returns-then-len-eq0-clause-complete c = λ label rest spelling one room.
     let same = label_same c.args.text.now c.loop-byte.left.now c.args.octets.now.items c.loop-byte.octets.items
     c.loop-byte.len label rest c.loop-byte.invariant (sym c.in_default.ensures) spelling in
-    elim c.then-len-eq0.branch [
-      | then-len-eq0-via-then-len-eq0 w ↦ absurd (omega (arith, same, one.0, w.if-len-eq0.true))
-      | then-len-eq0-via-else-len-eq0+then-len-gt-MAX_LABEL_LEN w ↦
-          absurd (omega (arith, same, one.1, w.if-len-gt-MAX_LABEL_LEN.true))
-    ]
+    absurd (omega (arith, same, one.0, c.if-len-eq0.true))
 
 pub returns-clause-sound : goal.returns-clause-sound
 returns-clause-sound c =
     label_read c.args.text.now c.loop-byte.left.now c.args.octets.now.items c.loop-byte.octets c.deref_mut.result.now
     c.len-start.result c.loop-byte.len c.loop-byte.invariant (sym c.in_default.ensures) c.len-start.ensures.value
-    c.deref_mut.ensures.value (search rules) (search rules)
+    c.deref_mut.ensures.value (search rules)
