@@ -139,13 +139,44 @@ impl fmt::Display for Character {
     fn fmt(&self, f: &mut fmt::Formatter<'_>) -> fmt::Result {
         let byte = self.0;
         if byte < ASCII_END && is_plain(byte) {
-            // One write of one byte, with none of the work that `write!` does for a formatter's options.
-            let mut encoded = [0; 4];
-            f.write_str(char::from(byte).encode_utf8(&mut encoded))
-        } else if is_special(byte) {
-            write!(f, "\\{}", char::from(byte))
-        } else {
-            write!(f, "\\{}{}{}", byte / 100, byte / 10 % 10, byte % 10)
+            return Ascii { byte }.fmt(f);
         }
+        Quoted(byte).fmt(f)
+    }
+}
+
+// A byte behind a backslash: itself where it has a meaning of its own, and else its number.
+struct Quoted(u8);
+
+impl fmt::Display for Quoted {
+    // It stands apart, so that the loop over plain characters stays small.
+    #[inline(never)]
+    fn fmt(&self, f: &mut fmt::Formatter<'_>) -> fmt::Result {
+        let byte = self.0;
+        f.write_str("\\")?;
+        if is_special(byte) {
+            return Ascii { byte }.fmt(f);
+        }
+        digit(byte / 100).fmt(f)?;
+        digit(byte / 10 % 10).fmt(f)?;
+        digit(byte % 10).fmt(f)
+    }
+}
+
+// The digit of this value.
+fn digit(value: u8) -> Ascii {
+    Ascii { byte: b'0' + value }
+}
+
+// A byte of ASCII, which is written as itself: in one write, with none of the work that `write!` does for a formatter's
+// options.
+struct Ascii {
+    byte: u8,
+}
+
+impl fmt::Display for Ascii {
+    fn fmt(&self, f: &mut fmt::Formatter<'_>) -> fmt::Result {
+        let mut encoded = [0; 4];
+        f.write_str(char::from(self.byte).encode_utf8(&mut encoded))
     }
 }
