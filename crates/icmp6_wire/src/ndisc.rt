@@ -18,12 +18,15 @@ use wirebase::{Duration, Ipv6Address, Octets, OctetsMut};
 mod flags;
 mod found;
 mod options;
+mod reading;
 mod repr;
 
 pub use flags::{NeighborFlags, RouterFlags};
 pub(crate) use found::Found;
+pub(crate) use reading::{
+    neighbor_advert, neighbor_solicit, redirect, router_advert, router_solicit,
+};
 pub use repr::Repr;
-pub(crate) use repr::{neighbor_advert, neighbor_solicit, redirect, router_advert, router_solicit};
 
 // The fields behind the checksum (RFC 4861 section 4); their picture is in specs/NdiscPacket.antt.
 mod field {

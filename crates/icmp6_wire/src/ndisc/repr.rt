@@ -6,14 +6,12 @@ ghost use Rattle.wirebase.specs.ByteWriter.{free, Puts, be8, be16, be32};
 ghost use Rattle.wirebase.specs.Duration.{millis_of, seconds_of};
 ghost use Rattle.wirebase.specs.Format.{Rewrites, SameText};
 ghost use Rattle.opt_wire.specs.NdiscOptionRepr.{CanEmit as CanEmitOption};
-ghost use Rattle.wirebase.specs.Bytes.{byte_of};
-ghost use Rattle.wirebase.specs.Icmp.{type_field};
-ghost use Rattle.icmp6_wire.specs.Icmpv6Packet.{inner, view_octets, payload_in, BeginsWhole};
+ghost use Rattle.icmp6_wire.specs.Icmpv6Packet.{inner, view_octets};
 ghost use Rattle.icmp6_wire.specs.Ndisc.{NdiscValue, value_of, sources, targets, mtus, prefixes, packets};
 ghost use Rattle.icmp6_wire.specs.Ndisc.{options_of, option_lens, option_texts, header_len, header_fields, Each};
 ghost use Rattle.icmp6_wire.specs.Ndisc.{HaveTimes, message_fields, text};
 ghost use Rattle.icmp6_wire.specs.Ndisc.{text_len, CanEmit, IsMessage, format, Emits};
-ghost use Rattle.icmp6_wire.specs.NdiscFound.{link_of, packet_of, kept_of, Says};
+ghost use Rattle.icmp6_wire.specs.NdiscFound.{link_of, packet_of};
 ghost use Rattle.icmp6_wire.specs.Icmpv6Tables.{message_number};
 ghost use Rattle.icmp6_wire.specs.NdiscTables.{router_bits, neighbor_bits};
 
@@ -24,6 +22,7 @@ use super::options::{
     mtu_len, prefix_len, put_mtu, put_prefix, put_redirected, put_source, put_target,
     redirected_len, source_len, target_len,
 };
+use super::reading::{neighbor_advert, neighbor_solicit, redirect, router_advert, router_solicit};
 use crate::icmpv6::{Message, Packet};
 use crate::writing::{put_address, put_type};
 use bitflags::Flags as _;
@@ -288,84 +287,6 @@ impl<'a> Repr<'a> {
                 ..
             } => put_redirect_options(w, lladdr, redirected_hdr),
         }
-    }
-}
-
-// The router solicitation in octets of that type, whose options say this.
-#[inline(always)]
-pub(crate) fn router_solicit<'a>(packet: &Packet<&'a [u8]>, found: &Found<'a>) -> Repr<'a>
-    requires whole { BeginsWhole (view_octets packet.now) }
-    requires kind { byte_of type_field (view_octets packet.now) ≡ 0x85 }
-    requires says { Says (payload_in (view_octets packet.now)) (kept_of found.now) }
-    ensures { IsMessage (view_octets packet.now) (value_of result) }
-{
-    Repr::RouterSolicit {
-        lladdr: found.source,
-    }
-}
-
-// The same of a router advertisement.
-#[inline(always)]
-pub(crate) fn router_advert<'a>(packet: &Packet<&'a [u8]>, found: &Found<'a>) -> Repr<'a>
-    requires whole { BeginsWhole (view_octets packet.now) }
-    requires kind { byte_of type_field (view_octets packet.now) ≡ 0x86 }
-    requires says { Says (payload_in (view_octets packet.now)) (kept_of found.now) }
-    ensures { IsMessage (view_octets packet.now) (value_of result) }
-{
-    Repr::RouterAdvert {
-        hop_limit: packet.current_hop_limit(),
-        flags: packet.router_flags(),
-        router_lifetime: packet.router_lifetime(),
-        reachable_time: packet.reachable_time(),
-        retrans_time: packet.retrans_time(),
-        lladdr: found.source,
-        mtu: found.mtu,
-        prefix_info: found.prefix_info,
-    }
-}
-
-// The same of a neighbor solicitation.
-#[inline(always)]
-pub(crate) fn neighbor_solicit<'a>(packet: &Packet<&'a [u8]>, found: &Found<'a>) -> Repr<'a>
-    requires whole { BeginsWhole (view_octets packet.now) }
-    requires kind { byte_of type_field (view_octets packet.now) ≡ 0x87 }
-    requires says { Says (payload_in (view_octets packet.now)) (kept_of found.now) }
-    ensures { IsMessage (view_octets packet.now) (value_of result) }
-{
-    Repr::NeighborSolicit {
-        target_addr: packet.target_addr(),
-        lladdr: found.source,
-    }
-}
-
-// The same of a neighbor advertisement.
-#[inline(always)]
-pub(crate) fn neighbor_advert<'a>(packet: &Packet<&'a [u8]>, found: &Found<'a>) -> Repr<'a>
-    requires whole { BeginsWhole (view_octets packet.now) }
-    requires kind { byte_of type_field (view_octets packet.now) ≡ 0x88 }
-    requires says { Says (payload_in (view_octets packet.now)) (kept_of found.now) }
-    ensures { IsMessage (view_octets packet.now) (value_of result) }
-{
-    Repr::NeighborAdvert {
-        flags: packet.neighbor_flags(),
-        target_addr: packet.target_addr(),
-        lladdr: found.target,
-    }
-}
-
-// The same of a redirect.
-#[inline(always)]
-pub(crate) fn redirect<'a>(packet: &Packet<&'a [u8]>, found: &Found<'a>) -> Repr<'a>
-    requires whole { BeginsWhole (view_octets packet.now) }
-    requires kind { byte_of type_field (view_octets packet.now) ≡ 0x89 }
-    requires says { Says (payload_in (view_octets packet.now)) (kept_of found.now) }
-    ensures { IsMessage (view_octets packet.now) (value_of result) }
-{
-    Repr::Redirect {
-        target_addr: packet.target_addr(),
-        dest_addr: packet.dest_addr(),
-        lladdr: found.target,
-        redirected_hdr: found.redirected_hdr,
     }
 }
 

@@ -8,6 +8,7 @@ use super::options::{
     mtu_len, prefix_len, put_mtu, put_prefix, put_redirected, put_source, put_target,
     redirected_len, source_len, target_len,
 };
+use super::reading::{neighbor_advert, neighbor_solicit, redirect, router_advert, router_solicit};
 use crate::icmp6_wire::icmpv6::{Message, Packet};
 use crate::icmp6_wire::writing::{put_address, put_type};
 use crate::opt_wire::ndiscoption::{PrefixInformation, RedirectedHeader};
@@ -218,74 +219,6 @@ impl<'a> Repr<'a> {
                 ..
             } => put_redirect_options(w, lladdr, redirected_hdr),
         }
-    }
-}
-
-// The router solicitation in octets of that type, whose options say this.
-#[inline(always)]
-pub(crate) fn router_solicit<'a, B: AsRef<[u8]> + ?Sized>(
-    packet: &Packet<&'a B>,
-    found: &Found<'a>,
-) -> Repr<'a> {
-    Repr::RouterSolicit {
-        lladdr: found.source,
-    }
-}
-
-// The same of a router advertisement.
-#[inline(always)]
-pub(crate) fn router_advert<'a, B: AsRef<[u8]> + ?Sized>(
-    packet: &Packet<&'a B>,
-    found: &Found<'a>,
-) -> Repr<'a> {
-    Repr::RouterAdvert {
-        hop_limit: packet.current_hop_limit(),
-        flags: packet.router_flags(),
-        router_lifetime: packet.router_lifetime(),
-        reachable_time: packet.reachable_time(),
-        retrans_time: packet.retrans_time(),
-        lladdr: found.source,
-        mtu: found.mtu,
-        prefix_info: found.prefix_info,
-    }
-}
-
-// The same of a neighbor solicitation.
-#[inline(always)]
-pub(crate) fn neighbor_solicit<'a, B: AsRef<[u8]> + ?Sized>(
-    packet: &Packet<&'a B>,
-    found: &Found<'a>,
-) -> Repr<'a> {
-    Repr::NeighborSolicit {
-        target_addr: packet.target_addr(),
-        lladdr: found.source,
-    }
-}
-
-// The same of a neighbor advertisement.
-#[inline(always)]
-pub(crate) fn neighbor_advert<'a, B: AsRef<[u8]> + ?Sized>(
-    packet: &Packet<&'a B>,
-    found: &Found<'a>,
-) -> Repr<'a> {
-    Repr::NeighborAdvert {
-        flags: packet.neighbor_flags(),
-        target_addr: packet.target_addr(),
-        lladdr: found.target,
-    }
-}
-
-// The same of a redirect.
-#[inline(always)]
-pub(crate) fn redirect<'a, B: AsRef<[u8]> + ?Sized>(
-    packet: &Packet<&'a B>,
-    found: &Found<'a>,
-) -> Repr<'a> {
-    Repr::Redirect {
-        target_addr: packet.target_addr(),
-        dest_addr: packet.dest_addr(),
-        lladdr: found.target,
-        redirected_hdr: found.redirected_hdr,
     }
 }
 

@@ -59,13 +59,16 @@ fn read_label<'a>(octets: &mut ArrayVec<u8, MAX_NAME_LEN>, text: &'a [u8]) -> Re
     let mut left = text;
     let mut len = 0;
     while let Some((byte, rest)) = read_byte(left) {
+        if len == MAX_LABEL_LEN {
+            return Err(Error);
+        }
         if octets.try_push(byte).is_err() {
             return Err(Error);
         }
         len += 1;
         left = rest;
     }
-    if len == 0 || len > MAX_LABEL_LEN {
+    if len == 0 {
         return Err(Error);
     }
     octets[start] = len as u8;
@@ -145,16 +148,27 @@ impl fmt::Display for Character {
     fn fmt(&self, f: &mut fmt::Formatter<'_>) -> fmt::Result {
         let byte = self.0;
         if byte < ASCII_END && is_plain(byte) {
-            Ascii { byte }.fmt(f)
-        } else if is_special(byte) {
-            f.write_str("\\")?;
-            Ascii { byte }.fmt(f)
-        } else {
-            f.write_str("\\")?;
-            digit(byte / 100).fmt(f)?;
-            digit(byte / 10 % 10).fmt(f)?;
-            digit(byte % 10).fmt(f)
+            return Ascii { byte }.fmt(f);
         }
+        Quoted(byte).fmt(f)
+    }
+}
+
+// A byte behind a backslash: itself where it has a meaning of its own, and else its number.
+struct Quoted(u8);
+
+impl fmt::Display for Quoted {
+    // It stands apart, so that the loop over plain characters stays small.
+    #[inline(never)]
+    fn fmt(&self, f: &mut fmt::Formatter<'_>) -> fmt::Result {
+        let byte = self.0;
+        f.write_str("\\")?;
+        if is_special(byte) {
+            return Ascii { byte }.fmt(f);
+        }
+        digit(byte / 100).fmt(f)?;
+        digit(byte / 10 % 10).fmt(f)?;
+        digit(byte % 10).fmt(f)
     }
 }
 

@@ -122,6 +122,7 @@ fn read_block_parts<R: BufRead>(
 }
 
 // Reads the next record of a file with a header.
+#[inline]
 pub(super) fn read_record<R: BufRead>(
     input: &mut R,
     octets: &mut Vec<u8>,
@@ -135,6 +136,7 @@ pub(super) fn read_record<R: BufRead>(
 }
 
 // Takes the next record in one step, where the buffer of the input shows the whole of it.
+#[inline]
 fn take_shown<R: BufRead>(
     input: &mut R,
     octets: &mut Vec<u8>,

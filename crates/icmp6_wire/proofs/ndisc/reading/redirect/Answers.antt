@@ -1,6 +1,6 @@
 use Rattle.std.proofs.Common.{refl}
 use Rattle.icmp6_wire.proofs.NdiscTiling.{said_target, said_packet, message_said}
-use Rattle.icmp6_wire.proofs.ndisc.repr.redirect.Goals as goal
+use Rattle.icmp6_wire.proofs.ndisc.reading.redirect.Goals as goal
 
 pub returns : goal.returns
 returns c =

@@ -1,6 +1,6 @@
 use Rattle.std.proofs.Common.{refl}
 use Rattle.icmp6_wire.proofs.NdiscTiling.{said_source, message_said}
-use Rattle.icmp6_wire.proofs.ndisc.repr.router_solicit.Goals as goal
+use Rattle.icmp6_wire.proofs.ndisc.reading.router_solicit.Goals as goal
 
 pub returns : goal.returns
 returns c =

@@ -1,13 +1,12 @@
 use Rattle.std.proofs.Common.{refl}
-use Rattle.icmp6_wire.proofs.NdiscTiling.{said_target, message_said}
-use Rattle.icmp6_wire.proofs.ndisc.repr.neighbor_advert.Goals as goal
+use Rattle.icmp6_wire.proofs.NdiscTiling.{said_source, message_said}
+use Rattle.icmp6_wire.proofs.ndisc.reading.neighbor_solicit.Goals as goal
 
 pub returns : goal.returns
 returns c =
     let s = c.requires.says in
     message_said c.requires.whole refl s (
       c.requires.kind,
-      c.neighbor_flags.ensures,
       c.target_addr.ensures,
-      said_target s,
+      said_source s,
     )

@@ -1,12 +1,13 @@
 use Rattle.std.proofs.Common.{refl}
-use Rattle.icmp6_wire.proofs.NdiscTiling.{said_source, message_said}
-use Rattle.icmp6_wire.proofs.ndisc.repr.neighbor_solicit.Goals as goal
+use Rattle.icmp6_wire.proofs.NdiscTiling.{said_target, message_said}
+use Rattle.icmp6_wire.proofs.ndisc.reading.neighbor_advert.Goals as goal
 
 pub returns : goal.returns
 returns c =
     let s = c.requires.says in
     message_said c.requires.whole refl s (
       c.requires.kind,
+      c.neighbor_flags.ensures,
       c.target_addr.ensures,
-      said_source s,
+      said_target s,
     )

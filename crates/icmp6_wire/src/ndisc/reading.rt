@@ -1,0 +1,90 @@
+//! Messages made from the octets of a packet and what its options say, by their types.
+
+ghost use Rattle.std.specs.Prelude.{◌≡◌};
+ghost use Rattle.wirebase.specs.Bytes.{byte_of};
+ghost use Rattle.wirebase.specs.Icmp.{type_field};
+ghost use Rattle.icmp6_wire.specs.Icmpv6Packet.{view_octets, payload_in, BeginsWhole};
+ghost use Rattle.icmp6_wire.specs.Ndisc.{value_of, IsMessage};
+ghost use Rattle.icmp6_wire.specs.NdiscFound.{kept_of, Says};
+
+use super::found::Found;
+use super::repr::Repr;
+use crate::icmpv6::Packet;
+
+// The router solicitation in octets of that type, whose options say this.
+#[inline(always)]
+pub(crate) fn router_solicit<'a>(packet: &Packet<&'a [u8]>, found: &Found<'a>) -> Repr<'a>
+    requires whole { BeginsWhole (view_octets packet.now) }
+    requires kind { byte_of type_field (view_octets packet.now) ≡ 0x85 }
+    requires says { Says (payload_in (view_octets packet.now)) (kept_of found.now) }
+    ensures { IsMessage (view_octets packet.now) (value_of result) }
+{
+    Repr::RouterSolicit {
+        lladdr: found.source,
+    }
+}
+
+// The same of a router advertisement.
+#[inline(always)]
+pub(crate) fn router_advert<'a>(packet: &Packet<&'a [u8]>, found: &Found<'a>) -> Repr<'a>
+    requires whole { BeginsWhole (view_octets packet.now) }
+    requires kind { byte_of type_field (view_octets packet.now) ≡ 0x86 }
+    requires says { Says (payload_in (view_octets packet.now)) (kept_of found.now) }
+    ensures { IsMessage (view_octets packet.now) (value_of result) }
+{
+    Repr::RouterAdvert {
+        hop_limit: packet.current_hop_limit(),
+        flags: packet.router_flags(),
+        router_lifetime: packet.router_lifetime(),
+        reachable_time: packet.reachable_time(),
+        retrans_time: packet.retrans_time(),
+        lladdr: found.source,
+        mtu: found.mtu,
+        prefix_info: found.prefix_info,
+    }
+}
+
+// The same of a neighbor solicitation.
+#[inline(always)]
+pub(crate) fn neighbor_solicit<'a>(packet: &Packet<&'a [u8]>, found: &Found<'a>) -> Repr<'a>
+    requires whole { BeginsWhole (view_octets packet.now) }
+    requires kind { byte_of type_field (view_octets packet.now) ≡ 0x87 }
+    requires says { Says (payload_in (view_octets packet.now)) (kept_of found.now) }
+    ensures { IsMessage (view_octets packet.now) (value_of result) }
+{
+    Repr::NeighborSolicit {
+        target_addr: packet.target_addr(),
+        lladdr: found.source,
+    }
+}
+
+// The same of a neighbor advertisement.
+#[inline(always)]
+pub(crate) fn neighbor_advert<'a>(packet: &Packet<&'a [u8]>, found: &Found<'a>) -> Repr<'a>
+    requires whole { BeginsWhole (view_octets packet.now) }
+    requires kind { byte_of type_field (view_octets packet.now) ≡ 0x88 }
+    requires says { Says (payload_in (view_octets packet.now)) (kept_of found.now) }
+    ensures { IsMessage (view_octets packet.now) (value_of result) }
+{
+    Repr::NeighborAdvert {
+        flags: packet.neighbor_flags(),
+        target_addr: packet.target_addr(),
+        lladdr: found.target,
+    }
+}
+
+// The same of a redirect.
+#[inline(always)]
+pub(crate) fn redirect<'a>(packet: &Packet<&'a [u8]>, found: &Found<'a>) -> Repr<'a>
+    requires whole { BeginsWhole (view_octets packet.now) }
+    requires kind { byte_of type_field (view_octets packet.now) ≡ 0x89 }
+    requires says { Says (payload_in (view_octets packet.now)) (kept_of found.now) }
+    ensures { IsMessage (view_octets packet.now) (value_of result) }
+{
+    Repr::Redirect {
+        target_addr: packet.target_addr(),
+        dest_addr: packet.dest_addr(),
+        lladdr: found.target,
+        redirected_hdr: found.redirected_hdr,
+    }
+}
