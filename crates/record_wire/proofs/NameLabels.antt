@@ -235,6 +235,15 @@ all_same text octets left label rest next first labels so spells no_more ends e 
     e ∙ (ap (λ (o : List ℕ). o ++ written label) so.written
     ∙ (sym (written_more so.done label) ∙ ap written_all (sym all)))
 
+-- the label that was read is the next one, so there is room for it
+pub next_fits : (text octets left label rest first : List ℕ) (labels : List (List ℕ)) → SoFar text octets left
+    → Spells left label rest → first_byte rest ≡ None → IsNameText text (first ∷ labels)
+    → length octets + length (written label) ≤ 255
+next_fits text octets left label rest first labels so spells no_more is =
+    let n = next_label text octets left first labels so is in
+    let one = spelling_one label n.label left rest n.rest spells no_more n.spells n.no_more in
+    omega (arith, n.room, ap length one.0)
+
 pub next_goes : (text octets left label rest first : List ℕ) (labels : List (List ℕ)) → SoFar text octets left
     → Spells left label rest → first_byte rest ≡ None → behind_in rest ≡ at_other → IsNameText text (first ∷ labels)
     → ⊥

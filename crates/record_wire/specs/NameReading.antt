@@ -1,12 +1,12 @@
 -- The characters at the front of a text, as they are computed: what private functions answer.
-use Rattle.std.specs.Prelude.{◌≡◌, ℕ, ◌+◌, ◌-◌, ◌*◌, ◌==◌, ◌&&◌, not, nat_lt, if◌then◌else◌, List, [], ◌∷◌, ◌++◌}
+use Rattle.std.specs.Prelude.{◌≡◌, ℕ, ◌+◌, ◌-◌, ◌*◌, ◌==◌, ◌&&◌, not, nat_lt, if◌then◌else◌, List, [], ◌∷◌}
 use Rattle.std.specs.Prelude.{Option, None, Some}
 use Rattle.std.specs.Char.{is_ascii_graphic, is_ascii_digit}
 use Rattle.std.specs.Borrow.{Bor}
 use Rattle.record_wire.specs.declared.name.text.Behind.{Behind}
 use Rattle.record_wire.specs.declared.name.text.Behind.TheVariants.{End, Label, Other}
 use Rattle.std.specs.List.{AllByRecursion}
-use Rattle.dns_wire.specs.DnsName.{IsLabel, written}
+use Rattle.dns_wire.specs.DnsName.{IsLabel}
 use Rattle.record_wire.specs.Labels.{written_all}
 use Rattle.record_wire.specs.NameText.{is_special, Spells, IsTextOf}
 
@@ -66,13 +66,6 @@ seen_label (Some (label, rest)) = Some (label.now, rest.now)
 pub record IsSpelling (text bytes rest : List ℕ) : Type 0 where
   pub spells : Spells text bytes rest
   pub no_more : first_byte rest ≡ None
-
--- the label whose text this is, up to the rest, is written behind the octets that there were
-pub record IsLabelRead (text rest old new : List ℕ) : Type 0 where
-  pub label : List ℕ
-  pub spelling : IsSpelling text label rest
-  pub one : IsLabel label
-  pub behind : new ≡ old ++ written label
 
 -- the octets of the labels of a text, of which there is one at least
 pub record AreSpelled (text octets : List ℕ) : Type 0 where

@@ -1,6 +1,7 @@
 //! The labels in the octets of a name (RFC 1035 section 3.1).
 
 ghost use Rattle.std.specs.Prelude.{◌≡◌, ◌↔◌, ◌+◌, ◌≤◌, ◌++◌, length, IsOk, OnOk};
+ghost use Rattle.dns_wire.specs.DnsName.{written};
 ghost use Rattle.record_wire.specs.Labels.{first_label};
 ghost use Rattle.record_wire.specs.NameReading.{seen_label};
 
@@ -22,6 +23,21 @@ pub(super) fn split_label(octets: &[u8]) -> Option<(&[u8], &[u8])>
         }
         _ => None,
     }
+}
+
+/// Writes a label behind its length. Refused where there is no room; then less may be written.
+pub(super) fn push_label(octets: &mut ArrayVec<u8, MAX_NAME_LEN>, label: &[u8]) -> Result<()>
+    requires { length label.now ≤ 63 }
+    ensures room { IsOk result ↔ (length octets.old.items + length (written label.now) ≤ 255) }
+    ensures pushes { OnOk result (octets.new.items ≡ octets.old.items ++ written label.now) }
+{
+    if octets.try_push(label.len() as u8).is_err() {
+        return Err(Error);
+    }
+    if octets.try_extend_from_slice(label).is_err() {
+        return Err(Error);
+    }
+    Ok(())
 }
 
 /// Writes octets behind the others. Refused where there is no room.

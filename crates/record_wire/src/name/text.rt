@@ -1,17 +1,16 @@
 //! The characters and the labels of a name's text (RFC 1035 section 5.1).
 
-ghost use Rattle.std.specs.Prelude.{◌≡◌, ◌↔◌, ◌≤◌, ◌<◌, ◌+◌, ◌-◌, ◌∷◌, [], ℕ, List, length, codes, decimal};
+ghost use Rattle.std.specs.Prelude.{◌≡◌, ◌↔◌, ◌≤◌, ◌<◌, ◌-◌, ◌∷◌, [], ℕ, List, length, codes, decimal};
 ghost use Rattle.std.specs.Prelude.{IfOk, IsOk, IsOkAnd, IsTrue};
 ghost use Rattle.std.specs.Prelude.{◌&&◌, not};
 ghost use Rattle.std.specs.Char.{is_ascii_digit, is_ascii_graphic};
-ghost use Rattle.dns_wire.specs.DnsName.{IsLabel, written};
 ghost use Rattle.record_wire.specs.NameReading.{first_byte, quoted_in, numbered_at, seen_byte, IsSpelling};
-ghost use Rattle.record_wire.specs.NameReading.{IsLabelRead, AreSpelled, seen_behind, behind_in};
+ghost use Rattle.record_wire.specs.NameReading.{AreSpelled, seen_behind, behind_in};
 ghost use Rattle.record_wire.specs.Labels.{written_all};
 ghost use Rattle.record_wire.specs.NameText.{is_special, IsNameText};
 
 use crate::name::MAX_NAME_LEN;
-use crate::name::label::MAX_LABEL_LEN;
+use crate::name::label::{MAX_LABEL_LEN, push_label};
 use arrayvec::ArrayVec;
 use std::fmt::{self, Display};
 use wirebase::{Error, Result};
@@ -33,7 +32,8 @@ pub(super) fn read_labels(text: &[u8]) -> Result<ArrayVec<u8, MAX_NAME_LEN>>
     let mut octets = ArrayVec::new();
     let mut left = text;
     loop {
-        let rest = read_label(&mut octets, left)?;
+        let (label, rest) = read_label(left)?;
+        push_label(&mut octets, label.as_slice())?;
         match read_behind(rest) {
             Behind::End => return Ok(octets),
             Behind::Label(next) => left = next,
@@ -65,35 +65,27 @@ fn read_behind(text: &[u8]) -> Behind<'_>
     }
 }
 
-// Reads a label's text, up to where no more characters stand, and gives what stands there. The label is written where
-// it stays, behind a byte that becomes its length. Refused where it would be empty or have more than 63 bytes, and where
-// there is no room; then less may be written.
-fn read_label<'a>(octets: &mut ArrayVec<u8, MAX_NAME_LEN>, text: &'a [u8]) -> Result<&'a [u8]>
-    ensures sound { IfOk result (λ rest. IsLabelRead text.now rest.now octets.old.items octets.new.items) }
-    ensures complete { (label rest : List ℕ) → IsSpelling text.now label rest → IsLabel label
-        → length octets.old.items + length (written label) ≤ 255 → IsOk result }
+// Reads a label's text, up to where no more characters stand, and gives what stands there. Refused where the label
+// would be empty or has more than 63 bytes.
+fn read_label(text: &[u8]) -> Result<(ArrayVec<u8, MAX_LABEL_LEN>, &[u8])>
+    ensures sound { IfOk result (λ read. IsSpelling text.now read.0.items read.1.now) }
+    ensures some { IfOk result (λ read. 1 ≤ length read.0.items) }
+    ensures few { IfOk result (λ read. length read.0.items ≤ 63) }
+    ensures complete { (label rest : List ℕ) → IsSpelling text.now label rest → 1 ≤ length label
+        → length label ≤ 63 → IsOk result }
 {
-    let start = octets.len();
-    if octets.try_push(0).is_err() {
-        return Err(Error);
-    }
+    let mut label = ArrayVec::new();
     let mut left = text;
-    let mut len = 0;
     while let Some((byte, rest)) = read_byte(left) {
-        if len == MAX_LABEL_LEN {
+        if label.try_push(byte).is_err() {
             return Err(Error);
         }
-        if octets.try_push(byte).is_err() {
-            return Err(Error);
-        }
-        len += 1;
         left = rest;
     }
-    if len == 0 {
+    if label.is_empty() {
         return Err(Error);
     }
-    octets[start] = len as u8;
-    Ok(left)
+    Ok((label, left))
 }
 
 // The byte that the first character of a text stands for, and what stands behind the character.

@@ -19,6 +19,17 @@ pub(super) fn split_label(octets: &[u8]) -> Option<(&[u8], &[u8])> {
     }
 }
 
+/// Writes a label behind its length. Refused where there is no room; then less may be written.
+pub(super) fn push_label(octets: &mut ArrayVec<u8, MAX_NAME_LEN>, label: &[u8]) -> Result<()> {
+    if octets.try_push(label.len() as u8).is_err() {
+        return Err(Error);
+    }
+    if octets.try_extend_from_slice(label).is_err() {
+        return Err(Error);
+    }
+    Ok(())
+}
+
 /// Writes octets behind the others. Refused where there is no room.
 pub(super) fn push_octets(octets: &mut ArrayVec<u8, MAX_NAME_LEN>, more: &[u8]) -> Result<()> {
     if octets.try_extend_from_slice(more).is_err() {

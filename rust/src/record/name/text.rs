@@ -2,7 +2,7 @@
 //! The characters and the labels of a name's text (RFC 1035 section 5.1).
 
 use crate::record::name::MAX_NAME_LEN;
-use crate::record::name::label::MAX_LABEL_LEN;
+use crate::record::name::label::{MAX_LABEL_LEN, push_label};
 use crate::wirebase::{Error, Result};
 use arrayvec::ArrayVec;
 use core::fmt::{self, Display};
@@ -18,7 +18,8 @@ pub(super) fn read_labels(text: &[u8]) -> Result<ArrayVec<u8, MAX_NAME_LEN>> {
     let mut octets = ArrayVec::new();
     let mut left = text;
     loop {
-        let rest = read_label(&mut octets, left)?;
+        let (label, rest) = read_label(left)?;
+        push_label(&mut octets, label.as_slice())?;
         match read_behind(rest) {
             Behind::End => return Ok(octets),
             Behind::Label(next) => left = next,
@@ -48,31 +49,21 @@ fn read_behind(text: &[u8]) -> Behind<'_> {
     }
 }
 
-// Reads a label's text, up to where no more characters stand, and gives what stands there. The label is written where
-// it stays, behind a byte that becomes its length. Refused where it would be empty or have more than 63 bytes, and where
-// there is no room; then less may be written.
-fn read_label<'a>(octets: &mut ArrayVec<u8, MAX_NAME_LEN>, text: &'a [u8]) -> Result<&'a [u8]> {
-    let start = octets.len();
-    if octets.try_push(0).is_err() {
-        return Err(Error);
-    }
+// Reads a label's text, up to where no more characters stand, and gives what stands there. Refused where the label
+// would be empty or has more than 63 bytes.
+fn read_label(text: &[u8]) -> Result<(ArrayVec<u8, MAX_LABEL_LEN>, &[u8])> {
+    let mut label = ArrayVec::new();
     let mut left = text;
-    let mut len = 0;
     while let Some((byte, rest)) = read_byte(left) {
-        if len == MAX_LABEL_LEN {
+        if label.try_push(byte).is_err() {
             return Err(Error);
         }
-        if octets.try_push(byte).is_err() {
-            return Err(Error);
-        }
-        len += 1;
         left = rest;
     }
-    if len == 0 {
+    if label.is_empty() {
         return Err(Error);
     }
-    octets[start] = len as u8;
-    Ok(left)
+    Ok((label, left))
 }
 
 // The byte that the first character of a text stands for, and what stands behind the character.

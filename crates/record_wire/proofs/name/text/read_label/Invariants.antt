@@ -1,9 +1,12 @@
-use Rattle.std.proofs.Common.{length}
-use Rattle.record_wire.proofs.Spelling.{LabelSoFar}
+use Rattle.std.proofs.Common.{◌≤◌, length}
+use Rattle.record_wire.specs.NameText.{Spells}
 use Rattle.record_wire.proofs.name.text.read_label.Given as goal
 
 abbrev pub invariant-loop-byte : goal.invariant-loop-byte
-invariant-loop-byte l = LabelSoFar l.text l.left l.fn.octets.items l.octets.items l.len
+invariant-loop-byte l = record {
+  spells : Spells l.text l.label.items l.left;
+  few : length l.label.items ≤ 63;
+}
 
 abbrev pub decreases-loop-byte : goal.decreases-loop-byte
 decreases-loop-byte l = length l.left
