@@ -4,6 +4,7 @@
 ghost use Rattle.std.specs.Prelude.{◌≤◌, ◌≡◌, length};
 
 use crate::digest::Digest;
+use crate::digest::icmp::{add_icmpv4, add_icmpv4_error, add_icmpv6, add_icmpv6_error};
 use crate::random::{Pool, Random};
 use byteorder::{BigEndian, ByteOrder};
 use control_wire::{ChecksumCapabilities, Ipv6Address, checksum, icmpv4, icmpv6};
@@ -124,13 +125,15 @@ fn echo(number: u64, payload: &[u8], request: &mut [u8], reply: &mut [u8], diges
     }
     message.emit_into(&mut request[..len], &caps);
     let packet = icmpv4::Packet::new_unchecked(&request[..len]);
-    let Ok(
-        icmpv4::Repr::EchoRequest {
-            ident,
-            seq_no,
-            data,
-        },
-    ) = icmpv4::Repr::parse(&packet, &caps)
+    let Ok(message) = icmpv4::Repr::parse(&packet, &caps) else {
+        return;
+    };
+    add_icmpv4(&message, digest);
+    let icmpv4::Repr::EchoRequest {
+        ident,
+        seq_no,
+        data,
+    } = message
     else {
         return;
     };
@@ -144,17 +147,8 @@ fn echo(number: u64, payload: &[u8], request: &mut [u8], reply: &mut [u8], diges
     }
     answer.emit_into(&mut reply[..len], &caps);
     let packet = icmpv4::Packet::new_unchecked(&reply[..len]);
-    if let Ok(
-        icmpv4::Repr::EchoReply {
-            ident,
-            seq_no,
-            data,
-        },
-    ) = icmpv4::Repr::parse(&packet, &caps)
-    {
-        digest.add(ident as u64);
-        digest.add(seq_no as u64);
-        digest.add_front(data);
+    if let Ok(message) = icmpv4::Repr::parse(&packet, &caps) {
+        add_icmpv4(&message, digest);
         digest.add(packet.checksum() as u64);
     }
 }
@@ -180,6 +174,7 @@ fn echo_v6(number: u64, payload: &[u8], request: &mut [u8], reply: &mut [u8], di
     let Ok(message) = icmpv6::Repr::parse(&peer, &own, &packet, &caps) else {
         return;
     };
+    add_icmpv6(&message, digest);
     let icmpv6::Repr::EchoRequest {
         ident,
         seq_no,
@@ -198,18 +193,8 @@ fn echo_v6(number: u64, payload: &[u8], request: &mut [u8], reply: &mut [u8], di
     }
     answer.emit_into(&own, &peer, &mut reply[..len], &caps);
     let packet = icmpv6::Packet::new_unchecked(&reply[..len]);
-    let Ok(message) = icmpv6::Repr::parse(&own, &peer, &packet, &caps) else {
-        return;
-    };
-    if let icmpv6::Repr::EchoReply {
-        ident,
-        seq_no,
-        data,
-    } = message
-    {
-        digest.add(ident as u64);
-        digest.add(seq_no as u64);
-        digest.add_front(data);
+    if let Ok(message) = icmpv6::Repr::parse(&own, &peer, &packet, &caps) {
+        add_icmpv6(&message, digest);
         digest.add(packet.checksum() as u64);
     }
 }
@@ -272,17 +257,15 @@ fn send_error(number: u64, datagram: &[u8], reply: &mut [u8], digest: &mut Diges
     }
     error.emit_into(&mut reply[..len], &caps);
     if let Ok(error) = icmpv4_error::Repr::parse(&reply[..len], &caps) {
-        digest.add(error.code as u64);
-        digest.add(error.rest as u64);
-        digest.add_front(error.quoted);
+        add_icmpv4_error(&error, digest);
     }
     let packet = icmpv4::Packet::new_unchecked(&reply[..len]);
     match icmpv4::Repr::parse(&packet, &caps) {
-        Ok(icmpv4::Repr::DstUnreachable { header, data, .. }) => {
-            digest.add(header.payload_len as u64);
-            digest.add_front(data);
+        Ok(message) => {
+            add_icmpv4(&message, digest);
+            digest.add(packet.checksum() as u64);
         }
-        _ => digest.add(1),
+        Err(_) => digest.add(1),
     }
 }
 
@@ -303,16 +286,14 @@ fn send_error_v6(number: u64, quoted: &[u8], reply: &mut [u8], digest: &mut Dige
     }
     error.emit_into(&own, &peer, &mut reply[..len], &caps);
     if let Ok(error) = icmpv6_error::Repr::parse(&own, &peer, &reply[..len], &caps) {
-        digest.add(error.rest as u64);
-        digest.add_front(error.quoted);
+        add_icmpv6_error(&error, digest);
     }
     let packet = icmpv6::Packet::new_unchecked(&reply[..len]);
     match icmpv6::Repr::parse(&own, &peer, &packet, &caps) {
-        Ok(icmpv6::Repr::PktTooBig { mtu, header, data }) => {
-            digest.add(mtu as u64);
-            digest.add(header.payload_len as u64);
-            digest.add_front(data);
+        Ok(message) => {
+            add_icmpv6(&message, digest);
+            digest.add(packet.checksum() as u64);
         }
-        _ => digest.add(1),
+        Err(_) => digest.add(1),
     }
 }

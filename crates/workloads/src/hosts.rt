@@ -6,6 +6,9 @@ ghost use Rattle.control_wire.specs.Mld.{CanEmit as CanEmitListener, text_len as
 ghost use Rattle.control_wire.specs.Ndisc.{CanEmit, text_len, value_of as content_of};
 
 use crate::digest::Digest;
+use crate::digest::groups::{add_address_record, add_igmp};
+use crate::digest::icmp::add_icmpv6;
+use crate::digest::options::add_hop_by_hop;
 use crate::random::{Pool, Random};
 use bitflags::Flags as _;
 use control_wire::mld::{self, AddressRecord, AddressRecordRepr, RecordType};
@@ -92,14 +95,6 @@ fn link_address(number: u64) -> RawHardwareAddress {
     RawHardwareAddress::from(address)
 }
 
-// Adds an address on a link.
-fn add_link_address(digest: &mut Digest, address: &Option<RawHardwareAddress>) {
-    match address {
-        Some(address) => digest.add_octets(address.as_bytes()),
-        None => digest.add(0),
-    }
-}
-
 // Sends a solicitation of a neighbor, and the advertisement that answers it.
 fn solicit(random: &mut Random, packet: &mut [u8], digest: &mut Digest) {
     let number = random.next();
@@ -167,49 +162,11 @@ fn exchange(
     message.emit_into(source, destination, &mut packet[..len], &caps);
     let view = icmpv6::Packet::new_unchecked(&packet[..len]);
     match icmpv6::Repr::parse(source, destination, &view, &caps) {
-        Ok(icmpv6::Repr::Ndisc(message)) => add_neighbors(digest, &message),
-        _ => digest.add(1),
-    }
-}
-
-// Adds what a message of neighbor discovery says.
-fn add_neighbors(digest: &mut Digest, message: &ndisc::Repr<'_>) {
-    match message {
-        ndisc::Repr::NeighborSolicit {
-            target_addr,
-            lladdr,
-        } => {
-            digest.add_octets(&target_addr.octets());
-            add_link_address(digest, lladdr);
+        Ok(message) => {
+            digest.add(view.checksum() as u64);
+            add_icmpv6(&message, digest);
         }
-        ndisc::Repr::NeighborAdvert {
-            flags,
-            target_addr,
-            lladdr,
-        } => {
-            digest.add(flags.bits() as u64);
-            digest.add_octets(&target_addr.octets());
-            add_link_address(digest, lladdr);
-        }
-        ndisc::Repr::RouterAdvert {
-            router_lifetime,
-            reachable_time,
-            lladdr,
-            mtu,
-            prefix_info,
-            ..
-        } => {
-            digest.add(router_lifetime.secs());
-            digest.add(reachable_time.total_millis());
-            add_link_address(digest, lladdr);
-            digest.add(mtu.unwrap_or(0) as u64);
-            if let Some(prefix) = prefix_info {
-                digest.add(prefix.valid_lifetime.secs());
-                digest.add(prefix.preferred_lifetime.secs());
-                digest.add_octets(&prefix.prefix.octets());
-            }
-        }
-        _ => digest.add(2),
+        Err(_) => digest.add(1),
     }
 }
 
@@ -238,53 +195,26 @@ fn exchange_listener(
     );
     let view = icmpv6::Packet::new_unchecked(&packet[..len]);
     match icmpv6::Repr::parse(source, &IPV6_LINK_LOCAL_ALL_NODES, &view, &caps) {
-        Ok(icmpv6::Repr::Mld(message)) => add_listener(digest, &message),
-        _ => digest.add(1),
+        Ok(message) => {
+            digest.add(view.checksum() as u64);
+            add_icmpv6(&message, digest);
+            if let icmpv6::Repr::Mld(mld::Repr::Report { data, .. }) = message {
+                read_records(data, digest);
+            }
+        }
+        Err(_) => digest.add(1),
     }
 }
 
-// Adds what a message of multicast listener discovery says.
-fn add_listener(digest: &mut Digest, message: &mld::Repr<'_>) {
-    match message {
-        mld::Repr::Query {
-            max_resp_code,
-            mcast_addr,
-            s_flag,
-            qqic,
-            num_srcs,
-            data,
-            ..
-        } => {
-            digest.add(*max_resp_code as u64);
-            digest.add_octets(&mcast_addr.octets());
-            digest.add(*s_flag as u64);
-            digest.add(*qqic as u64);
-            digest.add(*num_srcs as u64);
-            digest.add_octets(data);
-        }
-        mld::Repr::Report {
-            nr_mcast_addr_rcrds,
-            data,
-        } => {
-            digest.add(*nr_mcast_addr_rcrds as u64);
-            add_records(digest, data);
-        }
-        mld::Repr::ReportRecordReprs(_) => digest.add(2),
-    }
-}
-
-// Adds the records of a report, each with the sources that it counts.
-fn add_records(digest: &mut Digest, records: &[u8]) {
+// Reads the records of a report, each with the sources that it counts.
+fn read_records(records: &[u8], digest: &mut Digest) {
     let mut rest = records;
     while rest.len() >= RECORD_LEN {
         let Ok(record) = AddressRecordRepr::parse(&AddressRecord::new_unchecked(rest)) else {
             return;
         };
-        digest.add((record.record_type == RecordType::ModeIsExclude) as u64);
-        digest.add(record.aux_data_len as u64);
-        digest.add_octets(&record.mcast_addr.octets());
+        add_address_record(&record, digest);
         let len = RECORD_LEN + SOURCE_LEN * record.num_srcs as usize;
-        digest.add(len as u64);
         rest = &rest[len.min(rest.len())..];
     }
 }
@@ -383,22 +313,13 @@ fn exchange_member(message: &igmp::Repr, packet: &mut [u8], digest: &mut Digest)
     }
     message.emit_into(&mut packet[..len]);
     let view = igmp::Packet::new_unchecked(&packet[..len]);
-    digest.add(view.verify_checksum() as u64);
     match igmp::Repr::parse(&view) {
-        Ok(
-            igmp::Repr::MembershipQuery {
-                max_resp_time,
-                group_addr,
-                ..
-            },
-        ) => {
-            digest.add(max_resp_time.total_millis());
-            digest.add_octets(&group_addr.octets());
+        Ok(message) => {
+            digest.add(view.checksum() as u64);
+            digest.add(view.verify_checksum() as u64);
+            add_igmp(&message, digest);
         }
-        Ok(igmp::Repr::MembershipReport { group_addr, .. }) => digest.add_octets(
-            &group_addr.octets(),
-        ),
-        _ => digest.add(1),
+        Err(_) => digest.add(1),
     }
 }
 
@@ -414,7 +335,7 @@ fn lead(random: &mut Random, packet: &mut [u8], digest: &mut Digest) {
     options.emit_into(&mut packet[..len]);
     let header = ipv6hbh::Header::new_unchecked(&packet[..len]);
     match ipv6hbh::Repr::parse(&header) {
-        Ok(options) => digest.add(options.options.len() as u64 + len as u64),
+        Ok(options) => add_hop_by_hop(&options, digest),
         Err(_) => digest.add(1),
     }
 }

@@ -3,6 +3,7 @@
 ghost use Rattle.std.specs.Prelude.{◌≤◌, length};
 
 use crate::digest::Digest;
+use crate::digest::lease::{add_lease, add_option};
 use crate::random::{Pool, Random};
 use arrayvec::ArrayVec;
 use control_wire::dhcpv4::{DhcpOption, MessageType, Packet, Repr};
@@ -151,46 +152,10 @@ fn exchange(message: &Repr<'_>, octets: &mut [u8], digest: &mut Digest) {
     }
     let packet = Packet::new_unchecked(&*octets);
     match Repr::parse(&packet) {
-        Ok(message) => add(digest, &message),
+        Ok(message) => add_lease(&message, digest),
         Err(_) => digest.add(2),
     }
     for option in packet.options() {
-        digest.add(option.kind as u64);
-        digest.add_octets(option.data);
+        add_option(&option, digest);
     }
-}
-
-// Adds an address that may be there.
-fn add_address(digest: &mut Digest, address: &Option<Ipv4Address>) {
-    if let Some(address) = address {
-        digest.add_octets(&address.octets());
-    }
-}
-
-// Adds what a message says.
-fn add(digest: &mut Digest, message: &Repr<'_>) {
-    digest.add(message.transaction_id as u64);
-    digest.add(message.secs as u64);
-    digest.add(message.broadcast as u64);
-    digest.add_octets(message.client_hardware_address.as_bytes());
-    digest.add_octets(&message.your_ip.octets());
-    add_address(digest, &message.router);
-    add_address(digest, &message.subnet_mask);
-    add_address(digest, &message.requested_ip);
-    add_address(digest, &message.server_identifier);
-    if let Some(address) = &message.client_identifier {
-        digest.add_octets(address.as_bytes());
-    }
-    if let Some(kinds) = message.parameter_request_list {
-        digest.add_octets(kinds);
-    }
-    if let Some(servers) = &message.dns_servers {
-        for server in servers.as_slice() {
-            digest.add_octets(&server.octets());
-        }
-    }
-    digest.add(message.max_size.unwrap_or(0) as u64);
-    digest.add(message.lease_duration.unwrap_or(0) as u64);
-    digest.add(message.renew_duration.unwrap_or(0) as u64);
-    digest.add(message.rebind_duration.unwrap_or(0) as u64);
 }

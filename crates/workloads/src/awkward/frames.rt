@@ -2,6 +2,7 @@
 
 use super::options::PACKET_LEN;
 use crate::digest::Digest;
+use crate::digest::frames::{add_datagram, add_frame, add_record};
 use crate::random::Pool;
 use byteorder::{BigEndian, ByteOrder, LittleEndian};
 use capture::{Capture, Next};
@@ -44,27 +45,41 @@ pub fn read_frame(number: u64, pool: &Pool, octets: &mut [u8; PACKET_LEN], diges
     BigEndian::write_u64(&mut octets[at..at + 8], 0x1000_2000_0000_0000 + 48 * 65_536);
     BigEndian::write_u16(&mut octets[start + 4..start + 6], 16 * headers as u16 + 48);
     let end = at + 48;
-    add_frame(&octets[..end], digest);
-    add_frame(&octets[..end - 1 - ((number >> 16) % 60) as usize], digest);
+    parse_frame(&octets[..end], digest);
+    parse_frame(&octets[..end - 1 - ((number >> 16) % 60) as usize], digest);
 }
 
-// Adds what a frame holds.
-fn add_frame(octets: &[u8], digest: &mut Digest) {
+// Reads a frame.
+fn parse_frame(octets: &[u8], digest: &mut Digest) {
     let Ok(frame) = Link::Ethernet.frame(octets) else {
         digest.add(1);
         return;
     };
     digest.add(frame.vlans() as u64);
+    add_frame(&frame, digest);
     if frame.network != Network::Ipv6 {
         return;
     }
     match Datagram::parse_v6(frame.payload) {
-        Ok(datagram) => match UdpPacket::new_checked(datagram.payload) {
-            Ok(packet) => digest.add(packet.dst_port() as u64),
-            Err(_) => digest.add(2),
-        },
+        Ok(datagram) => {
+            add_datagram(&datagram, digest);
+            parse_udp(datagram.payload, digest);
+        }
         Err(refusal) => digest.add(refusal as u64),
     }
+}
+
+// Reads a datagram of UDP.
+fn parse_udp(octets: &[u8], digest: &mut Digest) {
+    let Ok(packet) = UdpPacket::new_checked(octets) else {
+        digest.add(2);
+        return;
+    };
+    digest.add(packet.src_port() as u64);
+    digest.add(packet.dst_port() as u64);
+    digest.add(packet.len() as u64);
+    digest.add(packet.checksum() as u64);
+    digest.add_ends(packet.payload());
 }
 
 /// Reads a capture of blocks that are passed over, with a short packet behind each eighth of them.
@@ -80,12 +95,13 @@ pub fn read_capture(
     for _ in 0..BLOCKS {
         match capture.next(&mut input) {
             Ok(Next::Record(record)) => {
-                digest.add(record.number);
-                digest.add(record.original_len as u64);
-                digest.add_octets(capture.octets());
+                add_record(&record, capture.octets(), digest);
             }
-            Ok(Next::Ended(_)) => break,
-            Err(_) => digest.add(1),
+            Ok(Next::Ended(ending)) => {
+                digest.add(ending as u64);
+                break;
+            }
+            Err(fault) => digest.add(16 + fault as u64),
         }
     }
     Ok(())

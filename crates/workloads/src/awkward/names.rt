@@ -41,7 +41,10 @@ fn add_name(message: &[u8], place: usize, digest: &mut Digest) {
     let mut text: ArrayString<1024> = ArrayString::new();
     if write!(text, "{name}").is_ok() {
         digest.add_octets(text.as_str().as_bytes());
-        digest.add(Name::from_text(text.as_str().as_bytes()).is_ok() as u64);
+        match Name::from_text(text.as_str().as_bytes()) {
+            Ok(name) => digest.add_octets(name.octets()),
+            Err(_) => digest.add(3),
+        }
     }
 }
 

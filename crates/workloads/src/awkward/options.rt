@@ -1,6 +1,8 @@
 //! Lists of options that are padding, of kinds that are not known, empty, or too long.
 
-use crate::digest::Digest;
+use crate::digest::neighbors::add_ndisc;
+use crate::digest::options::{add_hop_by_hop, add_option};
+use crate::digest::{Digest, lease};
 use byteorder::{BigEndian, ByteOrder};
 use control_wire::ipv6option::Ipv6OptionsIterator;
 use control_wire::{dhcpv4, icmpv6, ipv6hbh, ndisc};
@@ -34,11 +36,11 @@ pub fn read_lease(number: u64, octets: &mut [u8; PACKET_LEN], digest: &mut Diges
     octets[PACKET_LEN - 4..].copy_from_slice(&[53, 1, 1, 255]);
     let packet = dhcpv4::Packet::new_unchecked(&octets[..]);
     match dhcpv4::Repr::parse(&packet) {
-        Ok(message) => digest.add(message.transaction_id as u64),
+        Ok(message) => lease::add_lease(&message, digest),
         Err(_) => digest.add(1),
     }
     for option in packet.options() {
-        digest.add(option.kind as u64);
+        lease::add_option(&option, digest);
     }
 }
 
@@ -58,13 +60,8 @@ pub fn read_neighbor(number: u64, octets: &mut [u8; PACKET_LEN], digest: &mut Di
     }
     let packet = icmpv6::Packet::new_unchecked(&octets[..16 + 8 * count]);
     match ndisc::Repr::parse(&packet) {
-        Ok(ndisc::Repr::RouterAdvert { lladdr, mtu, .. }) => {
-            digest.add(mtu.unwrap_or(0) as u64);
-            if let Some(address) = lladdr {
-                digest.add_octets(address.as_bytes());
-            }
-        }
-        _ => digest.add(1),
+        Ok(message) => add_ndisc(&message, digest),
+        Err(_) => digest.add(1),
     }
 }
 
@@ -78,10 +75,13 @@ pub fn read_header(number: u64, octets: &mut [u8; PACKET_LEN], digest: &mut Dige
     }
     let len = 6 + 8 * (number % 31) as usize;
     for option in Ipv6OptionsIterator::new(&octets[..len]) {
-        digest.add(option.is_ok() as u64);
+        match option {
+            Ok(option) => add_option(&option, digest),
+            Err(_) => digest.add(1),
+        }
     }
     match ipv6hbh::Repr::parse(&ipv6hbh::Header::new_unchecked(&octets[..len])) {
-        Ok(header) => digest.add(header.options.len() as u64),
+        Ok(header) => add_hop_by_hop(&header, digest),
         Err(_) => digest.add(1),
     }
 }

@@ -1,12 +1,13 @@
 //! What an analyst reads in a capture.
 
 use crate::digest::Digest;
+use crate::digest::frames::{add_datagram, add_frame, add_ports, add_record};
+use crate::digest::groups::add_igmp;
+use crate::digest::icmp::{add_icmpv4, add_icmpv6};
+use crate::digest::lease::add_lease;
 use crate::responses::message;
-use bitflags::Flags as _;
 use capture::{Capture, Next};
-use control_wire::{
-    ChecksumCapabilities, IpProtocol, RawHardwareAddress, dhcpv4, icmpv4, icmpv6, igmp, mld, ndisc,
-};
+use control_wire::{ChecksumCapabilities, IpProtocol, Ipv6Address, dhcpv4, icmpv4, icmpv6, igmp};
 use frame_wire::{Addresses, Datagram, Link, Network, UdpPacket, UdpRepr};
 use std::alloc::Global;
 
@@ -20,11 +21,7 @@ pub fn read(alloc: Global, octets: &[u8], digest: &mut Digest) {
     for _ in 0..octets.len() {
         match capture.next(&mut input) {
             Ok(Next::Record(record)) => {
-                digest.add(record.number);
-                digest.add(record.time.seconds);
-                digest.add(record.time.nanoseconds as u64);
-                digest.add(record.captured_len as u64);
-                digest.add(record.original_len as u64);
+                add_record(&record, capture.octets(), digest);
                 read_frame(record.link_type, capture.octets(), digest);
             }
             Ok(Next::Ended(ending)) => {
@@ -49,7 +46,7 @@ fn read_frame(link_type: u16, octets: &[u8], digest: &mut Digest) {
         digest.add(2);
         return;
     };
-    digest.add_octets(frame.tags);
+    add_frame(&frame, digest);
     let datagram = match frame.network {
         Network::Ipv4 => Datagram::parse_v4(frame.payload),
         Network::Ipv6 => Datagram::parse_v6(frame.payload),
@@ -66,28 +63,13 @@ fn read_frame(link_type: u16, octets: &[u8], digest: &mut Digest) {
 
 // Reads the message of a datagram.
 fn read_datagram(datagram: &Datagram<'_>, digest: &mut Digest) {
-    digest.add(datagram.hop_limit as u64);
-    match datagram.addresses {
-        Addresses::V4(source, destination) => {
-            digest.add_octets(&source.octets());
-            digest.add_octets(&destination.octets());
-        }
-        Addresses::V6(source, destination) => {
-            digest.add_octets(&source.octets());
-            digest.add_octets(&destination.octets());
-        }
-    }
+    add_datagram(datagram, digest);
     match (datagram.protocol, datagram.addresses) {
         (IpProtocol::Udp, _) => read_udp(datagram, digest),
         (IpProtocol::Icmp, _) => read_icmpv4(datagram.payload, digest),
         (IpProtocol::Igmp, _) => read_igmp(datagram.payload, digest),
         (IpProtocol::Icmpv6, Addresses::V6(source, destination)) => {
-            let caps = ChecksumCapabilities::default();
-            let packet = icmpv6::Packet::new_unchecked(datagram.payload);
-            match icmpv6::Repr::parse(&source, &destination, &packet, &caps) {
-                Ok(message) => add_icmpv6(&message, digest),
-                Err(_) => digest.add(7),
-            }
+            read_icmpv6(datagram.payload, &source, &destination, digest);
         }
         _ => digest.add(8),
     }
@@ -104,8 +86,8 @@ fn read_udp(datagram: &Datagram<'_>, digest: &mut Digest) {
         digest.add(10);
         return;
     };
-    digest.add(ports.src_port as u64);
-    digest.add(ports.dst_port as u64);
+    add_ports(&ports, digest);
+    digest.add_ends(packet.payload());
     if ports.src_port == DNS_PORT {
         message::read(packet.payload(), digest);
     } else {
@@ -115,138 +97,54 @@ fn read_udp(datagram: &Datagram<'_>, digest: &mut Digest) {
 
 // Reads a packet of DHCP.
 fn read_lease(octets: &[u8], digest: &mut Digest) {
-    let Ok(lease) = dhcpv4::Repr::parse(&dhcpv4::Packet::new_unchecked(octets)) else {
-        digest.add(11);
-        return;
-    };
-    digest.add(lease.transaction_id as u64);
-    digest.add(lease.secs as u64);
-    digest.add(lease.broadcast as u64);
-    digest.add_octets(lease.client_hardware_address.as_bytes());
-    digest.add_octets(&lease.your_ip.octets());
-    if let Some(router) = lease.router {
-        digest.add_octets(&router.octets());
+    match dhcpv4::Repr::parse(&dhcpv4::Packet::new_unchecked(octets)) {
+        Ok(lease) => add_lease(&lease, digest),
+        Err(_) => digest.add(11),
     }
-    if let Some(mask) = lease.subnet_mask {
-        digest.add_octets(&mask.octets());
-    }
-    if let Some(server) = lease.server_identifier {
-        digest.add_octets(&server.octets());
-    }
-    if let Some(servers) = &lease.dns_servers {
-        for server in servers.as_slice() {
-            digest.add_octets(&server.octets());
-        }
-    }
-    digest.add(lease.lease_duration.unwrap_or(0) as u64);
-    digest.add(lease.renew_duration.unwrap_or(0) as u64);
-    digest.add(lease.rebind_duration.unwrap_or(0) as u64);
 }
 
 // Reads a message of ICMP.
 fn read_icmpv4(octets: &[u8], digest: &mut Digest) {
     let packet = icmpv4::Packet::new_unchecked(octets);
     match icmpv4::Repr::parse(&packet, &ChecksumCapabilities::default()) {
-        Ok(
-            icmpv4::Repr::EchoRequest {
-                ident,
-                seq_no,
-                data,
-            },
-        ) => {
-            digest.add(ident as u64);
-            digest.add(seq_no as u64);
-            digest.add_front(data);
+        Ok(message) => {
+            digest.add(packet.checksum() as u64);
+            add_icmpv4(&message, digest);
         }
-        Ok(icmpv4::Repr::DstUnreachable { header, data, .. }) => {
-            digest.add_octets(&header.src_addr.octets());
-            digest.add_octets(&header.dst_addr.octets());
-            digest.add(header.payload_len as u64);
-            digest.add_front(data);
+        Err(_) => digest.add(12),
+    }
+}
+
+// Reads a message of ICMPv6.
+fn read_icmpv6(
+    octets: &[u8],
+    source: &Ipv6Address,
+    destination: &Ipv6Address,
+    digest: &mut Digest,
+) {
+    let caps = ChecksumCapabilities::default();
+    let packet = icmpv6::Packet::new_unchecked(octets);
+    match icmpv6::Repr::parse(source, destination, &packet, &caps) {
+        Ok(message) => {
+            digest.add(packet.checksum() as u64);
+            add_icmpv6(&message, digest);
         }
-        Ok(_) => digest.add(12),
-        Err(_) => digest.add(13),
+        Err(_) => digest.add(7),
     }
 }
 
 // Reads a message of IGMP.
 fn read_igmp(octets: &[u8], digest: &mut Digest) {
     let Ok(packet) = igmp::Packet::new_checked(octets) else {
-        digest.add(14);
+        digest.add(13);
         return;
     };
-    digest.add(packet.verify_checksum() as u64);
     match igmp::Repr::parse(&packet) {
-        Ok(
-            igmp::Repr::MembershipQuery {
-                max_resp_time,
-                group_addr,
-                ..
-            },
-        ) => {
-            digest.add(max_resp_time.total_millis());
-            digest.add_octets(&group_addr.octets());
+        Ok(message) => {
+            digest.add(packet.checksum() as u64);
+            digest.add(packet.verify_checksum() as u64);
+            add_igmp(&message, digest);
         }
-        Ok(igmp::Repr::MembershipReport { group_addr, .. }) => digest.add_octets(
-            &group_addr.octets(),
-        ),
-        _ => digest.add(15),
-    }
-}
-
-// Adds what a message of ICMPv6 says.
-fn add_icmpv6(message: &icmpv6::Repr<'_>, digest: &mut Digest) {
-    match message {
-        icmpv6::Repr::EchoRequest {
-            ident,
-            seq_no,
-            data,
-        } => {
-            digest.add(*ident as u64);
-            digest.add(*seq_no as u64);
-            digest.add_front(data);
-        }
-        icmpv6::Repr::Ndisc(message) => add_neighbors(message, digest),
-        icmpv6::Repr::Mld(
-            mld::Repr::Report {
-                nr_mcast_addr_rcrds,
-                data,
-            },
-        ) => {
-            digest.add(*nr_mcast_addr_rcrds as u64);
-            digest.add_octets(data);
-        }
-        _ => digest.add(16),
-    }
-}
-
-// Adds what a message of neighbor discovery says.
-fn add_neighbors(message: &ndisc::Repr<'_>, digest: &mut Digest) {
-    match message {
-        ndisc::Repr::NeighborSolicit {
-            target_addr,
-            lladdr,
-        } => {
-            digest.add_octets(&target_addr.octets());
-            add_link_address(lladdr, digest);
-        }
-        ndisc::Repr::NeighborAdvert {
-            flags,
-            target_addr,
-            lladdr,
-        } => {
-            digest.add(flags.bits() as u64);
-            digest.add_octets(&target_addr.octets());
-            add_link_address(lladdr, digest);
-        }
-        _ => digest.add(17),
-    }
-}
-
-// Adds an address on a link.
-fn add_link_address(address: &Option<RawHardwareAddress>, digest: &mut Digest) {
-    match address {
-        Some(address) => digest.add_octets(address.as_bytes()),
-        None => digest.add(0),
+        Err(_) => digest.add(14),
     }
 }

@@ -1,12 +1,13 @@
 //! Responses of DNS: they are written by hand, as a server does, and read by the library.
 
 use crate::digest::Digest;
+use crate::digest::ip::{add_ipv4_address, add_ipv6_address};
 use crate::random::{Pool, Random};
 use arrayvec::ArrayString;
 use bitflags::Flags as _;
 use control_wire::dns::{Opcode, Packet, Rcode, Type};
-use record_wire::rdata::RData;
-use record_wire::{Entries, Entry, Name, Record};
+use record_wire::rdata::{Authority, RData};
+use record_wire::{Entries, Entry, Name, Question, Record};
 use std::alloc::Global;
 use std::fmt::Write;
 use std::io;
@@ -239,8 +240,7 @@ pub fn read(octets: &[u8], digest: &mut Digest) {
     };
     digest.add(packet.transaction_id() as u64);
     digest.add(packet.flags().bits() as u64);
-    digest.add((packet.opcode() == Opcode::Query) as u64);
-    digest.add((packet.rcode() == Rcode::NoError) as u64);
+    add_codes(packet.opcode(), packet.rcode(), digest);
     digest.add(packet.question_count() as u64);
     digest.add(packet.answer_record_count() as u64);
     digest.add(packet.authority_record_count() as u64);
@@ -248,9 +248,7 @@ pub fn read(octets: &[u8], digest: &mut Digest) {
     for entry in Entries::new(&packet) {
         match entry {
             Ok(Entry::Question(question)) => {
-                add_name(&packet, question.name, digest);
-                digest.add(number_of(question.type_) as u64);
-                digest.add(question.class as u64);
+                add_question(&packet, &question, digest);
             }
             Ok(Entry::Record(section, record)) => {
                 digest.add(section as u64);
@@ -261,39 +259,98 @@ pub fn read(octets: &[u8], digest: &mut Digest) {
     }
 }
 
-// The number of a type, or 0 for one that is not written here.
-fn number_of(type_: Type) -> u16 {
-    match type_ {
-        Type::A => TYPE_A,
-        Type::Aaaa => TYPE_AAAA,
-        Type::Cname => TYPE_CNAME,
-        Type::Unknown(number) => number,
-        _ => 0,
-    }
+// Adds the kind and the outcome of a query.
+fn add_codes(opcode: Opcode, rcode: Rcode, digest: &mut Digest) {
+    let is_named = !matches!(opcode, Opcode::Unknown(_));
+    digest.add_numbered(u8::from(opcode) as u16, is_named);
+    let is_named = !matches!(rcode, Rcode::Unknown(_));
+    digest.add_numbered(u8::from(rcode) as u16, is_named);
+}
+
+// Adds the type of records.
+fn add_type(type_: Type, digest: &mut Digest) {
+    let is_named = !matches!(type_, Type::Unknown(_));
+    digest.add_numbered(u16::from(type_), is_named);
+}
+
+// Adds what a question asks.
+fn add_question<'a>(packet: &Packet<&'a [u8]>, question: &Question<'a>, digest: &mut Digest) {
+    let Question { name, type_, class } = question;
+    digest.add(name.len() as u64);
+    add_name(packet, name, digest);
+    add_type(*type_, digest);
+    digest.add(*class as u64);
 }
 
 // Adds what a record says.
 fn add_record<'a>(packet: &Packet<&'a [u8]>, record: &Record<'a>, digest: &mut Digest) {
-    add_name(packet, record.name, digest);
-    digest.add(number_of(record.type_) as u64);
-    digest.add(record.class as u64);
-    digest.add(record.ttl as u64);
-    match RData::parse(record.type_, record.class, record.data) {
-        Ok(RData::A(address)) => digest.add_octets(&address.octets()),
-        Ok(RData::Aaaa(address)) => digest.add_octets(&address.octets()),
-        Ok(RData::Name(name)) => add_name(packet, name, digest),
-        Ok(
-            RData::Mx {
-                preference,
-                exchange,
-            },
-        ) => {
-            digest.add(preference as u64);
+    let Record {
+        name,
+        type_,
+        class,
+        ttl,
+        data,
+    } = record;
+    digest.add(name.len() as u64);
+    add_name(packet, name, digest);
+    add_type(*type_, digest);
+    digest.add(*class as u64);
+    digest.add(*ttl as u64);
+    digest.add(data.len() as u64);
+    match RData::parse(*type_, *class, data) {
+        Ok(data) => add_data(packet, &data, digest),
+        Err(_) => digest.add(4),
+    }
+}
+
+// Adds what the data of a record says.
+fn add_data<'a>(packet: &Packet<&'a [u8]>, data: &RData<'a>, digest: &mut Digest) {
+    match data {
+        RData::A(address) => add_ipv4_address(address, digest),
+        RData::Aaaa(address) => add_ipv6_address(address, digest),
+        RData::Name(name) => add_name(packet, name, digest),
+        RData::Mx {
+            preference,
+            exchange,
+        } => {
+            digest.add(*preference as u64);
             add_name(packet, exchange, digest);
         }
-        Ok(RData::Txt(strings)) => digest.add_octets(strings),
-        Ok(_) => digest.add(3),
-        Err(_) => digest.add(4),
+        RData::Srv {
+            priority,
+            weight,
+            port,
+            target,
+        } => {
+            digest.add(*priority as u64);
+            digest.add(*weight as u64);
+            digest.add(*port as u64);
+            add_name(packet, target, digest);
+        }
+        RData::Soa(authority) => add_authority(packet, authority, digest),
+        RData::Txt(strings) => digest.add_octets(strings),
+        RData::Other(octets) => {
+            digest.add(3);
+            digest.add_octets(octets);
+        }
+    }
+}
+
+// Adds who is responsible for a zone.
+fn add_authority<'a>(packet: &Packet<&'a [u8]>, authority: &Authority<'a>, digest: &mut Digest) {
+    let Authority {
+        primary,
+        mailbox,
+        serial,
+        refresh,
+        retry,
+        expire,
+        minimum,
+    } = authority;
+    add_name(packet, primary, digest);
+    add_name(packet, mailbox, digest);
+    for number in [*serial, *refresh, *retry, *expire, *minimum] {
+        digest.add(number as u64);
     }
 }
 

@@ -1,5 +1,5 @@
 use Rattle.std.proofs.Common.{length}
-use Rattle.workloads.proofs.hosts.add_records.Given as goal
+use Rattle.workloads.proofs.hosts.read_records.Given as goal
 
 abbrev pub decreases-loop-rest : goal.decreases-loop-rest
 decreases-loop-rest l = length l.rest
