@@ -9,7 +9,10 @@ use crate::dump::frame::Sources;
 use crate::random::{Pool, Random};
 use crate::responses::message::Letters;
 use std::alloc::Global;
-use std::io;
+use std::io::{self, BufReader};
+
+// The bytes of a buffer that many records do not fit.
+const SHORT_BUFFER_LEN: usize = 512;
 
 /// Writes a capture in each round, another each time, reads it, and gives a digest of what was read.
 pub fn digest(alloc: Global, seed: u64, rounds: u32) -> io::Result<u64> {
@@ -26,7 +29,24 @@ pub fn digest(alloc: Global, seed: u64, rounds: u32) -> io::Result<u64> {
         } else {
             file::write_pcapng(&mut octets, &sources, &mut random)?;
         }
-        reading::read(alloc, octets.as_slice(), &mut digest);
+        read(alloc, round / 2, octets.as_slice(), &mut digest)?;
     }
     Ok(digest.value())
+}
+
+// Reads a capture by turns where it stands, through a buffer of std's size, and through a short one.
+fn read(alloc: Global, turn: u32, octets: &[u8], digest: &mut Digest) -> io::Result<()> {
+    let mut input = octets;
+    match turn % 3 {
+        0 => reading::read(alloc, &mut input, octets.len(), digest),
+        1 => {
+            let mut input = BufReader::new(alloc, input)?;
+            reading::read(alloc, &mut input, octets.len(), digest);
+        }
+        _ => {
+            let mut input = BufReader::with_capacity(alloc, SHORT_BUFFER_LEN, input)?;
+            reading::read(alloc, &mut input, octets.len(), digest);
+        }
+    }
+    Ok(())
 }

@@ -21,6 +21,11 @@ impl<R: Read> BufReader<R> {
     pub fn new(from: R) -> std::result::Result<BufReader<R>, AllocError> {
         Ok(BufReader(std::io::BufReader::new(from)))
     }
+
+    /// The same, with a buffer of so many bytes.
+    pub fn with_capacity(count: usize, from: R) -> std::result::Result<BufReader<R>, AllocError> {
+        Ok(BufReader(std::io::BufReader::with_capacity(count, from)))
+    }
 }
 
 impl<R: Read> Read for BufReader<R> {

@@ -8,7 +8,7 @@ use byteorder::{BigEndian, ByteOrder, LittleEndian};
 use capture::{Capture, Next};
 use frame_wire::{Datagram, Link, Network, UdpPacket};
 use std::alloc::Global;
-use std::io;
+use std::io::{self, BufRead, BufReader};
 
 /// The bytes of the longest capture here.
 pub const CAPTURE_LEN: usize = 32_768;
@@ -17,6 +17,9 @@ pub const CAPTURE_LEN: usize = 32_768;
 const BLOCKS: usize = 400;
 
 const BLOCK_LEN: usize = 80;
+
+// The bytes of a buffer that only the shorter blocks fit.
+const BUFFER_LEN: usize = 64;
 
 /// Reads a frame with tags and headers that extend IPv6, whole and cut short.
 pub fn read_frame(number: u64, pool: &Pool, octets: &mut [u8; PACKET_LEN], digest: &mut Digest) {
@@ -82,7 +85,8 @@ fn parse_udp(octets: &[u8], digest: &mut Digest) {
     digest.add_ends(packet.payload());
 }
 
-/// Reads a capture of blocks that are passed over, with a short packet behind each eighth of them.
+/// Reads a capture of blocks that are passed over, with a short packet behind each eighth of them; every other one
+/// through a buffer that the longer blocks do not fit.
 pub fn read_capture(
     alloc: Global,
     number: u64,
@@ -91,9 +95,20 @@ pub fn read_capture(
 ) -> io::Result<()> {
     let len = write_capture(number, octets);
     let mut input = &octets[..len.min(octets.len())];
+    if number % 2 == 0 {
+        read_blocks(alloc, &mut input, digest);
+    } else {
+        let mut input = BufReader::with_capacity(alloc, BUFFER_LEN, input)?;
+        read_blocks(alloc, &mut input, digest);
+    }
+    Ok(())
+}
+
+// Reads a capture to its end.
+fn read_blocks<R: BufRead>(alloc: Global, input: &mut R, digest: &mut Digest) {
     let mut capture = Capture::new(alloc);
     for _ in 0..BLOCKS {
-        match capture.next(&mut input) {
+        match capture.next(input) {
             Ok(Next::Record(record)) => {
                 add_record(&record, capture.octets(), digest);
             }
@@ -104,7 +119,6 @@ pub fn read_capture(
             Err(fault) => digest.add(16 + fault as u64),
         }
     }
-    Ok(())
 }
 
 // Writes a capture, and says how many bytes it takes.

@@ -10,16 +10,16 @@ use capture::{Capture, Next};
 use control_wire::{ChecksumCapabilities, IpProtocol, Ipv6Address, dhcpv4, icmpv4, icmpv6, igmp};
 use frame_wire::{Addresses, Datagram, Link, Network, UdpPacket, UdpRepr};
 use std::alloc::Global;
+use std::io::BufRead;
 
 // The port of servers of DNS.
 const DNS_PORT: u16 = 53;
 
-/// Reads a capture to its end, and adds what it holds.
-pub fn read(alloc: Global, octets: &[u8], digest: &mut Digest) {
-    let mut input = octets;
+/// Reads a capture to its end, where it has at most so many records, and adds what it holds.
+pub fn read<R: BufRead>(alloc: Global, input: &mut R, most: usize, digest: &mut Digest) {
     let mut capture = Capture::new(alloc);
-    for _ in 0..octets.len() {
-        match capture.next(&mut input) {
+    for _ in 0..most {
+        match capture.next(input) {
             Ok(Next::Record(record)) => {
                 add_record(&record, capture.octets(), digest);
                 read_frame(record.link_type, capture.octets(), digest);
