@@ -4,6 +4,8 @@
 ghost use Rattle.std.specs.Prelude.{◌≤◌, ◌≡◌, ℕ, List, length};
 ghost use Rattle.control_wire.specs.Mld.{CanEmit as CanEmitListener, text_len as text_len_of, value_of as listener_of};
 ghost use Rattle.control_wire.specs.Ndisc.{CanEmit, text_len, value_of as content_of};
+ghost use Rattle.control_wire.specs.Ipv6Hbh.{HaveData, value_of as header_of};
+ghost use Rattle.control_wire.specs.Ipv6Option.{HasData, value_of as option_of};
 
 use crate::digest::Digest;
 use crate::digest::groups::{add_address_record, add_igmp};
@@ -11,12 +13,13 @@ use crate::digest::icmp::add_icmpv6;
 use crate::digest::options::add_hop_by_hop;
 use crate::random::{Pool, Random};
 use bitflags::Flags as _;
+use control_wire::ipv6option::{self, RouterAlert};
 use control_wire::mld::{self, AddressRecord, AddressRecordRepr, RecordType};
 use control_wire::ndisc::{self, NeighborFlags, RouterFlags};
 use control_wire::ndiscoption::{PrefixInfoFlags, PrefixInformation};
 use control_wire::{
-    ChecksumCapabilities, Duration, EthernetAddress, IPV6_LINK_LOCAL_ALL_NODES, Ipv4Address,
-    Ipv6Address, RawHardwareAddress, icmpv6, igmp, ipv6hbh,
+    ChecksumCapabilities, Duration, EthernetAddress, IPV6_HBH_MAX_OPTIONS,
+    IPV6_LINK_LOCAL_ALL_NODES, Ipv4Address, Ipv6Address, RawHardwareAddress, icmpv6, igmp, ipv6hbh,
 };
 use std::alloc::Global;
 use std::io;
@@ -31,6 +34,10 @@ const RECORD_LEN: usize = 20;
 
 // The bytes of a source.
 const SOURCE_LEN: usize = 16;
+
+// Types of option that are neither padding nor an alert, of the registry of IANA: of RPL, a limit of encapsulations,
+// a label of security, a request of rate, a trace, MPL, a long packet and a home address.
+const OTHER_OPTIONS: [u8; 8] = [0x63, 0x04, 0x07, 0x26, 0x31, 0x6d, 0xc2, 0xc9];
 
 /// Exchanges messages, in each round others, and gives a digest of what was read and written.
 pub fn digest(alloc: Global, seed: u64, rounds: u32) -> io::Result<u64> {
@@ -48,7 +55,7 @@ pub fn digest(alloc: Global, seed: u64, rounds: u32) -> io::Result<u64> {
             _ => report_sources(&mut random, &pool, &mut packet, &mut digest),
         }
         ask_members(&mut random, &mut packet, &mut digest);
-        lead(&mut random, &mut packet, &mut digest);
+        lead(&mut random, &pool, &mut packet, &mut digest);
     }
     Ok(digest.value())
 }
@@ -323,19 +330,55 @@ fn exchange_member(message: &igmp::Repr, packet: &mut [u8], digest: &mut Digest)
     }
 }
 
-// Writes the header that a report stands behind, and reads it.
-fn lead(random: &mut Random, packet: &mut [u8], digest: &mut Digest) {
+// Writes the header that a report stands behind, with up to seven options more, and reads it.
+fn lead(random: &mut Random, pool: &Pool, packet: &mut [u8], digest: &mut Digest) {
     let number = random.next();
-    let mut options = ipv6hbh::Repr::mldv2_router_alert();
-    options.push_padn_option(lowest(number) % 64);
-    let len = options.buffer_len();
+    let mut header = ipv6hbh::Repr::mldv2_router_alert();
+    for place in 0..(number % IPV6_HBH_MAX_OPTIONS as u64) as u32 {
+        push_option(&mut header, option(pool, number.rotate_left(9 * place + 8)));
+    }
+    let len = header.buffer_len();
     if len > packet.len() {
         return;
     }
-    options.emit_into(&mut packet[..len]);
-    let header = ipv6hbh::Header::new_unchecked(&packet[..len]);
-    match ipv6hbh::Repr::parse(&header) {
-        Ok(options) => add_hop_by_hop(&options, digest),
+    header.emit_into(&mut packet[..len]);
+    let view = ipv6hbh::Header::new_unchecked(&packet[..len]);
+    match ipv6hbh::Repr::parse(&view) {
+        Ok(header) => add_hop_by_hop(&header, digest),
         Err(_) => digest.add(1),
+    }
+}
+
+// Adds an option to a header that has room for it.
+#[tactic(auto, using(crate::proofs::Options::one_more))]
+fn push_option<'a>(header: &mut ipv6hbh::Repr<'a>, option: ipv6option::Repr<'a>)
+    requires have_data { HaveData (header_of header.old) }
+    requires has_data { HasData (option_of option) }
+    ensures { HaveData (header_of header.new) }
+{
+    let _ = header.options.try_push(option);
+}
+
+// An option that the number gives.
+fn option(pool: &Pool, number: u64) -> ipv6option::Repr<'_>
+    ensures { HasData (option_of result) }
+{
+    match number % 8 {
+        0 => ipv6option::Repr::Pad1,
+        1 | 2 => ipv6option::Repr::PadN(lowest(number >> 8) % 64),
+        3 => ipv6option::Repr::RouterAlert(RouterAlert::from(low(number >> 8) % 4)),
+        _ => other_option(pool, number),
+    }
+}
+
+// An option with data of the pool.
+fn other_option(pool: &Pool, number: u64) -> ipv6option::Repr<'_>
+    ensures { HasData (option_of result) }
+{
+    let data = pool.part(number, lowest(number >> 8) as usize % 32);
+    ipv6option::Repr::Unknown {
+        type_: ipv6option::Type::from(OTHER_OPTIONS[(number >> 3) as usize % 8]),
+        length: data.len() as u8,
+        data,
     }
 }
