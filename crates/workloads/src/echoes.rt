@@ -4,10 +4,13 @@
 ghost use Rattle.std.specs.Prelude.{◌≤◌, ◌≡◌, length};
 
 use crate::digest::Digest;
-use crate::digest::icmp::{add_icmpv4, add_icmpv4_error, add_icmpv6, add_icmpv6_error};
+use crate::digest::icmp::{
+    add_icmpv4, add_icmpv4_error, add_icmpv6, add_icmpv6_error, add_ipv4_quote, add_ipv6_quote,
+};
 use crate::random::{Pool, Random};
 use byteorder::{BigEndian, ByteOrder};
 use control_wire::{ChecksumCapabilities, Ipv6Address, checksum, icmpv4, icmpv6};
+use quote_wire::quote::{Ipv4Quote, Ipv6Quote};
 use quote_wire::{icmpv4_error, icmpv6_error};
 use std::alloc::Global;
 use std::io;
@@ -242,7 +245,8 @@ fn write_packet(number: u64, packet: &mut [u8])
     BigEndian::write_u64(&mut packet[40..48], number.wrapping_mul(5));
 }
 
-// Sends an error about a datagram, and reads it both with the bytes that it quotes and with the header that they have.
+// Sends an error about a datagram, and reads it both with the bytes that it quotes and what they hold, and with
+// the header that they have.
 fn send_error(number: u64, datagram: &[u8], reply: &mut [u8], digest: &mut Digest) {
     let caps = ChecksumCapabilities::default();
     let error = icmpv4_error::Repr {
@@ -258,6 +262,10 @@ fn send_error(number: u64, datagram: &[u8], reply: &mut [u8], digest: &mut Diges
     error.emit_into(&mut reply[..len], &caps);
     if let Ok(error) = icmpv4_error::Repr::parse(&reply[..len], &caps) {
         add_icmpv4_error(&error, digest);
+        match Ipv4Quote::parse(error.quoted) {
+            Ok(quote) => add_ipv4_quote(&quote, digest),
+            Err(_) => digest.add(2),
+        }
     }
     let packet = icmpv4::Packet::new_unchecked(&reply[..len]);
     match icmpv4::Repr::parse(&packet, &caps) {
@@ -287,6 +295,10 @@ fn send_error_v6(number: u64, quoted: &[u8], reply: &mut [u8], digest: &mut Dige
     error.emit_into(&own, &peer, &mut reply[..len], &caps);
     if let Ok(error) = icmpv6_error::Repr::parse(&own, &peer, &reply[..len], &caps) {
         add_icmpv6_error(&error, digest);
+        match Ipv6Quote::parse(error.quoted) {
+            Ok(quote) => add_ipv6_quote(&quote, digest),
+            Err(_) => digest.add(2),
+        }
     }
     let packet = icmpv6::Packet::new_unchecked(&reply[..len]);
     match icmpv6::Repr::parse(&own, &peer, &packet, &caps) {

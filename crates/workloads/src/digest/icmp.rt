@@ -2,9 +2,12 @@
 
 use crate::digest::Digest;
 use crate::digest::groups::add_mld;
-use crate::digest::ip::{add_ipv4_header, add_ipv6_header};
+use crate::digest::ip::{
+    add_ipv4_address, add_ipv4_header, add_ipv6_address, add_ipv6_header, add_protocol,
+};
 use crate::digest::neighbors::add_ndisc;
 use control_wire::{icmpv4, icmpv6};
+use quote_wire::quote::{Ipv4Quote, Ipv6Quote};
 use quote_wire::{icmpv4_error, icmpv6_error};
 
 // Adds an echo of a type.
@@ -145,4 +148,54 @@ pub fn add_icmpv6_error(error: &icmpv6_error::Repr<'_>, digest: &mut Digest) {
     digest.add(*code as u64);
     digest.add(*rest as u64);
     digest.add_front(quoted);
+}
+
+/// Adds the datagram that an error of ICMPv4 quotes.
+pub fn add_ipv4_quote(quote: &Ipv4Quote<'_>, digest: &mut Digest) {
+    let Ipv4Quote {
+        type_of_service,
+        total_len,
+        ident,
+        dont_frag,
+        more_frags,
+        frag_offset,
+        hop_limit,
+        next_header,
+        src_addr,
+        dst_addr,
+        options,
+        payload,
+    } = quote;
+    digest.add(*type_of_service as u64);
+    digest.add(*total_len as u64);
+    digest.add_numbered(*ident, *dont_frag);
+    digest.add_numbered(*frag_offset, *more_frags);
+    digest.add(*hop_limit as u64);
+    add_protocol(*next_header, digest);
+    add_ipv4_address(src_addr, digest);
+    add_ipv4_address(dst_addr, digest);
+    digest.add_octets(options);
+    digest.add_ends(payload);
+}
+
+/// The same of ICMPv6.
+pub fn add_ipv6_quote(quote: &Ipv6Quote<'_>, digest: &mut Digest) {
+    let Ipv6Quote {
+        traffic_class,
+        flow_label,
+        payload_len,
+        next_header,
+        hop_limit,
+        src_addr,
+        dst_addr,
+        payload,
+    } = quote;
+    digest.add(*traffic_class as u64);
+    digest.add(*flow_label as u64);
+    digest.add(*payload_len as u64);
+    add_protocol(*next_header, digest);
+    digest.add(*hop_limit as u64);
+    add_ipv6_address(src_addr, digest);
+    add_ipv6_address(dst_addr, digest);
+    digest.add_ends(payload);
 }
