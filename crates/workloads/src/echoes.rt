@@ -31,6 +31,21 @@ const LONG_EVERY: u32 = 1_024;
 // The lengths of what has a checksum: a header, a header with options, a segment, and packets of links.
 const SUMMED_LENGTHS: [usize; 6] = [20, 40, 64, 576, 1_500, 9_000];
 
+// The kinds of error that are sent, of which `icmpv4` reads all but the last one.
+const KINDS: [icmpv4_error::Kind; 4] = [
+    icmpv4_error::Kind::DstUnreachable,
+    icmpv4_error::Kind::TimeExceeded,
+    icmpv4_error::Kind::DstUnreachable,
+    icmpv4_error::Kind::ParamProblem,
+];
+
+const KINDS_V6: [icmpv6_error::Kind; 4] = [
+    icmpv6_error::Kind::DstUnreachable,
+    icmpv6_error::Kind::PktTooBig,
+    icmpv6_error::Kind::TimeExceeded,
+    icmpv6_error::Kind::ParamProblem,
+];
+
 // The buffers of a host.
 #[derive(Drop)]
 struct Buffers {
@@ -214,30 +229,41 @@ fn send_errors(random: &mut Random, buffers: &mut Buffers, digest: &mut Digest) 
     send_error_v6(number, &buffers.packet[..len], &mut buffers.reply, digest);
 }
 
-// Writes the header of a datagram of UDP over just its octets.
+// The lower 8 bits of a number.
+fn lowest(number: u64) -> u8 {
+    (number % 256) as u8
+}
+
+// Writes the header of a datagram over just its octets.
 fn write_datagram(number: u64, datagram: &mut [u8])
     requires least { 28 ≤ length datagram.old }
     requires most { length datagram.old ≤ 1500 }
 {
     let len = datagram.len() as u16;
-    datagram[0] = 0x45;
+    datagram[0] = if number % 8 == 0 { 0x46 } else { 0x45 };
+    datagram[1] = lowest(number >> 32);
     BigEndian::write_u16(&mut datagram[2..4], len);
-    datagram[8] = 64;
-    datagram[9] = 17;
+    BigEndian::write_u16(&mut datagram[4..6], low(number >> 8));
+    BigEndian::write_u16(&mut datagram[6..8], low(number >> 16));
+    datagram[8] = lowest(number >> 40);
+    datagram[9] = lowest(number >> 48);
     BigEndian::write_u64(&mut datagram[12..20], number);
     BigEndian::write_u64(&mut datagram[20..28], number.wrapping_mul(3));
 }
 
-// Writes the header of a packet of UDP over just its octets.
+// Writes the header of a packet over just its octets.
 fn write_packet(number: u64, packet: &mut [u8])
     requires least { 48 ≤ length packet.old }
     requires most { length packet.old ≤ 1500 }
 {
     let len = packet.len() as u16 - 40;
-    packet[0] = 0x60;
+    BigEndian::write_u32(
+        &mut packet[..4],
+        0x6000_0000 + ((number >> 20) % 0x1000_0000) as u32,
+    );
     BigEndian::write_u16(&mut packet[4..6], len);
-    packet[6] = 17;
-    packet[7] = 64;
+    packet[6] = lowest(number >> 40);
+    packet[7] = lowest(number >> 48);
     BigEndian::write_u64(&mut packet[8..16], 0x2001_0db8_0000_0000);
     BigEndian::write_u64(&mut packet[16..24], number);
     BigEndian::write_u64(&mut packet[24..32], 0x2001_0db8_0000_0001);
@@ -250,9 +276,9 @@ fn write_packet(number: u64, packet: &mut [u8])
 fn send_error(number: u64, datagram: &[u8], reply: &mut [u8], digest: &mut Digest) {
     let caps = ChecksumCapabilities::default();
     let error = icmpv4_error::Repr {
-        kind: icmpv4_error::Kind::DstUnreachable,
-        code: (number % 16) as u8,
-        rest: (number % 1_500) as u32,
+        kind: KINDS[(number >> 4) as usize % 4],
+        code: lowest(number) % 16,
+        rest: (number >> 32) as u32,
         quoted: datagram,
     };
     let len = error.buffer_len();
@@ -282,10 +308,16 @@ fn send_error_v6(number: u64, quoted: &[u8], reply: &mut [u8], digest: &mut Dige
     let caps = ChecksumCapabilities::default();
     let own = address(number);
     let peer = address(number >> 16);
+    let kind = KINDS_V6[(number >> 4) as usize % 4];
+    let code = if kind == icmpv6_error::Kind::PktTooBig {
+        0
+    } else {
+        lowest(number) % 16
+    };
     let error = icmpv6_error::Repr {
-        kind: icmpv6_error::Kind::PktTooBig,
-        code: 0,
-        rest: 1_280 + (number % 256) as u32,
+        kind,
+        code,
+        rest: (number >> 32) as u32,
         quoted,
     };
     let len = error.buffer_len();

@@ -113,31 +113,40 @@ fn solicit(random: &mut Random, packet: &mut [u8], digest: &mut Digest) {
     };
     exchange(&message, &own, &target, packet, digest);
     let message = ndisc::Repr::NeighborAdvert {
-        flags: NeighborFlags::SOLICITED.union(NeighborFlags::OVERRIDE),
+        flags: NeighborFlags::from_bits_truncate(lowest(number >> 40)),
         target_addr: target,
         lladdr: Some(link_address(number >> 24)),
     };
     exchange(&message, &target, &own, packet, digest);
 }
 
+// The greatest packet of the link, in every other advertisement.
+fn mtu(number: u64) -> Option<u32> {
+    if number % 2 == 0 {
+        Some(1_280 + low(number >> 16) as u32)
+    } else {
+        None
+    }
+}
+
 // Sends the advertisement of a router.
 fn advertise_router(random: &mut Random, packet: &mut [u8], digest: &mut Digest) {
     let number = random.next();
     let prefix = PrefixInformation {
-        prefix_len: 64,
-        flags: PrefixInfoFlags::ON_LINK.union(PrefixInfoFlags::ADDRCONF),
+        prefix_len: 48 + lowest(number >> 24) % 17,
+        flags: PrefixInfoFlags::from_bits_truncate(lowest(number >> 32)),
         valid_lifetime: Duration::from_secs(number % 2_592_000),
         preferred_lifetime: Duration::from_secs(number % 604_800),
         prefix: Ipv6Address::new(0x2001, 0xdb8, low(number), low(number >> 16), 0, 0, 0, 0),
     };
     let message = ndisc::Repr::RouterAdvert {
-        hop_limit: 64,
-        flags: RouterFlags::OTHER,
+        hop_limit: lowest(number >> 40),
+        flags: RouterFlags::from_bits_truncate(lowest(number >> 48)),
         router_lifetime: Duration::from_secs(number % 9_000),
         reachable_time: Duration::from_millis(number % 3_600_000),
         retrans_time: Duration::from_millis(number % 1_000),
         lladdr: Some(link_address(number)),
-        mtu: if number % 2 == 0 { Some(1_500) } else { None },
+        mtu: mtu(number),
         prefix_info: if number % 8 == 0 { None } else { Some(prefix) },
     };
     exchange(
@@ -234,7 +243,7 @@ fn query(random: &mut Random, pool: &Pool, packet: &mut [u8], digest: &mut Diges
         max_resp_code: low(number),
         mcast_addr: group(number),
         s_flag: number % 2 == 0,
-        qrv: 2,
+        qrv: lowest(number >> 48) % 8,
         qqic: lowest(number >> 40),
         num_srcs: sources as u16,
         data: pool.part(number >> 16, SOURCE_LEN * sources as usize),
@@ -290,7 +299,7 @@ fn report_sources(random: &mut Random, pool: &Pool, packet: &mut [u8], digest: &
     exchange_listener(&message, &host(number), packet, digest);
 }
 
-// Sends a query and a report of IGMP.
+// Sends a query of IGMP, and a report or a message that a host leaves.
 fn ask_members(random: &mut Random, packet: &mut [u8], digest: &mut Digest) {
     let number = random.next();
     let group_addr = Ipv4Address::new(
@@ -305,11 +314,22 @@ fn ask_members(random: &mut Random, packet: &mut [u8], digest: &mut Digest) {
         version: igmp::IgmpVersion::Version2,
     };
     exchange_member(&message, packet, digest);
-    let message = igmp::Repr::MembershipReport {
-        group_addr,
-        version: igmp::IgmpVersion::Version2,
-    };
-    exchange_member(&message, packet, digest);
+    exchange_member(&answer(number >> 24, group_addr), packet, digest);
+}
+
+// What a host says of a group.
+fn answer(number: u64, group_addr: Ipv4Address) -> igmp::Repr {
+    match number % 4 {
+        0 => igmp::Repr::LeaveGroup { group_addr },
+        1 => igmp::Repr::MembershipReport {
+            group_addr,
+            version: igmp::IgmpVersion::Version1,
+        },
+        _ => igmp::Repr::MembershipReport {
+            group_addr,
+            version: igmp::IgmpVersion::Version2,
+        },
+    }
 }
 
 // Writes a message of IGMP, and reads it.

@@ -74,6 +74,15 @@ fn address(number: u64) -> Ipv4Address {
     )
 }
 
+// An address in one of four messages, and else none.
+fn rare_address(number: u64) -> Ipv4Address {
+    if number % 4 == 0 {
+        address(number >> 2)
+    } else {
+        Ipv4Address::UNSPECIFIED
+    }
+}
+
 // The address of a client on its network.
 fn client(number: u64) -> EthernetAddress {
     EthernetAddress([
@@ -93,12 +102,12 @@ fn blank<'a>(message_type: MessageType, number: u64, options: &'a [DhcpOption<'a
         transaction_id: (number >> 32) as u32,
         secs: (number % 64) as u16,
         client_hardware_address: client(number),
-        client_ip: Ipv4Address::UNSPECIFIED,
+        client_ip: rare_address(number >> 3),
         your_ip: Ipv4Address::UNSPECIFIED,
-        server_ip: Ipv4Address::UNSPECIFIED,
+        server_ip: rare_address(number >> 11),
         router: None,
         subnet_mask: None,
-        relay_agent_ip: Ipv4Address::UNSPECIFIED,
+        relay_agent_ip: rare_address(number >> 19),
         broadcast: number % 2 == 0,
         requested_ip: None,
         client_identifier: None,

@@ -58,6 +58,11 @@ fn put_link(octets: &mut [u8], number: u64, is_v4: bool) -> usize {
     put_u16(octets, place, if is_v4 { 0x0800 } else { 0x86dd })
 }
 
+// The hops that a datagram has left.
+fn hops(number: u64) -> u8 {
+    (number >> 56) as u8
+}
+
 // Writes a datagram of IPv4, and says how many bytes it has.
 fn write_v4(octets: &mut [u8], number: u64, sources: &Sources, random: &mut Random) -> usize {
     if octets.len() < IPV4_HEADER_LEN {
@@ -80,7 +85,7 @@ fn write_v4(octets: &mut [u8], number: u64, sources: &Sources, random: &mut Rand
     let place = put_u16(octets, 0, 0x4500);
     let place = put_u16(octets, place, low(IPV4_HEADER_LEN as u64 + len as u64));
     let place = put_u16(octets, place, low(number >> 24));
-    let place = put(octets, place, &[0, 0, 64, protocol, 0, 0]);
+    let place = put(octets, place, &[0, 0, hops(number), protocol, 0, 0]);
     let place = put(octets, place, &source.octets());
     put(octets, place, &destination.octets());
     seal(&mut octets[..IPV4_HEADER_LEN], 10, 0);
@@ -121,7 +126,7 @@ fn write_v6(octets: &mut [u8], number: u64, sources: &Sources, random: &mut Rand
     let next = if extended == 0 { protocol } else { 0 };
     let place = put(octets, 0, &[0x60, 0, 0, 0]);
     let place = put_u16(octets, place, low(extended as u64 + len as u64));
-    let place = put(octets, place, &[next, 64]);
+    let place = put(octets, place, &[next, hops(number)]);
     let place = put(octets, place, &source.octets());
     let place = put(octets, place, &destination.octets());
     if extended != 0 {

@@ -37,6 +37,8 @@ const TYPE_AAAA: u16 = 28;
 
 const CLASS_IN: u16 = 1;
 
+const CLASS_CHAOS: u16 = 3;
+
 /// Labels are parts of these letters.
 #[derive(Drop)]
 pub struct Letters {
@@ -170,6 +172,15 @@ fn put_data(
     }
 }
 
+// The class of a record: of one in 32 another than the internet's.
+fn class_of(number: u64) -> u16 {
+    if (number >> 50) % 32 == 0 {
+        CLASS_CHAOS
+    } else {
+        CLASS_IN
+    }
+}
+
 // Writes a record at a place, and gives the place behind it.
 fn put_record(
     octets: &mut [u8],
@@ -185,7 +196,7 @@ fn put_record(
         put_pointer(octets, label, places.parent)
     };
     let class = put_u16(octets, owner, 0);
-    let ttl = put_u16(octets, class, CLASS_IN);
+    let ttl = put_u16(octets, class, class_of(number));
     let len = put(octets, ttl, &((number % 86_400) as u32).to_be_bytes());
     let target = if (number >> 62) % 2 == 0 {
         places.parent

@@ -96,11 +96,15 @@ fn write_lease(octets: &mut [u8], number: u64) -> usize {
     let id = number.to_be_bytes();
     let place = put(octets, UDP_HEADER_LEN, &[2, 1, 6, 0]);
     let place = put(octets, place, &id[..4]);
-    let place = put(octets, place, &[0; 8]);
     let place = put(
         octets,
         place,
-        &[10, 1, id[0], id[1], 10, 1, 0, 1, 0, 0, 0, 0],
+        &[0, id[3], id[4] & 0x80, 0, 10, 2, id[5], id[6]],
+    );
+    let place = put(
+        octets,
+        place,
+        &[10, 1, id[0], id[1], 10, 1, 0, id[2], 10, 3, 0, id[7]],
     );
     let place = put(octets, place, &[0x52, 0x54, 0, id[2], id[3], id[4]]);
     let place = put(octets, place, &[0; DHCP_ZEROS_LEN]);
@@ -134,9 +138,10 @@ fn write_echo(octets: &mut [u8], type_: u8, number: u64, sources: &Sources) -> u
 fn write_error(octets: &mut [u8], number: u64, sources: &Sources) -> usize {
     let id = number.to_be_bytes();
     let len = 8 + (number >> 20) % 500;
-    let place = put(octets, 0, &[3, id[0] % 16, 0, 0, 0, 0, 0, 0, 0x45, 0]);
+    let type_ = if id[7] % 2 == 0 { 3 } else { 11 };
+    let place = put(octets, 0, &[type_, id[0] % 16, 0, 0, 0, 0, 0, 0, 0x45, 0]);
     let place = put_u16(octets, place, low(20 + len));
-    let place = put(octets, place, &[id[1], id[2], 0, 0, 64, 17, 0, 0]);
+    let place = put(octets, place, &[id[1], id[2], 0, 0, id[7], id[6], 0, 0]);
     let place = put(octets, place, &[10, 0, id[3], id[4], 10, 1, id[5], id[6]]);
     put(octets, place, sources.pool.part(number >> 32, len as usize))
 }
@@ -144,7 +149,7 @@ fn write_error(octets: &mut [u8], number: u64, sources: &Sources) -> usize {
 // Writes a query or a report of IGMP, and says how many bytes it has.
 fn write_member(octets: &mut [u8], number: u64) -> usize {
     let id = number.to_be_bytes();
-    let type_ = if id[0] % 2 == 0 { 0x11 } else { 0x16 };
+    let type_ = [0x11, 0x12, 0x16, 0x17][id[0] as usize % 4];
     put(octets, 0, &[type_, id[1] % 128, 0, 0, 224, 0, 1, id[2]])
 }
 
@@ -154,7 +159,7 @@ fn write_neighbor(octets: &mut [u8], number: u64) -> usize {
     let (type_, flags, option) = if id[0] % 2 == 0 {
         (135, 0, 1)
     } else {
-        (136, 0x60, 2)
+        (136, id[4] & 0xe0, 2)
     };
     let place = put(octets, 0, &[type_, 0, 0, 0, flags, 0, 0, 0]);
     let place = put(octets, place, &[0xfe, 0x80, 0, 0, 0, 0, 0, 0]);
@@ -172,7 +177,11 @@ fn write_report(octets: &mut [u8], number: u64) -> usize {
     let records = 1 + id[1] % 8;
     let mut place = put(octets, 0, &[143, 0, 0, 0, 0, 0, 0, records]);
     for record in 0..records {
-        place = put(octets, place, &[4, 0, 0, 0, 0xff, 2, 0, 0, 0, 0, 0, 0]);
+        place = put(
+            octets,
+            place,
+            &[1 + id[4] % 6, 0, 0, 0, 0xff, 2, 0, 0, 0, 0, 0, 0],
+        );
         place = put(octets, place, &[0, 0, 0, 1, 0xff, record, id[2], id[3]]);
     }
     place
