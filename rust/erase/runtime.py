@@ -55,6 +55,14 @@ def reader(file, i):
 
 
 @rule(RUNTIME)
+def generator(file, i):
+    """`Rng` of rand_core is `RngCore` before its version 0.10, as in those that Debian has."""
+    if not file.texts(i, "Rng") or not file.texts(i - 4, "use", "rand_core", "::", "{"):
+        return None
+    return file.replace(i, i + 1, "RngCore")
+
+
+@rule(RUNTIME)
 def handed(file, i):
     """The runtime and the allocator, `rt` and `alloc`, go as parameters and as arguments."""
     if file.texts(i, "let", "alloc", "=", "rt", ".", "alloc", "(", ")", ";"):

@@ -49,6 +49,7 @@ SHAPES = {
     "takes_alloc": (r"to_string|concat|to_vec|repeat|clone|vec|in \w+( \. alloc \( \.\. \))? ;",
                     r"to_string_in|concat_in|to_vec_in|repeat_in|try_clone|rattle_std :: vec|"),
     "reader": (r"rt \. reader", r"io :: reader"),
+    "generator": (r"Rng", r"RngCore"),
     "handed": (r"let alloc = rt \. alloc \( \.\. \) ;|(, )?&? ?(rt|alloc)"
                r"( : &? ?(impl \w+|\( \.\. \)|HostRuntime|Global))?( \. alloc \( \.\. \))?( ,)?", ""),
     "std_module": (r"std|hex", r"rattle_std( :: hex)?"),

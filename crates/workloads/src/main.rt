@@ -1,5 +1,7 @@
-//! The jobs that a user of the library waits for, for measurements: `workloads JOB SEED` does one on the input that the
-//! seed gives, and prints a digest of its results. With no word each job is done on a small input.
+//! The jobs that a user of the library waits for, for measurements.
+//!
+//! `workloads JOB SEED [ROUNDS]` does a job on the input that the seed gives, and prints a digest of its results.
+//! Without a number of rounds it does as many as take some seconds. With no word each job is done on a small input.
 #![tactic(auto)]
 
 mod awkward;
@@ -58,7 +60,7 @@ impl Job {
         }
     }
 
-    // How often the job is done for a measurement, each time on other input.
+    // How many rounds a measurement has where no word says it, each on other input.
     fn rounds(self) -> u32 {
         match self {
             Job::Dump => 8_000,
@@ -95,15 +97,20 @@ fn main(rt: HostRuntime) -> io::Result<()> {
         Some(word) => word.as_str().parse::<u64>().unwrap_or(SMALL_SEED),
         None => SMALL_SEED,
     };
+    let rounds = match words.next() {
+        Some(word) => word.as_str().parse::<u32>().ok(),
+        None => None,
+    };
     for job in JOBS {
         if job.name() == name.as_str() {
-            print(&rt, job, job.digest(rt.alloc(), seed, job.rounds())?)?;
+            let rounds = rounds.unwrap_or(job.rounds());
+            print(&rt, job, job.digest(rt.alloc(), seed, rounds)?)?;
         }
     }
     Ok(())
 }
 
 // Prints the digest of a job.
-fn print<R: Print>(rt: &R, job: Job, digest: u64) -> io::Result<()> {
+fn print(rt: &impl Print, job: Job, digest: u64) -> io::Result<()> {
     println!(rt; "{:<9} {digest:016x}", job.name())
 }

@@ -124,6 +124,8 @@ RUNTIME_ROWS = {
                     "use_prelude fn f() -> u8 { g(a.to_string_in(), b.try_clone(), rattle_std::vec![0; 3]) }"),
     "reader": ("fn f(rt: &(impl A + B)) -> u8 { run(rt.alloc(), rt.reader(), io::writer(&rt)) }",
                "fn f() -> u8 { run(io::reader(), io::writer()) }"),
+    "generator": ("use rand_core::{Rng, SeedableRng}; fn f() -> u8 { 1 }",
+                  "use rand_core::{RngCore, SeedableRng}; fn f() -> u8 { 1 }"),
     "handed": ("fn t(rt: HostRuntime) { let alloc = rt.alloc(); f(&rt, alloc, 1); g(1, rt.alloc()); h(rt); }",
                "fn t() { f(1); g(1); h(); }"),
     "std_module": ("use std::io::Write; use std::fmt; fn f() -> u8 { hex::decode(a) }",

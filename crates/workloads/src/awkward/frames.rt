@@ -122,6 +122,7 @@ fn read_blocks<R: BufRead>(alloc: Global, input: &mut R, digest: &mut Digest) {
 }
 
 // Writes a capture, and says how many bytes it takes.
+#[allow(clippy::manual_memcpy)] // of this form the bounds need no proof file
 fn write_capture(number: u64, octets: &mut [u8]) -> usize {
     const FRONT: [u8; 48] = [
         0x0a, 0x0d, 0x0d, 0x0a, 28, 0, 0, 0, 0x4d, 0x3c, 0x2b, 0x1a, 1, 0, 0, 0, 0xff, 0xff, 0xff,

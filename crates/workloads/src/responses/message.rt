@@ -105,7 +105,7 @@ fn put_label(octets: &mut [u8], place: usize, letters: &Letters, number: u64) ->
 
 // Writes a pointer at a place.
 fn put_pointer(octets: &mut [u8], place: usize, target: u16) -> usize {
-    put_u16(octets, place, 0xc000 | target % 0x4000)
+    put_u16(octets, place, 0xc000 | (target % 0x4000))
 }
 
 /// Writes a name of 3 to 6 labels over the front of the octets, and says how many bytes it takes.
