@@ -32,6 +32,7 @@ pub fn len_before(octets: &[u8], wanted: u8) -> usize
 /// its step, so that short words cost no search of all that follows them.
 // This and what it calls are inlined, so that one octet is looked for once where the two are one.
 #[inline(always)]
+#[allow(clippy::needless_range_loop)] // the invariant speaks of the index
 pub fn len_before_either(octets: &[u8], first: u8, second: u8) -> usize
     ensures bound { result ≤ length octets.now }
     ensures no_first { All (λ octet. octet ≢ first) (take result octets.now) }
