@@ -5,7 +5,7 @@ ghost use Rattle.std.specs.Prelude.{◌≡◌, ◌≢◌, ◌<◌, ◌≤◌, �
 // How many octets are looked at in one step.
 const STEP: usize = 16;
 
-/// How many spaces are in front.
+/// How many spaces are in front. The first ones are looked at one by one, since most words have one before them.
 pub fn spaces_len(octets: &[u8]) -> usize
     ensures bound { result ≤ length octets.now }
     ensures spaces { All (λ octet. octet ≡ 32) (take result octets.now) }
@@ -15,8 +15,52 @@ pub fn spaces_len(octets: &[u8]) -> usize
         if *octet != b' ' {
             return i;
         }
+        if i == STEP {
+            return many_spaces_len(octets);
+        }
     }
     octets.len()
+}
+
+// The same, by whole steps as far as they are spaces.
+#[inline(never)]
+fn many_spaces_len(octets: &[u8]) -> usize
+    ensures bound { result ≤ length octets.now }
+    ensures spaces { All (λ octet. octet ≡ 32) (take result octets.now) }
+    ensures ends { result < length octets.now → slice_index octets.now result ≢ 32 }
+{
+    let mut len = steps_of_spaces(octets);
+    while len < octets.len() && octets[len] == b' ' {
+        len += 1;
+    }
+    len
+}
+
+// How many octets are in the whole steps in front that are spaces alone.
+fn steps_of_spaces(octets: &[u8]) -> usize
+    ensures bound { result ≤ length octets.now }
+    ensures spaces { All (λ octet. octet ≡ 32) (take result octets.now) }
+{
+    let steps = octets.len() / STEP;
+    for step in 0..steps {
+        let start = step * STEP;
+        if has_other(&octets[start..start + STEP]) {
+            return start;
+        }
+    }
+    steps * STEP
+}
+
+// Whether another octet than a space stands among these. As in `has` there is no branch between the octets.
+#[inline(always)]
+fn has_other(octets: &[u8]) -> bool
+    ensures { result ≡ false → All (λ octet. octet ≡ 32) octets.now }
+{
+    let mut found = false;
+    for octet in octets {
+        found |= *octet != b' ';
+    }
+    found
 }
 
 /// How many octets are in front of the first that is this one.

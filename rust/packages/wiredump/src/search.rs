@@ -4,14 +4,49 @@
 // How many octets are looked at in one step.
 const STEP: usize = 16;
 
-/// How many spaces are in front.
+/// How many spaces are in front. The first ones are looked at one by one, since most words have one before them.
 pub fn spaces_len(octets: &[u8]) -> usize {
     for (i, octet) in octets.iter().enumerate() {
         if *octet != b' ' {
             return i;
         }
+        if i == STEP {
+            return many_spaces_len(octets);
+        }
     }
     octets.len()
+}
+
+// The same, by whole steps as far as they are spaces.
+#[inline(never)]
+fn many_spaces_len(octets: &[u8]) -> usize {
+    let mut len = steps_of_spaces(octets);
+    while len < octets.len() && octets[len] == b' ' {
+        len += 1;
+    }
+    len
+}
+
+// How many octets are in the whole steps in front that are spaces alone.
+fn steps_of_spaces(octets: &[u8]) -> usize {
+    let steps = octets.len() / STEP;
+    for step in 0..steps {
+        let start = step * STEP;
+        if has_other(&octets[start..start + STEP]) {
+            return start;
+        }
+    }
+    steps * STEP
+}
+
+// Whether another octet than a space stands among these. As in `has` there is no branch between the octets.
+#[inline(always)]
+fn has_other(octets: &[u8]) -> bool {
+    let mut found = false;
+    for octet in octets {
+        found |= *octet != b' ';
+    }
+    found
 }
 
 /// How many octets are in front of the first that is this one.
