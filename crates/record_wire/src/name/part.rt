@@ -1,6 +1,6 @@
 //! What stands at the front of a part of a name (RFC 1035 section 4.1.4).
 
-ghost use Rattle.std.specs.Prelude.{◌≡◌, ◌≤◌, length, None};
+ghost use Rattle.std.specs.Prelude.{◌≡◌, ◌≤◌, ◌<◌, length, drop, None};
 ghost use Rattle.dns_wire.specs.DnsNameAhead.{front_of};
 ghost use Rattle.record_wire.specs.Labels.{first_label};
 ghost use Rattle.record_wire.specs.NameParts.{mark_of, AreInFront};
@@ -36,13 +36,13 @@ pub(super) fn read_mark(text: &[u8]) -> Mark
     }
 }
 
-/// How many bytes the whole labels at the front of a text take. Labels that begin behind the most octets that a name
-/// has are not looked at.
+/// How many bytes the whole labels at the front of a text take: all of them, but that those which begin behind the most
+/// octets that a name has are not looked at.
 #[inline]
 pub(super) fn labels_len(text: &[u8]) -> usize
     ensures front { AreInFront text.now result }
     ensures fits { result ≤ length text.now }
-    ensures some { result ≡ 0 → first_label text.now ≡ None }
+    ensures all { result < MAX_NAME_LEN → first_label (drop result text.now) ≡ None }
 {
     let mut len = 0;
     while len < MAX_NAME_LEN {

@@ -30,8 +30,8 @@ pub(super) fn read_mark(text: &[u8]) -> Mark {
     }
 }
 
-/// How many bytes the whole labels at the front of a text take. Labels that begin behind the most octets that a name
-/// has are not looked at.
+/// How many bytes the whole labels at the front of a text take: all of them, but that those which begin behind the most
+/// octets that a name has are not looked at.
 #[inline]
 pub(super) fn labels_len(text: &[u8]) -> usize {
     let mut len = 0;

@@ -1,5 +1,6 @@
-use Rattle.std.proofs.Common.{take, refl, sym, subst}
+use Rattle.std.proofs.Common.{◌≡◌, ◌<◌, None, take, drop, refl, sym, subst, arith}
 use Rattle.dns_wire.specs.DnsNameAhead.{front_of}
+use Rattle.record_wire.specs.Labels.{first_label}
 use Rattle.record_wire.proofs.NameParts.{IsReadTo, drop_whole, nothing_read, pointer_read, labels_read, all_read}
 use Rattle.record_wire.proofs.NameParts.{all_same, no_name_far, no_name_torn, room_for_labels, stop_by, pointer_by}
 use Rattle.record_wire.proofs.NameParts.{torn_by}
@@ -30,10 +31,11 @@ returns-then-target-reach-clause-complete c = λ labels is name.
 
 pub returns-then-len-eq0-clause-complete : goal.returns-then-len-eq0-clause-complete
 returns-then-len-eq0-clause-complete c = λ labels is name.
-    let none = c.labels_len-len.ensures.some c.if-len-eq0.true in
-    absurd (no_name_torn c.args.bytes.now c.args.message.now c.loop-target.octets.items c.loop-target.left.now
-    c.loop-target.reach.now c.loop-target.invariant
-    (torn_by (front_of c.loop-target.left.now) c.loop-target.left.now refl c.in-Other.ensures none) labels is)
+    let left = c.loop-target.left.now in
+    let none : first_label left ≡ None = subst (λ n. n < 255 → first_label (drop n left) ≡ None) c.if-len-eq0.true
+    c.labels_len-len.ensures.all (omega arith) in
+    absurd (no_name_torn c.args.bytes.now c.args.message.now c.loop-target.octets.items left c.loop-target.reach.now
+    c.loop-target.invariant (torn_by (front_of left) left refl c.in-Other.ensures none) labels is)
 
 pub returns-in_err-push_octets-in-Other-clause-complete : goal.returns-in_err-push_octets-in-Other-clause-complete
 returns-in_err-push_octets-in-Other-clause-complete c = λ labels is name.

@@ -1,4 +1,4 @@
-use Rattle.std.proofs.Common.{◌≡◌, drop, Some, None, sym, ap, ◌∙◌, subst, arith}
+use Rattle.std.proofs.Common.{◌≡◌, drop, Some, sym, ap, ◌∙◌, arith}
 use Rattle.record_wire.specs.Labels.{first_label}
 use Rattle.record_wire.proofs.NameParts.{drop_whole, none_in_front, one_more_in_front, front_fits}
 use Rattle.record_wire.proofs.name.part.labels_len.Goals as goal
@@ -16,10 +16,6 @@ loop-len-preserved c =
     in
     record { front = more; fits = front_fits _ _ more }
 
-pub returns-in-None-clause-some : goal.returns-in-None-clause-some
-returns-in-None-clause-some c = λ none.
-    let text = c.args.text.now in
-    let len = c.loop-len.len in
-    let first : first_label (drop len text) ≡ None =
-    ap first_label (sym (drop_whole len text)) ∙ sym c.in-None.ensures in
-    subst (λ n. first_label (drop n text) ≡ None) none first
+pub returns-in-None-clause-all : goal.returns-in-None-clause-all
+returns-in-None-clause-all c = λ few.
+    ap first_label (sym (drop_whole c.loop-len.len c.args.text.now)) ∙ sym c.in-None.ensures
