@@ -17,7 +17,10 @@ ghost use Rattle.opt_wire.specs.contracts.ndiscoption.NdiscOption.{the_row};
 
 use bitflags::Flags as _;
 use std::fmt;
-use wirebase::{Duration, Error, Ipv6Address, Octets, OctetsMut, RawHardwareAddress, Result};
+use wirebase::{
+    Duration, Error, Ipv6Address, MAX_HARDWARE_ADDRESS_LEN, Octets, OctetsMut, RawHardwareAddress,
+    Result,
+};
 
 mod repr;
 mod tables;
@@ -166,8 +169,9 @@ impl<T: Octets> NdiscOption<T> {
         ensures { raw_bytes result ≡ bytes_of (link_addr_field (T.bytes (inner self.now)))
             (T.bytes (inner self.now)) }
     {
+        let room = field::UNIT * self.data_len() as usize - field::LENGTH.end;
         // The number of bytes is a constant at each call, so that they are copied by moves.
-        if self.data_len() == 1 {
+        if room < MAX_HARDWARE_ADDRESS_LEN {
             RawHardwareAddress::from_bytes(self.buffer.field(field::SHORT_ADDR))
         } else {
             RawHardwareAddress::from_bytes(self.buffer.field(field::LONG_ADDR))

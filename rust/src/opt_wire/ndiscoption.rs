@@ -2,7 +2,8 @@
 //! Options of neighbor discovery (RFC 4861 section 4.6).
 
 use crate::wirebase::{
-    Duration, Error, Ipv6Address, Octets, OctetsMut, RawHardwareAddress, Result,
+    Duration, Error, Ipv6Address, MAX_HARDWARE_ADDRESS_LEN, Octets, OctetsMut, RawHardwareAddress,
+    Result,
 };
 use core::fmt;
 
@@ -121,8 +122,9 @@ impl<T: Octets> NdiscOption<T> {
     /// The link-layer address of a source or target: what the option has room for, but no more than 8 bytes. Requires
     /// those bytes, and that the option counts one unit or more.
     pub fn link_layer_addr(&self) -> RawHardwareAddress {
+        let room = field::UNIT * self.data_len() as usize - field::LENGTH.end;
         // The number of bytes is a constant at each call, so that they are copied by moves.
-        if self.data_len() == 1 {
+        if room < MAX_HARDWARE_ADDRESS_LEN {
             RawHardwareAddress::from_bytes(self.buffer.field(field::SHORT_ADDR))
         } else {
             RawHardwareAddress::from_bytes(self.buffer.field(field::LONG_ADDR))
