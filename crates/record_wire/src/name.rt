@@ -14,7 +14,7 @@ ghost use Rattle.record_wire.specs.NameParts.{AreNamed};
 
 use crate::name::label::{push_octets, split_label};
 use crate::name::part::{Mark, labels_len, read_mark};
-use crate::name::text::{LabelText, is_root, read_labels};
+use crate::name::text::{LabelText, is_root, put_labels};
 use arrayvec::ArrayVec;
 use dns_wire::dns::Packet;
 use dns_wire::message::octets_of;
@@ -64,9 +64,14 @@ impl Name {
             → text.now ≡ name_text labels → IsOkAnd result (λ name. labels_of name ≡ labels) }
     {
         if is_root(text) {
-            return Name::finish(ArrayVec::new());
+            return Ok(Name::root());
         }
-        Name::finish(read_labels(text)?)
+        let mut octets = ArrayVec::new();
+        put_labels(&mut octets, text)?;
+        if octets.try_push(0).is_err() {
+            return Err(Error);
+        }
+        Ok(Name { octets })
     }
 
     /// The octets: each label behind its length, and then byte 0.
@@ -77,16 +82,13 @@ impl Name {
         self.octets.as_slice()
     }
 
-    // Ends the octets of a name.
-    fn finish(mut octets: ArrayVec<u8, MAX_NAME_LEN>) -> Result<Name>
-        requires { written_all (labels_in octets.items) ≡ octets.items }
-        ensures room { IsOk result ↔ (length octets.items < 255) }
-        ensures labels { IfOk result (λ name. labels_of name ≡ labels_in octets.items) }
+    // The root, which has no labels.
+    fn root() -> Name
+        ensures { labels_of result ≡ [] }
     {
-        if octets.try_push(0).is_err() {
-            return Err(Error);
-        }
-        Ok(Name { octets })
+        let mut octets = ArrayVec::new();
+        octets.push(0);
+        Name { octets }
     }
 }
 
@@ -134,34 +136,41 @@ impl fmt::Display for Name {
     ghost output = { λ name. Some (name_text (labels_of name)) };
 
     fn fmt<W: fmt::Write>(&self, f: &mut fmt::Formatter<W>) -> fmt::Result {
-        match split_label(self.octets.as_slice()) {
-            Some((label, rest)) => {
-                LabelText(label).fmt(f)?;
-                BehindDots(rest).fmt(f)
-            }
-            None => f.write_str("."),
+        let octets = self.octets.as_slice();
+        // Byte 0 alone is the root.
+        if octets.len() == 1 {
+            return write!(f, ".");
         }
+        Labels(octets).fmt(f)
     }
 }
 
-// The labels in octets, each behind a dot.
+// The same of the labels in octets. It stands apart, so that the root is written without the registers that it needs.
 #[derive(Drop)]
-struct BehindDots<'a>(&'a [u8]);
+struct Labels<'a>(&'a [u8]);
 
-impl fmt::Display for BehindDots<'_> {
+impl fmt::Display for Labels<'_> {
     ghost use Rattle.std.specs.Prelude.{Some};
-    ghost use Rattle.record_wire.specs.NameText.{behind_dots};
+    ghost use Rattle.record_wire.specs.NameText.{name_text};
 
-    ghost output = { λ octets. Some (behind_dots (labels_in octets.0.now)) };
+    ghost output = { λ octets. Some (name_text (labels_in octets.0.now)) };
 
+    #[inline(never)]
     fn fmt<W: fmt::Write>(&self, f: &mut fmt::Formatter<W>) -> fmt::Result {
-        let mut left = self.0;
-        while let Some((label, rest)) = split_label(left) {
-            f.write_str(".")?;
+        let Some((first, rest)) = split_label(self.0) else {
+            return f.write_str(".");
+        };
+        let mut label = first;
+        let mut left = rest;
+        loop {
             LabelText(label).fmt(f)?;
+            let Some((next, rest)) = split_label(left) else {
+                return Ok(());
+            };
+            f.write_str(".")?;
+            label = next;
             left = rest;
         }
-        Ok(())
     }
 }
 

@@ -9,7 +9,7 @@ use crate::dns_wire::dns::Packet;
 use crate::dns_wire::message::octets_of;
 use crate::record::name::label::{push_octets, split_label};
 use crate::record::name::part::{Mark, labels_len, read_mark};
-use crate::record::name::text::{LabelText, is_root, read_labels};
+use crate::record::name::text::{LabelText, is_root, put_labels};
 use crate::wirebase::{Error, Result};
 use arrayvec::ArrayVec;
 use core::fmt::{self, Display};
@@ -43,9 +43,14 @@ impl Name {
     /// empty or has more than 63 bytes, and where the name has more than 255 octets.
     pub fn from_text(text: &[u8]) -> Result<Name> {
         if is_root(text) {
-            return Name::finish(ArrayVec::new());
+            return Ok(Name::root());
         }
-        Name::finish(read_labels(text)?)
+        let mut octets = ArrayVec::new();
+        put_labels(&mut octets, text)?;
+        if octets.try_push(0).is_err() {
+            return Err(Error);
+        }
+        Ok(Name { octets })
     }
 
     /// The octets: each label behind its length, and then byte 0.
@@ -53,12 +58,11 @@ impl Name {
         self.octets.as_slice()
     }
 
-    // Ends the octets of a name.
-    fn finish(mut octets: ArrayVec<u8, MAX_NAME_LEN>) -> Result<Name> {
-        if octets.try_push(0).is_err() {
-            return Err(Error);
-        }
-        Ok(Name { octets })
+    // The root, which has no labels.
+    fn root() -> Name {
+        let mut octets = ArrayVec::new();
+        octets.push(0);
+        Name { octets }
     }
 }
 
@@ -95,28 +99,35 @@ fn put_name(octets: &mut ArrayVec<u8, MAX_NAME_LEN>, message: &[u8], bytes: &[u8
 /// Labels with dots between them, and a dot alone for the root.
 impl fmt::Display for Name {
     fn fmt(&self, f: &mut fmt::Formatter<'_>) -> fmt::Result {
-        match split_label(self.octets.as_slice()) {
-            Some((label, rest)) => {
-                LabelText(label).fmt(f)?;
-                BehindDots(rest).fmt(f)
-            }
-            None => f.write_str("."),
+        let octets = self.octets.as_slice();
+        // Byte 0 alone is the root.
+        if octets.len() == 1 {
+            return write!(f, ".");
         }
+        Labels(octets).fmt(f)
     }
 }
 
-// The labels in octets, each behind a dot.
-struct BehindDots<'a>(&'a [u8]);
+// The same of the labels in octets. It stands apart, so that the root is written without the registers that it needs.
+struct Labels<'a>(&'a [u8]);
 
-impl fmt::Display for BehindDots<'_> {
+impl fmt::Display for Labels<'_> {
+    #[inline(never)]
     fn fmt(&self, f: &mut fmt::Formatter<'_>) -> fmt::Result {
-        let mut left = self.0;
-        while let Some((label, rest)) = split_label(left) {
-            f.write_str(".")?;
+        let Some((first, rest)) = split_label(self.0) else {
+            return f.write_str(".");
+        };
+        let mut label = first;
+        let mut left = rest;
+        loop {
             LabelText(label).fmt(f)?;
+            let Some((next, rest)) = split_label(left) else {
+                return Ok(());
+            };
+            f.write_str(".")?;
+            label = next;
             left = rest;
         }
-        Ok(())
     }
 }
 

@@ -1,7 +1,7 @@
 //! The characters and the labels of a name's text (RFC 1035 section 5.1).
 
 ghost use Rattle.std.specs.Prelude.{◌≡◌, ◌↔◌, ◌≤◌, ◌<◌, ◌-◌, ◌∷◌, [], ℕ, List, length, codes, decimal};
-ghost use Rattle.std.specs.Prelude.{IfOk, IsOk, IsOkAnd, IsTrue};
+ghost use Rattle.std.specs.Prelude.{IfOk, IsOk, OnOk, IsTrue};
 ghost use Rattle.std.specs.Prelude.{◌&&◌, not};
 ghost use Rattle.std.specs.Char.{is_ascii_digit, is_ascii_graphic};
 ghost use Rattle.record_wire.specs.NameReading.{first_byte, quoted_in, numbered_at, seen_byte, IsSpelling};
@@ -22,20 +22,22 @@ pub(super) fn is_root(text: &[u8]) -> bool
     matches!(text, [b'.'])
 }
 
-/// The octets of the labels of a text, with dots between them and a last dot allowed. Refused where the text is none,
-/// where a label is empty or has more than 63 bytes, and where they have more than 255 octets.
-pub(super) fn read_labels(text: &[u8]) -> Result<ArrayVec<u8, MAX_NAME_LEN>>
-    ensures sound { IfOk result (λ octets. AreSpelled text.now octets.items) }
+/// Writes the labels of a text, with dots between them and a last dot allowed, where nothing stands yet. Refused where
+/// the text is none, where a label is empty or has more than 63 bytes, and where they have more than 255 octets. It
+/// stands apart, so that the root is read without the room that a label's text takes.
+#[inline(never)]
+pub(super) fn put_labels(octets: &mut ArrayVec<u8, MAX_NAME_LEN>, text: &[u8]) -> Result<()>
+    requires { octets.old.items ≡ [] }
+    ensures sound { OnOk result (AreSpelled text.now octets.new.items) }
     ensures complete { (label : List ℕ) (labels : List (List ℕ)) → IsNameText text.now (label ∷ labels)
-        → IsOkAnd result (λ octets. octets.items ≡ written_all (label ∷ labels)) }
+        → IsOk result × (octets.new.items ≡ written_all (label ∷ labels)) }
 {
-    let mut octets = ArrayVec::new();
     let mut left = text;
     loop {
         let (label, rest) = read_label(left)?;
-        push_label(&mut octets, label.as_slice())?;
+        push_label(octets, label.as_slice())?;
         match read_behind(rest) {
-            Behind::End => return Ok(octets),
+            Behind::End => return Ok(()),
             Behind::Label(next) => left = next,
             Behind::Other => return Err(Error),
         }

@@ -12,16 +12,17 @@ pub(super) fn is_root(text: &[u8]) -> bool {
     matches!(text, [b'.'])
 }
 
-/// The octets of the labels of a text, with dots between them and a last dot allowed. Refused where the text is none,
-/// where a label is empty or has more than 63 bytes, and where they have more than 255 octets.
-pub(super) fn read_labels(text: &[u8]) -> Result<ArrayVec<u8, MAX_NAME_LEN>> {
-    let mut octets = ArrayVec::new();
+/// Writes the labels of a text, with dots between them and a last dot allowed, where nothing stands yet. Refused where
+/// the text is none, where a label is empty or has more than 63 bytes, and where they have more than 255 octets. It
+/// stands apart, so that the root is read without the room that a label's text takes.
+#[inline(never)]
+pub(super) fn put_labels(octets: &mut ArrayVec<u8, MAX_NAME_LEN>, text: &[u8]) -> Result<()> {
     let mut left = text;
     loop {
         let (label, rest) = read_label(left)?;
-        push_label(&mut octets, label.as_slice())?;
+        push_label(octets, label.as_slice())?;
         match read_behind(rest) {
-            Behind::End => return Ok(octets),
+            Behind::End => return Ok(()),
             Behind::Label(next) => left = next,
             Behind::Other => return Err(Error),
         }

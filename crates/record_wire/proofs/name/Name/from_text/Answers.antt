@@ -1,32 +1,24 @@
-use Rattle.std.proofs.Common.{◌≡◌, [], ◌∷◌, ◌∙◌, sym, ap, subst}
-use Rattle.record_wire.specs.Labels.{written_all, labels_in}
-use Rattle.record_wire.specs.Name.{labels_of}
+use Rattle.std.proofs.Common.{◌≡◌, ◌<◌, Bool, true, not, [], ◌∷◌, ◌++◌, length, IsOk, refl, sym, ap, ◌∙◌, subst, rules}
+use Rattle.std.proofs.Common.{arith}
+use Rattle.record_wire.specs.Labels.{wire, labels_in}
 use Rattle.record_wire.specs.NameText.{IsNameText}
-use Rattle.record_wire.proofs.LabelLists.{in_nothing, written_in}
+use Rattle.record_wire.proofs.LabelLists.{written_in, whole_wire, ended, in_written, name_of, room_for_end}
 use Rattle.record_wire.proofs.NameLabels.{root_alone}
 use Rattle.record_wire.proofs.NameTexts.{text_reads}
-use Rattle.record_wire.proofs.Outcomes.{ended_sound, ended_complete, no_labels, some_labels}
+use Rattle.record_wire.proofs.Outcomes.{no_labels, some_labels}
 use Rattle.record_wire.proofs.name.Name.from_text.Goals as goal
 
 -- ---- the root
 
-pub finish-requires : goal.finish-requires
-finish-requires c =
-    subst (λ o. written_all (labels_in o) ≡ o) (sym c.new.ensures) (ap written_all in_nothing)
-
 pub returns-then-is_root-clause-sound : goal.returns-then-is_root-clause-sound
 returns-then-is_root-clause-sound c =
-    ended_sound c.finish.result labels_of c.new.result.items [] (λ labels. IsNameText c.args.text.now labels)
-    (record { room = c.finish.ensures.room; labels = c.finish.ensures.labels }) tt c.new.ensures
-    (λ name. record { name = name; is = c.is_root.ensures.0 c.if-is_root.true })
+    subst (λ labels. IsNameText c.args.text.now labels) (sym c.root.ensures)
+    (record { name = name_of [] [] tt refl (omega arith); is = c.is_root.ensures.0 c.if-is_root.true })
 
 pub returns-then-is_root-clause-complete : goal.returns-then-is_root-clause-complete
 returns-then-is_root-clause-complete c = λ labels is.
     let root = c.is_root.ensures.0 c.if-is_root.true in
-    let none = root_alone labels (subst (λ t. IsNameText t labels) root is) in
-    ended_complete c.finish.result labels_of c.new.result.items labels
-    (record { room = c.finish.ensures.room; labels = c.finish.ensures.labels }) is.name
-    (c.new.ensures ∙ ap written_all (sym none))
+    c.root.ensures ∙ sym (root_alone labels (subst (λ t. IsNameText t labels) root is))
 
 pub returns-then-is_root-clause-reads_back : goal.returns-then-is_root-clause-reads_back
 returns-then-is_root-clause-reads_back c = λ labels name bytes e.
@@ -35,36 +27,64 @@ returns-then-is_root-clause-reads_back c = λ labels name bytes e.
 
 -- ---- any other name
 
-pub finish-requires-2 : goal.finish-requires-2
-finish-requires-2 c =
-    let spelled = c.in_ok-read_labels.ensures.sound in
-    written_in c.in_ok-read_labels.field-0.items (spelled.first ∷ spelled.more) spelled.each spelled.written
+pub invariant_of-result : goal.invariant_of-result
+invariant_of-result c =
+    let spelled = c.in_ok-put_labels.ensures.sound in
+    let octets = c.put_labels.new.octets.items in
+    let pushed : c.try_push.new.self.items ≡ octets ++ 0 ∷ [] = search rules in
+    record {
+      whole = subst (λ o. wire (labels_in o) ≡ o) (sym pushed)
+          (whole_wire octets (written_in octets (spelled.first ∷ spelled.more) spelled.each spelled.written));
+    }
 
 pub returns-clause-sound : goal.returns-clause-sound
 returns-clause-sound c =
-    let spelled = c.in_ok-read_labels.ensures.sound in
-    ended_sound c.finish-2.result labels_of c.in_ok-read_labels.field-0.items (spelled.first ∷ spelled.more)
-    (λ labels. IsNameText c.args.text.now labels)
-    (record { room = c.finish-2.ensures.room; labels = c.finish-2.ensures.labels }) spelled.each spelled.written
-    (λ name. record { name = name; is = spelled.is })
+    let spelled = c.in_ok-put_labels.ensures.sound in
+    let labels = spelled.first ∷ spelled.more in
+    let octets = c.put_labels.new.octets.items in
+    let pushed : c.try_push.new.self.items ≡ octets ++ 0 ∷ [] = search rules in
+    let ok : IsOk c.try_push.result = search rules in
+    let room : length octets < 255 = c.try_push.ensures.variant.0 ok in
+    let same = ap labels_in pushed ∙ (ended octets (written_in octets labels spelled.each spelled.written)
+    ∙ in_written octets labels spelled.each spelled.written) in
+    subst (λ all. IsNameText c.args.text.now all) (sym same)
+    (record { name = name_of octets labels spelled.each spelled.written room; is = spelled.is })
 
 pub returns-clause-complete : goal.returns-clause-complete
 returns-clause-complete c = λ labels is.
-    ended_complete c.finish-2.result labels_of c.in_ok-read_labels.field-0.items labels
-    (record { room = c.finish-2.ensures.room; labels = c.finish-2.ensures.labels }) is.name
-    (some_labels c.args.text.now c.in_ok-read_labels.field-0.items labels
-    (λ e. cc (c.is_root.ensures.1 e, c.if-is_root.false)) c.in_ok-read_labels.ensures.complete is)
+    let octets = c.put_labels.new.octets.items in
+    let written = some_labels c.args.text.now octets labels (λ e. cc (c.is_root.ensures.1 e, c.if-is_root.false))
+    (λ label more text. (c.in_ok-put_labels.ensures.complete label more text).1) is in
+    let pushed : c.try_push.new.self.items ≡ octets ++ 0 ∷ [] = search rules in
+    ap labels_in pushed ∙ (ended octets (written_in octets labels is.name.each written)
+    ∙ in_written octets labels is.name.each written)
 
 pub returns-clause-reads_back : goal.returns-clause-reads_back
 returns-clause-reads_back c = λ labels name bytes e.
     returns-clause-complete c labels (subst (λ t. IsNameText t labels) (sym e) (text_reads labels name bytes))
 
-pub returns-in_err-read_labels-clause-complete : goal.returns-in_err-read_labels-clause-complete
-returns-in_err-read_labels-clause-complete c = λ labels is.
-    no_labels c.args.text.now labels (λ e. cc (c.is_root.ensures.1 e, c.if-is_root.false))
-    (λ label more text. let none = c.in_err-read_labels.ensures.complete label more text in absurd none) is
+not_both : (failed ok : Bool) → failed ≡ true → ok ≡ not failed → ok ≡ true → ⊥
+not_both failed ok e f g = cc
 
-pub returns-in_err-read_labels-clause-reads_back : goal.returns-in_err-read_labels-clause-reads_back
-returns-in_err-read_labels-clause-reads_back c = λ labels name bytes e.
-    returns-in_err-read_labels-clause-complete c labels
+pub returns-then-is_err-clause-complete : goal.returns-then-is_err-clause-complete
+returns-then-is_err-clause-complete c = λ labels is.
+    let octets = c.put_labels.new.octets.items in
+    let written = some_labels c.args.text.now octets labels (λ e. cc (c.is_root.ensures.1 e, c.if-is_root.false))
+    (λ label more text. (c.in_ok-put_labels.ensures.complete label more text).1) is in
+    let ok : IsOk c.try_push.result = c.try_push.ensures.variant.1 (room_for_end octets labels written is.name.fits) in
+    absurd (not_both c.is_err.result _ c.if-is_err.true c.is_err.ensures.negation ok)
+
+pub returns-then-is_err-clause-reads_back : goal.returns-then-is_err-clause-reads_back
+returns-then-is_err-clause-reads_back c = λ labels name bytes e.
+    returns-then-is_err-clause-complete c labels
+    (subst (λ t. IsNameText t labels) (sym e) (text_reads labels name bytes))
+
+pub returns-in_err-put_labels-clause-complete : goal.returns-in_err-put_labels-clause-complete
+returns-in_err-put_labels-clause-complete c = λ labels is.
+    no_labels c.args.text.now labels (λ e. cc (c.is_root.ensures.1 e, c.if-is_root.false))
+    (λ label more text. let ok = (c.in_err-put_labels.ensures.complete label more text).0 in absurd (cc ok)) is
+
+pub returns-in_err-put_labels-clause-reads_back : goal.returns-in_err-put_labels-clause-reads_back
+returns-in_err-put_labels-clause-reads_back c = λ labels name bytes e.
+    returns-in_err-put_labels-clause-complete c labels
     (subst (λ t. IsNameText t labels) (sym e) (text_reads labels name bytes))

@@ -1,6 +1,6 @@
 use Rattle.std.proofs.Common.{length}
 use Rattle.record_wire.proofs.NameLabels.{SoFar}
-use Rattle.record_wire.proofs.name.text.read_labels.Given as goal
+use Rattle.record_wire.proofs.name.text.put_labels.Given as goal
 
 abbrev pub invariant-loop-label : goal.invariant-loop-label
 invariant-loop-label l = SoFar l.text l.octets.items l.left

@@ -1,8 +1,8 @@
-use Rattle.std.proofs.Common.{◌≤◌, ◌+◌, ◌++◌, length, sym, ap, ◌∙◌, subst, arith}
+use Rattle.std.proofs.Common.{◌≤◌, ◌+◌, ◌++◌, length, refl, sym, ap, ◌∙◌, subst, arith}
 use Rattle.dns_wire.specs.DnsName.{written}
 use Rattle.record_wire.proofs.NameLabels.{one_more, all_read, all_same, next_label, next_fits, next_goes}
 use Rattle.record_wire.proofs.NameLabels.{end_behind, label_behind, spelled_shorter}
-use Rattle.record_wire.proofs.name.text.read_labels.Goals as goal
+use Rattle.record_wire.proofs.name.text.put_labels.Goals as goal
 
 pub returns-in_err-label-clause-complete : goal.returns-in_err-label-clause-complete
 returns-in_err-label-clause-complete c = λ label labels is.
@@ -40,8 +40,8 @@ loop-label-preserved c =
 pub returns-in-Other-clause-complete : goal.returns-in-Other-clause-complete
 returns-in-Other-clause-complete c = λ label labels is.
     let read = c.in_ok-label.ensures.sound in
-    next_goes c.args.text.now c.loop-label.octets.items c.loop-label.left.now c.in_ok-label.label.items
-    c.in_ok-label.rest.now label labels c.loop-label.invariant read.spells read.no_more (sym c.in-Other.ensures) is
+    absurd (next_goes c.args.text.now c.loop-label.octets.items c.loop-label.left.now c.in_ok-label.label.items
+    c.in_ok-label.rest.now label labels c.loop-label.invariant read.spells read.no_more (sym c.in-Other.ensures) is)
 
 pub returns-in-End-clause-sound : goal.returns-in-End-clause-sound
 returns-in-End-clause-sound c =
@@ -54,9 +54,11 @@ returns-in-End-clause-sound c =
 
 pub returns-in-End-clause-complete : goal.returns-in-End-clause-complete
 returns-in-End-clause-complete c = λ label labels is.
-    let read = c.in_ok-label.ensures.sound in
-    all_same c.args.text.now c.loop-label.octets.items c.loop-label.left.now c.in_ok-label.label.items
-    c.in_ok-label.rest.now c.push_label.new.octets.items label labels c.loop-label.invariant read.spells read.no_more
-    (sym c.in-End.ensures)
-    (c.in_ok-push_label.ensures.pushes
-    ∙ ap (λ l. c.loop-label.octets.items ++ written l) c.as_slice.ensures.value) is
+    let read = c.in_ok-label.ensures.sound in (
+      refl,
+      all_same c.args.text.now c.loop-label.octets.items c.loop-label.left.now c.in_ok-label.label.items
+          c.in_ok-label.rest.now c.push_label.new.octets.items label labels c.loop-label.invariant read.spells
+          read.no_more (sym c.in-End.ensures)
+          (c.in_ok-push_label.ensures.pushes
+          ∙ ap (λ l. c.loop-label.octets.items ++ written l) c.as_slice.ensures.value) is,
+    )
