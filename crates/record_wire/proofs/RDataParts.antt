@@ -1,5 +1,5 @@
 -- The parts of data: names and strings.
-use Rattle.std.proofs.Common.{◌≡◌, ℕ, ◌+◌, ◌≤◌, List, [], ◌∷◌, ◌++◌, length, take, drop, refl, sym, ap, ◌∙◌, subst}
+use Rattle.std.proofs.Common.{◌≡◌, ℕ, ◌≤◌, List, [], ◌∷◌, ◌++◌, length, take, drop, refl, sym, ap, ◌∙◌, subst}
 use Rattle.std.proofs.Common.{arith, flat_map, length-append, length-drop, ◌<◌, Bool, true, false, cond, leb}
 use Rattle.std.proofs.Common.{None, Some}
 use Rattle.std.proofs.lemmas.Bool.{leb-true, leb-false}

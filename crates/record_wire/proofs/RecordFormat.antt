@@ -1,5 +1,5 @@
 -- What stands behind a name is one question and one record, and as many bytes are left.
-use Rattle.std.proofs.Common.{◌≡◌, ℕ, List, length, drop, sym, ap, ◌∙◌, subst}
+use Rattle.std.proofs.Common.{◌≡◌, ℕ, List, drop, sym, ap, ◌∙◌}
 use Rattle.dns_wire.specs.declared.dns.tables.Type.{«Type» as RecordType}
 use Rattle.wirebase.specs.Bytes.{number_of}
 use Rattle.dns_wire.specs.DnsTables.{type_of}

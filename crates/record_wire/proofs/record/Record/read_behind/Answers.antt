@@ -1,4 +1,4 @@
-use Rattle.std.proofs.Common.{◌≡◌, length, drop, ap, sym, ◌∙◌, rules, arith}
+use Rattle.std.proofs.Common.{length, ap, sym, ◌∙◌, arith}
 use Rattle.std.proofs.lemmas.List.{take_rest}
 use Rattle.dns_wire.specs.DnsTables.{type_of}
 use Rattle.dns_wire.proofs.DnsRecordData.{data_bytes, rest_bytes}
