@@ -155,7 +155,6 @@ impl fmt::Display for Labels<'_> {
 
     ghost output = { λ octets. Some (name_text (labels_in octets.0.now)) };
 
-    #[inline(never)]
     fn fmt<W: fmt::Write>(&self, f: &mut fmt::Formatter<W>) -> fmt::Result {
         let Some((first, rest)) = split_label(self.0) else {
             return f.write_str(".");

@@ -112,7 +112,6 @@ impl fmt::Display for Name {
 struct Labels<'a>(&'a [u8]);
 
 impl fmt::Display for Labels<'_> {
-    #[inline(never)]
     fn fmt(&self, f: &mut fmt::Formatter<'_>) -> fmt::Result {
         let Some((first, rest)) = split_label(self.0) else {
             return f.write_str(".");
