@@ -17,10 +17,7 @@ ghost use Rattle.opt_wire.specs.contracts.ndiscoption.NdiscOption.{the_row};
 
 use bitflags::Flags as _;
 use std::fmt;
-use wirebase::{
-    Duration, Error, Ipv6Address, MAX_HARDWARE_ADDRESS_LEN, Octets, OctetsMut, RawHardwareAddress,
-    Result,
-};
+use wirebase::{Duration, Error, Ipv6Address, Octets, OctetsMut, RawHardwareAddress, Result};
 
 mod repr;
 mod tables;
@@ -171,7 +168,7 @@ impl<T: Octets> NdiscOption<T> {
     {
         let room = field::UNIT * self.data_len() as usize - field::LENGTH.end;
         // The number of bytes is a constant at each call, so that they are copied by moves.
-        if room < MAX_HARDWARE_ADDRESS_LEN {
+        if room == field::SHORT_ADDR.end - field::SHORT_ADDR.start {
             RawHardwareAddress::from_bytes(self.buffer.field(field::SHORT_ADDR))
         } else {
             RawHardwareAddress::from_bytes(self.buffer.field(field::LONG_ADDR))

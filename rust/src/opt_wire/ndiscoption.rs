@@ -2,8 +2,7 @@
 //! Options of neighbor discovery (RFC 4861 section 4.6).
 
 use crate::wirebase::{
-    Duration, Error, Ipv6Address, MAX_HARDWARE_ADDRESS_LEN, Octets, OctetsMut, RawHardwareAddress,
-    Result,
+    Duration, Error, Ipv6Address, Octets, OctetsMut, RawHardwareAddress, Result,
 };
 use core::fmt;
 
@@ -124,7 +123,7 @@ impl<T: Octets> NdiscOption<T> {
     pub fn link_layer_addr(&self) -> RawHardwareAddress {
         let room = field::UNIT * self.data_len() as usize - field::LENGTH.end;
         // The number of bytes is a constant at each call, so that they are copied by moves.
-        if room < MAX_HARDWARE_ADDRESS_LEN {
+        if room == field::SHORT_ADDR.end - field::SHORT_ADDR.start {
             RawHardwareAddress::from_bytes(self.buffer.field(field::SHORT_ADDR))
         } else {
             RawHardwareAddress::from_bytes(self.buffer.field(field::LONG_ADDR))
