@@ -104,6 +104,7 @@ impl RawHardwareAddress {
     ghost use Rattle.wirebase.specs.declared.ethernet.RawHardwareAddress.{RawHardwareAddress};
 
     /// The address of these bytes, of which there may be 8 at most.
+    #[inline]
     pub fn from_bytes(bytes: &[u8]) -> RawHardwareAddress
         requires { length bytes.now ≤ 8 }
         ensures value { raw_bytes result ≡ bytes.now }

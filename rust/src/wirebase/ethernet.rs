@@ -51,6 +51,7 @@ pub struct RawHardwareAddress {
 
 impl RawHardwareAddress {
     /// The address of these bytes, of which there may be 8 at most.
+    #[inline]
     pub fn from_bytes(bytes: &[u8]) -> RawHardwareAddress {
         let mut all = [0; MAX_HARDWARE_ADDRESS_LEN];
         let len = bytes.len();
