@@ -57,6 +57,19 @@ so_far-ended old mid new before now next count missing ended so is part told =
       },
     )
 
+-- nothing is taken where there are as many bytes as are wanted
+pub takes-none : (old : Option (List ℕ)) (octets : List ℕ) (count : ℕ) → length octets ≡ count
+    → (taken : List ℕ) × (octets ≡ octets ++ taken) × Takes old old taken (count - length octets)
+takes-none old octets count same = (
+  [],
+  sym (append-nil octets),
+  record {
+    consumed = Consumes-nil old;
+    few = omega arith;
+    ended = λ short. absurd (omega (arith, same, short));
+  },
+)
+
 -- ---- bytes that are passed over
 
 -- so many of the bytes are still to be passed over

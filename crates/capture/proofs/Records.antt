@@ -2,15 +2,14 @@
 use Rattle.std.proofs.Common.{◌≡◌, ◌≢◌, ℕ, ◌+◌, ◌*◌, ◌<◌, ◌≤◌, List, [], length, take, Option, refl, ap, sym, subst}
 use Rattle.std.proofs.Common.{◌∙◌, arith}
 use Rattle.std.proofs.lemmas.List.{length-take, take-take}
-use Rattle.std.specs.Io.KnownBytes.{Consumes, IsAtEnd}
+use Rattle.std.specs.Io.KnownBytes.{IsAtEnd}
 use Rattle.capture.specs.Capture.{most_octets}
-use Rattle.capture.specs.Packet.{packet_in, IsPlace}
+use Rattle.capture.specs.Packet.{packet_in}
 use Rattle.capture.specs.Pcap.{IsRecord, IsRecordHeader, RecordEnds, whole_, head_cut, cut, large}
 use Rattle.capture.specs.Reader.{Reads}
 use Rattle.capture.specs.Taken.{Splits}
 use Rattle.capture.specs.Time.{IsTime, fraction_of}
 use Rattle.capture.specs.declared.ending.Ending.TheVariants.{Whole, Cut, TooLarge}
-use Rattle.capture.specs.declared.order.Order.{Order}
 use Rattle.capture.specs.declared.packet.Packet.{Packet}
 use Rattle.capture.specs.declared.pcap.FileHeader.{FileHeader}
 use Rattle.capture.specs.declared.pcap.RecordHeader.{RecordHeader}
@@ -59,27 +58,6 @@ module _ (h : FileHeader) (all octets : List ℕ) (left : Option (List ℕ)) whe
           octets_ = rw (start, captured) refl;
         },
       )
-
-pub record_place : (octets : List ℕ) (k : Packet) (n total : ℕ) → 16 + n ≤ length octets → k.start ≡ 16
-    → k.captured_len ≡ n → IsTime k.time total → IsPlace k octets
-record_place octets k n total fits start captured time =
-    record { within = omega (arith, start, captured, fits); nanoseconds_ = time.part_ }
-
--- ---- a record that is taken in one step
-
-pub shown_taken : (order : Order) (old new : Option (List ℕ)) (octets shown : List ℕ) (r : RecordHeader)
-    → octets ≡ take (16 + r.captured_len) shown → Consumes old new (take (16 + r.captured_len) shown)
-    → IsRecordHeader order (take 16 shown) r → r.captured_len ≤ most_octets → 16 + r.captured_len ≤ length shown
-    → Consumes old new octets × IsRecordHeader order (take 16 octets) r × (r.captured_len ≤ most_octets)
-    × (length octets ≡ 16 + r.captured_len)
-shown_taken order old new octets shown r is consumed header few fits =
-    let front : take 16 shown ≡ take 16 octets =
-    sym (ap (take 16) is ∙ take-take 16 (16 + r.captured_len) shown (omega arith)) in (
-      subst (Consumes old new) (sym is) consumed,
-      subst (λ l. IsRecordHeader order l r) front header,
-      few,
-      omega (arith, ap length is, length-take (16 + r.captured_len) shown, fits),
-    )
 
 pub record_none : (h : FileHeader) (all : List ℕ) (old : Option (List ℕ)) → Reads all old [] 0 → IsAtEnd old
     → RecordEnds most_octets h all Whole

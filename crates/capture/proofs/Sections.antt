@@ -1,14 +1,14 @@
 -- A block of a pcapng file is read.
-use Rattle.std.proofs.Common.{◌≡◌, ◌≢◌, ℕ, ◌+◌, ◌-◌, ◌<◌, ◌≤◌, inl, inr, true, false, List, ◌++◌}
-use Rattle.std.proofs.Common.{length, take, drop, Option, None, Some, refl, ap, sym, subst, ◌∙◌, arith, length-append}
+use Rattle.std.proofs.Common.{◌≡◌, ◌≢◌, ℕ, ◌+◌, ◌-◌, ◌<◌, ◌≤◌, inl, inr, true, false, List}
+use Rattle.std.proofs.Common.{length, take, drop, Option, None, Some, refl, ap, sym, subst, ◌∙◌, arith}
 use Rattle.std.proofs.Common.{Result, Ok, Err, IfOk, Bool, IsTrue, ◌↔◌}
-use Rattle.std.proofs.lemmas.List.{length-take, take-take, take_at, take-append-drop}
+use Rattle.std.proofs.lemmas.List.{length-take, take-take, take-append-drop}
 use Rattle.wirebase.proofs.Pieces.{length-part}
 use Rattle.capture.specs.Capture.{State, state, IsBlock, passed, header, described, held, BlockEnds}
 use Rattle.capture.specs.Capture.{cut, refused, Refused, no_section, no_interface, many, no_packet, large}
 use Rattle.capture.specs.Packet.{packet_in}
 use Rattle.capture.specs.Pcapng.{IsHead, IsRead, IsClosed, section_kind}
-use Rattle.capture.specs.Reader.{Reads, Skips, Takes}
+use Rattle.capture.specs.Reader.{Reads, Skips}
 use Rattle.capture.specs.Taken.{Splits, SectionTakes, InterfaceTakes, PacketTakes, BlockTakes, BlockGives, IsWholeBlock}
 use Rattle.capture.specs.declared.capture.Stage.TheVariants.{Section}
 use Rattle.capture.specs.declared.capture.Step.{Step}
@@ -33,44 +33,28 @@ told_not b is no' p = let both : true ≡ false = sym (is.1 p) ∙ no' in cc
 
 module _ (section : Order) (all octets : List ℕ) (old new : Option (List ℕ)) (h : Head)
     (is : IsHead section (take 12 all) h) where
-  head_fits : Reads all old octets 12 → 12 ≤ length octets
-  head_fits reads = omega (arith, is.whole, ap length reads.front)
-
-  pub passed_over : Reads all old octets 12 → Skips old new (h.total_len - 12) true
+  pub passed_over : length octets ≤ h.total_len → Reads all old octets (length octets)
+      → Skips old new (h.total_len - length octets) true
       → (h.total_len ≤ length all) × (new ≡ Some (drop h.total_len all))
-  passed_over reads skips =
-      let known = skips_reads all octets old new 12 (h.total_len - 12) reads skips (head_fits reads) in
-      let sum : 12 + (h.total_len - 12) ≡ h.total_len = omega (arith, is.length_.least) in
+  passed_over few reads skips =
+      let known =
+      skips_reads all octets old new (length octets) (h.total_len - length octets) reads skips (omega arith) in
+      let sum : length octets + (h.total_len - length octets) ≡ h.total_len = omega (arith, few) in
       (subst (λ n. n ≤ length all) sum known.1, subst (λ n. new ≡ Some (drop n all)) sum known.0)
 
-  pub cut_passed : (interfaces : List Interface) → Reads all old octets 12 → Skips old new (h.total_len - 12) false
-      → BlockEnds section interfaces all Cut
-  cut_passed interfaces reads skips =
+  pub cut_passed : (interfaces : List Interface) → length octets ≤ h.total_len → Reads all old octets (length octets)
+      → Skips old new (h.total_len - length octets) false → BlockEnds section interfaces all Cut
+  cut_passed interfaces few reads skips =
       cut h is (omega (
         arith,
-        is.length_.least,
-        skips_short all octets old new 12 (h.total_len - 12) reads skips (head_fits reads),
+        few,
+        skips_short all octets old new (length octets) (h.total_len - length octets) reads skips (omega arith),
       )) refl
 
   pub cut_read : (interfaces : List Interface) → Reads all new octets h.total_len → length octets < h.total_len
       → BlockEnds section interfaces all Cut
   cut_read interfaces reads short =
       cut h is (reads_length all octets new h.total_len h.total_len reads (omega arith) short) refl
-
--- unread as the bytes before may be, the block itself is whole
-pub whole_block : (section : Order) (h : Head) (start mid end : Option (List ℕ)) (a b c : List ℕ) → length a ≤ 12
-    → ((taken : List ℕ) × (b ≡ a ++ taken) × Takes start mid taken (12 - length a)) → IsHead section b h
-    → IsRead h.kind → ((taken : List ℕ) × (c ≡ b ++ taken) × Takes mid end taken (h.total_len - length b))
-    → h.total_len ≤ length c → IsWholeBlock section c h
-whole_block section h start mid end a b c few first is read second fits =
-    let long : length b ≡ 12 =
-    omega (arith, few, ap length first.1, length-append a first.0, first.2.few, is.whole) in
-    let front : take 12 c ≡ b = ap (take 12) second.1 ∙ take_at b second.0 12 long in
-    record {
-      head = subst (λ l. IsHead section l h) (sym front) is;
-      whole = omega (arith, fits, ap length second.1, length-append b second.0, second.2.few, long, is.length_.least);
-      read = read;
-    }
 
 -- ---- what a block is
 
@@ -116,12 +100,22 @@ module _ (section : Order) (interfaces : List Interface) (all : List ℕ) (left 
     left_ = behind;
   }
 
+  front_head : IsHead section (take 12 (take h.total_len all)) h
+  front_head = subst (λ l. IsHead section l h) (sym (take-take 12 h.total_len all is.length_.least)) is
+
+  pub block_whole : (octets : List ℕ) → octets ≡ take h.total_len all → IsRead h.kind
+      → IsWholeBlock section octets h
+  block_whole octets e read = record {
+    head = subst (λ l. IsHead section (take 12 l) h) (sym e) front_head;
+    whole = ap length e ∙ front_length;
+    read = read;
+  }
+
   pub block_passed : (IsRead h.kind → ⊥)
       → (front : List ℕ) × Splits all front left
       × IsBlock section interfaces front (state (Section section) interfaces) None
   block_passed other =
-      let head : take 12 (take h.total_len all) ≡ take 12 all = take-take 12 h.total_len all is.length_.least in
-      (take h.total_len all, front_splits, passed h (subst (λ l. IsHead section l h) (sym head) is) front_length other refl refl)
+      (take h.total_len all, front_splits, passed h front_head front_length other refl refl)
 
   pub block_read : (octets : List ℕ) → octets ≡ take h.total_len all → IsRead h.kind → (s : Step) (new : State)
       → BlockTakes section h interfaces octets s new → BlockGives section interfaces all s octets new left

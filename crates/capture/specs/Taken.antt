@@ -1,17 +1,14 @@
 -- What the parts of the reader answer, beside what their bytes are.
-use Rattle.std.specs.Prelude.{◌≡◌, ℕ, ◌+◌, ◌<◌, ◌≤◌, ◌⊎◌, List, [], ◌∷◌, ◌++◌, length, take, drop, Option, None, Some}
+use Rattle.std.specs.Prelude.{◌≡◌, ℕ, ◌<◌, ◌≤◌, ◌⊎◌, List, [], ◌∷◌, ◌++◌, length, take, drop, Option, None, Some}
 use Rattle.capture.specs.Capture.{State, state, IsBlock, BlockEnds, Refused, IsUnit, Ends, most_octets, most_interfaces}
 use Rattle.capture.specs.Packet.{PacketValue, packet_in, IsPlace}
-use Rattle.std.specs.Io.KnownBytes.{Consumes, Keeps, IsAtEnd}
-use Rattle.capture.specs.Pcap.{IsRecord, IsRecordHeader, RecordEnds}
+use Rattle.capture.specs.Pcap.{IsRecord, RecordEnds}
 use Rattle.capture.specs.Pcapng.{IsRead, IsHead, IsSection, SectionEnds, IsInterface, IsPacket}
-use Rattle.capture.specs.declared.ending.Ending.TheVariants.{Whole, TooLarge, Malformed}
+use Rattle.capture.specs.declared.ending.Ending.TheVariants.{TooLarge, Malformed}
 use Rattle.capture.specs.declared.packet.Packet.{Packet}
 use Rattle.capture.specs.declared.capture.Stage.TheVariants as stage
 use Rattle.capture.specs.declared.capture.shown.Block.{Block}
 use Rattle.capture.specs.declared.capture.shown.Block.TheVariants as block
-use Rattle.capture.specs.declared.capture.shown.Shown.{Shown}
-use Rattle.capture.specs.declared.capture.shown.Shown.TheVariants as shown
 use Rattle.capture.specs.declared.capture.Step.{Step}
 use Rattle.capture.specs.declared.capture.Step.TheVariants as step
 use Rattle.capture.specs.declared.order.Order.{Order}
@@ -49,23 +46,6 @@ RecordGives h all step.Passed octets left = ⊥
 RecordGives h all (step.Packet k) octets left =
     Splits all octets left × IsRecord most_octets h octets (packet_in k octets)
 RecordGives h all (step.Ended ending) octets left = RecordEnds most_octets h all ending
-
--- a record was taken into `octets`, or nothing was: it isn't there as a whole, or nothing is left
-abbrev pub TakesShown : Order → Option (List ℕ) → Option (List ℕ) → List ℕ → Shown → Type 0
-TakesShown order old new octets (shown.Record r) =
-    Consumes old new octets × IsRecordHeader order (take 16 octets) r × (r.captured_len ≤ most_octets)
-    × (length octets ≡ 16 + r.captured_len)
-TakesShown order old new octets shown.Part = (octets ≡ []) × Keeps old new
-TakesShown order old new octets shown.End = IsAtEnd old
-
--- a block was taken into `octets`, or passed over, or nothing was: it isn't there as a whole, or nothing is left
-abbrev pub TakesBlock : Order → Option (List ℕ) → Option (List ℕ) → List ℕ → Option Block → Type 0
-TakesBlock section old new octets (Some (block.Read h)) = Consumes old new octets × IsWholeBlock section octets h
-TakesBlock section old new octets (Some (block.Passed h)) =
-    (passed : List ℕ) × Consumes old new passed × IsHead section (take 12 passed) h × (IsRead h.kind → ⊥)
-    × (length passed ≡ h.total_len)
-TakesBlock section old new octets (Some (block.Ended ending)) = IsAtEnd old × (ending ≡ Whole)
-TakesBlock section old new octets None = (octets ≡ []) × Keeps old new
 
 -- a block was read into `octets`, or passed over
 abbrev pub BlockReads : Order → List ℕ → Block → List ℕ → Option (List ℕ) → Type 0

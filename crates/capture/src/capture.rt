@@ -219,9 +219,9 @@ impl Capture {
 
     // Takes the block that was read.
     fn take_block(&mut self, section: Order, head: Head) -> Result<Step, Fault>
-        requires { IsWholeBlock section self.old.octets.items head }
-        ensures takes { IfOk result (λ step. BlockTakes section head self.old.interfaces.items self.old.octets.items step
-            (state_of self.new)) }
+        requires { 12 ≤ length self.old.octets.items }
+        ensures takes { IfOk result (λ step. IsWholeBlock section self.old.octets.items head
+            → BlockTakes section head self.old.interfaces.items self.old.octets.items step (state_of self.new)) }
         ensures place { IfOk result (λ step. IfPacket step (λ k. IsPlace k self.new.octets.items)) }
         ensures octets { self.new.octets.items ≡ self.old.octets.items }
         ensures count { count_of self.new ≡ count_of self.old }

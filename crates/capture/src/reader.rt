@@ -6,13 +6,16 @@ ghost use Rattle.capture.specs.Reader.{Takes, TakesPart, Skips, SkipsPart};
 use crate::ending::Fault;
 use std::io::{BufRead, ErrorKind};
 
-/// Reads until there are so many octets, or the input has ended.
+/// Reads until there are so many octets, or the input has ended. It doesn't look at the input where there are as many.
 pub fn fill<R: BufRead>(input: &mut R, octets: &mut Vec<u8>, count: usize) -> Result<(), Fault>
     requires { length octets.old.items ≤ count }
     ensures fills { OnOk result ((taken : List ℕ) × (octets.new.items ≡ octets.old.items ++ taken)
         × Takes (R.remaining input.old) (R.remaining input.new) taken (count - length octets.old.items)) }
     ensures fault { IfErr result (λ fault. (fault ≡ Fault.Read) ⊎ (fault ≡ Fault.Memory)) }
 {
+    if octets.as_slice().len() == count {
+        return Ok(());
+    }
     'parts: for _ in 0..u64::MAX {
         let missing = count - octets.as_slice().len();
         let ended = take_part(input, octets, missing)?;

@@ -6,8 +6,11 @@ use rattle_std::io::{BufRead, ErrorKind};
 #[allow(unused_imports)]
 use rattle_std::prelude::*;
 
-/// Reads until there are so many octets, or the input has ended.
+/// Reads until there are so many octets, or the input has ended. It doesn't look at the input where there are as many.
 pub fn fill<R: BufRead>(input: &mut R, octets: &mut Vec<u8>, count: usize) -> Result<(), Fault> {
+    if octets.as_slice().len() == count {
+        return Ok(());
+    }
     for _ in 0..u64::MAX {
         let missing = count - octets.as_slice().len();
         let ended = take_part(input, octets, missing)?;

@@ -19,17 +19,6 @@ pub(super) enum Block {
     Ended(Ending),
 }
 
-// What the buffer of an input shows of the next record.
-#[derive(Debug, PartialEq, Eq, Clone, Copy)]
-enum Shown {
-    // The whole of it, which is taken, and this is its header.
-    Record(RecordHeader),
-    // A part, of which nothing is taken.
-    Part,
-    // The input has ended.
-    End,
-}
-
 // Reads the octets of the next block, of which some may be read, or passes over it.
 pub(super) fn read_octets<R: BufRead>(
     input: &mut R,
@@ -39,58 +28,45 @@ pub(super) fn read_octets<R: BufRead>(
     if !octets.as_slice().is_empty() {
         return read_block_parts(input, octets, section);
     }
-    match take_shown_block(input, octets, section)? {
-        Some(block) => Ok(block),
-        None => read_block_parts(input, octets, section),
-    }
-}
-
-// Takes the next block in one step, or passes over it, where the buffer of the input shows the whole of it.
-fn take_shown_block<R: BufRead>(
-    input: &mut R,
-    octets: &mut Vec<u8>,
-    section: Order,
-) -> Result<Option<Block>, Fault> {
     let shown = match input.fill_buf() {
         Ok(shown) => shown,
         Err(error) => {
             return if error.kind() == ErrorKind::Interrupted {
-                Ok(None)
+                read_block_parts(input, octets, section)
             } else {
                 Err(Fault::Read)
             };
         }
     };
     if shown.is_empty() {
-        return Ok(Some(Block::Ended(Ending::Whole)));
+        return Ok(Block::Ended(Ending::Whole));
     }
-    let Some(head) = whole_block(section, shown) else {
-        return Ok(None);
+    let Some(head) = shown_head(section, shown) else {
+        return read_block_parts(input, octets, section);
     };
     let len = head.total_len as usize;
+    if shown.len() < len {
+        return read_rest(input, octets, head);
+    }
     if !pcapng::is_read(head.kind) {
         input.consume(len);
-        return Ok(Some(Block::Passed(head)));
+        return Ok(Block::Passed(head));
     }
     let Ok(()) = octets.extend_from_slice(&shown[..len]) else {
         return Err(Fault::Memory);
     };
     input.consume(len);
-    Ok(Some(Block::Read(head)))
+    Ok(Block::Read(head))
 }
 
-// The head of the block at the front of the octets, where the whole of it is there, and more than a head.
-fn whole_block(section: Order, octets: &[u8]) -> Option<Head> {
-    if octets.len() <= pcapng::HEAD_LEN {
+// The head of the block at the front of the octets, where it is there and not refused.
+fn shown_head(section: Order, octets: &[u8]) -> Option<Head> {
+    if octets.len() < pcapng::HEAD_LEN {
         return None;
     }
     let Ok(head) = Head::parse(section, &octets[..pcapng::HEAD_LEN]) else {
         return None;
     };
-    let len = head.total_len as usize;
-    if len == pcapng::HEAD_LEN || octets.len() < len {
-        return None;
-    }
     Some(head)
 }
 
@@ -101,13 +77,17 @@ fn read_block_parts<R: BufRead>(
     section: Order,
 ) -> Result<Block, Fault> {
     fill(input, octets, pcapng::HEAD_LEN)?;
-    let head = match Head::parse(section, octets.as_slice()) {
-        Ok(head) => head,
-        Err(ending) => return Ok(Block::Ended(ending)),
-    };
+    match Head::parse(section, octets.as_slice()) {
+        Ok(head) => read_rest(input, octets, head),
+        Err(ending) => Ok(Block::Ended(ending)),
+    }
+}
+
+// Reads what is missing of a block with this head, or passes over it.
+fn read_rest<R: BufRead>(input: &mut R, octets: &mut Vec<u8>, head: Head) -> Result<Block, Fault> {
     let len = head.total_len as usize;
     if !pcapng::is_read(head.kind) {
-        let whole = skip(input, len - pcapng::HEAD_LEN)?;
+        let whole = skip(input, len - octets.as_slice().len())?;
         return Ok(if whole {
             Block::Passed(head)
         } else {
@@ -128,56 +108,44 @@ pub(super) fn read_record<R: BufRead>(
     octets: &mut Vec<u8>,
     header: FileHeader,
 ) -> Result<Step, Fault> {
-    match take_shown(input, octets, header.order)? {
-        Shown::Record(record) => Ok(Step::Packet(pcap::packet(&header, &record))),
-        Shown::Part => read_parts(input, octets, header),
-        Shown::End => Ok(Step::Ended(Ending::Whole)),
-    }
-}
-
-// Takes the next record in one step, where the buffer of the input shows the whole of it.
-#[inline]
-fn take_shown<R: BufRead>(
-    input: &mut R,
-    octets: &mut Vec<u8>,
-    order: Order,
-) -> Result<Shown, Fault> {
     let shown = match input.fill_buf() {
         Ok(shown) => shown,
         Err(error) => {
             return if error.kind() == ErrorKind::Interrupted {
-                Ok(Shown::Part)
+                read_parts(input, octets, header)
             } else {
                 Err(Fault::Read)
             };
         }
     };
     if shown.is_empty() {
-        return Ok(Shown::End);
+        return Ok(Step::Ended(Ending::Whole));
     }
-    let Some(record) = whole_record(order, shown) else {
-        return Ok(Shown::Part);
+    let Some(record) = shown_header(header.order, shown) else {
+        return read_parts(input, octets, header);
     };
     let end = pcap::RECORD_HEADER_LEN + record.captured_len as usize;
+    if shown.len() < end {
+        return read_packet(input, octets, header, record);
+    }
     let Ok(()) = octets.extend_from_slice(&shown[..end]) else {
         return Err(Fault::Memory);
     };
     input.consume(end);
-    Ok(Shown::Record(record))
+    Ok(Step::Packet(pcap::packet(&header, &record)))
 }
 
-// The header of the record of some bytes at the front of the octets, where the whole of it is there.
-fn whole_record(order: Order, octets: &[u8]) -> Option<RecordHeader> {
-    if octets.len() <= pcap::RECORD_HEADER_LEN {
+// The header of the record at the front of the octets, where it is there and its packet is not too large.
+fn shown_header(order: Order, octets: &[u8]) -> Option<RecordHeader> {
+    if octets.len() < pcap::RECORD_HEADER_LEN {
         return None;
     }
     let record = RecordHeader::parse(order, &octets[..pcap::RECORD_HEADER_LEN]);
-    let len = record.captured_len;
-    let room = octets.len() - pcap::RECORD_HEADER_LEN;
-    if len == 0 || len > MOST_OCTETS || room < len as usize {
-        return None;
+    if record.captured_len <= MOST_OCTETS {
+        Some(record)
+    } else {
+        None
     }
-    Some(record)
 }
 
 // Reads the next record of a file with a header, its header first and then its packet.
@@ -198,10 +166,20 @@ fn read_parts<R: BufRead>(
     if record.captured_len > MOST_OCTETS {
         return Ok(Step::Ended(Ending::TooLarge));
     }
-    let end = pcap::RECORD_HEADER_LEN + record.captured_len as usize;
+    read_packet(input, octets, header, record)
+}
+
+// Reads what is missing of a record with this header.
+fn read_packet<R: BufRead>(
+    input: &mut R,
+    octets: &mut Vec<u8>,
+    header: FileHeader,
+    head: RecordHeader,
+) -> Result<Step, Fault> {
+    let end = pcap::RECORD_HEADER_LEN + head.captured_len as usize;
     fill(input, octets, end)?;
     if octets.as_slice().len() < end {
         return Ok(Step::Ended(Ending::Cut));
     }
-    Ok(Step::Packet(pcap::packet(&header, &record)))
+    Ok(Step::Packet(pcap::packet(&header, &head)))
 }

@@ -1,8 +1,8 @@
 -- A block is passed over, or taken.
-use Rattle.std.proofs.Common.{sym, subst, ◌∙◌}
+use Rattle.std.proofs.Common.{[], sym, subst, ◌∙◌}
 use Rattle.capture.specs.Capture.{state_of}
 use Rattle.capture.specs.Taken.{BlockTakes}
-use Rattle.capture.proofs.Sections.{block_passed, block_read, if_ok}
+use Rattle.capture.proofs.Sections.{block_passed, block_read, block_whole, if_ok}
 use Rattle.capture.proofs.capture.Capture.read_block.Goals as goal
 
 pub returns-in-Passed-clause-gives : goal.returns-in-Passed-clause-gives
@@ -19,7 +19,8 @@ returns-in-Read-clause-gives g c =
     (state_of c.take_block.new.self)
     (subst (λ l. BlockTakes c.args.section c.in-Read.head c.args.self.now.interfaces.items l s
     (state_of c.take_block.new.self))
-    (sym c.take_block.ensures.octets) t)) c.take_block.ensures.takes
+    (sym c.take_block.ensures.octets)
+    (t (block_whole _ [] all _ _ read.0 read.2 read.4 _ read.3 read.1)))) c.take_block.ensures.takes
 
 pub returns-in-Ended-clause-gives : goal.returns-in-Ended-clause-gives
 returns-in-Ended-clause-gives g c all done order before =
