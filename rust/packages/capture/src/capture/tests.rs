@@ -1,11 +1,13 @@
 // Made from crates/capture/src/capture/tests.rt by rust/erase.
-use super::{Capture, Next, Record};
-use crate::ending::{Ending, Fault};
-use crate::testing::same_of;
-use crate::time::Time;
-use rattle_std::io::{self, BufReader, ErrorKind, Read};
 #[allow(unused_imports)]
 use rattle_std::prelude::*;
+mod faults;
+
+use super::{Capture, Next, Record};
+use crate::ending::Ending;
+use crate::testing::same_of;
+use crate::time::Time;
+use rattle_std::io;
 
 // A record by what a table has of it: its number, seconds, nanoseconds, link type, original length and bytes.
 type Row = (u64, u64, u32, u16, u32, &'static [u8]);
@@ -316,17 +318,23 @@ fn blocks_that_end_a_section() {
 // Each byte of each file is changed to each of these.
 const DAMAGE: &[u8] = &[0x00, 0x01, 0x06, 0x7f, 0x80, 0xff];
 
+// The octets, with one of them changed.
+fn damaged(octets: &[u8], i: usize, byte: u8) -> Vec<u8> {
+    let mut damaged = Vec::new();
+    same_of((), damaged.extend_from_slice(octets).is_ok(), true);
+    if let Some(place) = damaged.as_mut_slice().get_mut(i) {
+        *place = byte;
+    }
+    damaged
+}
+
 // Whatever it holds, a file of so few bytes ends within as many calls.
 #[test]
 fn damaged_files_end() {
     for (octets, _, _) in FILES {
         for i in 0..octets.len() {
             for &byte in DAMAGE {
-                let mut damaged = Vec::new();
-                same_of((), damaged.extend_from_slice(octets).is_ok(), true);
-                if let Some(place) = damaged.as_mut_slice().get_mut(i) {
-                    *place = byte;
-                }
+                let damaged = damaged(octets, i, byte);
                 let mut input = damaged.as_slice();
                 let mut capture = Capture::new();
                 let mut has_ended = false;
@@ -338,69 +346,5 @@ fn damaged_files_end() {
                 same_of(i, has_ended, true);
             }
         }
-    }
-}
-
-// Gives one octet at a call, is interrupted at each third, and fails at one.
-struct Source<'a> {
-    octets: &'a [u8],
-    calls: usize,
-    fails_at: usize,
-}
-
-impl Read for Source<'_> {
-    fn read(&mut self, buffer: &mut [u8]) -> io::Result<usize> {
-        self.calls = self.calls.saturating_add(1);
-        if self.calls == self.fails_at {
-            return Err(ErrorKind::Other.into());
-        }
-        if self.calls % 3 == 0 {
-            return Err(ErrorKind::Interrupted.into());
-        }
-        match (self.octets, buffer) {
-            ([first, rest @ ..], [place, ..]) => {
-                *place = *first;
-                self.octets = rest;
-                Ok(1)
-            }
-            _ => Ok(0),
-        }
-    }
-}
-
-#[test]
-fn octets_that_come_one_by_one() {
-    for (octets, rows, _) in FILES {
-        let source = Source {
-            octets,
-            calls: 0,
-            fails_at: 0,
-        };
-        match BufReader::new(source) {
-            Ok(mut input) => check_input(octets, &mut input, rows, Ending::Whole),
-            Err(_) => same_of(octets, false, true),
-        }
-    }
-}
-
-#[test]
-fn an_input_that_fails() {
-    for fails_at in 1..90 {
-        let source = Source {
-            octets: LITTLE_MICRO,
-            calls: 0,
-            fails_at,
-        };
-        let Ok(mut input) = BufReader::new(source) else {
-            return same_of(fails_at, false, true);
-        };
-        let mut capture = Capture::new();
-        let mut read = capture.next(&mut input);
-        for _ in 0..2 {
-            if read.is_ok() {
-                read = capture.next(&mut input);
-            }
-        }
-        same_of(fails_at, read, Err(Fault::Read));
     }
 }
