@@ -6,11 +6,8 @@ use crate::wirebase::ip::IpProtocol;
 use crate::wirebase::ipv4::Ipv4Address;
 use crate::wirebase::ipv6::Ipv6Address;
 use crate::wirebase::octets::Field;
-use byteorder::{BigEndian, ByteOrder, LittleEndian};
+use byteorder::{ByteOrder, LittleEndian};
 use core::ops::Range;
-
-// From so many bytes on they are summed eight words at a time.
-const LONG: usize = 256;
 
 /// The sum of the big-endian words of 16 bits, in one's complement; a last odd byte is the high
 /// byte of a word. It is exact for every length. The checksum that a packet without a pseudo header
@@ -37,76 +34,71 @@ pub fn is_good(octets: &[u8], extra: u16) -> bool {
 /// Writes the checksum of all the octets into their field of two bytes, which counts as zero; the others stay. The
 /// octets are good then, where the field stands at an even place. `extra` is the sum of a pseudo header, or 0. Requires
 /// that the field is there.
+#[inline]
 pub fn fill(octets: &mut [u8], field: Field, extra: u16) {
     let Range { start, end } = field;
-    BigEndian::write_u16(&mut octets[start..end], 0);
+    put_u16(&mut octets[start..end], 0);
     let checksum = !added(data(octets), extra);
-    BigEndian::write_u16(&mut octets[start..end], checksum);
+    put_u16(&mut octets[start..end], checksum);
 }
 
-// The sum of the bytes as words of 64 bits and a shorter last one, the lowest byte first.
+// Writes two bytes at the front, the higher first, byte by byte: built for size, `BigEndian::write_u16` copies them by
+// calls.
+#[inline(always)]
+fn put_u16(octets: &mut [u8], value: u16) {
+    let [high, low] = value.to_be_bytes();
+    octets[0] = high;
+    octets[1] = low;
+}
+
+// The sum of the bytes as words of 64 bits and a shorter last one, the lowest byte first. Two sums are kept, so that an
+// addition need not wait for the one before it. What is left is cut off by patterns: built for size, `&rest[8..]` is a
+// call.
 fn little_sum(data: &[u8]) -> u128 {
-    if data.len() < LONG {
-        little_sum_of_words(data)
-    } else {
-        little_sum_of_long(data)
-    }
-}
-
-// The same, eight words at a time. Two sums are kept, so that an addition need not wait for the one before it. It
-// stands apart, so that the code for short data, which is part of its callers, stays small.
-#[inline(never)]
-fn little_sum_of_long(data: &[u8]) -> u128 {
     let mut rest = data;
     let mut sum: u128 = 0;
     let mut second: u128 = 0;
-    while rest.len() >= 64 {
-        sum += little_sum_of_four(rest);
-        second += little_sum_of_four(&rest[32..]);
-        rest = &rest[64..];
+    while rest.len() >= 32 {
+        sum += little_word(rest, 0) + little_word(rest, 8);
+        second += little_word(rest, 16) + little_word(rest, 24);
+        rest = &rest[32..];
     }
-    sum + second + little_sum_of_words(rest)
-}
-
-// The sum of the first four words.
-fn little_sum_of_four(data: &[u8]) -> u128 {
-    little_sum_of_two(data) + little_sum_of_two(&data[16..])
-}
-
-// The sum of the first two words.
-fn little_sum_of_two(data: &[u8]) -> u128 {
-    LittleEndian::read_u64(data) as u128 + LittleEndian::read_u64(&data[8..]) as u128
-}
-
-// The same as little_sum, a word at a time.
-fn little_sum_of_words(data: &[u8]) -> u128 {
-    let mut rest = data;
-    let mut sum: u128 = 0;
-    while rest.len() >= 8 {
-        sum += LittleEndian::read_u64(rest) as u128;
-        rest = &rest[8..];
+    sum += second;
+    while let [_, _, _, _, _, _, _, _, behind @ ..] = rest {
+        sum += little_word(rest, 0);
+        rest = behind;
     }
     sum + last_words(rest) as u128
+}
+
+// The word of eight bytes at a place, the lowest byte first. Always inlined: built for size, it would be a call for each
+// word.
+#[inline(always)]
+fn little_word(octets: &[u8], at: usize) -> u128 {
+    LittleEndian::read_u64(&octets[at..at + 8]) as u128
 }
 
 // The sum of the last bytes, fewer than 8: a word of 32 bits, one of 16 and a byte, where they are.
 fn last_words(data: &[u8]) -> u64 {
     let mut rest = data;
     let mut sum: u64 = 0;
-    if rest.len() >= 4 {
+    if let [_, _, _, _, behind @ ..] = rest {
         sum += LittleEndian::read_u32(rest) as u64;
-        rest = &rest[4..];
+        rest = behind;
     }
-    if rest.len() >= 2 {
+    if let [_, _, behind @ ..] = rest {
         sum += LittleEndian::read_u16(rest) as u64;
-        rest = &rest[2..];
+        rest = behind;
     }
-    sum + last_byte(rest) as u64
+    with_last_byte(sum, rest)
 }
 
-// The last byte of an odd number of them, or 0.
-fn last_byte(data: &[u8]) -> u8 {
-    if data.is_empty() { 0 } else { data[0] }
+// The sum with the last byte of an odd number of them, where there is one.
+fn with_last_byte(sum: u64, data: &[u8]) -> u64 {
+    match data {
+        [last, ..] => sum + *last as u64,
+        [] => sum,
+    }
 }
 
 // A sum in 16 bits: three times the two halves are added.

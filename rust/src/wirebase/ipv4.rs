@@ -104,6 +104,12 @@ const DONT_FRAG: u16 = 0x4000;
 
 const MORE_FRAGS: u16 = 0x2000;
 
+// What is written of fields that stand side by side, in one number, since each write costs code: version 4, an IHL of 5
+// and type of service 0; then no identification, not to be fragmented, offset 0.
+const VERSION_IHL_TOS: u16 = 0x4500;
+
+const IDENT_FLAGS_OFFSET: u32 = DONT_FRAG as u32;
+
 /// A view of the octets of an IPv4 packet, header and payload (RFC 791 section 3.1).
 #[derive(Debug, Clone)]
 pub struct Ipv4Packet<T: Octets> {
@@ -273,11 +279,9 @@ impl Ipv4Repr {
     // Writes the fields, with a checksum of zero.
     fn write_fields(&self, header: &mut [u8]) {
         let mut w = ByteWriter::new(header);
-        w.put_u8(0x45);
-        w.put_u8(0);
+        w.put_u16(VERSION_IHL_TOS);
         w.put_u16((HEADER_LEN + self.payload_len) as u16);
-        w.put_u16(0);
-        w.put_u16(0x4000);
+        w.put_u32(IDENT_FLAGS_OFFSET);
         w.put_u8(self.hop_limit);
         w.put_u8(self.next_header.into());
         w.put_u16(0);

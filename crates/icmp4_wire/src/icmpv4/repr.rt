@@ -328,9 +328,8 @@ fn put_echo(w: &mut ByteWriter<'_>, kind: Message, ident: u16, seq_no: u16, data
     requires { 8 ≤ length (free w.old) }
     ensures { Puts w.old w.new (echo_fields (message_number kind) ident seq_no «data».now) }
 {
-    w.put_u8(kind.into());
-    w.put_u8(0);
-    w.put_u16(0);
+    // The type, code 0 and a checksum of zero, in one number, since each write costs code.
+    w.put_u32(u32::from_be_bytes([kind.into(), 0, 0, 0]));
     w.put_u16(ident);
     w.put_u16(seq_no);
     w.put_front(data);

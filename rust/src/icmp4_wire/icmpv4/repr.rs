@@ -248,9 +248,8 @@ fn seal(octets: &mut [u8], checksum_caps: &ChecksumCapabilities) {
 
 // Writes an echo of this type, as much of its data as there is room for.
 fn put_echo(w: &mut ByteWriter<'_>, kind: Message, ident: u16, seq_no: u16, data: &[u8]) {
-    w.put_u8(kind.into());
-    w.put_u8(0);
-    w.put_u16(0);
+    // The type, code 0 and a checksum of zero, in one number, since each write costs code.
+    w.put_u32(u32::from_be_bytes([kind.into(), 0, 0, 0]));
     w.put_u16(ident);
     w.put_u16(seq_no);
     w.put_front(data);

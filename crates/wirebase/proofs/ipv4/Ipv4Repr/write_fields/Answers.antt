@@ -1,13 +1,31 @@
-use Rattle.std.proofs.Common.{rules}
+-- The numbers that stand for fields side by side have the bytes of these fields.
+use Rattle.std.proofs.Common.{rules, ◌≡◌, ◌+◌, ℕ, List, [], ◌∷◌, refl, ap, ◌∙◌}
 use Rattle.wirebase.specs.Bytes.{over}
-use Rattle.wirebase.specs.ByteWriter.{Puts, fields}
-use Rattle.wirebase.specs.Ipv4.{header_fields}
+use Rattle.wirebase.specs.ByteWriter.{Puts, fields, be8, be16, be32}
+use Rattle.wirebase.specs.Ip.{protocol_number}
+use Rattle.wirebase.specs.Ipv4.{header_fields, octets_of}
+use Rattle.wirebase.specs.declared.ipv4.Ipv4Repr.{Ipv4Repr}
 use Rattle.wirebase.proofs.Chains.{over-puts}
 use Rattle.wirebase.proofs.ipv4.Ipv4Repr.write_fields.Goals as goal
+
+-- the fields, with those written together that have one number
+abbrev wide_fields : Ipv4Repr → List (List ℕ)
+wide_fields r =
+    be16 0x4500 ∷ be16 (20 + r.payload_len)
+    ∷ be32 0x4000
+    ∷ be8 r.hop_limit ∷ be8 (protocol_number r.next_header) ∷ be16 0
+    ∷ octets_of r.src_addr
+    ∷ octets_of r.dst_addr ∷ []
+
+same_fields : (r : Ipv4Repr) → fields (wide_fields r) ≡ fields (header_fields r)
+unfolding header_fields fields be8 be16 be32
+same_fields r = refl
 
 pub returns : goal.returns
 unfolding header_fields over fields
 returns c =
-    let puts : Puts c.new-w.result c.put_bytes-2.new.self (header_fields c.args.self.now) = search rules in
-    let left = over-puts c.args.header.now _ _ _ c.new-w.ensures.blank puts in
+    let r = c.args.self.now in
+    let puts : Puts c.new-w.result c.put_bytes-2.new.self (wide_fields r) = search rules in
+    let left =
+    over-puts c.args.header.now _ _ _ c.new-w.ensures.blank puts ∙ ap (over c.args.header.now) (same_fields r) in
     search rules
