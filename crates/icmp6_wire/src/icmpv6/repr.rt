@@ -103,6 +103,7 @@ impl<'a> Repr<'a> {
     /// and a parameter problem. An error quotes a whole header, whose version and payload length are not looked at, and
     /// all that stands behind that header is the data. A message of neighbor discovery is read by `ndisc::Repr::parse`,
     /// a query and a report by `mld::Repr::parse`.
+    #[inline]
     pub fn parse(
         src_addr: &Ipv6Address,
         dst_addr: &Ipv6Address,
@@ -119,6 +120,10 @@ impl<'a> Repr<'a> {
             (λ repr. Rewrites (format checksum_caps.now src_addr.now dst_addr.now) (value_of repr)) }
     {
         are_bytes(packet.buffer);
+        // In front of all else, so that octets which are too few cost next to nothing.
+        if packet.buffer.len() < field::HEADER_END {
+            return Err(Error);
+        }
         Repr::read(src_addr, dst_addr, packet, checksum_caps)
     }
 

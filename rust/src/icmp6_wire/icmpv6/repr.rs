@@ -88,12 +88,17 @@ impl<'a> Repr<'a> {
     /// and a parameter problem. An error quotes a whole header, whose version and payload length are not looked at, and
     /// all that stands behind that header is the data. A message of neighbor discovery is read by `ndisc::Repr::parse`,
     /// a query and a report by `mld::Repr::parse`.
+    #[inline]
     pub fn parse<B: AsRef<[u8]> + ?Sized>(
         src_addr: &Ipv6Address,
         dst_addr: &Ipv6Address,
         packet: &Packet<&'a B>,
         checksum_caps: &ChecksumCapabilities,
     ) -> Result<Repr<'a>> {
+        // In front of all else, so that octets which are too few cost next to nothing.
+        if packet.buffer.as_ref().len() < field::HEADER_END {
+            return Err(Error);
+        }
         Repr::read(src_addr, dst_addr, packet, checksum_caps)
     }
 
