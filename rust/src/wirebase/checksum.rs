@@ -13,6 +13,12 @@ use core::ops::Range;
 /// byte of a word. It is exact for every length. The checksum that a packet without a pseudo header
 /// carries is `!data(..)` over its bytes with the field zero, and it is good where its sum is 0xffff.
 pub fn data(data: &[u8]) -> u16 {
+    sum_of(data)
+}
+
+// The same, always inlined: over the octets of a pseudo header, whose number is known, it is a few additions.
+#[inline(always)]
+fn sum_of(data: &[u8]) -> u16 {
     // Bytes in the other order give the same sum in the other order: RFC 1071 section 2(B).
     folded(little_sum(data)).swap_bytes()
 }
@@ -54,6 +60,7 @@ fn put_u16(octets: &mut [u8], value: u16) {
 // The sum of the bytes as words of 64 bits and a shorter last one, the lowest byte first. Two sums are kept, so that an
 // addition need not wait for the one before it. What is left is cut off by patterns: built for size, `&rest[8..]` is a
 // call.
+#[inline(always)]
 fn little_sum(data: &[u8]) -> u128 {
     let mut rest = data;
     let mut sum: u128 = 0;
@@ -136,7 +143,7 @@ pub fn pseudo_header_v4(
 ) -> u16 {
     let mut octets = [0; 12];
     write_pseudo_header_v4(&mut octets, src_addr, dst_addr, next_header, len);
-    data(&octets)
+    sum_of(&octets)
 }
 
 // Writes the pseudo header into octets of just its length.
@@ -165,7 +172,7 @@ pub fn pseudo_header_v6(
 ) -> u16 {
     let mut octets = [0; 40];
     write_pseudo_header_v6(&mut octets, src_addr, dst_addr, next_header, len);
-    data(&octets)
+    sum_of(&octets)
 }
 
 // Writes the pseudo header into octets of just its length.

@@ -7,5 +7,5 @@ use Rattle.wirebase.proofs.checksum.pseudo_header_v4.Goals as goal
 pub returns : goal.returns
 unfolding pseudo_sum
 returns c =
-    c.data.ensures
+    c.sum_of.ensures
     ∙ ap (λ (l : List ℕ). fold (word_sum l)) (c.write_pseudo_header_v4.ensures ∙ over-pseudo _ _ _ _ _ refl)
