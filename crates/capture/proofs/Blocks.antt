@@ -88,12 +88,14 @@ module _ (order : Order) (interfaces : List Interface) (bytes : List ℕ) (kind 
 
   pub obsolete_sound : kind ≡ 2 → place ≡ number_in order (field 8 10) bytes → (r : Result Packet Error)
       → IfOk r (λ packet. Timed (packet_in packet bytes)) → IfOk r (λ packet. OfKind (packet_in packet bytes))
-  obsolete_sound is e (Ok packet) h = obsolete is (subst (λ i. IsTimed order interfaces i bytes (packet_in packet bytes)) e h)
+  obsolete_sound is e (Ok packet) h =
+      obsolete is (subst (λ i. IsTimed order interfaces i bytes (packet_in packet bytes)) e h)
   obsolete_sound is e (Err error) h = tt
 
   pub enhanced_sound : kind ≡ 6 → place ≡ number_in order (field 8 12) bytes → (r : Result Packet Error)
       → IfOk r (λ packet. Timed (packet_in packet bytes)) → IfOk r (λ packet. OfKind (packet_in packet bytes))
-  enhanced_sound is e (Ok packet) h = enhanced is (subst (λ i. IsTimed order interfaces i bytes (packet_in packet bytes)) e h)
+  enhanced_sound is e (Ok packet) h =
+      enhanced is (subst (λ i. IsTimed order interfaces i bytes (packet_in packet bytes)) e h)
   enhanced_sound is e (Err error) h = tt
 
   pub simple_sound : kind ≡ 3 → (r : Result Packet Error)

@@ -47,7 +47,8 @@ both all m count order = elim (fits_or_not m (length all)) [
   | inr short ↦
       let none : drop m all ≡ [] = drop_all m all (omega (arith, short)) in
       let whole : take m all ≡ all = take_all m all (omega (arith, short)) in
-      let nothing : (k : ℕ) → take k (drop m all) ≡ [] = λ k. no_byte (take k (drop m all)) (omega (arith, length-take k (drop m all), ap length none)) in (
+      let nothing : (k : ℕ) → take k (drop m all) ≡ [] =
+      λ k. no_byte (take k (drop m all)) (omega (arith, length-take k (drop m all), ap length none)) in (
         ap (λ l. take m all ++ l) (nothing _) ∙ append-nil (take m all) ∙ whole
             ∙ sym (take_all count all (omega (arith, short, order))),
         no_byte _ (omega (arith, length-drop (count - length (take m all)) (drop m all), ap length none))

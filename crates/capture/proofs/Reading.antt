@@ -46,7 +46,8 @@ pub so_far-ended : (old mid new : Option (List ℕ)) (before now next : List ℕ
     → (taken : List ℕ) × (next ≡ before ++ taken) × Takes old new taken (count - length before)
 so_far-ended old mid new before now next count missing ended so is part told =
     let all = so_far-more old mid new before now next count missing ended so is part in
-    let long : length next ≡ length before + length all.taken = ap length all.appended ∙ length-append before all.taken in (
+    let long : length next ≡ length before + length all.taken =
+    ap length all.appended ∙ length-append before all.taken in (
       all.taken,
       all.appended,
       record {

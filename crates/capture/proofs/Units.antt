@@ -154,5 +154,6 @@ clamped xs start end e s is_end is_start = elim (fits_or_not start e) [
       ]
   | inr outside ↦
       no_byte _ (omega (arith, length-take (e - s) (drop s xs), is_start, outside))
-      ∙ sym (no_byte _ (omega (arith, length-take (end - start) (drop start xs), length-drop start xs, is_end, outside)))
+      ∙ sym
+      (no_byte _ (omega (arith, length-take (end - start) (drop start xs), length-drop start xs, is_end, outside)))
 ]

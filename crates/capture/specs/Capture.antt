@@ -1,8 +1,8 @@
 -- What the bytes of a capture hold: packets one after another, and what ends them.
-use Rattle.std.specs.Prelude.{◌≡◌, ◌≢◌, ℕ, ◌+◌, ◌-◌, ◌*◌, ◌^◌, ◌<◌, ◌≤◌, min, List, [], ◌∷◌, ◌++◌, length, take, drop}
+use Rattle.std.specs.Prelude.{◌≡◌, ◌≢◌, ℕ, ◌+◌, ◌-◌, ◌*◌, ◌^◌, ◌<◌, ◌≤◌, min, List, [], ◌∷◌, ◌++◌, length, take}
 use Rattle.std.specs.Prelude.{Option, None, Some}
 use Rattle.wirebase.specs.Bytes.{part}
-use Rattle.capture.specs.Packet.{PacketValue, packet_in, IsPlace}
+use Rattle.capture.specs.Packet.{PacketValue}
 use Rattle.capture.specs.Pcap.{IsFileHeader, FileEnds, IsRecord, RecordEnds}
 use Rattle.capture.specs.Pcapng.{IsSectionKind, section_kind, IsRead, IsHead, HeadEnds, IsClosed, IsSection, SectionEnds}
 use Rattle.capture.specs.Pcapng.{IsInterface, IsPacket}

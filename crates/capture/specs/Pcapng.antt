@@ -45,8 +45,8 @@
 -- +---------------------------------------------------------------+
 -- |  the packet, padded to four bytes
 -- +- - - - - - - - - - - - - - - -
-use Rattle.std.specs.Prelude.{◌≡◌, ◌≢◌, ℕ, ◌+◌, ◌-◌, ◌*◌, ◌/◌, ◌%◌, ◌^◌, ◌<◌, ◌≤◌, ◌⊎◌, ◌==◌, min, List, [], length}
-use Rattle.std.specs.Prelude.{drop, slice_index, slice_get, Option, None, Some, if◌then◌else◌}
+use Rattle.std.specs.Prelude.{◌≡◌, ◌≢◌, ℕ, ◌+◌, ◌-◌, ◌*◌, ◌/◌, ◌%◌, ◌<◌, ◌≤◌, ◌⊎◌, ◌==◌, min, List, [], length}
+use Rattle.std.specs.Prelude.{drop, slice_index, slice_get, Some, if◌then◌else◌}
 use Rattle.wirebase.specs.Bytes.{Field, field, part}
 use Rattle.capture.specs.Order.{number, number_in}
 use Rattle.capture.specs.Packet.{PacketValue}

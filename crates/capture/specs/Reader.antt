@@ -1,5 +1,5 @@
 -- What is read of an input.
-use Rattle.std.specs.Prelude.{◌≡◌, ℕ, Bool, true, false, ◌<◌, ◌≤◌, List, [], ◌++◌, length, take, drop, Option, Some, OnSome}
+use Rattle.std.specs.Prelude.{◌≡◌, ℕ, Bool, true, false, ◌<◌, ◌≤◌, List, ◌++◌, length, take, drop, Option, Some, OnSome}
 use Rattle.std.specs.Io.KnownBytes.{Consumes, IsAtEnd}
 
 -- bytes were taken off what a reader had left, at most so many, and fewer only at its end

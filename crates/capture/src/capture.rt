@@ -157,7 +157,8 @@ impl Capture {
     // Reads the next header, record or block.
     fn read_step<R: BufRead>(&mut self, input: &mut R) -> Result<Step, Fault>
         ensures gives { IfOk result (λ step. (all : List ℕ) → Reads all (R.remaining input.old) [] 0
-            → StepGives (state_of self.old) all step self.new.octets.items (state_of self.new) (R.remaining input.new)) }
+            → StepGives (state_of self.old) all step self.new.octets.items (state_of self.new)
+            (R.remaining input.new)) }
         ensures place { IfOk result (λ step. IfPacket step (λ k. IsPlace k self.new.octets.items)) }
         ensures count { count_of self.new ≡ count_of self.old }
         ensures fault { IfErr result (λ fault. (fault ≡ Fault.Read) ⊎ (fault ≡ Fault.Memory)) }
@@ -176,7 +177,8 @@ impl Capture {
         requires start { self.old.stage ≡ Stage.Start }
         requires empty { self.old.octets.items ≡ [] }
         ensures gives { IfOk result (λ step. (all : List ℕ) → Reads all (R.remaining input.old) [] 0
-            → StepGives (state_of self.old) all step self.new.octets.items (state_of self.new) (R.remaining input.new)) }
+            → StepGives (state_of self.old) all step self.new.octets.items (state_of self.new)
+            (R.remaining input.new)) }
         ensures place { IfOk result (λ step. IfPacket step (λ k. IsPlace k self.new.octets.items)) }
         ensures count { count_of self.new ≡ count_of self.old }
         ensures fault { IfErr result (λ fault. (fault ≡ Fault.Read) ⊎ (fault ≡ Fault.Memory)) }

@@ -222,7 +222,8 @@ impl Interface {
     /// The interface that a block describes. Refused where the block is shorter than 20 bytes.
     pub fn parse(order: Order, block: &[u8]) -> wirebase::Result<Interface>
         ensures sound { IfOk result (λ interface. IsInterface order block.now interface) }
-        ensures complete { (i : AnInterface) → IsInterface order block.now i → IsOkAnd result (λ interface. interface ≡ i) }
+        ensures complete { (i : AnInterface) → IsInterface order block.now i
+            → IsOkAnd result (λ interface. interface ≡ i) }
     {
         let len = block.len();
         if len < field::OPTIONS + field::TRAILER {

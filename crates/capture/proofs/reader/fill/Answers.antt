@@ -15,10 +15,12 @@ overflow_sub-missing g c = omega (arith, c.parts.invariant.few, ap length c.as_s
 
 pub parts-preserved : goal.parts-preserved
 parts-preserved g c =
-    so_far-more _ _ _ _ _ _ _ _ _ c.parts.invariant (ap (λ l. c.args.count - length l) c.as_slice-in-parts.ensures.value)
+    so_far-more _ _ _ _ _ _ _ _ _ c.parts.invariant
+    (ap (λ l. c.args.count - length l) c.as_slice-in-parts.ensures.value)
     c.in_ok-ended.ensures.part
 
 pub returns-then-ended-clause-fills : goal.returns-then-ended-clause-fills
 returns-then-ended-clause-fills g c =
-    so_far-ended _ _ _ _ _ _ _ _ _ c.parts.invariant (ap (λ l. c.args.count - length l) c.as_slice-in-parts.ensures.value)
+    so_far-ended _ _ _ _ _ _ _ _ _ c.parts.invariant
+    (ap (λ l. c.args.count - length l) c.as_slice-in-parts.ensures.value)
     c.in_ok-ended.ensures.part c.if-ended.true

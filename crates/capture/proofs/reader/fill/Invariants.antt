@@ -4,4 +4,5 @@ use Rattle.capture.proofs.reader.fill.Given as goal
 
 abbrev pub invariant-parts : goal.invariant-parts
 invariant-parts g l =
-    SoFar (g.R.Read.remaining l.initial.input) (g.R.Read.remaining l.input) l.initial.octets.items l.octets.items l.count
+    SoFar (g.R.Read.remaining l.initial.input) (g.R.Read.remaining l.input) l.initial.octets.items
+    l.octets.items l.count

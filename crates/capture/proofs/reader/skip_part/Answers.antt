@@ -12,7 +12,7 @@ returns-then-count-missing-clause-part g c =
     subst (FillKeeps _ (g.R.Read.remaining rested) (g.R.BufRead.consumable_len rested))
     c.in-Ok.is c.fill_buf.follows.holds-at-none in
     let moved =
-    Consumes_shown _ _ _ _ c.in-Ok.shown.now c.min-count.result (omega (arith, c.min-count.ensures)) c.in-Ok.ensures.front
-    c.in-Ok.ensures.end filled.0 filled.1 c.consume.ensures.bytes in
+    Consumes_shown _ _ _ _ c.in-Ok.shown.now c.min-count.result (omega (arith, c.min-count.ensures))
+    c.in-Ok.ensures.front c.in-Ok.ensures.end filled.0 filled.1 c.consume.ensures.bytes in
     skips-shown _ _ c.in-Ok.shown.now _ _ _ c.min-count.ensures moved.0 moved.1
     (λ told short. absurd (omega (arith, c.if-count-missing.true, short)))

@@ -6,4 +6,5 @@ use Rattle.capture.proofs.time.divided.Goals as goal
 pub loop-preserved : goal.loop-preserved
 loop-preserved c =
     rw (add-one, pow-suc)
-    (ap (λ n. n / c.args.base) c.loop.invariant ∙ div-div-eq-div-mul c.args.number (c.args.base ^ c.loop.counter) c.args.base)
+    (ap (λ n. n / c.args.base) c.loop.invariant ∙ div-div-eq-div-mul c.args.number (c.args.base ^ c.loop.counter)
+    c.args.base)

@@ -15,7 +15,8 @@ returns-in-Read-clause-gives g c =
     if_ok _ _ c.take_block.result
     (λ s t all done order before.
     let read = rw c.in-Read.is at c.in_ok-block.ensures.reads all done order before in
-    block_read _ _ all _ _ read.0 read.2 read.4 c.take_block.new.self.octets.items (c.take_block.ensures.octets ∙ read.3) read.1 s
+    block_read _ _ all _ _ read.0 read.2 read.4 c.take_block.new.self.octets.items (c.take_block.ensures.octets ∙ read.3)
+    read.1 s
     (state_of c.take_block.new.self)
     (subst (λ l. BlockTakes c.args.section c.in-Read.head c.args.self.now.interfaces.items l s
     (state_of c.take_block.new.self))

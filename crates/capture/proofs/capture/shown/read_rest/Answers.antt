@@ -9,7 +9,8 @@ pub returns-then-whole-clause-reads : goal.returns-then-whole-clause-reads
 returns-then-whole-clause-reads g c section all reads is =
     let skips =
     subst (λ l. Skips (g.R.Read.remaining c.args.input.now) (g.R.Read.remaining c.skip.new.input)
-    (c.args.head.total_len - length l) true) c.as_slice.ensures.value (rw c.if-whole.true at c.in_ok-whole.ensures.skips) in
+    (c.args.head.total_len - length l) true) c.as_slice.ensures.value
+    (rw c.if-whole.true at c.in_ok-whole.ensures.skips) in
     let over = passed_over section all _ _ _ c.args.head is c.requires.front reads skips in
     (is, told_not _ c.is_read.ensures c.if-not-is_read.true, over.0, over.1)
 
@@ -17,7 +18,8 @@ pub returns-else-whole-clause-reads : goal.returns-else-whole-clause-reads
 returns-else-whole-clause-reads g c section all reads is interfaces =
     cut_passed section all _ _ _ c.args.head is interfaces c.requires.front reads
     (subst (λ l. Skips (g.R.Read.remaining c.args.input.now) (g.R.Read.remaining c.skip.new.input)
-    (c.args.head.total_len - length l) false) c.as_slice.ensures.value (rw c.if-whole.false at c.in_ok-whole.ensures.skips))
+    (c.args.head.total_len - length l) false) c.as_slice.ensures.value
+    (rw c.if-whole.false at c.in_ok-whole.ensures.skips))
 
 pub returns-then-as_slice-len-clause-reads : goal.returns-then-as_slice-len-clause-reads
 returns-then-as_slice-len-clause-reads g c section all reads is interfaces =
