@@ -5,7 +5,7 @@ ghost use Rattle.wirebase.specs.Bytes.{over};
 ghost use Rattle.wirebase.specs.ByteWriter.{free, Puts, the_slice, fields};
 ghost use Rattle.quote_wire.specs.Error.{error_fields};
 
-use wirebase::ByteWriter;
+use wirebase::{ByteWriter, icmp};
 
 // Writes an error of this type over the front of the octets, as far as they go, with the checksum zero.
 #[tactic(auto, using(wirebase::proofs::Chains::chain))]
@@ -17,14 +17,12 @@ pub(crate) fn write_error(octets: &mut [u8], number: u8, code: u8, rest: u32, qu
 }
 
 // The same through a writer.
+#[tactic(auto, unfolding(wirebase::specs::ByteWriter::be32))]
 fn put_error(w: &mut ByteWriter<'_>, number: u8, code: u8, rest: u32, quoted: &[u8])
     requires { 8 ≤ length (free w.old) }
     ensures puts { Puts w.old w.new (error_fields number code rest quoted.now) }
     ensures same_slice { the_slice w.new ≡ the_slice w.old }
 {
-    w.put_u8(number);
-    w.put_u8(code);
-    w.put_u16(0);
-    w.put_u32(rest);
+    icmp::put_header(w, number, code, rest.to_be_bytes());
     w.put_front(quoted);
 }

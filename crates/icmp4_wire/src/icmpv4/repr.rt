@@ -4,7 +4,7 @@ ghost use Rattle.std.specs.Prelude.{◌≡◌, ◌≤◌, ◌<◌, ◌+◌, ◌^
 ghost use Rattle.wirebase.specs.Bytes.{byte_of, over, Reaches};
 ghost use Rattle.wirebase.specs.ByteWriter.{free, Puts};
 ghost use Rattle.wirebase.specs.Format.{Rewrites, SameText};
-ghost use Rattle.wirebase.specs.Icmp.{type_field, checksum_field, header, echo_fields};
+ghost use Rattle.wirebase.specs.Icmp.{type_field, checksum_field, header};
 ghost use Rattle.wirebase.specs.declared.capabilities.ChecksumCapabilities.{ChecksumCapabilities};
 ghost use Rattle.wirebase.specs.declared.ipv4.Ipv4Repr.{Ipv4Repr};
 ghost use Rattle.icmp4_wire.specs.Icmpv4Tables.{message_number};
@@ -20,7 +20,7 @@ use super::tables::{DstUnreachable, Message, TimeExceeded};
 use std::fmt;
 use wirebase::{
     ByteWriter, ChecksumCapabilities, Error, Ipv4Packet, Ipv4Repr, OctetsMut, Result, are_bytes,
-    checksum,
+    checksum, icmp,
 };
 
 // The bytes that stand at least behind the header that an error quotes.
@@ -128,6 +128,7 @@ impl<'a> Repr<'a> {
     }
 
     // The same of the error that its destination is unreachable.
+    #[inline(never)]
     fn read_unreachable(packet: &Packet<&'a [u8]>) -> Result<Repr<'a>>
         requires whole { Reaches header (view_octets packet.now) }
         requires kind { byte_of type_field (view_octets packet.now) ≡ 3 }
@@ -144,6 +145,7 @@ impl<'a> Repr<'a> {
     }
 
     // The same of the error that a time was exceeded.
+    #[inline(never)]
     fn read_time_exceeded(packet: &Packet<&'a [u8]>) -> Result<Repr<'a>>
         requires whole { Reaches header (view_octets packet.now) }
         requires kind { byte_of type_field (view_octets packet.now) ≡ 11 }
@@ -228,12 +230,12 @@ impl<'a> Repr<'a> {
                 ident,
                 seq_no,
                 data,
-            } => put_echo(w, Message::EchoRequest, ident, seq_no, data),
+            } => icmp::put_echo(w, Message::EchoRequest.into(), ident, seq_no, data),
             Repr::EchoReply {
                 ident,
                 seq_no,
                 data,
-            } => put_echo(w, Message::EchoReply, ident, seq_no, data),
+            } => icmp::put_echo(w, Message::EchoReply.into(), ident, seq_no, data),
             Repr::DstUnreachable {
                 reason,
                 header,
@@ -292,6 +294,7 @@ impl fmt::Display for Repr<'_> {
 }
 
 // The header that an error quotes, and all that stands behind it (RFC 792).
+#[inline(always)]
 fn read_quote(octets: &[u8]) -> Result<(Ipv4Repr, &[u8])>
     ensures sound { IfOk result (λ quote_. IsQuote octets.now quote_.0 quote_.1.now) }
     ensures complete { (quoted : Ipv4Repr) (behind : List ℕ) → IsQuote octets.now quoted behind
@@ -323,20 +326,8 @@ fn seal(octets: &mut [u8], checksum_caps: &ChecksumCapabilities)
     }
 }
 
-// Writes an echo of this type, as much of its data as there is room for.
-fn put_echo(w: &mut ByteWriter<'_>, kind: Message, ident: u16, seq_no: u16, data: &[u8])
-    requires { 8 ≤ length (free w.old) }
-    ensures { Puts w.old w.new (echo_fields (message_number kind) ident seq_no «data».now) }
-{
-    // The type, code 0 and a checksum of zero, in one number, since each write costs code.
-    w.put_u32(u32::from_be_bytes([kind.into(), 0, 0, 0]));
-    w.put_u16(ident);
-    w.put_u16(seq_no);
-    w.put_front(data);
-}
-
 // Writes an error of this type.
-#[tactic(auto, using(wirebase::proofs::Ipv4Header::header_texts))]
+#[tactic(auto, using(wirebase::proofs::Ipv4Header::header_texts), unfolding(wirebase::specs::ByteWriter::be32))]
 fn put_error(
     w: &mut ByteWriter<'_>,
     kind: Message,
@@ -350,10 +341,7 @@ fn put_error(
     ensures { Puts w.old w.new
         (error_fields checksum_caps.now (message_number kind) code quoted.now «data».now) }
 {
-    w.put_u8(kind.into());
-    w.put_u8(code);
-    w.put_u16(0);
-    w.put_u32(0);
+    icmp::put_header(w, kind.into(), code, [0; 4]);
     quoted.emit_into(w.part(quoted.buffer_len()), checksum_caps);
     w.put_bytes(data);
 }

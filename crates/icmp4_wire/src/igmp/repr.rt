@@ -13,7 +13,9 @@ use super::field;
 use super::packet::Packet;
 use super::tables::Message;
 use std::fmt;
-use wirebase::{ByteWriter, Duration, Error, Ipv4Address, OctetsMut, Result, are_bytes, checksum};
+use wirebase::{
+    ByteWriter, Duration, Error, Ipv4Address, OctetsMut, Result, are_bytes, checksum, icmp,
+};
 
 /// The version of the protocol that a query or a report speaks.
 #[derive(Debug, PartialEq, Eq, Clone, Copy)]
@@ -216,10 +218,7 @@ fn put_message(w: &mut ByteWriter<'_>, message: Message, code: u8, group: Ipv4Ad
     requires { 8 ≤ length (free w.old) }
     ensures { Puts w.old w.new (message_fields (message_number message) code group) }
 {
-    w.put_u8(message.into());
-    w.put_u8(code);
-    w.put_u16(0);
-    w.put_bytes(&group.octets());
+    icmp::put_header(w, message.into(), code, group.octets());
 }
 
 // Whether a message may speak of this group: of none, 0.0.0.0, or of a multicast address.

@@ -7,4 +7,5 @@ use Rattle.wirebase.proofs.checksum.pseudo_header_v6.Goals as goal
 pub returns : goal.returns
 unfolding pseudo_sum
 returns c =
-    c.sum_of.ensures ∙ ap (λ (l : List ℕ). fold (word_sum l)) (c.write_pseudo_header_v6.ensures ∙ over-pseudo _ _ _ _ _ refl)
+    c.sum_of.ensures
+    ∙ ap (λ (l : List ℕ). fold (word_sum l)) (c.write_pseudo_header_v6.ensures ∙ over-pseudo _ _ _ _ _ refl)
