@@ -10,6 +10,7 @@ pub mod duration;
 pub mod error;
 pub mod ethernet;
 pub mod hardware;
+pub mod icmp;
 pub mod ip;
 pub mod ipv4;
 pub mod ipv6;

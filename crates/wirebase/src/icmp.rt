@@ -5,7 +5,6 @@ ghost use Rattle.wirebase.specs.ByteWriter.{free, be8, be16, Puts};
 ghost use Rattle.wirebase.specs.Icmp.{echo_fields};
 
 use crate::byte_writer::ByteWriter;
-use crate::octets::are_bytes;
 
 /// Writes the eight bytes that a message begins with: its type, its code, a checksum of zero, and the four bytes behind
 /// them. Requires that eight are free.
@@ -16,7 +15,7 @@ pub fn put_header(w: &mut ByteWriter<'_>, kind: u8, code: u8, rest: [u8; 4])
     ensures puts { Puts w.old w.new (be8 kind ∷ be8 code ∷ be16 0 ∷ rest ∷ []) }
     ensures room { length (free w.old) ≡ 8 + length (free w.new) }
 {
-    are_bytes(&rest);
+    crate::octets::are_bytes(&rest);
     let [a, b, c, d] = rest;
     let header = u64::from_be_bytes([kind, code, 0, 0, a, b, c, d]);
     w.put_bytes(&header.to_be_bytes());

@@ -1,7 +1,7 @@
 // Made from crates/quote_wire/src/writing.rt by rust/erase.
 //! How the errors of both protocols are written.
 
-use crate::wirebase::ByteWriter;
+use crate::wirebase::{ByteWriter, icmp};
 
 // Writes an error of this type over the front of the octets, as far as they go, with the checksum zero.
 pub(crate) fn write_error(octets: &mut [u8], number: u8, code: u8, rest: u32, quoted: &[u8]) {
@@ -10,9 +10,6 @@ pub(crate) fn write_error(octets: &mut [u8], number: u8, code: u8, rest: u32, qu
 
 // The same through a writer.
 fn put_error(w: &mut ByteWriter<'_>, number: u8, code: u8, rest: u32, quoted: &[u8]) {
-    w.put_u8(number);
-    w.put_u8(code);
-    w.put_u16(0);
-    w.put_u32(rest);
+    icmp::put_header(w, number, code, rest.to_be_bytes());
     w.put_front(quoted);
 }

@@ -43,9 +43,18 @@ pub fn is_good(octets: &[u8], extra: u16) -> bool {
 #[inline]
 pub fn fill(octets: &mut [u8], field: Field, extra: u16) {
     let Range { start, end } = field;
-    put_u16(&mut octets[start..end], 0);
+    clear_u16(&mut octets[start..end]);
     let checksum = !added(data(octets), extra);
     put_u16(&mut octets[start..end], checksum);
+}
+
+// Two bytes at the front become zero. Those of a message that was just written are so already: written once more, the
+// sum would have to wait for them, as `icmp::put_header` says.
+#[inline(always)]
+fn clear_u16(octets: &mut [u8]) {
+    if octets[0] != 0 || octets[1] != 0 {
+        put_u16(octets, 0);
+    }
 }
 
 // Writes two bytes at the front, the higher first, byte by byte: built for size, `BigEndian::write_u16` copies them by
@@ -78,8 +87,8 @@ fn little_sum(data: &[u8]) -> u128 {
     sum + last_words(rest) as u128
 }
 
-// The word of eight bytes at a place, the lowest byte first. Always inlined: built for size, it would be a call for each
-// word.
+// The word of eight bytes at a place, the lowest byte first. Always inlined: built for size, it would be a call for
+// each word.
 #[inline(always)]
 fn little_word(octets: &[u8], at: usize) -> u128 {
     LittleEndian::read_u64(&octets[at..at + 8]) as u128

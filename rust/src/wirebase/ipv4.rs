@@ -46,7 +46,8 @@ impl Ipv4Address {
 
     /// Whether this is 0.0.0.0.
     pub fn is_unspecified(&self) -> bool {
-        *self == Self::UNSPECIFIED
+        // As one number: a comparison of the addresses would be one of each octet.
+        u32::from_be_bytes(self.octets()) == 0
     }
 
     /// Whether packets to this address go to many receivers: 224.0.0.0 to 239.255.255.255 (RFC 1112 section 4).

@@ -6,6 +6,7 @@ use super::packet::Packet;
 use super::tables::{DstUnreachable, Message, TimeExceeded};
 use crate::wirebase::{
     ByteWriter, ChecksumCapabilities, Error, Ipv4Packet, Ipv4Repr, OctetsMut, Result, checksum,
+    icmp,
 };
 use core::fmt;
 
@@ -97,6 +98,7 @@ impl<'a> Repr<'a> {
     }
 
     // The same of the error that its destination is unreachable.
+    #[inline(never)]
     fn read_unreachable<B: AsRef<[u8]> + ?Sized>(packet: &Packet<&'a B>) -> Result<Repr<'a>> {
         let (header, data) = read_quote(packet.data())?;
         Ok(Repr::DstUnreachable {
@@ -107,6 +109,7 @@ impl<'a> Repr<'a> {
     }
 
     // The same of the error that a time was exceeded.
+    #[inline(never)]
     fn read_time_exceeded<B: AsRef<[u8]> + ?Sized>(packet: &Packet<&'a B>) -> Result<Repr<'a>> {
         let (header, data) = read_quote(packet.data())?;
         Ok(Repr::TimeExceeded {
@@ -158,12 +161,12 @@ impl<'a> Repr<'a> {
                 ident,
                 seq_no,
                 data,
-            } => put_echo(w, Message::EchoRequest, ident, seq_no, data),
+            } => icmp::put_echo(w, Message::EchoRequest.into(), ident, seq_no, data),
             Repr::EchoReply {
                 ident,
                 seq_no,
                 data,
-            } => put_echo(w, Message::EchoReply, ident, seq_no, data),
+            } => icmp::put_echo(w, Message::EchoReply.into(), ident, seq_no, data),
             Repr::DstUnreachable {
                 reason,
                 header,
@@ -222,6 +225,7 @@ impl fmt::Display for Repr<'_> {
 }
 
 // The header that an error quotes, and all that stands behind it (RFC 792).
+#[inline(always)]
 fn read_quote(octets: &[u8]) -> Result<(Ipv4Repr, &[u8])> {
     let packet = Ipv4Packet::new_checked(octets)?;
     let header_len = packet.header_len() as usize;
@@ -246,15 +250,6 @@ fn seal(octets: &mut [u8], checksum_caps: &ChecksumCapabilities) {
     }
 }
 
-// Writes an echo of this type, as much of its data as there is room for.
-fn put_echo(w: &mut ByteWriter<'_>, kind: Message, ident: u16, seq_no: u16, data: &[u8]) {
-    // The type, code 0 and a checksum of zero, in one number, since each write costs code.
-    w.put_u32(u32::from_be_bytes([kind.into(), 0, 0, 0]));
-    w.put_u16(ident);
-    w.put_u16(seq_no);
-    w.put_front(data);
-}
-
 // Writes an error of this type.
 fn put_error(
     w: &mut ByteWriter<'_>,
@@ -264,10 +259,7 @@ fn put_error(
     data: &[u8],
     checksum_caps: &ChecksumCapabilities,
 ) {
-    w.put_u8(kind.into());
-    w.put_u8(code);
-    w.put_u16(0);
-    w.put_u32(0);
+    icmp::put_header(w, kind.into(), code, [0; 4]);
     quoted.emit_into(w.part(quoted.buffer_len()), checksum_caps);
     w.put_bytes(data);
 }

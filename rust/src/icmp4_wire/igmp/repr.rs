@@ -5,7 +5,9 @@ use super::code::{code_of_duration, duration_of_code};
 use super::field;
 use super::packet::Packet;
 use super::tables::Message;
-use crate::wirebase::{ByteWriter, Duration, Error, Ipv4Address, OctetsMut, Result, checksum};
+use crate::wirebase::{
+    ByteWriter, Duration, Error, Ipv4Address, OctetsMut, Result, checksum, icmp,
+};
 use core::fmt;
 
 /// The version of the protocol that a query or a report speaks.
@@ -167,10 +169,7 @@ fn version_name(version: IgmpVersion) -> &'static str {
 
 // Writes each field of a message, with a checksum of zero.
 fn put_message(w: &mut ByteWriter<'_>, message: Message, code: u8, group: Ipv4Address) {
-    w.put_u8(message.into());
-    w.put_u8(code);
-    w.put_u16(0);
-    w.put_bytes(&group.octets());
+    icmp::put_header(w, message.into(), code, group.octets());
 }
 
 // Whether a message may speak of this group: of none, 0.0.0.0, or of a multicast address.
