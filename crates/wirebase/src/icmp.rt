@@ -10,6 +10,7 @@ use crate::byte_writer::ByteWriter;
 /// them. Requires that eight are free.
 // In one write, since the checksum reads these bytes as one word: a processor waits where a word that it reads was
 // written in pieces just before.
+#[inline]
 pub fn put_header(w: &mut ByteWriter<'_>, kind: u8, code: u8, rest: [u8; 4])
     requires { 8 ≤ length (free w.old) }
     ensures puts { Puts w.old w.new (be8 kind ∷ be8 code ∷ be16 0 ∷ rest ∷ []) }
@@ -23,6 +24,7 @@ pub fn put_header(w: &mut ByteWriter<'_>, kind: u8, code: u8, rest: [u8; 4])
 
 /// Writes an echo of this type (RFC 792, RFC 4443 section 4), with a checksum of zero and as much of its data as there
 /// is room for. Requires that eight bytes are free.
+#[inline]
 pub fn put_echo(w: &mut ByteWriter<'_>, kind: u8, ident: u16, seq_no: u16, data: &[u8])
     requires { 8 ≤ length (free w.old) }
     ensures { Puts w.old w.new (echo_fields kind ident seq_no «data».now) }

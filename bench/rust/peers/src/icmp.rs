@@ -2,6 +2,7 @@
 
 use crate::measure::row;
 use control_wire::{ChecksumCapabilities, Ipv6Address, icmpv4, icmpv6};
+use etherparse::checksum::Sum16BitWords;
 use etherparse::{IcmpEchoHeader, Icmpv4Header, Icmpv4Slice, Icmpv4Type, Icmpv6Slice, Icmpv6Type};
 use std::hint::black_box;
 
@@ -20,6 +21,7 @@ pub fn rows() {
 
 fn v4(data: &[u8]) {
     let caps = ChecksumCapabilities::default();
+    let none = ChecksumCapabilities::ignored();
     let request = icmpv4::Repr::EchoRequest {
         ident: ECHO.id,
         seq_no: ECHO.seq,
@@ -27,16 +29,22 @@ fn v4(data: &[u8]) {
     };
     let mut octets = vec![0; request.buffer_len()];
     request.emit_into(&mut octets, &caps);
-    let read = || {
-        icmpv4::Repr::parse(
-            &icmpv4::Packet::new_unchecked(black_box(&octets[..])),
-            &caps,
-        )
+    let read = |caps: &ChecksumCapabilities| {
+        icmpv4::Repr::parse(&icmpv4::Packet::new_unchecked(black_box(&octets[..])), caps)
     };
     let theirs = || Icmpv4Slice::from_slice(black_box(&octets)).map(|it| it.icmp_type());
-    assert_eq!(read(), Ok(request));
+    // etherparse has the call for ICMPv6 alone, so its sum is taken of the octets, as that call does.
+    let verified = || {
+        let slice = Icmpv4Slice::from_slice(black_box(&octets)).ok()?;
+        let sum = Sum16BitWords::new().add_slice(slice.slice());
+        (sum.ones_complement() == 0).then(|| slice.icmp_type())
+    };
+    assert_eq!(read(&caps), Ok(request));
+    assert_eq!(read(&none), Ok(request));
     assert_eq!(theirs().unwrap(), Icmpv4Type::EchoRequest(ECHO));
-    row("ICMPv4 echo, read", "etherparse*", read, theirs);
+    assert_eq!(verified().unwrap(), Icmpv4Type::EchoRequest(ECHO));
+    row("ICMPv4 echo, verified", "etherparse", || read(&caps), verified);
+    row("ICMPv4 echo, not verified", "etherparse", || read(&none), theirs);
 
     let mut out = [0; 64];
     let mut other = Vec::with_capacity(64);
@@ -60,6 +68,7 @@ fn v4(data: &[u8]) {
 
 fn v6(data: &[u8]) {
     let caps = ChecksumCapabilities::default();
+    let none = ChecksumCapabilities::ignored();
     let request = icmpv6::Repr::EchoRequest {
         ident: ECHO.id,
         seq_no: ECHO.seq,
@@ -67,9 +76,9 @@ fn v6(data: &[u8]) {
     };
     let mut octets = vec![0; request.buffer_len()];
     request.emit_into(&SOURCE, &DESTINATION, &mut octets, &caps);
-    let read = || {
+    let read = |caps: &ChecksumCapabilities| {
         let packet = icmpv6::Packet::new_unchecked(black_box(&octets[..]));
-        icmpv6::Repr::parse(&SOURCE, &DESTINATION, &packet, &caps)
+        icmpv6::Repr::parse(&SOURCE, &DESTINATION, &packet, caps)
     };
     let theirs = || Icmpv6Slice::from_slice(black_box(&octets)).map(|it| it.icmp_type());
     let (source, destination) = (SOURCE.octets(), DESTINATION.octets());
@@ -79,11 +88,12 @@ fn v6(data: &[u8]) {
             .is_checksum_valid(source, destination)
             .then(|| slice.icmp_type())
     };
-    assert_eq!(read(), Ok(request));
+    assert_eq!(read(&caps), Ok(request));
+    assert_eq!(read(&none), Ok(request));
     assert_eq!(theirs().unwrap(), Icmpv6Type::EchoRequest(ECHO));
     assert_eq!(verified().unwrap(), Icmpv6Type::EchoRequest(ECHO));
-    row("ICMPv6 echo, read", "etherparse*", read, theirs);
-    row("the same, verified", "etherparse", read, verified);
+    row("ICMPv6 echo, verified", "etherparse", || read(&caps), verified);
+    row("ICMPv6 echo, not verified", "etherparse", || read(&none), theirs);
 
     let mut out = [0; 64];
     let mut other = Vec::with_capacity(64);

@@ -85,31 +85,10 @@ impl<'a> Repr<'a> {
             → IfOk result (λ repr. Rewrites (format checksum_caps.now) (value_of repr)) }
     {
         are_bytes(packet.buffer);
-        Repr::read(packet, checksum_caps)
-    }
-
-    // The message in the octets.
-    fn read(packet: &Packet<&'a [u8]>, checksum_caps: &ChecksumCapabilities) -> Result<Repr<'a>>
-        ensures sound { IfOk result (λ repr.
-            IsMessage checksum_caps.now (view_octets packet.now) (value_of repr)) }
-        ensures complete { (value : MessageValue)
-            → IsMessage checksum_caps.now (view_octets packet.now) value
-            → IsOkAnd result (λ repr. value_of repr ≡ value) }
-    {
         packet.check_len()?;
         if checksum_caps.icmpv4.rx() && !packet.verify_checksum() {
             return Err(Error);
         }
-        Repr::read_content(packet)
-    }
-
-    // The message in octets that have its header, whatever their checksum.
-    fn read_content(packet: &Packet<&'a [u8]>) -> Result<Repr<'a>>
-        requires { Reaches header (view_octets packet.now) }
-        ensures sound { IfOk result (λ repr. IsContent (view_octets packet.now) (value_of repr)) }
-        ensures complete { (value : MessageValue) → IsContent (view_octets packet.now) value
-            → IsOkAnd result (λ repr. value_of repr ≡ value) }
-    {
         match (packet.msg_type(), packet.msg_code()) {
             (Message::EchoRequest, 0) => Ok(Repr::EchoRequest {
                 ident: packet.echo_ident(),
@@ -127,8 +106,7 @@ impl<'a> Repr<'a> {
         }
     }
 
-    // The same of the error that its destination is unreachable.
-    #[inline(never)]
+    // The error that its destination is unreachable, whatever its checksum.
     fn read_unreachable(packet: &Packet<&'a [u8]>) -> Result<Repr<'a>>
         requires whole { Reaches header (view_octets packet.now) }
         requires kind { byte_of type_field (view_octets packet.now) ≡ 3 }
@@ -144,8 +122,7 @@ impl<'a> Repr<'a> {
         })
     }
 
-    // The same of the error that a time was exceeded.
-    #[inline(never)]
+    // The error that a time was exceeded, whatever its checksum.
     fn read_time_exceeded(packet: &Packet<&'a [u8]>) -> Result<Repr<'a>>
         requires whole { Reaches header (view_octets packet.now) }
         requires kind { byte_of type_field (view_octets packet.now) ≡ 11 }

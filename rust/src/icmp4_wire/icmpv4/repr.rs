@@ -63,23 +63,10 @@ impl<'a> Repr<'a> {
         packet: &Packet<&'a B>,
         checksum_caps: &ChecksumCapabilities,
     ) -> Result<Repr<'a>> {
-        Repr::read(packet, checksum_caps)
-    }
-
-    // The message in the octets.
-    fn read<B: AsRef<[u8]> + ?Sized>(
-        packet: &Packet<&'a B>,
-        checksum_caps: &ChecksumCapabilities,
-    ) -> Result<Repr<'a>> {
         packet.check_len()?;
         if checksum_caps.icmpv4.rx() && !packet.verify_checksum() {
             return Err(Error);
         }
-        Repr::read_content(packet)
-    }
-
-    // The message in octets that have its header, whatever their checksum.
-    fn read_content<B: AsRef<[u8]> + ?Sized>(packet: &Packet<&'a B>) -> Result<Repr<'a>> {
         match (packet.msg_type(), packet.msg_code()) {
             (Message::EchoRequest, 0) => Ok(Repr::EchoRequest {
                 ident: packet.echo_ident(),
@@ -97,8 +84,7 @@ impl<'a> Repr<'a> {
         }
     }
 
-    // The same of the error that its destination is unreachable.
-    #[inline(never)]
+    // The error that its destination is unreachable, whatever its checksum.
     fn read_unreachable<B: AsRef<[u8]> + ?Sized>(packet: &Packet<&'a B>) -> Result<Repr<'a>> {
         let (header, data) = read_quote(packet.data())?;
         Ok(Repr::DstUnreachable {
@@ -108,8 +94,7 @@ impl<'a> Repr<'a> {
         })
     }
 
-    // The same of the error that a time was exceeded.
-    #[inline(never)]
+    // The error that a time was exceeded, whatever its checksum.
     fn read_time_exceeded<B: AsRef<[u8]> + ?Sized>(packet: &Packet<&'a B>) -> Result<Repr<'a>> {
         let (header, data) = read_quote(packet.data())?;
         Ok(Repr::TimeExceeded {
