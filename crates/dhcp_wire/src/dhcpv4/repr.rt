@@ -108,15 +108,6 @@ impl<'a> Repr<'a> {
             → IfOk result (λ repr. Rewrites format (value_of repr)) }
     {
         are_bytes(packet.buffer);
-        Repr::read(packet)
-    }
-
-    // What a packet says.
-    fn read(packet: &Packet<&'a [u8]>) -> Result<Repr<'a>>
-        ensures sound { IfOk result (λ repr. IsPacket (inner packet.now).now (value_of repr)) }
-        ensures complete { (value : Value) → IsPacket (inner packet.now).now value
-            → IsOkAnd result (λ repr. value_of repr ≡ value) }
-    {
         check_header(packet)?;
         let mut found = Found {
             message_type: None,
@@ -126,10 +117,9 @@ impl<'a> Repr<'a> {
         let Some(message_type) = found.message_type else {
             return Err(Error);
         };
-        Ok(Repr {
-            message_type,
-            ..found.repr
-        })
+        let mut repr = found.repr;
+        repr.message_type = message_type;
+        Ok(repr)
     }
 
     // The value of a packet of which no option was read; its type of message is none that a packet has.

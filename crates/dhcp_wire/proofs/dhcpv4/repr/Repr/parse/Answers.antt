@@ -1,11 +1,37 @@
-use Rattle.wirebase.proofs.Format.{all_rewrites}
-use Rattle.dhcp_wire.specs.Dhcpv4.{value_of}
+use Rattle.std.proofs.Common.{refl, sym, ap, subst, ◌∙◌}
+use Rattle.wirebase.proofs.Format.{rewrites}
+use Rattle.dhcp_wire.specs.Dhcpv4.{Value, value_of}
 use Rattle.dhcp_wire.specs.Dhcpv4Format.{format}
+use Rattle.dhcp_wire.specs.Dhcpv4Found.{Kept, IsMadeOf}
 use Rattle.dhcp_wire.specs.Dhcpv4Packet.{inner}
+use Rattle.dhcp_wire.proofs.Dhcpv4Kept.{made-of-found, packet-made, packet-typed, packet-unique, good_options}
 use Rattle.dhcp_wire.proofs.Dhcpv4Laws.{dhcp_format}
 use Rattle.dhcp_wire.proofs.dhcpv4.repr.Repr.parse.Goals as goal
 
+pub returns-in_err-note_all-clause-complete : goal.returns-in_err-note_all-clause-complete
+returns-in_err-note_all-clause-complete c value p =
+    absurd (c.in_err-note_all.ensures.refused (good_options (inner c.args.packet.now).now value p))
+
+pub returns-in_default-clause-complete : goal.returns-in_default-clause-complete
+returns-in_default-clause-complete c value p =
+    let none = sym c.in_default.is ∙ ap (λ (k : Kept). k.message_type) c.in_ok-note_all.ensures.found
+    ∙ packet-typed (inner c.args.packet.now).now value p in
+    cc
+
+pub returns-clause-sound : goal.returns-clause-sound
+returns-clause-sound c =
+    let bytes = (inner c.args.packet.now).now in
+    let t = c.in-Some.message_type in
+    let v : Value = record (value_of c.note_all.new.self.repr) { message_type = t } in
+    let found = c.in_ok-note_all.ensures.found in
+    packet-made bytes t v (c.in_ok-check_header.ensures.0 refl) c.in_ok-note_all.ensures.accepted
+    (sym (ap (λ (k : Kept). k.message_type) found) ∙ c.in-Some.is)
+    (subst (λ (k : Kept). IsMadeOf bytes t k v) found
+    (made-of-found bytes t (value_of c.of.result) c.note_all.new.self c.of.ensures.header c.note_all.ensures.header))
+
+pub returns-clause-complete : goal.returns-clause-complete
+returns-clause-complete c value p = packet-unique (inner c.args.packet.now).now _ value (returns-clause-sound c) p
+
 pub returns-clause-rewrites : goal.returns-clause-rewrites
-returns-clause-rewrites c =
-    all_rewrites format dhcp_format value_of (inner c.args.packet.now).now c.read.result c.are_bytes.ensures
-    c.read.ensures.sound
+returns-clause-rewrites c = λ short.
+    rewrites format dhcp_format (inner c.args.packet.now).now _ c.are_bytes.ensures short (returns-clause-sound c)
