@@ -67,11 +67,6 @@ impl<'a> Repr<'a> {
     /// a type of message that has the operation of the packet. Every field that an option gives is that of the last
     /// option of its kind and length; other options are not read.
     pub fn parse<B: AsRef<[u8]> + ?Sized>(packet: &Packet<&'a B>) -> Result<Repr<'a>> {
-        Repr::read(packet)
-    }
-
-    // What a packet says.
-    fn read<B: AsRef<[u8]> + ?Sized>(packet: &Packet<&'a B>) -> Result<Repr<'a>> {
         check_header(packet)?;
         let mut found = Found {
             message_type: None,
@@ -81,10 +76,9 @@ impl<'a> Repr<'a> {
         let Some(message_type) = found.message_type else {
             return Err(Error);
         };
-        Ok(Repr {
-            message_type,
-            ..found.repr
-        })
+        let mut repr = found.repr;
+        repr.message_type = message_type;
+        Ok(repr)
     }
 
     // The value of a packet of which no option was read; its type of message is none that a packet has.
