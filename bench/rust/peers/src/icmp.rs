@@ -29,9 +29,9 @@ fn v4(data: &[u8]) {
     };
     let mut octets = vec![0; request.buffer_len()];
     request.emit_into(&mut octets, &caps);
-    let read = |caps: &ChecksumCapabilities| {
-        icmpv4::Repr::parse(&icmpv4::Packet::new_unchecked(black_box(&octets[..])), caps)
-    };
+    let packet = || icmpv4::Packet::new_unchecked(black_box(&octets[..]));
+    let read = || icmpv4::Repr::parse(&packet(), &caps);
+    let read_unverified = || icmpv4::Repr::parse(&packet(), &none);
     let theirs = || Icmpv4Slice::from_slice(black_box(&octets)).map(|it| it.icmp_type());
     // etherparse has the call for ICMPv6 alone, so its sum is taken of the octets, as that call does.
     let verified = || {
@@ -39,12 +39,17 @@ fn v4(data: &[u8]) {
         let sum = Sum16BitWords::new().add_slice(slice.slice());
         (sum.ones_complement() == 0).then(|| slice.icmp_type())
     };
-    assert_eq!(read(&caps), Ok(request));
-    assert_eq!(read(&none), Ok(request));
+    assert_eq!(read(), Ok(request));
+    assert_eq!(read_unverified(), Ok(request));
     assert_eq!(theirs().unwrap(), Icmpv4Type::EchoRequest(ECHO));
     assert_eq!(verified().unwrap(), Icmpv4Type::EchoRequest(ECHO));
-    row("ICMPv4 echo, verified", "etherparse", || read(&caps), verified);
-    row("ICMPv4 echo, not verified", "etherparse", || read(&none), theirs);
+    row("ICMPv4 echo, verified", "etherparse", read, verified);
+    row(
+        "ICMPv4 echo, not verified",
+        "etherparse",
+        read_unverified,
+        theirs,
+    );
 
     let mut out = [0; 64];
     let mut other = Vec::with_capacity(64);
@@ -76,10 +81,9 @@ fn v6(data: &[u8]) {
     };
     let mut octets = vec![0; request.buffer_len()];
     request.emit_into(&SOURCE, &DESTINATION, &mut octets, &caps);
-    let read = |caps: &ChecksumCapabilities| {
-        let packet = icmpv6::Packet::new_unchecked(black_box(&octets[..]));
-        icmpv6::Repr::parse(&SOURCE, &DESTINATION, &packet, caps)
-    };
+    let packet = || icmpv6::Packet::new_unchecked(black_box(&octets[..]));
+    let read = || icmpv6::Repr::parse(&SOURCE, &DESTINATION, &packet(), &caps);
+    let read_unverified = || icmpv6::Repr::parse(&SOURCE, &DESTINATION, &packet(), &none);
     let theirs = || Icmpv6Slice::from_slice(black_box(&octets)).map(|it| it.icmp_type());
     let (source, destination) = (SOURCE.octets(), DESTINATION.octets());
     let verified = || {
@@ -88,12 +92,17 @@ fn v6(data: &[u8]) {
             .is_checksum_valid(source, destination)
             .then(|| slice.icmp_type())
     };
-    assert_eq!(read(&caps), Ok(request));
-    assert_eq!(read(&none), Ok(request));
+    assert_eq!(read(), Ok(request));
+    assert_eq!(read_unverified(), Ok(request));
     assert_eq!(theirs().unwrap(), Icmpv6Type::EchoRequest(ECHO));
     assert_eq!(verified().unwrap(), Icmpv6Type::EchoRequest(ECHO));
-    row("ICMPv6 echo, verified", "etherparse", || read(&caps), verified);
-    row("ICMPv6 echo, not verified", "etherparse", || read(&none), theirs);
+    row("ICMPv6 echo, verified", "etherparse", read, verified);
+    row(
+        "ICMPv6 echo, not verified",
+        "etherparse",
+        read_unverified,
+        theirs,
+    );
 
     let mut out = [0; 64];
     let mut other = Vec::with_capacity(64);

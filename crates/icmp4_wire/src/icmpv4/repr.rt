@@ -72,6 +72,7 @@ impl<'a> Repr<'a> {
     /// isn't good, and where it is none of these messages; an echo has code 0, and an error quotes a packet that is
     /// whole by its own lengths, with 8 bytes or more behind its header. All that stands behind that header is the
     /// data, and its bytes are the `payload_len`.
+    #[inline]
     pub fn parse(
         packet: &Packet<&'a [u8]>,
         checksum_caps: &ChecksumCapabilities,
@@ -106,7 +107,9 @@ impl<'a> Repr<'a> {
         }
     }
 
-    // The error that its destination is unreachable, whatever its checksum.
+    // The error that its destination is unreachable, whatever its checksum. Inlined in `parse`, it would keep that from
+    // being inlined where it is called.
+    #[inline(never)]
     fn read_unreachable(packet: &Packet<&'a [u8]>) -> Result<Repr<'a>>
         requires whole { Reaches header (view_octets packet.now) }
         requires kind { byte_of type_field (view_octets packet.now) ≡ 3 }
@@ -123,6 +126,7 @@ impl<'a> Repr<'a> {
     }
 
     // The error that a time was exceeded, whatever its checksum.
+    #[inline(never)]
     fn read_time_exceeded(packet: &Packet<&'a [u8]>) -> Result<Repr<'a>>
         requires whole { Reaches header (view_octets packet.now) }
         requires kind { byte_of type_field (view_octets packet.now) ≡ 11 }
