@@ -107,9 +107,9 @@ impl<'a> Repr<'a> {
         }
     }
 
-    // The error that its destination is unreachable, whatever its checksum. Inlined in `parse`, it would keep that from
-    // being inlined where it is called.
-    #[inline(never)]
+    // The error that its destination is unreachable, whatever its checksum. It is `cold` as the next one is, so that
+    // `parse` stays small enough to be inlined where echoes are read.
+    #[cold]
     fn read_unreachable(packet: &Packet<&'a [u8]>) -> Result<Repr<'a>>
         requires whole { Reaches header (view_octets packet.now) }
         requires kind { byte_of type_field (view_octets packet.now) ≡ 3 }
@@ -126,7 +126,7 @@ impl<'a> Repr<'a> {
     }
 
     // The error that a time was exceeded, whatever its checksum.
-    #[inline(never)]
+    #[cold]
     fn read_time_exceeded(packet: &Packet<&'a [u8]>) -> Result<Repr<'a>>
         requires whole { Reaches header (view_octets packet.now) }
         requires kind { byte_of type_field (view_octets packet.now) ≡ 11 }

@@ -59,6 +59,7 @@ impl<'a> Repr<'a> {
     /// isn't good, and where it is none of these messages; an echo has code 0, and an error quotes a packet that is
     /// whole by its own lengths, with 8 bytes or more behind its header. All that stands behind that header is the
     /// data, and its bytes are the `payload_len`.
+    #[inline]
     pub fn parse<B: AsRef<[u8]> + ?Sized>(
         packet: &Packet<&'a B>,
         checksum_caps: &ChecksumCapabilities,
@@ -84,7 +85,9 @@ impl<'a> Repr<'a> {
         }
     }
 
-    // The error that its destination is unreachable, whatever its checksum.
+    // The error that its destination is unreachable, whatever its checksum. Inlined in `parse`, it would keep that from
+    // being inlined where it is called.
+    #[inline(never)]
     fn read_unreachable<B: AsRef<[u8]> + ?Sized>(packet: &Packet<&'a B>) -> Result<Repr<'a>> {
         let (header, data) = read_quote(packet.data())?;
         Ok(Repr::DstUnreachable {
@@ -95,6 +98,7 @@ impl<'a> Repr<'a> {
     }
 
     // The error that a time was exceeded, whatever its checksum.
+    #[inline(never)]
     fn read_time_exceeded<B: AsRef<[u8]> + ?Sized>(packet: &Packet<&'a B>) -> Result<Repr<'a>> {
         let (header, data) = read_quote(packet.data())?;
         Ok(Repr::TimeExceeded {
