@@ -393,7 +393,7 @@ def parts(file, open_):
 # What must not be left, and what may stand in the library at all.
 LEFT = {"prove", "prove_eq", "prove_ne", "Global", "HostRuntime", "Abort", "Alloc", "Model", "Drop", "ghost",
         "requires", "ensures", "final", "tactic", "cycle", "alloc", "rt", "unsafe"}
-ATTRIBUTES = {"derive", "cfg", "test", "default", "inline", "allow", "must_use", "doc"}
+ATTRIBUTES = {"derive", "cfg", "test", "default", "inline", "cold", "allow", "must_use", "doc"}
 MACROS = {"write", "writeln", "matches", "unreachable", "bitflags"}
 TEST_MACROS = MACROS | {"assert", "assert_eq", "assert_ne", "panic", "println", "eprintln", "vec", "print"}
 

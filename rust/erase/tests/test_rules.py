@@ -68,8 +68,9 @@ ROWS = {
     "clause": ("fn f(a: u8) -> u8 requires { a ≤ 2 } ensures value { result ≡ «a» } "
                "ensures* lends { λ w. w } { a }",
                "fn f(a: u8) -> u8 { a }"),
-    "tactic": ("#![tactic(auto)] #[tactic(auto, using(crate::proofs::Pieces::pieces))] #[inline] fn f() -> u8 { 1 }",
-               "#[inline] fn f() -> u8 { 1 }"),
+    "tactic": ("#![tactic(auto)] #[tactic(auto, using(crate::proofs::Pieces::pieces))] #[inline] fn f() -> u8 { 1 } "
+               "#[cold] fn g() {  1; }",
+               "#[inline] fn f() -> u8 { 1 } #[cold] fn g() { 1; }"),
     "final": ("trait T { final fn f(&self) -> u8 { 1 } }", "trait T { fn f(&self) -> u8 { 1 } }"),
     "model": ("impl<'a> Model for S<'a> { ghost view = { λ s. s.a }; } fn f() -> u8 { 1 }", "fn f() -> u8 { 1 }"),
     "drop": ("#[derive(Drop)] struct A; #[derive(Debug, Drop)] struct B; trait T: Drop {} "

@@ -85,9 +85,9 @@ impl<'a> Repr<'a> {
         }
     }
 
-    // The error that its destination is unreachable, whatever its checksum. Inlined in `parse`, it would keep that from
-    // being inlined where it is called.
-    #[inline(never)]
+    // The error that its destination is unreachable, whatever its checksum. It is `cold` as the next one is, so that
+    // `parse` stays small enough to be inlined where echoes are read.
+    #[cold]
     fn read_unreachable<B: AsRef<[u8]> + ?Sized>(packet: &Packet<&'a B>) -> Result<Repr<'a>> {
         let (header, data) = read_quote(packet.data())?;
         Ok(Repr::DstUnreachable {
@@ -98,7 +98,7 @@ impl<'a> Repr<'a> {
     }
 
     // The error that a time was exceeded, whatever its checksum.
-    #[inline(never)]
+    #[cold]
     fn read_time_exceeded<B: AsRef<[u8]> + ?Sized>(packet: &Packet<&'a B>) -> Result<Repr<'a>> {
         let (header, data) = read_quote(packet.data())?;
         Ok(Repr::TimeExceeded {
