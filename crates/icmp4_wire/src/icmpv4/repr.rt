@@ -1,6 +1,6 @@
 //! Messages as values (RFC 792).
 
-ghost use Rattle.std.specs.Prelude.{◌≡◌, ◌≤◌, ◌<◌, ◌+◌, ◌^◌, ℕ, List, length, IfOk, IsOkAnd, Some};
+ghost use Rattle.std.specs.Prelude.{◌≡◌, ◌≤◌, ◌<◌, ◌+◌, ◌^◌, ◌⊎◌, ℕ, List, length, IfOk, IsOkAnd, Some};
 ghost use Rattle.wirebase.specs.Bytes.{byte_of, over, Reaches};
 ghost use Rattle.wirebase.specs.ByteWriter.{free, Puts};
 ghost use Rattle.wirebase.specs.Format.{Rewrites, SameText};
@@ -72,7 +72,9 @@ impl<'a> Repr<'a> {
     /// isn't good, and where it is none of these messages; an echo has code 0, and an error quotes a packet that is
     /// whole by its own lengths, with 8 bytes or more behind its header. All that stands behind that header is the
     /// data, and its bytes are the `payload_len`.
-    #[inline]
+    // Always inlined, so that a caller matches on the fields where they were read: a value that is handed back is
+    // written and copied. A responder, which drops errors, has no code that reads them then.
+    #[inline(always)]
     pub fn parse(
         packet: &Packet<&'a [u8]>,
         checksum_caps: &ChecksumCapabilities,
@@ -101,45 +103,34 @@ impl<'a> Repr<'a> {
                 seq_no: packet.echo_seq_no(),
                 data: packet.data(),
             }),
-            (Message::DstUnreachable, _) => Repr::read_unreachable(packet),
-            (Message::TimeExceeded, _) => Repr::read_time_exceeded(packet),
+            (Message::DstUnreachable | Message::TimeExceeded, _) => Repr::read_error(packet),
             _ => Err(Error),
         }
     }
 
-    // The error that its destination is unreachable, whatever its checksum. It is `cold` as the next one is, so that
-    // `parse` stays small enough to be inlined where echoes are read.
-    #[cold]
-    fn read_unreachable(packet: &Packet<&'a [u8]>) -> Result<Repr<'a>>
+    // The error in octets of such a type, whatever their checksum.
+    fn read_error(packet: &Packet<&'a [u8]>) -> Result<Repr<'a>>
         requires whole { Reaches header (view_octets packet.now) }
-        requires kind { byte_of type_field (view_octets packet.now) ≡ 3 }
+        requires error { (byte_of type_field (view_octets packet.now) ≡ 3)
+            ⊎ (byte_of type_field (view_octets packet.now) ≡ 11) }
         ensures sound { IfOk result (λ repr. IsContent (view_octets packet.now) (value_of repr)) }
         ensures complete { (value : MessageValue) → IsContent (view_octets packet.now) value
             → IsOkAnd result (λ repr. value_of repr ≡ value) }
     {
         let (header, data) = read_quote(packet.data())?;
-        Ok(Repr::DstUnreachable {
-            reason: packet.msg_code().into(),
-            header,
-            data,
-        })
-    }
-
-    // The error that a time was exceeded, whatever its checksum.
-    #[cold]
-    fn read_time_exceeded(packet: &Packet<&'a [u8]>) -> Result<Repr<'a>>
-        requires whole { Reaches header (view_octets packet.now) }
-        requires kind { byte_of type_field (view_octets packet.now) ≡ 11 }
-        ensures sound { IfOk result (λ repr. IsContent (view_octets packet.now) (value_of repr)) }
-        ensures complete { (value : MessageValue) → IsContent (view_octets packet.now) value
-            → IsOkAnd result (λ repr. value_of repr ≡ value) }
-    {
-        let (header, data) = read_quote(packet.data())?;
-        Ok(Repr::TimeExceeded {
-            reason: packet.msg_code().into(),
-            header,
-            data,
-        })
+        let code = packet.msg_code();
+        match packet.msg_type() {
+            Message::DstUnreachable => Ok(Repr::DstUnreachable {
+                reason: code.into(),
+                header,
+                data,
+            }),
+            _ => Ok(Repr::TimeExceeded {
+                reason: code.into(),
+                header,
+                data,
+            }),
+        }
     }
 
     /// The bytes that the message takes. Requires that a `usize` holds their number.
@@ -275,7 +266,6 @@ impl fmt::Display for Repr<'_> {
 }
 
 // The header that an error quotes, and all that stands behind it (RFC 792).
-#[inline(always)]
 fn read_quote(octets: &[u8]) -> Result<(Ipv4Repr, &[u8])>
     ensures sound { IfOk result (λ quote_. IsQuote octets.now quote_.0 quote_.1.now) }
     ensures complete { (quoted : Ipv4Repr) (behind : List ℕ) → IsQuote octets.now quoted behind
