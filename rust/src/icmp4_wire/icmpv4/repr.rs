@@ -59,7 +59,9 @@ impl<'a> Repr<'a> {
     /// isn't good, and where it is none of these messages; an echo has code 0, and an error quotes a packet that is
     /// whole by its own lengths, with 8 bytes or more behind its header. All that stands behind that header is the
     /// data, and its bytes are the `payload_len`.
-    #[inline]
+    // Always inlined, so that a caller matches on the fields where they were read: a value that is handed back is
+    // written and copied. A responder, which drops errors, has no code that reads them then.
+    #[inline(always)]
     pub fn parse<B: AsRef<[u8]> + ?Sized>(
         packet: &Packet<&'a B>,
         checksum_caps: &ChecksumCapabilities,
@@ -79,33 +81,27 @@ impl<'a> Repr<'a> {
                 seq_no: packet.echo_seq_no(),
                 data: packet.data(),
             }),
-            (Message::DstUnreachable, _) => Repr::read_unreachable(packet),
-            (Message::TimeExceeded, _) => Repr::read_time_exceeded(packet),
+            (Message::DstUnreachable | Message::TimeExceeded, _) => Repr::read_error(packet),
             _ => Err(Error),
         }
     }
 
-    // The error that its destination is unreachable, whatever its checksum. It is `cold` as the next one is, so that
-    // `parse` stays small enough to be inlined where echoes are read.
-    #[cold]
-    fn read_unreachable<B: AsRef<[u8]> + ?Sized>(packet: &Packet<&'a B>) -> Result<Repr<'a>> {
+    // The error in octets of such a type, whatever their checksum.
+    fn read_error<B: AsRef<[u8]> + ?Sized>(packet: &Packet<&'a B>) -> Result<Repr<'a>> {
         let (header, data) = read_quote(packet.data())?;
-        Ok(Repr::DstUnreachable {
-            reason: packet.msg_code().into(),
-            header,
-            data,
-        })
-    }
-
-    // The error that a time was exceeded, whatever its checksum.
-    #[cold]
-    fn read_time_exceeded<B: AsRef<[u8]> + ?Sized>(packet: &Packet<&'a B>) -> Result<Repr<'a>> {
-        let (header, data) = read_quote(packet.data())?;
-        Ok(Repr::TimeExceeded {
-            reason: packet.msg_code().into(),
-            header,
-            data,
-        })
+        let code = packet.msg_code();
+        match packet.msg_type() {
+            Message::DstUnreachable => Ok(Repr::DstUnreachable {
+                reason: code.into(),
+                header,
+                data,
+            }),
+            _ => Ok(Repr::TimeExceeded {
+                reason: code.into(),
+                header,
+                data,
+            }),
+        }
     }
 
     /// The bytes that the message takes. Requires that a `usize` holds their number.
@@ -214,7 +210,6 @@ impl fmt::Display for Repr<'_> {
 }
 
 // The header that an error quotes, and all that stands behind it (RFC 792).
-#[inline(always)]
 fn read_quote(octets: &[u8]) -> Result<(Ipv4Repr, &[u8])> {
     let packet = Ipv4Packet::new_checked(octets)?;
     let header_len = packet.header_len() as usize;

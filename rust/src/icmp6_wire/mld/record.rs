@@ -170,13 +170,9 @@ impl<'a> AddressRecordRepr<'a> {
     }
 
     /// The same into a slice.
-    pub fn emit_into(&self, octets: &mut [u8]) {
-        self.write_record(octets);
-    }
-
-    // The same, for the report around the record, of whose code it becomes a part where the two are compiled apart.
+    // A hint, so that the report around the record has its code where the two are compiled apart.
     #[inline]
-    pub(super) fn write_record(&self, octets: &mut [u8]) {
+    pub fn emit_into(&self, octets: &mut [u8]) {
         self.write(octets);
     }
 

@@ -196,5 +196,5 @@ fn put_records(w: &mut ByteWriter<'_>, records: &[AddressRecordRepr<'_>]) {
 
 // Writes a record.
 fn put_record(w: &mut ByteWriter<'_>, repr: &AddressRecordRepr<'_>) {
-    repr.write_record(w.part(repr.buffer_len()));
+    repr.emit_into(w.part(repr.buffer_len()));
 }
