@@ -270,9 +270,17 @@ impl<'a> AddressRecordRepr<'a> {
     }
 
     /// The same into a slice.
-    // A hint, so that the report around the record has its code where the two are compiled apart.
-    #[inline]
     pub fn emit_into(&self, octets: &mut [u8])
+        requires room { Reaches mcast_addr_field octets.old }
+        requires group { IsMulticast self.now.mcast_addr }
+        ensures { Emits (value_of self.now) octets.old octets.new }
+    {
+        self.write_record(octets);
+    }
+
+    // The same, for the report around the record, of whose code it becomes a part where the two are compiled apart.
+    #[inline]
+    pub(super) fn write_record(&self, octets: &mut [u8])
         requires room { Reaches mcast_addr_field octets.old }
         requires group { IsMulticast self.now.mcast_addr }
         ensures { Emits (value_of self.now) octets.old octets.new }

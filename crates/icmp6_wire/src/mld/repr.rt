@@ -282,5 +282,5 @@ fn put_record(w: &mut ByteWriter<'_>, repr: &AddressRecordRepr<'_>)
     ensures puts { Puts w.old w.new (record_text (record_value repr.now) ∷ []) }
     ensures room { length (free w.old) ≡ 20 + length (free w.new) }
 {
-    repr.emit_into(w.part(repr.buffer_len()));
+    repr.write_record(w.part(repr.buffer_len()));
 }
