@@ -9,7 +9,7 @@ ghost use Rattle.dns_wire.specs.DnsPacket.{inner};
 ghost use Rattle.dns_wire.specs.DnsRepr.{value_of, flags_word, query_fields, text, text_len, CanEmit, format, Emits};
 
 use crate::dns::packet::{HEADER_LEN, Packet};
-use crate::dns::question::Question;
+use crate::dns::question::{Question, put_pair};
 use crate::dns::tables::{Flags, Opcode};
 use bitflags::Flags as _;
 use wirebase::{ByteWriter, OctetsMut};
@@ -78,12 +78,10 @@ impl<'a> Repr<'a> {
         requires room { text_len (value_of self.now) ≤ length (free w.old) }
         ensures { Puts w.old w.new (query_fields (value_of self.now)) }
     {
-        w.put_u16(self.transaction_id);
-        w.put_u16(word_of(self.flags, self.opcode));
-        w.put_u16(1);
-        w.put_u16(0);
-        w.put_u16(0);
-        w.put_u16(0);
+        put_pair(w, self.transaction_id, word_of(self.flags, self.opcode));
+        // One question, and no records of any section.
+        put_pair(w, 1, 0);
+        put_pair(w, 0, 0);
         self.question.put(w);
     }
 }
