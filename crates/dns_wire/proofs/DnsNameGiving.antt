@@ -1,9 +1,10 @@
 -- What a call of `next` owes where the answers to come are known.
-use Rattle.std.proofs.Common.{◌≡◌, ℕ, ◌<◌, Bool, false, List, ◌∷◌, Option, Some, None, Result, Bor, refl, arith}
+use Rattle.std.proofs.Common.{◌≡◌, ℕ, ◌<◌, false, List, [], ◌∷◌, Option, Some, None, Result, Ok, Err, Bor, refl, ap}
+use Rattle.std.proofs.Common.{◌∙◌, arith, slice_get}
 use Rattle.std.specs.Iterator.{MakesProgress, at_most}
 use Rattle.wirebase.specs.declared.error.Error.{Error}
-use Rattle.dns_wire.specs.DnsNameAhead.{ahead_of}
-use Rattle.dns_wire.specs.DnsNameWalk.{Coming, Walk, at_end, answer_of, is_ending, GivesFirst, items_in}
+use Rattle.dns_wire.specs.DnsNameWalk.{Coming, Walk, at_end, answer_of, is_ending, after_first, GivesFirst}
+use Rattle.dns_wire.specs.DnsNameWalk.{items_in}
 
 -- A call that gives an item: it stood first, and the rest follows.
 pub gives_item : (old : Walk) (result : Option (Result (Bor (List ℕ)) Error)) (n : ℕ) (ahead : List Coming)
@@ -15,26 +16,31 @@ gives_item old result n ahead e i = record {
 }
 
 -- A call that gives the end: it was all that stood there, and stays.
-pub gives_end : (old : Walk) (n : ℕ) → old.ahead ≡ at_end n → GivesFirst old None
-    (record { steps = n; ahead = at_end n })
-gives_end old n e = record {
+pub gives_end : (old : Walk) (n : ℕ) (ahead : List Coming) → old.ahead ≡ at_end n → ahead ≡ at_end n
+    → GivesFirst old None (record { steps = n; ahead = ahead })
+gives_end old n ahead e stays = record {
   first = rw e refl;
-  rest = rw e refl;
+  rest = rw (e, stays) refl;
 }
 
-pub fewer_ahead : (old : List Coming) (c : Coming) (ahead : List Coming) → old ≡ c ∷ ahead → is_ending c.answer ≡ false
-    → items_in ahead < items_in old
-fewer_ahead old c ahead e i = rw (e, i) (omega arith)
+-- An item is given where it stood first, so fewer are left.
+not_ending : (x : Result (Bor (List ℕ)) Error) → is_ending (answer_of (Some x)) ≡ false
+not_ending (Ok bytes) = refl
+not_ending (Err e) = refl
 
-pub still : (ended : Bool) (n : ℕ) (text reach : List ℕ) → ended ≡ false
-    → ahead_of false n text reach ≡ ahead_of ended n text reach
-still ended n text reach e = rw e refl
+fewer_ahead : (old : List Coming) (c : Coming) (ahead : List Coming) → slice_get old 0 ≡ Some c
+    → is_ending c.answer ≡ false → ahead ≡ after_first old → items_in ahead < items_in old
+fewer_ahead [] c ahead first i rest = cc
+fewer_ahead (d ∷ ds) c ahead first i rest =
+    let same : d ≡ c = cc in
+    let going : is_ending d.answer ≡ false = ap (λ k. is_ending k.answer) same ∙ i in
+    rw (rest, going) (omega arith)
 
-pub progress_item : (old new : Walk) (x : Result (Bor (List ℕ)) Error) → items_in new.ahead < items_in old.ahead
+pub progress_given : (old new : Walk) (x : Result (Bor (List ℕ)) Error) → GivesFirst old (Some x) new
     → MakesProgress {S = Walk} {A = Result (Bor (List ℕ)) Error} (λ _. Unit {0}) (λ w. at_most (items_in w.ahead)) old
     (Some x) new
-progress_item old new x l = record {
-  on = λ _. (tt, tt, l);
+progress_given old new x gives = record {
+  on = λ _. (tt, tt, fewer_ahead old.ahead _ new.ahead gives.first (not_ending x) gives.rest);
   keeps = tt;
   rests = λ _. tt;
 }

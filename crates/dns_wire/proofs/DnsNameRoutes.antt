@@ -1,5 +1,5 @@
 -- A path as the open bytes shrink along it, and the answers that come along it.
-use Rattle.std.proofs.Common.{◌≡◌, ℕ, ◌+◌, ◌<◌, ◌≤◌, List, [], ◌∷◌, ◌++◌, length, take, drop, false, refl, sym, ap, ◌∙◌}
+use Rattle.std.proofs.Common.{◌≡◌, ℕ, ◌+◌, ◌<◌, ◌≤◌, List, [], ◌∷◌, ◌++◌, length, take, drop, refl, sym, ap, ◌∙◌}
 use Rattle.std.proofs.Common.{subst, ◌⊎◌, inl, inr, zero, suc, arith, append_assoc}
 use Rattle.std.specs.List.{AllByRecursion, flat_map}
 use Rattle.std.proofs.lemmas.Bool.{cases_lt}
@@ -31,29 +31,29 @@ Route C text reach (p ∷ ps) (labels ∷ more) =
 
 -- the answers over whole labels
 pub labels_ahead : (labels : List (List ℕ)) (i n : ℕ) (text rest reach : List ℕ) → AllByRecursion IsLabel labels
-    → text ≡ flat_map written labels ++ rest → ahead_of false (n + i) text reach ≡ in_window i n labels
-    ++ ahead_of false ((n + length labels) + i) rest reach
+    → text ≡ flat_map written labels ++ rest → ahead_of (n + i) text reach ≡ in_window i n labels
+    ++ ahead_of ((n + length labels) + i) rest reach
 labels_ahead [] i n text rest reach each is =
     let e : n + i ≡ (n + 0) + i = omega arith in
-    ap (λ t. ahead_of false (n + i) t reach) is ∙ ap (λ m. ahead_of false m rest reach) e
+    ap (λ t. ahead_of (n + i) t reach) is ∙ ap (λ m. ahead_of m rest reach) e
 labels_ahead (l ∷ ls) i n text rest reach each is =
     let t : text ≡ length l ∷ (l ++ (flat_map written ls ++ rest)) =
     is ∙ append_assoc (written l) (flat_map written ls) rest in
     let first =
-    ahead_label (n + i) text reach l (flat_map written ls ++ rest) (ahead_of false (n + i) text reach)
+    ahead_label (n + i) text reach l (flat_map written ls ++ rest) (ahead_of (n + i) text reach)
     (sym (label_front text l (flat_map written ls ++ rest) each.0 t)) refl in
     let e : (n + i) + 1 ≡ (n + 1) + i = omega arith in
     let k : ((n + 1) + length ls) + i ≡ (n + length (l ∷ ls)) + i = omega arith in
     let more = labels_ahead ls i (n + 1) (flat_map written ls ++ rest) rest reach each.1 refl in
     first
-    ∙ (ap (λ m. record { answer = label l; steps = m } ∷ ahead_of false m (flat_map written ls ++ rest) reach) e
+    ∙ (ap (λ m. record { answer = label l; steps = m } ∷ ahead_of m (flat_map written ls ++ rest) reach) e
     ∙ ap (λ cs. record { answer = label l; steps = (n + 1) + i } ∷ cs)
-    (more ∙ ap (λ m. in_window i (n + 1) ls ++ ahead_of false m rest reach) k))
+    (more ∙ ap (λ m. in_window i (n + 1) ls ++ ahead_of m rest reach) k))
 
 -- the answers over a part that goes on
 pub part_ahead : (labels : List (List ℕ)) (i n : ℕ) (text reach : List ℕ) (p : ℕ) → IsPart text labels (goes_on p)
-    → p < length reach → ahead_of false (n + i) text reach ≡ in_window i n labels
-    ++ ahead_of false (((n + length labels) + i) + 1) (drop p reach) (take p reach)
+    → p < length reach → ahead_of (n + i) text reach ≡ in_window i n labels
+    ++ ahead_of (((n + length labels) + i) + 1) (drop p reach) (take p reach)
 part_ahead labels i n text reach p h l =
     labels_ahead labels i n text (h.mark ++ h.rest) reach h.each h.whole
     ∙ ap (λ cs. in_window i n labels ++ cs)
@@ -61,14 +61,14 @@ part_ahead labels i n text reach p h l =
     (sym (mark_front (goes_on p) h.mark h.rest h.stops)) l refl))
 
 pub ends_ahead : (i n : ℕ) (text reach : List ℕ) (labels : List (List ℕ)) → Ends text reach labels
-    → ahead_of false (n + i) text reach ≡ in_window i n labels ++ at_end ((n + length labels) + i)
+    → ahead_of (n + i) text reach ≡ in_window i n labels ++ at_end ((n + length labels) + i)
 ends_ahead i n text reach labels h =
     labels_ahead labels i n text (h.mark ++ h.rest) reach h.each h.whole
     ∙ ap (λ cs. in_window i n labels ++ cs)
     (ahead_stop ((n + length labels) + i) (h.mark ++ h.rest) reach _ (sym (mark_front ends h.mark h.rest h.stops)) refl)
 
 pub breaks_ahead : (i n : ℕ) (text reach : List ℕ) (labels : List (List ℕ)) → Breaks text reach labels
-    → ahead_of false (n + i) text reach ≡ in_window i n labels ++ at_fault ((n + length labels) + i)
+    → ahead_of (n + i) text reach ≡ in_window i n labels ++ at_fault ((n + length labels) + i)
 breaks_ahead i n text reach labels h =
     labels_ahead labels i n text h.rest reach h.each h.is
     ∙ ap (λ cs. in_window i n labels ++ cs) (elim h.bad [
@@ -79,9 +79,9 @@ breaks_ahead i n text reach labels h =
 -- the answers along a route
 pub route_ahead : (C : List ℕ → List ℕ → List (List ℕ) → Type 0) (closing : ℕ → List Coming)
     → ((i n : ℕ) (text reach : List ℕ) (labels : List (List ℕ)) → C text reach labels
-    → ahead_of false (n + i) text reach ≡ in_window i n labels ++ closing ((n + length labels) + i))
+    → ahead_of (n + i) text reach ≡ in_window i n labels ++ closing ((n + length labels) + i))
     → (targets : List ℕ) (parts : List (List (List ℕ))) (i n : ℕ) (text reach : List ℕ)
-    → Route C text reach targets parts → ahead_of false (n + i) text reach ≡ in_windows i n parts
+    → Route C text reach targets parts → ahead_of (n + i) text reach ≡ in_windows i n parts
     ++ closing (((n + length (joined parts)) + i) + length targets)
 route_ahead C closing close [] parts i n text reach h =
     let e : (n + length h.0) + i ≡ ((n + length (h.0 ++ [])) + i) + 0 = rw (append-nil h.0) (omega arith) in
@@ -95,7 +95,7 @@ route_ahead C closing close (p ∷ ps) (labels ∷ more) i n text reach h =
     ≡ ((n + length (joined (labels ∷ more))) + i) + length (p ∷ ps) =
     omega (arith, length-append labels (joined more)) in
     part_ahead labels i n text reach p h.1 h.0
-    ∙ (ap (λ m. in_window i n labels ++ ahead_of false m (drop p reach) (take p reach)) e
+    ∙ (ap (λ m. in_window i n labels ++ ahead_of m (drop p reach) (take p reach)) e
     ∙ (ap (λ cs. in_window i n labels ++ cs)
     (route_ahead C closing close ps more (i + 1) (n + length labels) (drop p reach) (take p reach) h.2
     ∙ ap (λ m. in_windows (i + 1) (n + length labels) more ++ closing m) k)

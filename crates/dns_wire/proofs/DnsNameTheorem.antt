@@ -1,5 +1,5 @@
 -- What the walk over a name gives.
-use Rattle.std.proofs.Common.{◌≡◌, slice_range, ℕ, ◌+◌, ◌*◌, ◌≤◌, List, [], ◌∷◌, ◌++◌, length, take, drop, map, false}
+use Rattle.std.proofs.Common.{◌≡◌, slice_range, ℕ, ◌+◌, ◌*◌, ◌≤◌, List, [], ◌∷◌, ◌++◌, length, take, drop, map}
 use Rattle.std.proofs.Common.{refl, sym, ap, ◌∙◌, subst, inl, inr, zero, suc, arith}
 use Rattle.std.specs.List.{AllByRecursion}
 use Rattle.std.proofs.lemmas.Bool.{cases_lt, lt-ltb, le-ltb}
@@ -39,7 +39,7 @@ end_steps targets parts closing =
 
 pub gives_complete : (text message targets : List ℕ) (parts : List (List (List ℕ)))
     → IsCompletePath text message targets parts
-    → ahead_of false 0 text message ≡ whole_name targets parts
+    → ahead_of 0 text message ≡ whole_name targets parts
 gives_complete text message targets parts path =
     let r = whole_open Ends text message targets parts
     (complete_route targets parts (length message) text message (omega arith) path.falls path.parts_lead) in
@@ -123,7 +123,7 @@ answers_linear (suc f) most n text reach h =
     turn_linear (front_of text) most n text reach (answers f) refl h (λ m t r k. answers_linear f most m t r k)
 
 pub is_linear : (text message : List ℕ) → AllByRecursion (λ c. 2 * c.steps ≤ length text + length message)
-    (ahead_of false 0 text message)
+    (ahead_of 0 text message)
 is_linear text message =
     answers_linear (length text + length message) (length text + length message) 0 text message (omega arith)
 
@@ -169,7 +169,7 @@ either_path text message =
 
 pub gives_broken : (text message targets : List ℕ) (parts : List (List (List ℕ))) (front : List (List ℕ))
     → IsBrokenPath text message targets parts front
-    → ahead_of false 0 text message ≡ broken_name targets (parts ++ front ∷ [])
+    → ahead_of 0 text message ≡ broken_name targets (parts ++ front ∷ [])
 gives_broken text message targets parts front path =
     elim (found (length text + length message) text message (omega arith)) [
       | inl r ↦
@@ -205,7 +205,7 @@ gives_broken text message targets parts front path =
 
 -- all of it, of a walk that has just begun
 pub walks_over : (text message : List ℕ) → IsWalkOver text message
-    (record { steps = 0; ahead = ahead_of false 0 text message })
+    (record { steps = 0; ahead = ahead_of 0 text message })
 walks_over text message = record {
   start = refl;
   either = either_path text message;
@@ -213,9 +213,9 @@ walks_over text message = record {
   follows = complete_follows text message;
   broken = gives_broken text message;
   names = λ labels. (
-    gives_name text message (ahead_of false 0 text message) (either_path text message) (gives_complete text message)
+    gives_name text message (ahead_of 0 text message) (either_path text message) (gives_complete text message)
         (gives_broken text message) labels,
-    name_gives text message (ahead_of false 0 text message) (gives_complete text message) labels,
+    name_gives text message (ahead_of 0 text message) (gives_complete text message) labels,
   );
   linear = is_linear text message;
 }

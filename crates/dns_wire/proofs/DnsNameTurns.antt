@@ -174,42 +174,46 @@ answers_enough (suc f) (suc g) n text reach h k =
     (λ m t r l. answers_enough f g m t r (omega arith) (omega arith))
 
 -- the answers to come, in one turn
-pub ahead_turn : (n : ℕ) (text reach : List ℕ) → ahead_of false n text reach
-    ≡ by_front (front_of text) n reach (ahead_of false)
+pub ahead_turn : (n : ℕ) (text reach : List ℕ) → ahead_of n text reach
+    ≡ by_front (front_of text) n reach (ahead_of)
 unfolding answers
 ahead_turn n text reach =
     answers_enough (length text + length reach) (suc (length text + length reach)) n text reach (omega arith)
     (omega arith)
-    ∙ same_turn (front_of text) n text reach (answers (length text + length reach)) (ahead_of false) refl
+    ∙ same_turn (front_of text) n text reach (answers (length text + length reach)) (ahead_of) refl
     (λ m t r l. answers_enough (length text + length reach) (length t + length r) m t r (omega arith) (omega arith))
 
 -- what is to come, by what stands at the front
 pub ahead_label : (n : ℕ) (text reach b r : List ℕ) (old : List Coming) → whole b r ≡ front_of text
-    → ahead_of false n text reach ≡ old → old ≡ record { answer = label b; steps = n + 1 }
-    ∷ ahead_of false (n + 1) r reach
+    → ahead_of n text reach ≡ old → old ≡ record { answer = label b; steps = n + 1 }
+    ∷ ahead_of (n + 1) r reach
 ahead_label n text reach b r old e h =
-    sym h ∙ (ahead_turn n text reach ∙ ap (λ f. by_front f n reach (ahead_of false)) (sym e))
+    sym h ∙ (ahead_turn n text reach ∙ ap (λ f. by_front f n reach (ahead_of)) (sym e))
 
 pub ahead_pointer : (n : ℕ) (text reach : List ℕ) (p : ℕ) (old : List Coming) → pointer p ≡ front_of text
-    → p < length reach → ahead_of false n text reach ≡ old → ahead_of false (n + 1) (drop p reach) (take p reach) ≡ old
+    → p < length reach → ahead_of n text reach ≡ old → ahead_of (n + 1) (drop p reach) (take p reach) ≡ old
 ahead_pointer n text reach p old e l h =
-    let t : ahead_of false n text reach ≡ by_front (pointer p) n reach (ahead_of false) =
-    ahead_turn n text reach ∙ ap (λ f. by_front f n reach (ahead_of false)) (sym e) in
+    let t : ahead_of n text reach ≡ by_front (pointer p) n reach (ahead_of) =
+    ahead_turn n text reach ∙ ap (λ f. by_front f n reach (ahead_of)) (sym e) in
     rw (lt-ltb p (length reach) l) at (sym t ∙ h)
 
 pub ahead_far : (n : ℕ) (text reach : List ℕ) (p : ℕ) (old : List Coming) → pointer p ≡ front_of text → length reach ≤ p
-    → ahead_of false n text reach ≡ old → old ≡ at_fault n
+    → ahead_of n text reach ≡ old → old ≡ at_fault n
 ahead_far n text reach p old e l h =
-    let t : ahead_of false n text reach ≡ by_front (pointer p) n reach (ahead_of false) =
-    ahead_turn n text reach ∙ ap (λ f. by_front f n reach (ahead_of false)) (sym e) in
+    let t : ahead_of n text reach ≡ by_front (pointer p) n reach (ahead_of) =
+    ahead_turn n text reach ∙ ap (λ f. by_front f n reach (ahead_of)) (sym e) in
     rw (le-ltb p (length reach) l) at (sym h ∙ t)
 
 pub ahead_stop : (n : ℕ) (text reach : List ℕ) (old : List Coming) → stop ≡ front_of text
-    → ahead_of false n text reach ≡ old → old ≡ at_end n
+    → ahead_of n text reach ≡ old → old ≡ at_end n
 ahead_stop n text reach old e h =
-    sym h ∙ (ahead_turn n text reach ∙ ap (λ f. by_front f n reach (ahead_of false)) (sym e))
+    sym h ∙ (ahead_turn n text reach ∙ ap (λ f. by_front f n reach (ahead_of)) (sym e))
 
 pub ahead_torn : (n : ℕ) (text reach : List ℕ) (old : List Coming) → torn ≡ front_of text
-    → ahead_of false n text reach ≡ old → old ≡ at_fault n
+    → ahead_of n text reach ≡ old → old ≡ at_fault n
 ahead_torn n text reach old e h =
-    sym h ∙ (ahead_turn n text reach ∙ ap (λ f. by_front f n reach (ahead_of false)) (sym e))
+    sym h ∙ (ahead_turn n text reach ∙ ap (λ f. by_front f n reach (ahead_of)) (sym e))
+
+-- nothing comes but the end where the end of a name stands
+pub ahead_ended : (n : ℕ) (reach : List ℕ) → ahead_of n (0 ∷ []) reach ≡ at_end n
+ahead_ended n reach = ahead_turn n (0 ∷ []) reach

@@ -1,8 +1,8 @@
 -- How many bytes the part at the front of a text takes, label by label.
-use Rattle.std.proofs.Common.{◌≡◌, ℕ, ◌+◌, ◌-◌, ◌≤◌, List, [], ◌∷◌, ◌++◌, length, take, drop, refl, sym, ap, ◌∙◌, subst}
+use Rattle.std.proofs.Common.{◌≡◌, ℕ, ◌+◌, ◌-◌, List, [], ◌∷◌, ◌++◌, length, take, drop, refl, sym, ap, ◌∙◌, subst}
 use Rattle.std.proofs.Common.{arith, append_assoc}
 use Rattle.std.specs.List.{flat_map}
-use Rattle.std.proofs.lemmas.List.{length-append, take_at, drop_at, take_rest, drop-drop, length-drop, take-append-drop}
+use Rattle.std.proofs.lemmas.List.{length-append, take_at, drop_at, take_rest, take-append-drop}
 use Rattle.dns_wire.specs.DnsName.{written, Stop, ends, goes_on, IsMark, IsPart}
 use Rattle.dns_wire.specs.DnsNameAhead.{whole, pointer, stop, torn, front_of}
 use Rattle.dns_wire.specs.DnsPart.{IsSplit, BeginsWithPart}
@@ -64,19 +64,6 @@ label_fewer_by text bytes rest len (l ∷ ls) st part count e =
 pub label_fewer : (text bytes rest : List ℕ) → whole bytes rest ≡ front_of text → (len : ℕ) → BeginsWithPart text len
     → Fewer rest len (1 + length bytes)
 label_fewer text bytes rest e len h = label_fewer_by text bytes rest len h.labels h.stop h.part h.count e
-
--- what is left of a text behind a label that stands somewhere in it
-pub behind_label : (text bytes rest : List ℕ) (len : ℕ) → len ≤ length text
-    → whole bytes rest ≡ front_of (drop len text)
-    → (rest ≡ drop (len + (1 + length bytes)) text) × (len + (1 + length bytes) ≤ length text)
-behind_label text bytes rest len inside e =
-    let w = Whole-front (drop len text) bytes rest (sym e) in
-    let d : drop (1 + length bytes) (drop len text) ≡ drop (len + (1 + length bytes)) text =
-    drop-drop (1 + length bytes) len text in (
-      sym (sym d ∙ ap (λ t. drop (1 + length bytes) t) w.is ∙ drop_at (length bytes ∷ bytes) rest (1 + length bytes)
-          (omega arith)),
-      omega (arith, ap length w.is, length-append bytes rest, length-drop len text),
-    )
 
 -- ---- at a mark, and at nothing whole
 

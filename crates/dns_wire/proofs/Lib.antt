@@ -1,5 +1,3 @@
-pub mod DnsNameFirst
-pub mod DnsNameInside
 pub mod DnsNameTurns
 pub mod DnsNameGiving
 pub mod DnsNameParts
@@ -7,7 +5,6 @@ pub mod DnsNameRoutes
 pub mod DnsNamePaths
 pub mod DnsNameLabels
 pub mod DnsNameTheorem
-pub mod DnsNameRanges
 pub mod DnsPartLen
 pub mod DnsQuestionFormat
 pub mod DnsFlagsWord

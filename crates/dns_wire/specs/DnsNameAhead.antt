@@ -1,6 +1,6 @@
 -- The answers of a name walk, as they are computed: what the model of the iterator is. `DnsNameWalk` says what they
 -- are.
-use Rattle.std.specs.Prelude.{ℕ, ◌+◌, ◌*◌, ◌%◌, Bool, true, false, ◌==◌, nat_lt, if◌then◌else◌, List, [], ◌∷◌, length}
+use Rattle.std.specs.Prelude.{ℕ, ◌+◌, ◌*◌, ◌%◌, ◌==◌, nat_lt, if◌then◌else◌, List, [], ◌∷◌, length}
 use Rattle.std.specs.Prelude.{take, drop, suc, zero}
 use Rattle.dns_wire.specs.DnsNameWalk.{Coming, label, at_end, at_fault}
 
@@ -40,11 +40,5 @@ answers zero n text reach = at_fault n
 answers (suc most) n text reach = by_front (front_of text) n reach (answers most)
 
 -- the answers to come; each step takes two bytes at least, so there are not more steps than bytes
-abbrev pub ahead_of : Bool → ℕ → List ℕ → List ℕ → List Coming
-ahead_of true n text reach = at_end n
-ahead_of false n text reach = answers (length text + length reach) n text reach
-
--- what is read: the message, or else the slice that the walk began with
-abbrev pub read_in : Bool → List ℕ → List ℕ → List ℕ
-read_in true message slice = message
-read_in false message slice = slice
+abbrev pub ahead_of : ℕ → List ℕ → List ℕ → List Coming
+ahead_of n text reach = answers (length text + length reach) n text reach

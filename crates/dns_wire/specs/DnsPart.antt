@@ -1,29 +1,22 @@
 -- One part of a name at the front of a text, in the words of the code that finds it.
-use Rattle.std.specs.Prelude.{◌≡◌, ℕ, ◌+◌, List, [], ◌∷◌, ◌++◌, length, drop}
+use Rattle.std.specs.Prelude.{◌≡◌, ℕ, ◌+◌, ◌<◌, List, ◌++◌, length, take, drop}
 use Rattle.dns_wire.specs.DnsName.{Stop, IsPart, IsOnePart}
 use Rattle.dns_wire.specs.declared.dns.part.Front.{Front as FrontOf}
 use Rattle.dns_wire.specs.declared.dns.part.Front.TheVariants.{Label, Pointer, End, Torn}
-use Rattle.dns_wire.specs.DnsNameWalk.{Coming, Walk, label, at_end, at_fault}
 use Rattle.dns_wire.specs.DnsNameAhead.{Front, whole, pointer, stop, torn}
 
--- what stands at the front of a text, without where it lies in memory; behind a label, the rest of the text
-abbrev pub shown : List ℕ → FrontOf → Front
-shown text (Label bytes) = whole bytes.now (drop (1 + length bytes.now) text)
-shown text (Pointer target) = pointer target
-shown text End = stop
-shown text Torn = torn
+-- what stands at the front of a text, without where it lies in memory
+abbrev pub shown : FrontOf → Front
+shown (Label bytes rest) = whole bytes.now rest.now
+shown (Pointer target) = pointer target
+shown End = stop
+shown Torn = torn
 
--- the first answer to come is this label, and so many steps were then taken
-abbrev pub IsFirst : List Coming → List ℕ → ℕ → Type 0
-IsFirst [] bytes steps = ⊥
-IsFirst (c ∷ cs) bytes steps = (c.answer ≡ label bytes) × (c.steps ≡ steps)
-
--- the first answer of a walk is that of this front: a label; the end; an error, also at a pointer that is not followed
-abbrev pub ComesFirst : Walk → FrontOf → Type 0
-ComesFirst walk (Label bytes) = IsFirst walk.ahead bytes.now (walk.steps + 1)
-ComesFirst walk (Pointer target) = walk.ahead ≡ at_fault walk.steps
-ComesFirst walk End = walk.ahead ≡ at_end walk.steps
-ComesFirst walk Torn = walk.ahead ≡ at_fault walk.steps
+-- A pointer to this place leads to an open byte: what is left there, and the bytes in front of it, which are open then.
+pub record LeadsTo (reach : List ℕ) (target : ℕ) (left front : List ℕ) : Type 0 where
+  pub inside : target < length reach
+  pub left_ : left ≡ drop target reach
+  pub front_ : front ≡ take target reach
 
 -- a text is one part of a name, and then a rest
 pub record IsSplit (text name rest : List ℕ) : Type 0 where

@@ -1,5 +1,5 @@
 -- The labels of a name that were read, part by part, and those that are still to come.
-use Rattle.std.proofs.Common.{◌≡◌, ℕ, ◌+◌, ◌-◌, ◌<◌, ◌≤◌, false, List, [], ◌∷◌, ◌++◌, length, take, drop, Some, None}
+use Rattle.std.proofs.Common.{◌≡◌, ℕ, ◌+◌, ◌-◌, ◌<◌, ◌≤◌, List, [], ◌∷◌, ◌++◌, length, take, drop, Some, None}
 use Rattle.std.proofs.Common.{refl, sym, ap, ◌∙◌, subst, arith, append_assoc, length-append}
 use Rattle.std.proofs.lemmas.List.{append-nil, take_all, length-drop}
 use Rattle.std.proofs.lemmas.Grind.{flat_map-append}
@@ -117,10 +117,10 @@ pub record IsReadTo (text message octets left reach : List ℕ) : Type 0 where
   pub done : List (List ℕ)
   pub each : AllByRecursion IsLabel done
   pub written_ : octets ≡ written_all done
-  pub back : (labels : List (List ℕ)) → Gives (ahead_of false steps left reach) labels
-      → Gives (ahead_of false 0 text message) (done ++ labels)
-  pub forth : (labels : List (List ℕ)) → Gives (ahead_of false 0 text message) labels
-      → (more : List (List ℕ)) × (labels ≡ done ++ more) × Gives (ahead_of false steps left reach) more
+  pub back : (labels : List (List ℕ)) → Gives (ahead_of steps left reach) labels
+      → Gives (ahead_of 0 text message) (done ++ labels)
+  pub forth : (labels : List (List ℕ)) → Gives (ahead_of 0 text message) labels
+      → (more : List (List ℕ)) × (labels ≡ done ++ more) × Gives (ahead_of steps left reach) more
 
 pub nothing_read : (text message octets : List ℕ) → octets ≡ [] → IsReadTo text message octets text message
 nothing_read text message octets e = record {
@@ -136,9 +136,9 @@ pub pointer_read : (text message octets left reach : List ℕ) (target : ℕ) �
     → pointer target ≡ front_of left → target < length reach
     → IsReadTo text message octets (drop target reach) (take target reach)
 pointer_read text message octets left reach target so e l =
-    let same : ahead_of false (so.steps + 1) (drop target reach) (take target reach)
-    ≡ ahead_of false so.steps left reach =
-    ahead_pointer so.steps left reach target (ahead_of false so.steps left reach) e l refl in
+    let same : ahead_of (so.steps + 1) (drop target reach) (take target reach)
+    ≡ ahead_of so.steps left reach =
+    ahead_pointer so.steps left reach target (ahead_of so.steps left reach) e l refl in
     record {
       steps = so.steps + 1;
       done = so.done;
@@ -155,12 +155,12 @@ pub labels_read : (text message octets next left reach : List ℕ) (len : ℕ) �
     → IsReadTo text message next (drop len left) reach
 labels_read text message octets next left reach len so front pushed =
     let n = (so.steps + length front.labels) + 0 in
-    let ahead = ahead_of false n (drop len left) reach in
+    let ahead = ahead_of n (drop len left) reach in
     let zero_more : so.steps ≡ so.steps + 0 = omega arith in
-    let same : ahead_of false so.steps left reach ≡ in_window 0 so.steps front.labels ++ ahead =
-    ap (λ m. ahead_of false m left reach) zero_more
+    let same : ahead_of so.steps left reach ≡ in_window 0 so.steps front.labels ++ ahead =
+    ap (λ m. ahead_of m left reach) zero_more
     ∙ (labels_ahead front.labels 0 so.steps left front.rest reach front.each front.is
-    ∙ ap (λ t. in_window 0 so.steps front.labels ++ ahead_of false n t reach) (sym (behind_front left len front))) in
+    ∙ ap (λ t. in_window 0 so.steps front.labels ++ ahead_of n t reach) (sym (behind_front left len front))) in
     record {
       steps = n;
       done = so.done ++ front.labels;
@@ -186,21 +186,21 @@ labels_read text message octets next left reach len so front pushed =
 pub all_read : (text message octets left reach : List ℕ) → IsReadTo text message octets left reach
     → stop ≡ front_of left → AreNamed text message octets
 all_read text message octets left reach so e =
-    let end = ahead_stop so.steps left reach (ahead_of false so.steps left reach) e refl in
-    let last : Gives (ahead_of false so.steps left reach) [] =
+    let end = ahead_stop so.steps left reach (ahead_of so.steps left reach) e refl in
+    let last : Gives (ahead_of so.steps left reach) [] =
     subst (λ cs. Gives cs []) (sym end) refl in
     record {
       labels = so.done;
       each = so.each;
       name = ((walks_over text message).names so.done).0
-          (subst (λ ls. Gives (ahead_of false 0 text message) ls) (append-nil so.done) (so.back [] last));
+          (subst (λ ls. Gives (ahead_of 0 text message) ls) (append-nil so.done) (so.back [] last));
       written = so.written_;
     }
 
 -- the labels of a name, after those that were read
 pub still_read : (text message octets left reach : List ℕ) (so : IsReadTo text message octets left reach)
     (labels : List (List ℕ)) → IsName text message labels
-    → (more : List (List ℕ)) × (labels ≡ so.done ++ more) × Gives (ahead_of false so.steps left reach) more
+    → (more : List (List ℕ)) × (labels ≡ so.done ++ more) × Gives (ahead_of so.steps left reach) more
 still_read text message octets left reach so labels name =
     so.forth labels (((walks_over text message).names labels).1 name)
 
@@ -208,7 +208,7 @@ pub all_same : (text message octets left reach : List ℕ) → IsReadTo text mes
     → stop ≡ front_of left → (labels : List (List ℕ)) → IsName text message labels → octets ≡ written_all labels
 all_same text message octets left reach so e labels name =
     let f = still_read text message octets left reach so labels name in
-    let end = ahead_stop so.steps left reach (ahead_of false so.steps left reach) e refl in
+    let end = ahead_stop so.steps left reach (ahead_of so.steps left reach) e refl in
     let none = none_at_end so.steps f.0 (subst (λ cs. Gives cs f.0) end f.2) in
     let all : labels ≡ so.done =
     f.1 ∙ (ap (λ (ls : List (List ℕ)). so.done ++ ls) none ∙ append-nil so.done) in
@@ -219,14 +219,14 @@ pub no_name_far : (text message octets left reach : List ℕ) (target : ℕ) →
     → IsName text message labels → ⊥
 no_name_far text message octets left reach target so e l labels name =
     let f = still_read text message octets left reach so labels name in
-    let bad = ahead_far so.steps left reach target (ahead_of false so.steps left reach) e l refl in
+    let bad = ahead_far so.steps left reach target (ahead_of so.steps left reach) e l refl in
     none_at_fault so.steps f.0 (subst (λ cs. Gives cs f.0) bad f.2)
 
 pub no_name_torn : (text message octets left reach : List ℕ) → IsReadTo text message octets left reach
     → torn ≡ front_of left → (labels : List (List ℕ)) → IsName text message labels → ⊥
 no_name_torn text message octets left reach so e labels name =
     let f = still_read text message octets left reach so labels name in
-    let bad = ahead_torn so.steps left reach (ahead_of false so.steps left reach) e refl in
+    let bad = ahead_torn so.steps left reach (ahead_of so.steps left reach) e refl in
     none_at_fault so.steps f.0 (subst (λ cs. Gives cs f.0) bad f.2)
 
 -- there is room for what was read of a name, and for byte 0

@@ -1,10 +1,9 @@
 //! The walk over a name that may go on elsewhere in its message (RFC 1035 section 4.1.4).
 
 ghost use Rattle.std.specs.Prelude.{◌≡◌};
-ghost use Rattle.dns_wire.specs.DnsNameWalk.{IsWalkOver, GivesFirst};
-ghost use Rattle.dns_wire.specs.DnsPart.{ComesFirst};
+ghost use Rattle.dns_wire.specs.DnsNameWalk.{IsWalkOver};
 
-use crate::dns::part::{Front, read_front};
+use crate::dns::part::{Front, follow, read_front};
 use std::marker::Model;
 use wirebase::{Error, Result};
 
@@ -12,39 +11,26 @@ use wirebase::{Error, Result};
 /// that the one before it led to, so the walk ends.
 #[derive(Drop)]
 pub struct NameIter<'a> {
-    message: &'a [u8],
-    slice: &'a [u8],
-    // Whether the message is read, and not the slice.
-    in_message: bool,
-    // The place that is read next, and where what is read ends.
-    place: usize,
-    end: usize,
-    // How many bytes of the message are open: a pointer leads to one of them.
-    open_len: usize,
+    // What is left of the part that is read.
+    left: &'a [u8],
+    // The open bytes of the message: a pointer leads to one of them.
+    reach: &'a [u8],
     steps: usize,
-    ended: bool,
 }
 
 impl<'a> Model for NameIter<'a> {
-    ghost use Rattle.std.specs.Prelude.{◌≡◌, ◌+◌, ◌-◌, ◌*◌, ◌<◌, ◌≤◌, ◌^◌, false, length};
-    ghost use Rattle.std.specs.Prelude.{slice_range, take};
+    ghost use Rattle.std.specs.Prelude.{◌+◌, ◌*◌, ◌<◌, ◌^◌, length};
     ghost use Rattle.dns_wire.specs.DnsNameWalk.{Walk};
-    ghost use Rattle.dns_wire.specs.DnsNameAhead.{ahead_of, read_in};
+    ghost use Rattle.dns_wire.specs.DnsNameAhead.{ahead_of};
 
     ghost Value = { Walk };
 
     ghost view = { λ it. record {
       steps = it.steps;
-      ahead = ahead_of it.ended it.steps
-          (slice_range (read_in it.in_message it.message.now it.slice.now) it.place it.end)
-          (take it.open_len it.message.now);
+      ahead = ahead_of it.steps it.left.now it.reach.now;
     } };
 
-    ghost invariant = { λ it. (it.in_message ≡ false → it.end ≡ length it.slice.now)
-        × (it.place ≤ it.end)
-        × (it.end ≤ length (read_in it.in_message it.message.now it.slice.now))
-        × (it.open_len ≤ length it.message.now)
-        × (2 * it.steps + (it.end - it.place) + it.open_len < 2 ^ 65) };
+    ghost invariant = { λ it. 2 * it.steps + length it.left.now + length it.reach.now < 2 ^ 65 };
 }
 
 impl<'a> Iterator for NameIter<'a> {
@@ -59,37 +45,29 @@ impl<'a> Iterator for NameIter<'a> {
 
     #[inline]
     fn next(&mut self) -> Option<Result<&'a [u8]>> {
-        if self.ended {
-            return None;
-        }
-        if !self.in_message {
-            let front = read_front(self.slice, self.place);
-            let Front::Pointer(target) = front else {
-                return self.answer(front);
-            };
-            if target >= self.open_len {
-                return self.answer(Front::Torn);
+        loop {
+            match read_front(self.left) {
+                Front::Label(label, rest) => {
+                    self.left = rest;
+                    self.steps += 1;
+                    return Some(Ok(label));
+                }
+                Front::Pointer(target) => {
+                    let Some((left, reach)) = follow(self.reach, target) else {
+                        break;
+                    };
+                    self.left = left;
+                    self.reach = reach;
+                    self.steps += 1;
+                }
+                Front::End => return None,
+                Front::Torn => break,
             }
-            self.in_message = true;
-            self.place = target;
-            self.end = self.open_len;
-            self.open_len = target;
-            self.steps += 1;
         }
-        let front = loop {
-            let front = read_front(&self.message[..self.end], self.place);
-            let Front::Pointer(target) = front else {
-                break front;
-            };
-            if target >= self.open_len {
-                break Front::Torn;
-            }
-            self.place = target;
-            self.end = self.open_len;
-            self.open_len = target;
-            self.steps += 1;
-        };
-        self.answer(front)
+        // From here on the end of a name is read, so that the error is given once.
+        self.left = &[0];
+        self.reach = &[];
+        Some(Err(Error))
     }
 }
 
@@ -101,29 +79,6 @@ impl<'a> NameIter<'a> {
         let NameIter { steps, .. } = self;
         *steps
     }
-
-    // The answer where this stands at the place that is read: a label, behind which the walk goes on, or the last.
-    #[inline]
-    fn answer(&mut self, front: Front<'a>) -> Option<Result<&'a [u8]>>
-        requires { ComesFirst self.old front }
-        ensures { GivesFirst self.old result self.new }
-    {
-        match front {
-            Front::Label(label) => {
-                self.place += 1 + label.len();
-                self.steps += 1;
-                Some(Ok(label))
-            }
-            Front::End => {
-                self.ended = true;
-                None
-            }
-            _ => {
-                self.ended = true;
-                Some(Err(Error))
-            }
-        }
-    }
 }
 
 /// The walk over the name that begins in a slice and may go on in a message.
@@ -132,14 +87,9 @@ pub(crate) fn walk<'a>(message: &'a [u8], slice: &'a [u8]) -> NameIter<'a>
     ensures { IsWalkOver slice.entry.now message.entry.now result }
 {
     NameIter {
-        message,
-        slice,
-        in_message: false,
-        place: 0,
-        end: slice.len(),
-        open_len: message.len(),
+        left: slice,
+        reach: message,
         steps: 0,
-        ended: false,
     }
 }
 

@@ -1,17 +1,16 @@
 //! One part of a name (RFC 1035 section 4.1.4): what stands at the front of it, and where it stops.
 
-ghost use Rattle.std.specs.Prelude.{◌≡◌, ◌++◌, ℕ, List, length, drop, IfOk, IsOkAnd, Ok};
-ghost use Rattle.dns_wire.specs.DnsName.{IsOnePart};
+ghost use Rattle.std.specs.Prelude.{◌≡◌, ◌≤◌, ℕ, List, length, IfOk, IsOkAnd, Ok, IfSome, None};
 ghost use Rattle.dns_wire.specs.DnsNameAhead.{front_of};
-ghost use Rattle.dns_wire.specs.DnsPart.{shown, IsSplit, BeginsWithPart};
+ghost use Rattle.dns_wire.specs.DnsPart.{shown, LeadsTo, IsSplit, BeginsWithPart};
 
 use wirebase::{Error, Result};
 
-/// What stands at a place of a text.
+/// What stands at the front of a text.
 #[derive(Clone, Copy)]
 pub(crate) enum Front<'a> {
-    /// The bytes of a label.
-    Label(&'a [u8]),
+    /// The bytes of a label, and the text behind it.
+    Label(&'a [u8], &'a [u8]),
     /// Where the name goes on.
     Pointer(usize),
     /// The end of the name.
@@ -26,27 +25,36 @@ const LABEL_END: u8 = 0x40;
 // The first byte of a pointer is this or above, and its other six bits are the higher ones of the place.
 const POINTER: u8 = 0xc0;
 
-/// Reads what stands at a place of a text.
+/// Reads what stands at the front of a text.
 #[inline]
-pub(crate) fn read_front(text: &[u8], place: usize) -> Front<'_>
-    ensures { shown (drop place text.now) result ≡ front_of (drop place text.now) }
+pub(crate) fn read_front(text: &[u8]) -> Front<'_>
+    ensures { shown result ≡ front_of text.now }
 {
-    let Some(&first) = text.get(place) else {
-        return Front::Torn;
-    };
-    let rest = &text[place + 1..];
-    match first {
-        0 => Front::End,
-        1..LABEL_END => match rest.get(..first as usize) {
-            Some(label) => Front::Label(label),
-            None => Front::Torn,
-        },
-        POINTER.. => match rest.first() {
-            Some(second) => Front::Pointer(256 * (first % 64) as usize + *second as usize),
-            None => Front::Torn,
-        },
+    match text {
+        [0, ..] => Front::End,
+        [len @ 1..LABEL_END, rest @ ..] if *len as usize <= rest.len() => {
+            let (label, rest) = rest.split_at(*len as usize);
+            Front::Label(label, rest)
+        }
+        [first, second, ..] if *first >= POINTER => {
+            Front::Pointer(256 * (*first % 64) as usize + *second as usize)
+        }
         _ => Front::Torn,
     }
+}
+
+/// Where a pointer leads: the open bytes from there on, and those in front of it, which alone are open then. None where
+/// it leads to no open byte.
+#[inline]
+pub(crate) fn follow(reach: &[u8], target: usize) -> Option<(&[u8], &[u8])>
+    ensures some { IfSome result (λ part. LeadsTo reach.now target part.0.now part.1.now) }
+    ensures none { result ≡ None → length reach.now ≤ target }
+{
+    if target >= reach.len() {
+        return None;
+    }
+    let (reach, left) = reach.split_at(target);
+    Some((left, reach))
 }
 
 /// The part of a name at the front of a text, and what stands behind it. Refused where the text begins with none.
@@ -64,12 +72,12 @@ fn part_len(text: &[u8]) -> Result<usize>
     ensures sound { IfOk result (λ len. BeginsWithPart text.now len) }
     ensures complete { (len : ℕ) → BeginsWithPart text.now len → result ≡ Ok len }
 {
-    let mut len = 0;
+    let mut left = text;
     loop {
-        match read_front(text, len) {
-            Front::Label(label) => len += 1 + label.len(),
-            Front::Pointer(_) => return Ok(len + 2),
-            Front::End => return Ok(len + 1),
+        match read_front(left) {
+            Front::Label(_, rest) => left = rest,
+            Front::Pointer(_) => return Ok(text.len() - left.len() + 2),
+            Front::End => return Ok(text.len() - left.len() + 1),
             Front::Torn => return Err(Error),
         }
     }
