@@ -4,6 +4,7 @@ pub mod LabelLists
 pub mod NameLabels
 pub mod NameParts
 pub mod NameTexts
+pub mod NamePieces
 pub mod Outcomes
 pub mod RecordFormat
 pub mod EntryCases

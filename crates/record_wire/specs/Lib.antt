@@ -1,5 +1,6 @@
 pub mod Labels
 pub mod NameText
+pub mod NamePieces
 pub mod NameReading
 pub mod NameParts
 pub mod Name

@@ -12,13 +12,13 @@ ghost use Rattle.dns_wire.specs.DnsPacket.{view_octets};
 ghost use Rattle.record_wire.specs.Labels.{wire, written_all, labels_in, AreOfName};
 ghost use Rattle.record_wire.specs.NameParts.{AreNamed};
 
-use crate::name::label::{push_octets, split_label};
+use crate::name::label::push_octets;
 use crate::name::part::{Mark, labels_len, read_mark};
-use crate::name::text::{LabelText, is_root, put_labels};
+use crate::name::text::{fmt_labels, is_root, put_labels};
 use arrayvec::ArrayVec;
 use dns_wire::dns::Packet;
 use dns_wire::message::octets_of;
-use std::fmt::{self, Display};
+use std::fmt;
 use wirebase::{Error, Result};
 
 /// The most octets that a name has (RFC 1035 section 2.3.4).
@@ -136,40 +136,7 @@ impl fmt::Display for Name {
     ghost output = { λ name. Some (name_text (labels_of name)) };
 
     fn fmt<W: fmt::Write>(&self, f: &mut fmt::Formatter<W>) -> fmt::Result {
-        let octets = self.octets.as_slice();
-        // Byte 0 alone is the root.
-        if octets.len() == 1 {
-            return write!(f, ".");
-        }
-        Labels(octets).fmt(f)
-    }
-}
-
-// The same of the labels in octets. It stands apart, so that the root is written without the registers that it needs.
-#[derive(Drop)]
-struct Labels<'a>(&'a [u8]);
-
-impl fmt::Display for Labels<'_> {
-    ghost use Rattle.std.specs.Prelude.{Some};
-    ghost use Rattle.record_wire.specs.NameText.{name_text};
-
-    ghost output = { λ octets. Some (name_text (labels_in octets.0.now)) };
-
-    fn fmt<W: fmt::Write>(&self, f: &mut fmt::Formatter<W>) -> fmt::Result {
-        let Some((first, rest)) = split_label(self.0) else {
-            return f.write_str(".");
-        };
-        let mut label = first;
-        let mut left = rest;
-        loop {
-            LabelText(label).fmt(f)?;
-            let Some((next, rest)) = split_label(left) else {
-                return Ok(());
-            };
-            f.write_str(".")?;
-            label = next;
-            left = rest;
-        }
+        fmt_labels(f, self.octets.as_slice())
     }
 }
 

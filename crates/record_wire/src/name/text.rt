@@ -1,18 +1,22 @@
 //! The characters and the labels of a name's text (RFC 1035 section 5.1).
 
-ghost use Rattle.std.specs.Prelude.{◌≡◌, ◌↔◌, ◌≤◌, ◌<◌, ◌-◌, ◌∷◌, [], ℕ, List, length, codes, decimal};
+ghost use Rattle.std.specs.Prelude.{◌≡◌, ◌↔◌, ◌≤◌, ◌<◌, ◌+◌, ◌-◌, ◌∷◌, [], ◌++◌, ℕ, List, length, codes, false};
 ghost use Rattle.std.specs.Prelude.{IfOk, IsOk, OnOk, IsTrue};
 ghost use Rattle.std.specs.Prelude.{◌&&◌, not};
 ghost use Rattle.std.specs.Char.{is_ascii_digit, is_ascii_graphic};
+ghost use Rattle.std.specs.Fmt.{WritesOnOk};
+ghost use Rattle.std.specs.Str.{IsAscii};
+ghost use Rattle.arrayvec.specs.ArrayVec.{array_vec_len};
 ghost use Rattle.record_wire.specs.NameReading.{first_byte, quoted_in, numbered_at, seen_byte, IsSpelling};
 ghost use Rattle.record_wire.specs.NameReading.{AreSpelled, seen_behind, behind_in};
-ghost use Rattle.record_wire.specs.Labels.{written_all};
-ghost use Rattle.record_wire.specs.NameText.{is_special, IsNameText};
+ghost use Rattle.record_wire.specs.Labels.{written_all, labels_in};
+ghost use Rattle.record_wire.specs.NameText.{is_special, IsNameText, character, label_text, name_text};
+ghost use Rattle.record_wire.specs.NamePieces.{TakesOnOk};
 
 use crate::name::MAX_NAME_LEN;
-use crate::name::label::{MAX_LABEL_LEN, push_label};
+use crate::name::label::{MAX_LABEL_LEN, push_label, split_label};
 use arrayvec::ArrayVec;
-use std::fmt::{self, Display};
+use std::fmt;
 use wirebase::{Error, Result};
 
 /// Whether this is the text of the root, a dot alone.
@@ -96,7 +100,7 @@ fn read_byte(text: &[u8]) -> Option<(u8, &[u8])>
 {
     match text {
         [b'\\', rest @ ..] => read_quoted(rest),
-        [byte, rest @ ..] if *byte < ASCII_END && is_plain(*byte) => Some((*byte, rest)),
+        [byte, rest @ ..] if is_plain(*byte) => Some((*byte, rest)),
         _ => None,
     }
 }
@@ -138,16 +142,11 @@ fn digit_value(digit: u8) -> u16
     (digit - b'0') as u16
 }
 
-// The bytes from here on are no ASCII.
-const ASCII_END: u8 = 128;
+// A bit for each byte, the first word's lowest for byte 0: whether it is visible and has no meaning of its own.
+const PLAIN: [u64; 4] = [0xf7ff_bcea_0000_0000, 0x7fff_ffff_efff_fffe, 0, 0];
 
-// A bit for each byte below 64, and for each one below 128: whether it is visible and has no meaning of its own.
-const PLAIN: [u64; 2] = [0xf7ff_bcea_0000_0000, 0x7fff_ffff_efff_fffe];
-
-// Whether a byte of ASCII is written as itself. A look-up, since a name's bytes are of no order that a processor could
-// foresee.
+// Whether a byte is written as itself. A look-up, since a name's bytes are of no order that a processor could foresee.
 fn is_plain(byte: u8) -> bool
-    requires { byte < 128 }
     ensures { result ≡ (is_ascii_graphic byte && not (is_special byte)) }
 {
     PLAIN[(byte / 64) as usize] >> (byte % 64) & 1 == 1
@@ -160,92 +159,93 @@ fn is_special(byte: u8) -> bool
     matches!(byte, b'"' | b'$' | b'(' | b')' | b'.' | b';' | b'@' | b'\\')
 }
 
-/// The text of a label.
-#[derive(Drop)]
-pub(super) struct LabelText<'a>(pub(super) &'a [u8]);
+// The most octets of text that are written at once, and the most that a character has.
+const PIECE_LEN: usize = 64;
 
-impl fmt::Display for LabelText<'_> {
-    ghost use Rattle.std.specs.Prelude.{Some};
-    ghost use Rattle.record_wire.specs.NameText.{label_text};
+const CHARACTER_LEN: usize = 4;
 
-    ghost output = { λ label. Some (label_text label.0.now) };
+// Text that waits to be written, since each write costs a call.
+type Piece = ArrayVec<u8, PIECE_LEN>;
 
-    fn fmt<W: fmt::Write>(&self, f: &mut fmt::Formatter<W>) -> fmt::Result {
-        for byte in self.0 {
-            Character(*byte).fmt(f)?;
-        }
-        Ok(())
-    }
-}
-
-// The character that a byte is written as.
-#[derive(Drop)]
-struct Character(u8);
-
-impl fmt::Display for Character {
-    ghost use Rattle.std.specs.Prelude.{Some};
-    ghost use Rattle.record_wire.specs.NameText.{character};
-
-    ghost output = { λ byte. Some (character byte.0) };
-
-    fn fmt<W: fmt::Write>(&self, f: &mut fmt::Formatter<W>) -> fmt::Result {
-        let byte = self.0;
-        if byte < ASCII_END && is_plain(byte) {
-            return Ascii { byte }.fmt(f);
-        }
-        Quoted(byte).fmt(f)
-    }
-}
-
-// A byte behind a backslash: itself where it has a meaning of its own, and else its number.
-#[derive(Drop)]
-struct Quoted(u8);
-
-impl fmt::Display for Quoted {
-    ghost use Rattle.std.specs.Prelude.{Some, ◌∷◌, [], ◌++◌, ◌/◌, ◌%◌, if◌then◌else◌, codes, decimal};
-    ghost use Rattle.record_wire.specs.NameText.{is_special};
-
-    ghost output = { λ byte. Some (codes "\\" ++ (if is_special byte.0 then byte.0 ∷ []
-        else decimal (byte.0 / 100) ++ decimal (byte.0 / 10 % 10) ++ decimal (byte.0 % 10))) };
-
-    // It stands apart, so that the loop over plain characters stays small.
-    #[inline(never)]
-    fn fmt<W: fmt::Write>(&self, f: &mut fmt::Formatter<W>) -> fmt::Result {
-        let byte = self.0;
-        f.write_str("\\")?;
-        if is_special(byte) {
-            return Ascii { byte }.fmt(f);
-        }
-        digit(byte / 100).fmt(f)?;
-        digit(byte / 10 % 10).fmt(f)?;
-        digit(byte % 10).fmt(f)
-    }
-}
-
-// The digit of this value.
-#[tactic(auto, using(std::proofs::lemmas::Fmt::decimal_digit))]
-fn digit(value: u8) -> Ascii
-    requires { value < 10 }
-    ensures { result.byte ∷ [] ≡ decimal value }
+/// Writes the labels in octets with dots between them, and a dot alone where there are none.
+pub(super) fn fmt_labels<W: fmt::Write>(f: &mut fmt::Formatter<W>, octets: &[u8]) -> fmt::Result
+    ensures { WritesOnOk W.write_str_gives f.old result (name_text (labels_in octets.now)) f.new }
 {
-    Ascii { byte: b'0' + value }
-}
-
-// A byte of ASCII, which is written as itself: in one write, with none of the work that `write!` does for a formatter's
-// options.
-#[derive(Drop)]
-struct Ascii {
-    byte: u8,
-    ghost ascii: { byte < 128 },
-}
-
-impl fmt::Display for Ascii {
-    ghost use Rattle.std.specs.Prelude.{Some, ◌∷◌, []};
-
-    ghost output = { λ it. Some (it.byte ∷ []) };
-
-    fn fmt<W: fmt::Write>(&self, f: &mut fmt::Formatter<W>) -> fmt::Result {
-        let mut encoded = [0; 4];
-        f.write_str(char::from(self.byte).encode_utf8(&mut encoded))
+    let Some((first, rest)) = split_label(octets) else {
+        return f.write_str(".");
+    };
+    let mut piece = ArrayVec::new();
+    put_label(f, &mut piece, first)?;
+    let mut left = rest;
+    while let Some((label, rest)) = split_label(left) {
+        make_room(f, &mut piece)?;
+        piece.push(b'.');
+        put_label(f, &mut piece, label)?;
+        left = rest;
     }
+    write_piece(f, &piece)
+}
+
+// Puts the text of a label behind what waits.
+fn put_label<W: fmt::Write>(
+    f: &mut fmt::Formatter<W>,
+    piece: &mut Piece,
+    label: &[u8],
+) -> fmt::Result
+    requires { IsAscii piece.old.items }
+    ensures ascii { IsAscii piece.new.items }
+    ensures takes { TakesOnOk W.write_str_gives f.old piece.old.items result (label_text «label».now)
+        f.new piece.new.items }
+{
+    for byte in label {
+        make_room(f, piece)?;
+        if is_plain(*byte) {
+            piece.push(*byte);
+        } else {
+            put_quoted(piece, *byte);
+        }
+    }
+    Ok(())
+}
+
+// Writes what waits, where there is no room for the longest character behind it.
+fn make_room<W: fmt::Write>(f: &mut fmt::Formatter<W>, piece: &mut Piece) -> fmt::Result
+    requires { IsAscii piece.old.items }
+    ensures ascii { IsAscii piece.new.items }
+    ensures room { OnOk result (array_vec_len piece.new + 4 ≤ 64) }
+    ensures takes { TakesOnOk W.write_str_gives f.old piece.old.items result [] f.new piece.new.items }
+{
+    if piece.len() > PIECE_LEN - CHARACTER_LEN {
+        write_piece(f, piece)?;
+        piece.clear();
+    }
+    Ok(())
+}
+
+// Writes what waits.
+fn write_piece<W: fmt::Write>(f: &mut fmt::Formatter<W>, piece: &Piece) -> fmt::Result
+    requires { IsAscii piece.now.items }
+    ensures { WritesOnOk W.write_str_gives f.old result piece.now.items f.new }
+{
+    // ASCII is UTF-8.
+    f.write_str(std::str::from_utf8(piece.as_slice()).unwrap_or(""))
+}
+
+// Puts a byte behind a backslash: itself where it has a meaning of its own, and else its number. It stands apart, so
+// that the loop over plain characters stays small.
+#[inline(never)]
+#[tactic(auto, using(std::proofs::lemmas::Fmt::decimal_digit))]
+fn put_quoted(piece: &mut Piece, byte: u8)
+    requires room { array_vec_len piece.old + 4 ≤ 64 }
+    requires quoted { is_ascii_graphic byte && not (is_special byte) ≡ false }
+    ensures { piece.new.items ≡ piece.old.items ++ character byte }
+{
+    piece.push(b'\\');
+    if is_special(byte) {
+        piece.push(byte);
+        return;
+    }
+    piece.push(b'0' + byte / 100);
+    piece.push(b'0' + byte / 10 % 10);
+    piece.push(b'0' + byte % 10);
 }

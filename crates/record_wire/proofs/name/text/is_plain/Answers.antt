@@ -24,4 +24,4 @@ agree (suc byte) = beq (found byte) (plain byte) && agree byte
 pub returns : goal.returns
 returns c =
     (Decides-below_and (λ byte. beq (found byte) (plain byte)) (λ byte. found byte ≡ plain byte) agree
-    (λ byte. booleans_Decides (found byte) (plain byte)) refl (λ _. refl) 128).0 refl c.args.byte c.requires
+    (λ byte. booleans_Decides (found byte) (plain byte)) refl (λ _. refl) 256).0 refl c.args.byte c.ranges.byte.fits
