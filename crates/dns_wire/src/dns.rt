@@ -2,7 +2,7 @@
 
 mod name;
 mod packet;
-mod part;
+pub(crate) mod part;
 mod question;
 mod record;
 mod repr;

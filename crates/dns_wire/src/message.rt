@@ -1,9 +1,10 @@
-//! The octets behind the view of a message, for the crates above.
+//! The octets behind the view of a message, and the parts of the names in it, for the crates above.
 
 ghost use Rattle.std.specs.Prelude.{◌≡◌};
 ghost use Rattle.dns_wire.specs.DnsPacket.{view_octets};
 
 use crate::dns::Packet;
+pub use crate::dns::part::{Front, follow, read_front};
 
 /// The octets of a message, for as long as they live.
 #[inline]

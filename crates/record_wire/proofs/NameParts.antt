@@ -1,20 +1,19 @@
 -- The labels of a name that were read, part by part, and those that are still to come.
-use Rattle.std.proofs.Common.{◌≡◌, ℕ, ◌+◌, ◌-◌, ◌<◌, ◌≤◌, List, [], ◌∷◌, ◌++◌, length, take, drop, Some, None}
+use Rattle.std.proofs.Common.{◌≡◌, ℕ, ◌+◌, ◌-◌, ◌<◌, ◌≤◌, List, [], ◌∷◌, ◌++◌, length, take, drop}
 use Rattle.std.proofs.Common.{refl, sym, ap, ◌∙◌, subst, arith, append_assoc, length-append}
-use Rattle.std.proofs.lemmas.List.{append-nil, take_all, length-drop}
+use Rattle.std.proofs.lemmas.List.{append-nil, take_all, length-drop, length-take-le, drop-drop, drop_at}
 use Rattle.std.proofs.lemmas.Grind.{flat_map-append}
 use Rattle.std.proofs.Math.Seq.{take-append_seam}
 use Rattle.std.specs.List.{AllByRecursion}
 use Rattle.dns_wire.specs.DnsName.{IsLabel, IsName, written}
-use Rattle.dns_wire.specs.DnsNameAhead.{Front, whole, pointer, stop, torn, front_of, ahead_of}
+use Rattle.dns_wire.specs.DnsNameAhead.{whole, pointer, stop, torn, front_of, ahead_of}
 use Rattle.dns_wire.specs.DnsNameWalk.{Coming, Gives, in_window, at_end, at_fault}
 use Rattle.dns_wire.proofs.DnsNameTurns.{Whole-front, ahead_pointer, ahead_far, ahead_stop, ahead_torn}
 use Rattle.dns_wire.proofs.DnsNameRoutes.{labels_ahead}
 use Rattle.dns_wire.proofs.DnsNameTheorem.{walks_over}
-use Rattle.record_wire.specs.declared.name.part.Mark.TheVariants.{End, Pointer, Other}
-use Rattle.record_wire.specs.Labels.{first_label, written_all, wire, AreOfName}
-use Rattle.record_wire.specs.NameParts.{mark_of, AreInFront, AreNamed}
-use Rattle.record_wire.proofs.LabelLists.{first_is, first_written, drop_seam, written_more, each_more}
+use Rattle.record_wire.specs.Labels.{written_all, wire, AreOfName}
+use Rattle.record_wire.specs.NameParts.{AreInFront, AreNamed}
+use Rattle.record_wire.proofs.LabelLists.{drop_seam, written_more, each_more}
 
 -- what stands behind so many bytes, as a range up to the end
 pub drop_whole : (n : ℕ) (xs : List ℕ) → take (length xs - n) (drop n xs) ≡ drop n xs
@@ -41,15 +40,15 @@ front_fits text len so = omega (arith, ap length so.is, length-append (written_a
 
 -- one label more
 pub one_more_in_front : (text bytes rest : List ℕ) (len : ℕ) → AreInFront text len
-    → first_label (drop len text) ≡ Some (bytes, rest) → AreInFront text (len + (1 + length bytes))
+    → whole bytes rest ≡ front_of (drop len text) → AreInFront text (len + (1 + length bytes))
 one_more_in_front text bytes rest len so e =
-    let f = first_is (drop len text) bytes rest e in
-    let at : so.rest ≡ written bytes ++ rest = sym (behind_front text len so) ∙ f.whole in
+    let w = Whole-front (drop len text) bytes rest (sym e) in
+    let at : so.rest ≡ written bytes ++ rest = sym (behind_front text len so) ∙ w.is in
     let more = written_more so.labels bytes in
     record {
       labels = so.labels ++ bytes ∷ [];
       rest = rest;
-      each = each_more so.labels bytes so.each f.one;
+      each = each_more so.labels bytes so.each (w.some, w.few);
       is = so.is
           ∙ (ap (λ (r : List ℕ). written_all so.labels ++ r) at
           ∙ (sym (append_assoc (written_all so.labels) (written bytes) rest)
@@ -57,27 +56,12 @@ one_more_in_front text bytes rest len so e =
       count = omega (arith, ap length more, length-append (written_all so.labels) (written bytes), so.count);
     }
 
--- where no label stands, and no end and no pointer, nothing whole does
-pub torn_by : (f : Front) (text : List ℕ) → front_of text ≡ f → Other ≡ mark_of f → first_label text ≡ None → torn ≡ f
-torn_by (whole bytes rest) text e m none =
-    let w = Whole-front text bytes rest e in
-    let some = ap first_label w.is ∙ first_written bytes rest (w.some, w.few) in
-    cc (sym none ∙ some)
-torn_by (pointer place) text e m none = cc
-torn_by stop text e m none = cc
-torn_by torn text e m none = refl
-
-pub stop_by : (f : Front) → End ≡ mark_of f → stop ≡ f
-stop_by (whole bytes rest) m = cc
-stop_by (pointer place) m = cc
-stop_by stop m = refl
-stop_by torn m = cc
-
-pub pointer_by : (f : Front) (target : ℕ) → Pointer target ≡ mark_of f → pointer target ≡ f
-pointer_by (whole bytes rest) target m = cc
-pointer_by (pointer place) target m = let same : target ≡ place = cc in ap pointer same
-pointer_by stop target m = cc
-pointer_by torn target m = cc
+pub behind_one_more : (text bytes rest : List ℕ) (len : ℕ) → whole bytes rest ≡ front_of (drop len text)
+    → drop (len + (1 + length bytes)) text ≡ rest
+behind_one_more text bytes rest len e =
+    let w = Whole-front (drop len text) bytes rest (sym e) in
+    sym (drop-drop (1 + length bytes) len text)
+    ∙ (ap (λ t. drop (1 + length bytes) t) w.is ∙ drop_at (length bytes ∷ bytes) rest (1 + length bytes) (omega arith))
 
 -- ---- labels in front of what else comes
 
@@ -253,3 +237,20 @@ room_for_labels text message octets left reach len so front labels name fit =
     let room =
     room_read text message (octets ++ take len left) (drop len left) reach next labels name fit in
     omega (arith, room, length-append octets (take len left))
+
+-- a label that ends too far is of no name
+pub no_name_long : (text message octets left reach bytes rest : List ℕ) (len : ℕ)
+    → IsReadTo text message octets left reach → AreInFront left len → whole bytes rest ≡ front_of (drop len left)
+    → 255 ≤ len + (1 + length bytes) → (labels : List (List ℕ)) → IsName text message labels → AreOfName labels → ⊥
+no_name_long text message octets left reach bytes rest len so front e far labels name fit =
+    let n = len + (1 + length bytes) in
+    let more = one_more_in_front left bytes rest len front e in
+    let next = labels_read text message octets (octets ++ take n left) left reach n so more refl in
+    let room = room_read text message (octets ++ take n left) (drop n left) reach next labels name fit in
+    omega (
+      arith,
+      far,
+      room,
+      length-append octets (take n left),
+      length-take-le n left (front_fits left n more),
+    )

@@ -1,18 +1,10 @@
 -- The parts of a name in a message, as they are read: what private functions answer.
-use Rattle.std.specs.Prelude.{◌≡◌, ℕ, List, ◌++◌, length}
+use Rattle.std.specs.Prelude.{◌≡◌, ℕ, ◌+◌, ◌≤◌, List, ◌++◌, length}
 use Rattle.std.specs.List.{AllByRecursion}
 use Rattle.dns_wire.specs.DnsName.{IsLabel, IsName}
-use Rattle.dns_wire.specs.DnsNameAhead.{Front, whole, pointer, stop, torn}
-use Rattle.record_wire.specs.declared.name.part.Mark.{Mark}
-use Rattle.record_wire.specs.declared.name.part.Mark.TheVariants.{End, Pointer, Other}
+use Rattle.dns_wire.specs.declared.dns.part.Front.{Front}
+use Rattle.dns_wire.specs.declared.dns.part.Front.TheVariants.{Label, Pointer, End, Torn}
 use Rattle.record_wire.specs.Labels.{written_all}
-
--- what is seen at the front of a text; labels have a function of their own
-abbrev pub mark_of : Front → Mark
-mark_of (whole bytes rest) = Other
-mark_of (pointer place) = Pointer place
-mark_of stop = End
-mark_of torn = Other
 
 -- whole labels stand at the front of a text, and take so many bytes
 pub record AreInFront (text : List ℕ) (len : ℕ) : Type 0 where
@@ -21,6 +13,13 @@ pub record AreInFront (text : List ℕ) (len : ℕ) : Type 0 where
   pub each : AllByRecursion IsLabel labels
   pub is : text ≡ written_all labels ++ rest
   pub count : length (written_all labels) ≡ len
+
+-- a label behind so many bytes would end where no name has room for byte 0
+abbrev pub EndsTooFar : ℕ → Front → Type 0
+EndsTooFar len (Label bytes rest) = 255 ≤ len + (1 + length bytes.now)
+EndsTooFar len (Pointer target) = Unit {0}
+EndsTooFar len End = Unit {0}
+EndsTooFar len Torn = Unit {0}
 
 -- the octets of the labels of the name that begins in a text and may go on in a message
 pub record AreNamed (text message octets : List ℕ) : Type 0 where

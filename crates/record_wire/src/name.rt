@@ -12,12 +12,12 @@ ghost use Rattle.dns_wire.specs.DnsPacket.{view_octets};
 ghost use Rattle.record_wire.specs.Labels.{wire, written_all, labels_in, AreOfName};
 ghost use Rattle.record_wire.specs.NameParts.{AreNamed};
 
-use crate::name::label::push_octets;
-use crate::name::part::{Mark, labels_len, read_mark};
+use crate::name::label::{push_end, push_octets};
+use crate::name::part::read_labels;
 use crate::name::text::{fmt_labels, is_root, put_labels};
 use arrayvec::ArrayVec;
 use dns_wire::dns::Packet;
-use dns_wire::message::octets_of;
+use dns_wire::message::{Front, follow, octets_of};
 use std::fmt;
 use wirebase::{Error, Result};
 
@@ -46,9 +46,7 @@ impl Name {
     {
         let mut octets = ArrayVec::new();
         put_name(&mut octets, octets_of(packet), bytes)?;
-        if octets.try_push(0).is_err() {
-            return Err(Error);
-        }
+        push_end(&mut octets)?;
         Ok(Name { octets })
     }
 
@@ -68,9 +66,7 @@ impl Name {
         }
         let mut octets = ArrayVec::new();
         put_labels(&mut octets, text)?;
-        if octets.try_push(0).is_err() {
-            return Err(Error);
-        }
+        push_end(&mut octets)?;
         Ok(Name { octets })
     }
 
@@ -96,7 +92,11 @@ impl Name {
 // large, so it is written where it stays, and labels that stand side by side are copied as one. A pointer leads to one
 // of the bytes that are open, and leaves those below that place open, so this ends. Refused where there is no name, and
 // where its labels have more than 255 octets.
-fn put_name(octets: &mut ArrayVec<u8, MAX_NAME_LEN>, message: &[u8], bytes: &[u8]) -> Result<()>
+fn put_name<'a>(
+    octets: &mut ArrayVec<u8, MAX_NAME_LEN>,
+    message: &'a [u8],
+    bytes: &'a [u8],
+) -> Result<()>
     requires { octets.old.items ≡ [] }
     ensures sound { OnOk result (AreNamed bytes.now message.now octets.new.items) }
     ensures complete { (labels : List (List ℕ)) → IsName bytes.now message.now labels
@@ -106,23 +106,18 @@ fn put_name(octets: &mut ArrayVec<u8, MAX_NAME_LEN>, message: &[u8], bytes: &[u8
     // The bytes of the message that are open.
     let mut reach = message;
     loop {
-        match read_mark(left) {
-            Mark::End => return Ok(()),
-            Mark::Pointer(target) => {
-                if target >= reach.len() {
+        let (len, front) = read_labels(left);
+        push_octets(octets, &left[..len])?;
+        match front {
+            Front::End => return Ok(()),
+            Front::Pointer(target) => {
+                let Some((next, open)) = follow(reach, target) else {
                     return Err(Error);
-                }
-                left = &reach[target..];
-                reach = &reach[..target];
+                };
+                left = next;
+                reach = open;
             }
-            Mark::Other => {
-                let len = labels_len(left);
-                if len == 0 {
-                    return Err(Error);
-                }
-                push_octets(octets, &left[..len])?;
-                left = &left[len..];
-            }
+            Front::Label(..) | Front::Torn => return Err(Error),
         }
     }
 }
@@ -136,7 +131,12 @@ impl fmt::Display for Name {
     ghost output = { λ name. Some (name_text (labels_of name)) };
 
     fn fmt<W: fmt::Write>(&self, f: &mut fmt::Formatter<W>) -> fmt::Result {
-        fmt_labels(f, self.octets.as_slice())
+        let octets = self.octets.as_slice();
+        // Byte 0 alone is the root.
+        if octets.len() == 1 {
+            return write!(f, ".");
+        }
+        fmt_labels(f, octets)
     }
 }
 

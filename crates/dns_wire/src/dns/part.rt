@@ -6,12 +6,12 @@ ghost use Rattle.dns_wire.specs.DnsPart.{shown, LeadsTo, IsSplit, BeginsWithPart
 
 use wirebase::{Error, Result};
 
-/// What stands at the front of a text.
-#[derive(Clone, Copy)]
-pub(crate) enum Front<'a> {
+/// What stands at the front of a part of a name (RFC 1035 section 4.1.4).
+#[derive(Debug, PartialEq, Eq, Clone, Copy)]
+pub enum Front<'a> {
     /// The bytes of a label, and the text behind it.
     Label(&'a [u8], &'a [u8]),
-    /// Where the name goes on.
+    /// The place of the message where the name goes on.
     Pointer(usize),
     /// The end of the name.
     End,
@@ -25,9 +25,9 @@ const LABEL_END: u8 = 0x40;
 // The first byte of a pointer is this or above, and its other six bits are the higher ones of the place.
 const POINTER: u8 = 0xc0;
 
-/// Reads what stands at the front of a text.
+/// Reads what stands at the front of a text (RFC 1035 section 4.1.4).
 #[inline]
-pub(crate) fn read_front(text: &[u8]) -> Front<'_>
+pub fn read_front(text: &[u8]) -> Front<'_>
     ensures { shown result ≡ front_of text.now }
 {
     match text {
@@ -43,10 +43,10 @@ pub(crate) fn read_front(text: &[u8]) -> Front<'_>
     }
 }
 
-/// Where a pointer leads: the open bytes from there on, and those in front of it, which alone are open then. None where
-/// it leads to no open byte.
+/// Where a pointer leads (RFC 1035 section 4.1.4): the open bytes from there on, and those in front of it, which alone
+/// are open then. None where it leads to no open byte.
 #[inline]
-pub(crate) fn follow(reach: &[u8], target: usize) -> Option<(&[u8], &[u8])>
+pub fn follow(reach: &[u8], target: usize) -> Option<(&[u8], &[u8])>
     ensures some { IfSome result (λ part. LeadsTo reach.now target part.0.now part.1.now) }
     ensures none { result ≡ None → length reach.now ≤ target }
 {

@@ -1,4 +1,5 @@
 use super::{Flags, Opcode, Packet, Question, Rcode, Record, RecordData, Type};
+use crate::message::{Front, follow, read_front};
 use crate::testing::{fail, same, same_of};
 use bitflags::Flags as _;
 use std::process::Abort;
@@ -340,4 +341,37 @@ fn views_are_equal_where_their_octets_are(rt: HostRuntime) {
     same(&rt, view == Packet::new_unchecked(&copy[..27]), false);
     same(&rt, view == Packet::new_unchecked(&copy[1..]), false);
     same(&rt, view.into_inner(), QUERY.as_slice());
+}
+
+#[test]
+fn fronts_of_parts_of_names(rt: HostRuntime) {
+    const ROWS: &[(&[u8], Front<'_>)] = &[
+        (b"\x03www\x03com\0", Front::Label(b"www", b"\x03com\0")),
+        (b"\x01a", Front::Label(b"a", b"")),
+        (b"\0\x01a", Front::End),
+        (b"\xc0\x14\0", Front::Pointer(20)),
+        (b"\xff\xff", Front::Pointer(16383)),
+        (b"", Front::Torn),
+        (b"\x02a", Front::Torn),
+        (b"\x40", Front::Torn),
+        (b"\xbf\0", Front::Torn),
+        (b"\xc0", Front::Torn),
+    ];
+    for &(text, front) in ROWS {
+        same_of(&rt, text, read_front(text), front);
+    }
+}
+
+#[test]
+fn pointers_lead_to_open_bytes_alone(rt: HostRuntime) {
+    // Where a pointer into these bytes leads, and what stands there and in front of it.
+    const OPEN: &[u8] = b"abc";
+    const ROWS: &[(usize, Option<(&[u8], &[u8])>)] = &[
+        (0, Some((b"abc", b""))),
+        (2, Some((b"c", b"ab"))),
+        (3, None),
+    ];
+    for &(target, parts) in ROWS {
+        same_of(&rt, target, follow(OPEN, target), parts);
+    }
 }

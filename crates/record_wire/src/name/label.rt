@@ -1,6 +1,6 @@
 //! The labels in the octets of a name (RFC 1035 section 3.1).
 
-ghost use Rattle.std.specs.Prelude.{◌≡◌, ◌↔◌, ◌+◌, ◌≤◌, ◌++◌, length, IsOk, OnOk};
+ghost use Rattle.std.specs.Prelude.{◌≡◌, ◌↔◌, ◌+◌, ◌≤◌, ◌<◌, [], ◌∷◌, ◌++◌, length, IsOk, OnOk};
 ghost use Rattle.dns_wire.specs.DnsName.{written};
 ghost use Rattle.record_wire.specs.Labels.{first_label};
 ghost use Rattle.record_wire.specs.NameReading.{seen_label};
@@ -46,6 +46,17 @@ pub(super) fn push_octets(octets: &mut ArrayVec<u8, MAX_NAME_LEN>, more: &[u8]) 
     ensures pushes { OnOk result (octets.new.items ≡ octets.old.items ++ more.now) }
 {
     if octets.try_extend_from_slice(more).is_err() {
+        return Err(Error);
+    }
+    Ok(())
+}
+
+/// Writes the byte 0 that ends a name. Refused where there is no room.
+pub(super) fn push_end(octets: &mut ArrayVec<u8, MAX_NAME_LEN>) -> Result<()>
+    ensures room { IsOk result ↔ (length octets.old.items < 255) }
+    ensures pushes { OnOk result (octets.new.items ≡ octets.old.items ++ 0 ∷ []) }
+{
+    if octets.try_push(0).is_err() {
         return Err(Error);
     }
     Ok(())

@@ -1,55 +1,27 @@
-//! What stands at the front of a part of a name (RFC 1035 section 4.1.4).
+//! The labels in a part of a name (RFC 1035 section 4.1.4).
 
-ghost use Rattle.std.specs.Prelude.{◌≡◌, ◌≤◌, ◌<◌, length, drop, None};
+ghost use Rattle.std.specs.Prelude.{◌≡◌, ◌≤◌, length, drop};
 ghost use Rattle.dns_wire.specs.DnsNameAhead.{front_of};
-ghost use Rattle.record_wire.specs.Labels.{first_label};
-ghost use Rattle.record_wire.specs.NameParts.{mark_of, AreInFront};
+ghost use Rattle.dns_wire.specs.DnsPart.{shown};
+ghost use Rattle.record_wire.specs.NameParts.{AreInFront, EndsTooFar};
 
 use crate::name::MAX_NAME_LEN;
-use crate::name::label::split_label;
+use dns_wire::message::{Front, read_front};
 
-/// What stands at the front of a text.
-#[derive(Clone, Copy)]
-pub(super) enum Mark {
-    /// The end of the name.
-    End,
-    /// The place of the message where the name goes on.
-    Pointer(usize),
-    /// A label, or nothing whole.
-    Other,
-}
-
-// The first byte of a pointer is this or above, and its other six bits are the higher ones of the place.
-const POINTER: u8 = 0xc0;
-
-/// Reads what stands at the front of a text.
+/// How many bytes the whole labels at the front of a text take, which are copied as one, and what stands behind them: a
+/// label too, where it would end behind the most octets that the labels of a name have.
 #[inline]
-pub(super) fn read_mark(text: &[u8]) -> Mark
-    ensures { result ≡ mark_of (front_of text.now) }
+pub(super) fn read_labels(text: &[u8]) -> (usize, Front<'_>)
+    ensures labels { AreInFront text.now result.0 }
+    ensures fits { result.0 ≤ length text.now }
+    ensures behind { shown result.1 ≡ front_of (drop result.0 text.now) }
+    ensures far { EndsTooFar result.0 result.1 }
 {
-    match text {
-        [0, ..] => Mark::End,
-        [first, second, ..] if *first >= POINTER => {
-            Mark::Pointer(256 * (*first % 64) as usize + *second as usize)
-        }
-        _ => Mark::Other,
-    }
-}
-
-/// How many bytes the whole labels at the front of a text take: all of them, but that those which begin behind the most
-/// octets that a name has are not looked at.
-#[inline]
-pub(super) fn labels_len(text: &[u8]) -> usize
-    ensures front { AreInFront text.now result }
-    ensures fits { result ≤ length text.now }
-    ensures all { result < MAX_NAME_LEN → first_label (drop result text.now) ≡ None }
-{
-    let mut len = 0;
-    while len < MAX_NAME_LEN {
-        match split_label(&text[len..]) {
-            Some((label, _)) => len += 1 + label.len(),
-            None => return len,
+    let mut left = text;
+    loop {
+        match read_front(left) {
+            Front::Label(_, rest) if text.len() - rest.len() < MAX_NAME_LEN => left = rest,
+            front => return (text.len() - left.len(), front),
         }
     }
-    len
 }

@@ -167,7 +167,9 @@ const CHARACTER_LEN: usize = 4;
 // Text that waits to be written, since each write costs a call.
 type Piece = ArrayVec<u8, PIECE_LEN>;
 
-/// Writes the labels in octets with dots between them, and a dot alone where there are none.
+/// Writes the labels in octets with dots between them, and a dot alone where there are none. It stands apart, so that
+/// the root is written without the room that a piece takes.
+#[inline(never)]
 pub(super) fn fmt_labels<W: fmt::Write>(f: &mut fmt::Formatter<W>, octets: &[u8]) -> fmt::Result
     ensures { WritesOnOk W.write_str_gives f.old result (name_text (labels_in octets.now)) f.new }
 {

@@ -1,4 +1,4 @@
-use Rattle.std.proofs.Common.{◌≡◌, ◌<◌, Bool, true, not, [], ◌∷◌, ◌++◌, length, IsOk, refl, sym, ap, ◌∙◌, subst, rules}
+use Rattle.std.proofs.Common.{◌≡◌, ◌<◌, [], ◌∷◌, ◌++◌, length, refl, sym, ap, ◌∙◌, subst}
 use Rattle.std.proofs.Common.{arith}
 use Rattle.record_wire.specs.Labels.{wire, labels_in}
 use Rattle.record_wire.specs.NameText.{IsNameText}
@@ -31,7 +31,7 @@ pub invariant_of-result : goal.invariant_of-result
 invariant_of-result c =
     let spelled = c.in_ok-put_labels.ensures.sound in
     let octets = c.put_labels.new.octets.items in
-    let pushed : c.try_push.new.self.items ≡ octets ++ 0 ∷ [] = search rules in
+    let pushed : c.push_end.new.octets.items ≡ octets ++ 0 ∷ [] = c.in_ok-push_end.ensures.pushes in
     record {
       whole = subst (λ o. wire (labels_in o) ≡ o) (sym pushed)
           (whole_wire octets (written_in octets (spelled.first ∷ spelled.more) spelled.each spelled.written));
@@ -42,9 +42,8 @@ returns-clause-sound c =
     let spelled = c.in_ok-put_labels.ensures.sound in
     let labels = spelled.first ∷ spelled.more in
     let octets = c.put_labels.new.octets.items in
-    let pushed : c.try_push.new.self.items ≡ octets ++ 0 ∷ [] = search rules in
-    let ok : IsOk c.try_push.result = search rules in
-    let room : length octets < 255 = c.try_push.ensures.variant.0 ok in
+    let pushed : c.push_end.new.octets.items ≡ octets ++ 0 ∷ [] = c.in_ok-push_end.ensures.pushes in
+    let room : length octets < 255 = c.in_ok-push_end.ensures.room.0 refl in
     let same = ap labels_in pushed ∙ (ended octets (written_in octets labels spelled.each spelled.written)
     ∙ in_written octets labels spelled.each spelled.written) in
     subst (λ all. IsNameText c.args.text.now all) (sym same)
@@ -55,7 +54,7 @@ returns-clause-complete c = λ labels is.
     let octets = c.put_labels.new.octets.items in
     let written = some_labels c.args.text.now octets labels (λ e. cc (c.is_root.ensures.1 e, c.if-is_root.false))
     (λ label more text. (c.in_ok-put_labels.ensures.complete label more text).1) is in
-    let pushed : c.try_push.new.self.items ≡ octets ++ 0 ∷ [] = search rules in
+    let pushed : c.push_end.new.octets.items ≡ octets ++ 0 ∷ [] = c.in_ok-push_end.ensures.pushes in
     ap labels_in pushed ∙ (ended octets (written_in octets labels is.name.each written)
     ∙ in_written octets labels is.name.each written)
 
@@ -63,20 +62,17 @@ pub returns-clause-reads_back : goal.returns-clause-reads_back
 returns-clause-reads_back c = λ labels name bytes e.
     returns-clause-complete c labels (subst (λ t. IsNameText t labels) (sym e) (text_reads labels name bytes))
 
-not_both : (failed ok : Bool) → failed ≡ true → ok ≡ not failed → ok ≡ true → ⊥
-not_both failed ok e f g = cc
-
-pub returns-then-is_err-clause-complete : goal.returns-then-is_err-clause-complete
-returns-then-is_err-clause-complete c = λ labels is.
+pub returns-in_err-push_end-clause-complete : goal.returns-in_err-push_end-clause-complete
+returns-in_err-push_end-clause-complete c = λ labels is.
     let octets = c.put_labels.new.octets.items in
     let written = some_labels c.args.text.now octets labels (λ e. cc (c.is_root.ensures.1 e, c.if-is_root.false))
     (λ label more text. (c.in_ok-put_labels.ensures.complete label more text).1) is in
-    let ok : IsOk c.try_push.result = c.try_push.ensures.variant.1 (room_for_end octets labels written is.name.fits) in
-    absurd (not_both c.is_err.result _ c.if-is_err.true c.is_err.ensures.negation ok)
+    let ok = c.in_err-push_end.ensures.room.1 (room_for_end octets labels written is.name.fits) in
+    absurd (cc ok)
 
-pub returns-then-is_err-clause-reads_back : goal.returns-then-is_err-clause-reads_back
-returns-then-is_err-clause-reads_back c = λ labels name bytes e.
-    returns-then-is_err-clause-complete c labels
+pub returns-in_err-push_end-clause-reads_back : goal.returns-in_err-push_end-clause-reads_back
+returns-in_err-push_end-clause-reads_back c = λ labels name bytes e.
+    returns-in_err-push_end-clause-complete c labels
     (subst (λ t. IsNameText t labels) (sym e) (text_reads labels name bytes))
 
 pub returns-in_err-put_labels-clause-complete : goal.returns-in_err-put_labels-clause-complete

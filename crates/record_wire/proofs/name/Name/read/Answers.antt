@@ -1,4 +1,4 @@
-use Rattle.std.proofs.Common.{◌≡◌, Bool, true, not, [], ◌∷◌, ◌++◌, IsOk, sym, ap, ◌∙◌, subst, rules}
+use Rattle.std.proofs.Common.{◌≡◌, [], ◌∷◌, ◌++◌, sym, ap, ◌∙◌, subst}
 use Rattle.dns_wire.specs.DnsName.{IsName}
 use Rattle.dns_wire.specs.DnsPacket.{view_octets}
 use Rattle.record_wire.specs.Labels.{wire, labels_in}
@@ -9,7 +9,7 @@ pub invariant_of-result : goal.invariant_of-result
 invariant_of-result c =
     let named = c.in_ok-put_name.ensures.sound in
     let octets = c.put_name.new.octets.items in
-    let pushed : c.try_push.new.self.items ≡ octets ++ 0 ∷ [] = search rules in
+    let pushed : c.push_end.new.octets.items ≡ octets ++ 0 ∷ [] = c.in_ok-push_end.ensures.pushes in
     record {
       whole = subst (λ o. wire (labels_in o) ≡ o) (sym pushed)
           (whole_wire octets (written_in octets named.labels named.each named.written));
@@ -19,7 +19,7 @@ pub returns-clause-sound : goal.returns-clause-sound
 returns-clause-sound c =
     let named = c.in_ok-put_name.ensures.sound in
     let octets = c.put_name.new.octets.items in
-    let pushed : c.try_push.new.self.items ≡ octets ++ 0 ∷ [] = search rules in
+    let pushed : c.push_end.new.octets.items ≡ octets ++ 0 ∷ [] = c.in_ok-push_end.ensures.pushes in
     let same = ap labels_in pushed ∙ (ended octets (written_in octets named.labels named.each named.written)
     ∙ in_written octets named.labels named.each named.written) in
     subst (λ labels. IsName c.args.bytes.now (view_octets c.args.packet.now) labels) (sym same)
@@ -30,18 +30,15 @@ returns-clause-complete c = λ labels is name.
     let octets = c.put_name.new.octets.items in
     let written = (c.in_ok-put_name.ensures.complete labels
     (subst (λ m. IsName c.args.bytes.now m labels) (sym c.octets_of.ensures) is) name).1 in
-    let pushed : c.try_push.new.self.items ≡ octets ++ 0 ∷ [] = search rules in
+    let pushed : c.push_end.new.octets.items ≡ octets ++ 0 ∷ [] = c.in_ok-push_end.ensures.pushes in
     ap labels_in pushed ∙ (ended octets (written_in octets labels name.each written)
     ∙ in_written octets labels name.each written)
 
-not_both : (failed ok : Bool) → failed ≡ true → ok ≡ not failed → ok ≡ true → ⊥
-not_both failed ok e f g = cc
-
-pub returns-then-is_err-clause-complete : goal.returns-then-is_err-clause-complete
-returns-then-is_err-clause-complete c = λ labels is name.
+pub returns-in_err-push_end-clause-complete : goal.returns-in_err-push_end-clause-complete
+returns-in_err-push_end-clause-complete c = λ labels is name.
     let octets = c.put_name.new.octets.items in
     let written = (c.in_ok-put_name.ensures.complete labels
     (subst (λ m. IsName c.args.bytes.now m labels) (sym c.octets_of.ensures) is) name).1 in
     let room = room_for_end octets labels written name.fits in
-    let ok : IsOk c.try_push.result = c.try_push.ensures.variant.1 room in
-    absurd (not_both c.is_err.result _ c.if-is_err.true c.is_err.ensures.negation ok)
+    let ok = c.in_err-push_end.ensures.room.1 room in
+    absurd (cc ok)
