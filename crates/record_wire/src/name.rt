@@ -4,10 +4,9 @@ mod label;
 mod part;
 mod text;
 
-ghost use Rattle.std.specs.Prelude.{◌≡◌, ◌≤◌, ◌<◌, ◌↔◌, ℕ, List, [], length, IfOk, IsOk, IsOkAnd, OnOk};
-ghost use Rattle.std.specs.List.{AllByRecursion};
+ghost use Rattle.std.specs.Prelude.{◌≡◌, ℕ, List, [], IfOk, IsOk, IsOkAnd, OnOk};
 ghost use Rattle.wirebase.specs.Bytes.{IsBytes};
-ghost use Rattle.dns_wire.specs.DnsName.{IsName, IsLabel};
+ghost use Rattle.dns_wire.specs.DnsName.{IsName};
 ghost use Rattle.dns_wire.specs.DnsPacket.{view_octets};
 ghost use Rattle.record_wire.specs.Labels.{wire, written_all, labels_in, AreOfName};
 ghost use Rattle.record_wire.specs.NameParts.{AreNamed};

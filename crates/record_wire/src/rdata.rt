@@ -1,6 +1,6 @@
 //! The data of resource records by their type (RFC 1035 sections 3.3 and 3.4, RFC 2782, RFC 3596).
 
-ghost use Rattle.std.specs.Prelude.{◌≡◌, ◌↔◌, ℕ, List, IfOk, IsOkAnd, IsOk, IsTrue};
+ghost use Rattle.std.specs.Prelude.{◌≡◌, ◌↔◌, IfOk, IsOkAnd, IsTrue};
 ghost use Rattle.dns_wire.specs.DnsName.{IsOnePart};
 ghost use Rattle.record_wire.specs.RData.{layout_of, RDataValue, rdata_of, IsRData, IsLaidOut, IsAddress4, IsAddress6};
 ghost use Rattle.record_wire.specs.RData.{IsNameData, IsMail, IsService, IsAuthority, IsStrings, AreStrings};

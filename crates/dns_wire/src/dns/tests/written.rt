@@ -1,6 +1,5 @@
 //! Questions and queries that are written, and which of them are equal.
 
-ghost use Rattle.std.specs.Prelude.{◌≡◌};
 ghost use Rattle.dns_wire.specs.DnsTables.{flag_bits, IsKnown};
 
 use super::check_question;
