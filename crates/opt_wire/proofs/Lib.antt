@@ -1,3 +1,4 @@
+pub mod FieldsAtOnce
 pub mod Ipv6ExtHeaderText
 pub mod Ipv6HbhFormat
 pub mod Ipv6HbhGrammar

@@ -230,8 +230,10 @@ norm-norm : (v : OptionValue) → norm (norm v) ≡ norm v
 norm-norm (source address) = ap source (filled-whole (filled address) (length-filled address))
 norm-norm (target address) = ap target (filled-whole (filled address) (length-filled address))
 norm-norm (prefix_ p) =
-    ap (λ (t : Duration). timed p t (whole_seconds (whole_seconds p.preferred_lifetime))) (whole_seconds-read (whole_seconds p.valid_lifetime) (seconds_of p.valid_lifetime) refl)
-    ∙ ap (λ (t : Duration). timed p (whole_seconds p.valid_lifetime) t) (whole_seconds-read (whole_seconds p.preferred_lifetime) (seconds_of p.preferred_lifetime) refl)
+    ap (λ (t : Duration). timed p t (whole_seconds (whole_seconds p.preferred_lifetime)))
+    (whole_seconds-read (whole_seconds p.valid_lifetime) (seconds_of p.valid_lifetime) refl)
+    ∙ ap (λ (t : Duration). timed p (whole_seconds p.valid_lifetime) t)
+    (whole_seconds-read (whole_seconds p.preferred_lifetime) (seconds_of p.preferred_lifetime) refl)
 norm-norm (redirected h d) = refl
 norm-norm (mtu n) = refl
 norm-norm (unknown t n d) = refl
@@ -245,7 +247,8 @@ norm-text : (v : OptionValue) → IsCanonical v → text (norm v) ≡ text v
 norm-text (source address) c = link_text 1 (filled address) ∙ link_same 1 address c ∙ sym (link_text 1 address)
 norm-text (target address) c = link_text 2 (filled address) ∙ link_same 2 address c ∙ sym (link_text 2 address)
 norm-text (prefix_ p) c =
-    ap (λ (n : ℕ). timed_text p n (seconds_of (whole_seconds p.preferred_lifetime))) (seconds-times (seconds_of p.valid_lifetime))
+    ap (λ (n : ℕ). timed_text p n (seconds_of (whole_seconds p.preferred_lifetime)))
+    (seconds-times (seconds_of p.valid_lifetime))
     ∙ ap (λ (n : ℕ). timed_text p (seconds_of p.valid_lifetime) n) (seconds-times (seconds_of p.preferred_lifetime))
 norm-text (redirected h d) c = refl
 norm-text (mtu n) c = refl

@@ -5,8 +5,7 @@ ghost use Rattle.std.specs.Prelude.{⊤, IsOkAnd};
 ghost use Rattle.std.specs.Borrow.{sem, Lends, Array, u8 as byte};
 ghost use Rattle.wirebase.specs.ByteWriter.{free, Puts};
 ghost use Rattle.wirebase.specs.Format.{Rewrites, SameText};
-ghost use Rattle.opt_wire.specs.Ipv6Option.{OptionValue, value_of as option_value, pad_n, router_alert, HasData};
-ghost use Rattle.opt_wire.specs.Ipv6Option.{text as option_text, text_len as option_len};
+ghost use Rattle.opt_wire.specs.Ipv6Option.{OptionValue, value_of as option_value, pad_n, router_alert};
 ghost use Rattle.opt_wire.specs.Ipv6Hbh.{inner, with_inner, view_octets, value_of, header_fields, text, text_len};
 ghost use Rattle.opt_wire.specs.Ipv6Hbh.{HaveData, IsHeader, format, Emits};
 ghost use Rattle.opt_wire.specs.declared.ipv6option.tables.RouterAlert.TheVariants.{MulticastListenerDiscovery};
@@ -147,6 +146,7 @@ impl<'a> Repr<'a> {
     }
 
     /// The header of the multicast listener reports of version 2: one router alert (RFC 3810 section 5).
+    #[inline]
     pub fn mldv2_router_alert() -> Repr<'a>
         ensures { value_of result ≡ router_alert MulticastListenerDiscovery ∷ [] }
     {
@@ -156,6 +156,7 @@ impl<'a> Repr<'a> {
     }
 
     /// Adds padding, a PadN of `n` bytes of data, last. Requires that the list has room.
+    #[inline]
     pub fn push_padn_option(&mut self, n: u8)
         requires { length (value_of self.old) < IPV6_HBH_MAX_OPTIONS }
         ensures { value_of self.new ≡ value_of self.old ++ pad_n n ∷ [] }
@@ -224,19 +225,8 @@ fn put_options(w: &mut ByteWriter<'_>, options: &[ipv6option::Repr<'_>])
     ensures { Puts w.old w.new (header_fields (map option_value options.now)) }
 {
     for option in options {
-        put_option(w, option);
+        option.put(w);
     }
-}
-
-// Writes an option.
-#[tactic(auto, using(crate::proofs::Ipv6OptionText::texts))]
-fn put_option(w: &mut ByteWriter<'_>, option: &ipv6option::Repr<'_>)
-    requires enough { HasData (option_value option.now) }
-    requires room { option_len (option_value option.now) ≤ length (free w.old) }
-    ensures puts { Puts w.old w.new (option_text (option_value option.now) ∷ []) }
-    ensures room { length (free w.old) ≡ option_len (option_value option.now) + length (free w.new) }
-{
-    option.emit_into(w.part(option.buffer_len()));
 }
 
 #[cfg(test)]

@@ -9,7 +9,7 @@ ghost use Rattle.wirebase.specs.ByteWriter.{be8, free, Puts};
 ghost use Rattle.wirebase.specs.Format.{Rewrites, SameText};
 ghost use Rattle.opt_wire.specs.Ipv6Option.{inner, with_inner, view_octets, Sets, KeepsLen, option_type_field};
 ghost use Rattle.opt_wire.specs.Ipv6Option.{opt_data_len_field, option_data_field, BeginsWhole, OptionValue, value_of};
-ghost use Rattle.opt_wire.specs.Ipv6Option.{pad_n, router_alert, unknown, option_fields, text, text_len, HasData};
+ghost use Rattle.opt_wire.specs.Ipv6Option.{pad_n, router_alert, unknown, text, text_len, HasData};
 ghost use Rattle.opt_wire.specs.Ipv6Option.{BeginsWith, format, Emits};
 ghost use Rattle.opt_wire.specs.Ipv6OptionDisplay.{option_display};
 ghost use Rattle.opt_wire.specs.contracts.ipv6option.Ipv6Option.{the_row};
@@ -324,11 +324,13 @@ impl<'a> Repr<'a> {
         ensures { SameText format (value_of a.now) (value_of b.now) }
     {}
 
-    // Writes each field of the option.
-    fn put(&self, w: &mut ByteWriter<'_>)
+    // Writes the text of the option.
+    #[tactic(auto, using(wirebase::proofs::Chains::chain))]
+    pub(super) fn put(&self, w: &mut ByteWriter<'_>)
         requires enough { HasData (value_of self.now) }
         requires room { text_len (value_of self.now) ≤ length (free w.old) }
-        ensures { Puts w.old w.new (option_fields (value_of self.now)) }
+        ensures puts { Puts w.old w.new (text (value_of self.now) ∷ []) }
+        ensures room { length (free w.old) ≡ text_len (value_of self.now) + length (free w.new) }
     {
         match *self {
             Repr::Pad1 => w.put_u8(Type::Pad1.into()),
@@ -337,8 +339,8 @@ impl<'a> Repr<'a> {
                 w.put_zeros(length as usize);
             }
             Repr::RouterAlert(alert) => {
-                put_counted(w, Type::RouterAlert, RouterAlert::DATA_LEN);
-                w.put_u16(alert.into());
+                let [high, low] = u16::from(alert).to_be_bytes();
+                w.put_bytes(&[Type::RouterAlert.into(), RouterAlert::DATA_LEN, high, low]);
             }
             Repr::Unknown {
                 type_,
@@ -358,8 +360,7 @@ fn put_counted(w: &mut ByteWriter<'_>, kind: Type, data_len: u8)
     ensures puts { Puts w.old w.new (be8 (type_number kind) ∷ be8 data_len ∷ []) }
     ensures room { length (free w.old) ≡ 2 + length (free w.new) }
 {
-    w.put_u8(kind.into());
-    w.put_u8(data_len);
+    w.put_bytes(&[kind.into(), data_len]);
 }
 
 impl fmt::Display for Repr<'_> {

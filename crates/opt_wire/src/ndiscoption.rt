@@ -1,6 +1,6 @@
 //! Options of neighbor discovery (RFC 4861 section 4.6).
 
-ghost use Rattle.std.specs.Prelude.{◌≡◌, ◌+◌, ◌*◌, ◌-◌, ◌≤◌, ◌↔◌, [], ◌∷◌, length, min, replicate, IsOk, IfOk};
+ghost use Rattle.std.specs.Prelude.{◌≡◌, ◌+◌, ◌*◌, ◌-◌, ◌≤◌, ◌↔◌, [], ◌∷◌, length, replicate, IsOk, IfOk};
 ghost use Rattle.std.specs.Borrow.{sem, Lends, Array, u8 as byte};
 ghost use Rattle.byteorder.specs.Endian.{big_bytes};
 ghost use Rattle.wirebase.specs.Bytes.{Reaches, field as bytes_field, bytes_of, byte_of, number_of, with_field};
@@ -15,6 +15,7 @@ ghost use Rattle.opt_wire.specs.NdiscOption.{BeginsWhole, BeginsWithBlock, view_
 ghost use Rattle.opt_wire.specs.NdiscOptionTables.{type_number, type_of, flag_bits, known};
 ghost use Rattle.opt_wire.specs.contracts.ndiscoption.NdiscOption.{the_row};
 
+use crate::writing::UNIT;
 use bitflags::Flags as _;
 use std::fmt;
 use wirebase::{Duration, Error, Ipv6Address, Octets, OctetsMut, RawHardwareAddress, Result};
@@ -27,6 +28,7 @@ pub use tables::{PrefixInfoFlags, Type};
 
 // The fields of an option (RFC 4861 section 4.6), of units of 8 bytes; their picture is in specs/NdiscOption.antt.
 mod field {
+    use crate::writing::UNIT;
     use wirebase::Field;
 
     pub const TYPE: Field = 0..1;
@@ -48,9 +50,6 @@ mod field {
     pub const REDIRECTED_RESERVED: Field = 2..8;
 
     pub const MTU: Field = 4..8;
-
-    // The bytes of a unit.
-    pub const UNIT: usize = 8;
 
     // The data of an option of so many units.
     pub fn data(units: u8) -> Field
@@ -118,7 +117,7 @@ impl<T: Octets> NdiscOption<T> {
         ensures accepts { IsOk result ↔ BeginsWhole (T.bytes (inner self.now)) }
     {
         let len = self.buffer.octets().len();
-        if len < field::UNIT {
+        if len < UNIT {
             return Err(Error);
         }
         let units = self.data_len();
@@ -127,7 +126,7 @@ impl<T: Octets> NdiscOption<T> {
             Type::RedirectedHeader => 6,
             _ => 0,
         };
-        if len < field::UNIT * units as usize || units < least {
+        if len < UNIT * units as usize || units < least {
             return Err(Error);
         }
         Ok(())
@@ -166,7 +165,7 @@ impl<T: Octets> NdiscOption<T> {
         ensures { raw_bytes result ≡ bytes_of (link_addr_field (T.bytes (inner self.now)))
             (T.bytes (inner self.now)) }
     {
-        let room = field::UNIT * self.data_len() as usize - field::LENGTH.end;
+        let room = UNIT * self.data_len() as usize - field::LENGTH.end;
         // The number of bytes is a constant at each call, so that they are copied by moves.
         if room == field::SHORT_ADDR.end - field::SHORT_ADDR.start {
             RawHardwareAddress::from_bytes(self.buffer.field(field::SHORT_ADDR))

@@ -1,23 +1,23 @@
 //! The values of options of neighbor discovery (RFC 4861 section 4.6).
 
-ghost use Rattle.std.specs.Prelude.{◌≡◌, ◌+◌, ◌*◌, ◌≤◌, ◌<◌, ◌^◌, ◌↔◌, [], ◌∷◌, ℕ, List, length, IsTrue, IfOk, IsErr};
+ghost use Rattle.std.specs.Prelude.{◌≡◌, ◌*◌, ◌≤◌, ◌<◌, ◌^◌, ◌↔◌, [], ◌∷◌, length, IsTrue, IfOk, IsErr};
 ghost use Rattle.std.specs.Prelude.{IsOkAnd, Some};
 ghost use Rattle.std.specs.Fmt.{WritesOnOk};
 ghost use Rattle.wirebase.specs.Bytes.{bytes_of};
 ghost use Rattle.wirebase.specs.ByteWriter.{free, Puts};
 ghost use Rattle.wirebase.specs.Format.{Rewrites, SameText};
-ghost use Rattle.wirebase.specs.HardwareAddress.{raw_bytes};
-ghost use Rattle.wirebase.specs.Ipv6.{IsPacket, payload_field, header_text};
+ghost use Rattle.wirebase.specs.Ipv6.{IsPacket, payload_field};
 ghost use Rattle.wirebase.specs.declared.ipv6.Ipv6Repr.{Ipv6Repr};
 ghost use Rattle.opt_wire.specs.NdiscOption.{inner, view_octets, redirected_field};
-ghost use Rattle.opt_wire.specs.NdiscOptionTables.{type_number};
 ghost use Rattle.opt_wire.specs.NdiscOptionRepr.{OptionValue, prefix_, unknown};
-ghost use Rattle.opt_wire.specs.NdiscOptionRepr.{value_of, units, link_fields, prefix_fields};
-ghost use Rattle.opt_wire.specs.NdiscOptionRepr.{redirected_fields, HasSeconds, option_fields, text, text_len, CanEmit};
+ghost use Rattle.opt_wire.specs.NdiscOptionRepr.{value_of};
+ghost use Rattle.opt_wire.specs.NdiscOptionRepr.{text, text_len, CanEmit};
 ghost use Rattle.opt_wire.specs.NdiscOptionRepr.{BeginsWith, IsValidPrefix, format, Emits, display};
 ghost use Rattle.opt_wire.specs.declared.ndiscoption.repr.PrefixInformation.{PrefixInformation};
 
 use super::{NdiscOption, PrefixInfoFlags, Type, field};
+use crate::writing;
+use crate::writing::UNIT;
 use bitflags::Flags as _;
 use std::fmt;
 use wirebase::{
@@ -162,14 +162,12 @@ impl<'a> Repr<'a> {
         ensures exact { CanEmit (value_of self.now) → result ≡ length (text (value_of self.now)) }
     {
         match self {
-            Repr::SourceLinkLayerAddr(addr) => field::UNIT * units_of(2 + addr.len()),
-            Repr::TargetLinkLayerAddr(addr) => field::UNIT * units_of(2 + addr.len()),
-            Repr::PrefixInformation(_) => field::PREFIX.end,
-            Repr::RedirectedHeader(redirected) => {
-                field::UNIT * units_of(48 + redirected.data.len())
-            }
-            Repr::Mtu(_) => field::MTU.end,
-            Repr::Unknown { length, .. } => field::UNIT * *length as usize,
+            Repr::SourceLinkLayerAddr(addr) => writing::link_layer_addr_len(addr),
+            Repr::TargetLinkLayerAddr(addr) => writing::link_layer_addr_len(addr),
+            Repr::PrefixInformation(_) => writing::PREFIX_LEN,
+            Repr::RedirectedHeader(redirected) => writing::redirected_len(redirected),
+            Repr::Mtu(_) => writing::MTU_LEN,
+            Repr::Unknown { length, .. } => UNIT * *length as usize,
         }
     }
 
@@ -203,32 +201,28 @@ impl<'a> Repr<'a> {
         ensures { SameText format (value_of a.now) (value_of b.now) }
     {}
 
-    // Writes each field of the option.
+    // Writes the text of the option.
     fn put(&self, w: &mut ByteWriter<'_>)
         requires sound { CanEmit (value_of self.now) }
         requires room { text_len (value_of self.now) ≤ length (free w.old) }
-        ensures { Puts w.old w.new (option_fields (value_of self.now)) }
+        ensures { Puts w.old w.new (text (value_of self.now) ∷ []) }
     {
-        match *self {
-            Repr::SourceLinkLayerAddr(addr) => put_link(w, Type::SourceLinkLayerAddr, addr),
-            Repr::TargetLinkLayerAddr(addr) => put_link(w, Type::TargetLinkLayerAddr, addr),
-            Repr::PrefixInformation(info) => put_prefix(w, &info),
-            Repr::RedirectedHeader(RedirectedHeader { header, data }) => {
-                put_redirected(w, &header, data);
+        match self {
+            Repr::SourceLinkLayerAddr(addr) => {
+                writing::put_link_layer_addr(w, Type::SourceLinkLayerAddr, addr);
             }
-            Repr::Mtu(mtu) => {
-                w.put_u8(Type::Mtu.into());
-                w.put_u8(1);
-                w.put_u16(0);
-                w.put_u32(mtu);
+            Repr::TargetLinkLayerAddr(addr) => {
+                writing::put_link_layer_addr(w, Type::TargetLinkLayerAddr, addr);
             }
+            Repr::PrefixInformation(info) => writing::put_prefix(w, info),
+            Repr::RedirectedHeader(redirected) => writing::put_redirected(w, redirected),
+            Repr::Mtu(mtu) => writing::put_mtu(w, *mtu),
             Repr::Unknown {
                 type_,
                 length,
                 data,
             } => {
-                w.put_u8(type_);
-                w.put_u8(length);
+                w.put_bytes(&[*type_, *length]);
                 w.put_bytes(data);
             }
         }
@@ -261,82 +255,6 @@ fn read_redirected(octets: &[u8]) -> Result<(Ipv6Repr, &[u8])>
     let packet = Ipv6Packet::new_checked(octets)?;
     let header = Ipv6Repr::parse(&packet)?;
     Ok((header, packet.payload()))
-}
-
-// The units that so many bytes take.
-fn units_of(count: usize) -> usize
-    ensures { result ≡ units count }
-{
-    count.div_ceil(field::UNIT)
-}
-
-// Writes a link-layer address as an option of this type.
-fn put_link(w: &mut ByteWriter<'_>, kind: Type, addr: RawHardwareAddress)
-    requires room { 8 * units (2 + length (raw_bytes addr)) ≤ length (free w.old) }
-    ensures { Puts w.old w.new (link_fields (type_number kind) (raw_bytes addr)) }
-{
-    let len = 2 + addr.len();
-    let units = units_of(len);
-    w.put_u8(kind.into());
-    w.put_u8(units as u8);
-    w.put_bytes(addr.as_bytes());
-    w.put_zeros(field::UNIT * units - len);
-}
-
-// Writes a prefix.
-fn put_prefix(w: &mut ByteWriter<'_>, info: &PrefixInformation)
-    requires room { 32 ≤ length (free w.old) }
-    requires valid { HasSeconds info.now.valid_lifetime }
-    requires preferred { HasSeconds info.now.preferred_lifetime }
-    ensures { Puts w.old w.new (prefix_fields info.now) }
-{
-    w.put_u8(Type::PrefixInformation.into());
-    w.put_u8(4);
-    w.put_u8(info.prefix_len);
-    w.put_u8(info.flags.bits());
-    w.put_u32(info.valid_lifetime.secs() as u32);
-    w.put_u32(info.preferred_lifetime.secs() as u32);
-    w.put_u32(0);
-    w.put_bytes(&info.prefix.octets());
-}
-
-// Writes a redirected packet.
-fn put_redirected(w: &mut ByteWriter<'_>, header: &Ipv6Repr, data: &[u8])
-    requires room { 8 * units (48 + length «data».now) ≤ length (free w.old) }
-    requires payload { header.now.payload_len ≡ length «data».now }
-    requires small { length «data».now ≤ 1992 }
-    ensures { Puts w.old w.new (redirected_fields header.now «data».now) }
-{
-    let len = 48 + data.len();
-    let units = units_of(len);
-    w.put_u8(Type::RedirectedHeader.into());
-    w.put_u8(units as u8);
-    w.put_u16(0);
-    w.put_u32(0);
-    put_packet(w, header, data);
-    w.put_zeros(field::UNIT * units - len);
-}
-
-// Writes a header and its payload.
-#[tactic(auto, using(wirebase::proofs::Ipv6Header::header_texts))]
-fn put_packet(w: &mut ByteWriter<'_>, header: &Ipv6Repr, data: &[u8])
-    requires room { 40 + length «data».now ≤ length (free w.old) }
-    requires count { header.now.payload_len ≤ 65535 }
-    ensures puts { Puts w.old w.new (header_text header.now ∷ «data».now ∷ []) }
-    ensures room { length (free w.old) ≡ 40 + length «data».now + length (free w.new) }
-{
-    write_header(header, w.part(header.buffer_len()));
-    w.put_bytes(data);
-}
-
-// Writes a header into octets of just its length.
-#[tactic(auto, using(wirebase::proofs::Pieces::pieces, wirebase::proofs::Ipv6Header::header_texts))]
-fn write_header(header: &Ipv6Repr, octets: &mut [u8])
-    requires room { length octets.old ≡ 40 }
-    requires count { header.now.payload_len ≤ 65535 }
-    ensures { octets.new ≡ header_text header.now }
-{
-    header.emit_into(octets);
 }
 
 /// What the option has, as `NDISC Option: MTU mtu=1500`.
