@@ -1,6 +1,6 @@
 -- The texts of messages of neighbor discovery, and their lengths.
-use Rattle.std.proofs.Common.{◌≡◌, ℕ, ◌+◌, ◌-◌, ◌*◌, ◌≤◌, List, [], ◌∷◌, ◌++◌, length, refl, sym, ap, ◌∙◌, subst}
-use Rattle.std.proofs.Common.{arith, length-append, slice_index}
+use Rattle.std.proofs.Common.{◌≡◌, ℕ, ◌+◌, ◌-◌, ◌*◌, ◌≤◌, List, [], ◌∷◌, ◌++◌, length, refl, sym, ap}
+use Rattle.std.proofs.Common.{arith, length-append}
 use Rattle.std.specs.Prelude.{Option, None, Some}
 use Rattle.std.proofs.lemmas.List.{length-replicate}
 use Rattle.wirebase.specs.ByteWriter.{Writer, Sheet, sheet, put_all, Puts, be8, be16, be32, fields}
@@ -9,7 +9,7 @@ use Rattle.wirebase.specs.Ipv6Address.{octets_of}
 use Rattle.wirebase.specs.declared.ipv6.Ipv6Repr.{Ipv6Repr}
 use Rattle.wirebase.proofs.Chains.{put-fields}
 use Rattle.wirebase.proofs.Ipv6Header.{length-header_text}
-use Rattle.opt_wire.specs.NdiscOptionRepr.{units, padding, link_fields}
+use Rattle.opt_wire.specs.NdiscOptionRepr.{units, padding}
 use Rattle.opt_wire.specs.declared.ndiscoption.repr.PrefixInformation.{PrefixInformation}
 use Rattle.opt_wire.proofs.NdiscOptionTexts.{prefix_text, redirected_text, mtu_text, length-link}
 use Rattle.icmp6_wire.specs.Ndisc.{NdiscValue, router_solicit, router_advert, neighbor_solicit, neighbor_advert}
@@ -141,31 +141,3 @@ pub ruleset texts = (length-text)
 pub puts-nothing : (w : Writer) → Puts w w ([] ∷ [])
 unfolding fields
 puts-nothing w = record { puts = sym (put-fields (sheet w) []); same_slice = refl }
-
--- the fields of an option are its text
-pub puts-text : (w new : Writer) (fs : List (List ℕ)) → Puts w new fs → Puts w new (fields fs ∷ [])
-puts-text w new fs written_ =
-    record { puts = written_.puts ∙ sym (put-fields (sheet w) fs); same_slice = written_.same_slice }
-
--- an address of six bytes fills its unit
-six-text : (t : ℕ) (address : List ℕ) → length address ≡ 6 → t ∷ 1 ∷ slice_index address 0 ∷ slice_index address 1
-    ∷ slice_index address 2 ∷ slice_index address 3 ∷ slice_index address 4 ∷ slice_index address 5 ∷ []
-    ≡ fields (link_fields t address)
-unfolding fields be8
-six-text t [] h = absurd (omega (arith, h))
-six-text t (a ∷ []) h = absurd (omega (arith, h))
-six-text t (a ∷ b ∷ []) h = absurd (omega (arith, h))
-six-text t (a ∷ b ∷ c ∷ []) h = absurd (omega (arith, h))
-six-text t (a ∷ b ∷ c ∷ d ∷ []) h = absurd (omega (arith, h))
-six-text t (a ∷ b ∷ c ∷ d ∷ e ∷ []) h = absurd (omega (arith, h))
-six-text t (a ∷ b ∷ c ∷ d ∷ e ∷ f ∷ []) h = refl
-six-text t (a ∷ b ∷ c ∷ d ∷ e ∷ f ∷ g ∷ rest) h = absurd (omega (arith, h))
-
-pub puts-six : (w new : Writer) (kind t : ℕ) (l address : List ℕ) → kind ≡ t → l ≡ address → length l ≡ 6
-    → Puts w new ((kind ∷ 1 ∷ slice_index l 0 ∷ slice_index l 1 ∷ slice_index l 2 ∷ slice_index l 3 ∷ slice_index l 4
-    ∷ slice_index l 5 ∷ []) ∷ [])
-    → Puts w new (fields (link_fields t address) ∷ [])
-puts-six w new kind t l address same same' six p =
-    subst (λ (n : ℕ). Puts w new (fields (link_fields n address) ∷ [])) same
-    (subst (λ (a : List ℕ). Puts w new (fields (link_fields kind a) ∷ [])) same'
-    (subst (λ (text : List ℕ). Puts w new (text ∷ [])) (six-text kind l six) p))

@@ -4,12 +4,13 @@
 ghost use Rattle.std.specs.Prelude.{◌≡◌, ◌≤◌, min, length, drop};
 ghost use Rattle.wirebase.specs.Bytes.{over};
 ghost use Rattle.wirebase.specs.ByteWriter.{free, Puts, fields};
-ghost use Rattle.wirebase.specs.Ipv6.{IsHeader, header_text};
+ghost use Rattle.wirebase.specs.Ipv6.{IsHeader};
 ghost use Rattle.icmp6_wire.specs.Icmpv6.{quoted_data, error_fields, error_len};
 ghost use Rattle.icmp6_wire.specs.Icmpv6Tables.{message_number};
 
 use super::tables::Message;
 use super::{MAX_QUOTED_DATA, field};
+use opt_wire::writing::put_header;
 use wirebase::{ByteWriter, IPV6_HEADER_LEN, Ipv6Packet, Ipv6Repr};
 
 // The bytes of an error that quotes this header and as much of this data as it may.
@@ -56,18 +57,8 @@ fn put_error(
     w.put_u8(code);
     w.put_u16(0);
     w.put_u32(word);
-    write_header(quoted, w.part(quoted.buffer_len()));
+    put_header(w, quoted);
     w.put_bytes(quotable(data));
-}
-
-// Writes a header into octets of just its length.
-#[tactic(auto, using(wirebase::proofs::Ipv6Header::header_texts))]
-fn write_header(header: &Ipv6Repr, octets: &mut [u8])
-    requires room { length octets.old ≡ 40 }
-    requires count { header.now.payload_len ≤ 65535 }
-    ensures { octets.new ≡ header_text header.now }
-{
-    header.emit_into(octets);
 }
 
 // The data that an error may quote.

@@ -7,10 +7,8 @@ ghost use Rattle.icmp6_wire.specs.NdiscFound.{kept_of, nothing, keep, Says, Note
 
 use opt_wire::ndiscoption;
 use opt_wire::ndiscoption::{NdiscOption, PrefixInformation, RedirectedHeader};
+use opt_wire::writing::UNIT;
 use wirebase::{Error, RawHardwareAddress, Result};
-
-// The bytes of a unit.
-const UNIT: usize = 8;
 
 // What the options said so far, each field as the last option of its kind.
 #[derive(Clone, Copy)]

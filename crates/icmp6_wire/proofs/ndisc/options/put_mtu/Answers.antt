@@ -1,15 +1,9 @@
 use Rattle.std.proofs.Common.{ℕ, sym, subst, [], ◌∷◌}
 use Rattle.std.specs.Prelude.{Option}
 use Rattle.wirebase.specs.ByteWriter.{Puts}
-use Rattle.opt_wire.specs.NdiscOptionRepr.{mtu_fields}
 use Rattle.icmp6_wire.specs.Ndisc.{mtus, option_text}
-use Rattle.icmp6_wire.proofs.NdiscTexts.{puts-nothing, puts-text}
+use Rattle.icmp6_wire.proofs.NdiscTexts.{puts-nothing}
 use Rattle.icmp6_wire.proofs.ndisc.options.put_mtu.Goals as goal
-
-pub returns-in-Some-clause-puts : goal.returns-in-Some-clause-puts
-returns-in-Some-clause-puts c =
-    subst (λ (o : Option ℕ). Puts c.args.w.now c.put_some_mtu.new.w (option_text (mtus o) ∷ [])) (sym c.in-Some.is)
-    (puts-text c.args.w.now c.put_some_mtu.new.w (mtu_fields c.in-Some.mtu) c.put_some_mtu.ensures.puts)
 
 pub returns-in-None-clause-puts : goal.returns-in-None-clause-puts
 returns-in-None-clause-puts c =

@@ -1,17 +1,10 @@
 use Rattle.std.proofs.Common.{sym, subst, [], ◌∷◌}
 use Rattle.std.specs.Prelude.{Option}
 use Rattle.wirebase.specs.ByteWriter.{Puts}
-use Rattle.opt_wire.specs.NdiscOptionRepr.{prefix_fields}
 use Rattle.opt_wire.specs.declared.ndiscoption.repr.PrefixInformation.{PrefixInformation}
 use Rattle.icmp6_wire.specs.Ndisc.{prefixes, option_text}
-use Rattle.icmp6_wire.proofs.NdiscTexts.{puts-nothing, puts-text}
+use Rattle.icmp6_wire.proofs.NdiscTexts.{puts-nothing}
 use Rattle.icmp6_wire.proofs.ndisc.options.put_prefix.Goals as goal
-
-pub returns-in-Some-clause-puts : goal.returns-in-Some-clause-puts
-returns-in-Some-clause-puts c =
-    subst (λ (o : Option PrefixInformation). Puts c.args.w.now c.put_some_prefix.new.w (option_text (prefixes o) ∷ []))
-    (sym c.in-Some.is)
-    (puts-text c.args.w.now c.put_some_prefix.new.w (prefix_fields c.in-Some.info) c.put_some_prefix.ensures.puts)
 
 pub returns-in-None-clause-puts : goal.returns-in-None-clause-puts
 returns-in-None-clause-puts c =
