@@ -246,6 +246,7 @@ impl Default for Repr<'_> {
 impl<'a> Repr<'a> {
     /// The option at the front of the octets. Refused where none stands there whole, and where a router alert
     /// doesn't count 2 bytes of data. What padding is filled with is not looked at.
+    #[inline]
     pub fn parse(opt: &Ipv6Option<&'a [u8]>) -> Result<Repr<'a>>
         ensures sound { IfOk result (λ repr. BeginsWith (view_octets opt.now) (value_of repr)) }
         ensures complete { (value : OptionValue) → BeginsWith (view_octets opt.now) value
@@ -258,6 +259,7 @@ impl<'a> Repr<'a> {
     }
 
     // The option at the front of the octets.
+    #[inline]
     fn read(opt: &Ipv6Option<&'a [u8]>) -> Result<Repr<'a>>
         ensures sound { IfOk result (λ repr. BeginsWith (view_octets opt.now) (value_of repr)) }
         ensures refuses { IsErr result → (value : OptionValue)
