@@ -1,3 +1,4 @@
+pub mod HeadersAtOnce
 pub mod Icmpv6Format
 pub mod Icmpv6Grammar
 pub mod Icmpv6Seals

@@ -5,7 +5,7 @@ use Rattle.std.proofs.lemmas.List.{append-nil, take_all, drop_all, nil_from_leng
 use Rattle.byteorder.specs.Endian.{big_bytes}
 use Rattle.byteorder.specs.Numbers.{big_number-reads_back}
 use Rattle.std.proofs.lemmas.Result.{IfOk-weaker}
-use Rattle.wirebase.specs.Bytes.{IsBytes, part, byte_of}
+use Rattle.wirebase.specs.Bytes.{IsBytes, part, byte_of, over}
 use Rattle.wirebase.specs.ByteWriter.{be8, be16, fields}
 use Rattle.wirebase.specs.Format.{Rewrites, SameText}
 use Rattle.wirebase.specs.Ipv6Address.{octets_of, IsMulticast}
@@ -14,6 +14,7 @@ use Rattle.wirebase.specs.declared.ipv6.address.Ipv6Address.{Ipv6Address}
 use Rattle.wirebase.proofs.ByteParts.{number_of-small}
 use Rattle.wirebase.proofs.Format.{IsFormat, same_text}
 use Rattle.wirebase.proofs.Ipv6Header.{same_address}
+use Rattle.wirebase.proofs.Pieces.{over-exact}
 use Rattle.wirebase.proofs.Numbered.{case_in-unnamed, case-read}
 use Rattle.icmp6_wire.specs.MldTables.{record_type_number, record_types, record_type_rows, record_type_of}
 use Rattle.icmp6_wire.specs.MldRecord.{RecordValue, address_record, record_type_field, text, group_of, IsFields}
@@ -32,6 +33,12 @@ record_text kind words sources group rest = simp append-nil
 pub length-text : (v : RecordValue) → length (text v) ≡ 20
 length-text (address_record kind words sources group rest) =
     omega (arith, ap length (record_text kind words sources group rest), group.whole)
+
+-- a record in octets of just its length
+pub over-record_whole : (old : List ℕ) (v : RecordValue) → length old ≡ 20 → over old (text v) ≡ text v
+over-record_whole old v whole = over-exact old (text v) (whole ∙ sym (length-text v))
+
+pub ruleset record_texts = (length-text, over-record_whole)
 
 -- ---- reading what was written
 

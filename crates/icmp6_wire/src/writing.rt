@@ -14,9 +14,7 @@ pub(crate) fn put_type(w: &mut ByteWriter<'_>, kind: Message)
     ensures puts { Puts w.old w.new (be8 (message_number kind) ∷ be8 0 ∷ be16 0 ∷ []) }
     ensures room { length (free w.old) ≡ 4 + length (free w.new) }
 {
-    w.put_u8(kind.into());
-    w.put_u8(0);
-    w.put_u16(0);
+    w.put_bytes(&[kind.into(), 0, 0, 0]);
 }
 
 // Writes an address.

@@ -6,7 +6,7 @@ ghost use Rattle.byteorder.specs.Endian.{big_bytes};
 ghost use Rattle.wirebase.specs.Bytes.{splice, Reaches, byte_of, number_of};
 ghost use Rattle.wirebase.specs.Checksum.{fold, IsGood, sealed};
 ghost use Rattle.wirebase.specs.Icmp.{type_field, code_field, checksum_field, ident_field, seq_no_field};
-ghost use Rattle.icmp6_wire.specs.Icmpv6Tables.{message_number, message_of};
+ghost use Rattle.icmp6_wire.specs.Icmpv6Tables.{message_number};
 ghost use Rattle.icmp6_wire.specs.Icmpv6Packet.{inner, with_inner, view_octets, Sets, KeepsLen, word_field, message_in};
 ghost use Rattle.icmp6_wire.specs.Icmpv6Packet.{header_len_of, header_len_in, payload_in, BeginsWhole, cleared};
 ghost use Rattle.icmp6_wire.specs.Icmpv6Packet.{CanClear, message_sum};

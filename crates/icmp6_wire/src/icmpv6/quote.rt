@@ -53,10 +53,8 @@ fn put_error(
     ensures { Puts w.old w.new
         (error_fields (message_number kind) code word quoted.now «data».now) }
 {
-    w.put_u8(kind.into());
-    w.put_u8(code);
-    w.put_u16(0);
-    w.put_u32(word);
+    let [a, b, c, d] = word.to_be_bytes();
+    w.put_bytes(&[kind.into(), code, 0, 0, a, b, c, d]);
     put_header(w, quoted);
     w.put_bytes(quotable(data));
 }

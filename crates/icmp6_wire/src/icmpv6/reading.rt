@@ -1,6 +1,6 @@
 //! Messages read from the octets of a packet, by their types.
 
-ghost use Rattle.std.specs.Prelude.{true, ◌≡◌, ◌≤◌, ◌<◌, length, IsOk, IfOk};
+ghost use Rattle.std.specs.Prelude.{◌≡◌, ◌≤◌, ◌<◌, length, IsOk, IfOk};
 ghost use Rattle.wirebase.specs.Bytes.{byte_of};
 ghost use Rattle.wirebase.specs.Icmp.{type_field, code_field, data_in};
 ghost use Rattle.icmp6_wire.specs.Icmpv6Tables.{message_number};

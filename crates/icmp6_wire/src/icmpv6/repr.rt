@@ -24,7 +24,6 @@ use crate::mld::{read_query, read_report};
 use crate::ndisc::{
     Found, neighbor_advert, neighbor_solicit, redirect, router_advert, router_solicit,
 };
-use crate::writing::put_type;
 use crate::{mld, ndisc};
 use wirebase::{
     ByteWriter, ChecksumCapabilities, Error, Ipv6Address, Ipv6Repr, Octets, OctetsMut, Result,
@@ -329,9 +328,10 @@ fn put_echo(w: &mut ByteWriter<'_>, kind: Message, ident: u16, seq_no: u16, data
     requires { 8 ≤ length (free w.old) }
     ensures { Puts w.old w.new (echo_fields (message_number kind) ident seq_no «data».now) }
 {
-    put_type(w, kind);
-    w.put_u16(ident);
-    w.put_u16(seq_no);
+    // The header is written at once: the checksum, which reads it right after, would else wait for its bytes.
+    let [a, b] = ident.to_be_bytes();
+    let [c, d] = seq_no.to_be_bytes();
+    w.put_bytes(&[kind.into(), 0, 0, 0, a, b, c, d]);
     w.put_front(data);
 }
 

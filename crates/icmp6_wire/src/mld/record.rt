@@ -1,6 +1,6 @@
 //! Records of reports (RFC 3810 section 5.2).
 
-ghost use Rattle.std.specs.Prelude.{◌≡◌, ◌↔◌, ◌-◌, [], ◌∷◌, ◌≤◌, length, IsTrue, IsOk, IfOk, IsOkAnd};
+ghost use Rattle.std.specs.Prelude.{◌≡◌, ◌↔◌, ◌-◌, [], ◌∷◌, length, IsTrue, IsOk, IfOk, IsOkAnd};
 ghost use Rattle.std.specs.Borrow.{sem, Lends, Array, u8 as byte};
 ghost use Rattle.byteorder.specs.Endian.{big_bytes};
 ghost use Rattle.wirebase.specs.Bytes.{splice, Reaches, byte_of, bytes_of, number_of, over};
@@ -275,16 +275,6 @@ impl<'a> AddressRecordRepr<'a> {
         requires group { IsMulticast self.now.mcast_addr }
         ensures { Emits (value_of self.now) octets.old octets.new }
     {
-        self.write_record(octets);
-    }
-
-    // The same, for the report around the record, of whose code it becomes a part where the two are compiled apart.
-    #[inline]
-    pub(super) fn write_record(&self, octets: &mut [u8])
-        requires room { Reaches mcast_addr_field octets.old }
-        requires group { IsMulticast self.now.mcast_addr }
-        ensures { Emits (value_of self.now) octets.old octets.new }
-    {
         self.write(octets);
     }
 
@@ -294,17 +284,17 @@ impl<'a> AddressRecordRepr<'a> {
         ensures { SameText format (value_of a.now) (value_of b.now) }
     {}
 
-    // Writes the fields.
+    // Writes the fields, for the report around the record too, of whose code it becomes a part where the two are
+    // compiled apart.
     #[inline]
     #[tactic(auto, using(wirebase::proofs::Chains::chain))]
-    fn write(&self, octets: &mut [u8])
+    pub(super) fn write(&self, octets: &mut [u8])
         requires { Reaches mcast_addr_field octets.old }
         ensures { octets.new ≡ over octets.old (text (value_of self.now)) }
     {
         let mut w = ByteWriter::new(octets);
-        w.put_u8(self.record_type.into());
-        w.put_u8(self.aux_data_len);
-        w.put_u16(self.num_srcs);
+        let [a, b] = self.num_srcs.to_be_bytes();
+        w.put_bytes(&[self.record_type.into(), self.aux_data_len, a, b]);
         put_address(&mut w, &self.mcast_addr);
     }
 }

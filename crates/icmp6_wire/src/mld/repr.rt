@@ -15,7 +15,7 @@ ghost use Rattle.icmp6_wire.specs.MldRecord.{value_of as record_value, text as r
 use super::field;
 use super::record::AddressRecordRepr;
 use crate::icmpv6::{Message, Packet};
-use crate::writing::{put_address, put_type};
+use crate::writing::put_address;
 use wirebase::{ByteWriter, Error, Ipv6Address, OctetsMut, Result, are_bytes};
 
 /// A message (RFC 3810 section 5).
@@ -220,14 +220,12 @@ fn put_query(
     ensures { Puts w.old w.new
         (query_fields max_resp_code mcast_addr s_flag qrv qqic num_srcs «data».now) }
 {
-    put_type(w, Message::MldQuery);
-    w.put_u16(max_resp_code);
-    w.put_u16(0);
+    let [a, b] = max_resp_code.to_be_bytes();
+    w.put_bytes(&[Message::MldQuery.into(), 0, 0, 0, a, b, 0, 0]);
     put_address(w, &mcast_addr);
     let flag = if s_flag { 8 } else { 0 };
-    w.put_u8(flag + qrv);
-    w.put_u8(qqic);
-    w.put_u16(num_srcs);
+    let [a, b] = num_srcs.to_be_bytes();
+    w.put_bytes(&[flag + qrv, qqic, a, b]);
     w.put_bytes(data);
 }
 
@@ -259,9 +257,8 @@ fn put_report_header(w: &mut ByteWriter<'_>, count: u16)
     ensures puts { Puts w.old w.new (report_fields count []) }
     ensures room { length (free w.old) ≡ 8 + length (free w.new) }
 {
-    put_type(w, Message::MldReport);
-    w.put_u16(0);
-    w.put_u16(count);
+    let [a, b] = count.to_be_bytes();
+    w.put_bytes(&[Message::MldReport.into(), 0, 0, 0, 0, 0, a, b]);
 }
 
 // Writes each record.
@@ -276,11 +273,12 @@ fn put_records(w: &mut ByteWriter<'_>, records: &[AddressRecordRepr<'_>])
 }
 
 // Writes a record.
+#[tactic(auto, using(crate::proofs::MldRecords::record_texts))]
 fn put_record(w: &mut ByteWriter<'_>, repr: &AddressRecordRepr<'_>)
     requires room { 20 ≤ length (free w.old) }
     requires group { IsMulticast repr.now.mcast_addr }
     ensures puts { Puts w.old w.new (record_text (record_value repr.now) ∷ []) }
     ensures room { length (free w.old) ≡ 20 + length (free w.new) }
 {
-    repr.write_record(w.part(repr.buffer_len()));
+    repr.write(w.part(repr.buffer_len()));
 }

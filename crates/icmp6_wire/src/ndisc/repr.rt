@@ -373,10 +373,8 @@ fn put_neighbor(w: &mut ByteWriter<'_>, flags: NeighborFlags)
         (be8 0x88 ∷ be8 0 ∷ be16 0 ∷ be8 (neighbor_bits flags) ∷ be8 0 ∷ be16 0 ∷ []) }
     ensures room { length (free w.old) ≡ 8 + length (free w.new) }
 {
-    put_type(w, Message::NeighborAdvert);
-    w.put_u8(flags.bits());
-    w.put_u8(0);
-    w.put_u16(0);
+    let kind = Message::NeighborAdvert.into();
+    w.put_bytes(&[kind, 0, 0, 0, flags.bits(), 0, 0, 0]);
 }
 
 // Writes the type, the code 0, no checksum and a word that is reserved.
@@ -385,8 +383,7 @@ fn put_reserved(w: &mut ByteWriter<'_>, kind: Message)
     ensures puts { Puts w.old w.new (be8 (message_number kind) ∷ be8 0 ∷ be16 0 ∷ be32 0 ∷ []) }
     ensures room { length (free w.old) ≡ 8 + length (free w.new) }
 {
-    put_type(w, kind);
-    w.put_u32(0);
+    w.put_bytes(&[kind.into(), 0, 0, 0, 0, 0, 0, 0]);
 }
 
 // Writes the times of a router advertisement, in whole seconds and twice in whole milliseconds.

@@ -3,7 +3,7 @@ use Rattle.wirebase.proofs.Format.{round_trips}
 use Rattle.wirebase.proofs.Pieces.{over-exact}
 use Rattle.icmp6_wire.specs.MldRecord.{value_of, text, format}
 use Rattle.icmp6_wire.proofs.MldRecords.{length-text, record_format}
-use Rattle.icmp6_wire.proofs.mld.record.AddressRecordRepr.write_record.Goals as goal
+use Rattle.icmp6_wire.proofs.mld.record.AddressRecordRepr.emit_into.Goals as goal
 
 pub returns : goal.returns
 returns c =
