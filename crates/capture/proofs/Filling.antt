@@ -1,5 +1,6 @@
 -- What is read of bytes that are known.
-use Rattle.std.proofs.Common.{◌≡◌, ℕ, true, false, zero, suc, ◌+◌, ◌-◌, ◌<◌, ◌≤◌, ◌⊎◌, inl, inr, List, [], ◌∷◌, ◌++◌, length, take, drop}
+use Rattle.std.proofs.Common.{◌≡◌, ℕ, true, false, zero, suc, ◌+◌, ◌-◌, ◌<◌, ◌≤◌, ◌⊎◌, inl, inr}
+use Rattle.std.proofs.Common.{List, [], ◌∷◌, ◌++◌, length, take, drop}
 use Rattle.std.proofs.Common.{Option, None, Some, IfSome, refl, ap, sym, subst, ◌∙◌, arith, length-append, length-drop}
 use Rattle.std.proofs.lemmas.List.{append-nil, take_all, drop_all, take_at, drop_at, length-take, take-append-drop}
 use Rattle.std.proofs.lemmas.List.{drop-drop}
@@ -85,9 +86,15 @@ pub first_reads : (all : List ℕ) (old new : Option (List ℕ)) (before after :
 first_reads all old new before after count empty reads fills =
     fills_reads all old new before after 0 count (omega arith) (subst (λ l. Reads all old l 0) (sym empty) reads) fills
 
-pub reads_none : (left : Option (List ℕ)) → IfSome left (λ all. Reads all left [] 0)
-reads_none None = tt
-reads_none (Some all) = record { front = refl; rest = refl }
+nothing_read : (all : List ℕ) (old : Option (List ℕ)) (done : ℕ) → Reads all old [] done → old ≡ Some all
+nothing_read all old done reads =
+    reads.rest ∙ ap Some (ap (λ l. l ++ drop done all) reads.front ∙ take-append-drop done all)
+
+-- a buffer that shows nothing tells the end
+pub shown_none : (all : List ℕ) (old : Option (List ℕ)) (done : ℕ) → Reads all old [] done → (shown : List ℕ)
+    → IfSome old (λ xs. length shown ≡ 0 → xs ≡ []) → length shown ≡ 0 → all ≡ []
+shown_none all old done reads shown end =
+    subst (λ o. IfSome o (λ xs. length shown ≡ 0 → xs ≡ [])) (nothing_read all old done reads) end
 
 -- ---- a front that was read, and what is left behind it
 
@@ -128,11 +135,16 @@ skips_known all (Some ys) m count s fits =
       omega (arith, ap length s.consumed, length-append s.passed ys, length-drop m all, long, fits),
     )
 
-pub skips_reads : (all octets : List ℕ) (old new : Option (List ℕ)) (m count : ℕ) → Reads all old octets m
-    → Skips old new count true → m ≤ length octets → (new ≡ Some (drop (m + count) all)) × (m + count ≤ length all)
-skips_reads all octets old new m count reads s fits =
-    skips_known all new m count (subst (λ o. Skips o new count true) reads.rest s)
-    ((reads_fits all octets old m reads fits).1)
+pub skips_reads : (all octets : List ℕ) (old new : Option (List ℕ)) (n : ℕ) → length octets ≤ n
+    → Reads all old octets (length octets) → Skips old new (n - length octets) true
+    → (n ≤ length all) × (new ≡ Some (drop n all))
+skips_reads all octets old new n few reads s =
+    let m = length octets in
+    let known =
+    skips_known all new m (n - m) (subst (λ o. Skips o new (n - m) true) reads.rest s)
+    ((reads_fits all octets old m reads (omega arith)).1) in
+    let sum : m + (n - m) ≡ n = omega (arith, few) in
+    (subst (λ k. k ≤ length all) sum known.1, subst (λ k. new ≡ Some (drop k all)) sum known.0)
 
 skips_short_known : (all : List ℕ) (new : Option (List ℕ)) (m count : ℕ) → Skips (Some (drop m all)) new count false
     → m ≤ length all → length all < m + count
@@ -142,8 +154,11 @@ skips_short_known all (Some ys) m count s fits =
     let few : length s.passed < count = s.fewer refl in
     omega (arith, ap length s.consumed, length-append s.passed ys, ap length none, length-drop m all, few, fits)
 
-pub skips_short : (all octets : List ℕ) (old new : Option (List ℕ)) (m count : ℕ) → Reads all old octets m
-    → Skips old new count false → m ≤ length octets → length all < m + count
-skips_short all octets old new m count reads s fits =
-    skips_short_known all new m count (subst (λ o. Skips o new count false) reads.rest s)
-    ((reads_fits all octets old m reads fits).1)
+pub skips_short : (all octets : List ℕ) (old new : Option (List ℕ)) (n : ℕ) → length octets ≤ n
+    → Reads all old octets (length octets) → Skips old new (n - length octets) false → length all < n
+skips_short all octets old new n few reads s =
+    let m = length octets in
+    let short =
+    skips_short_known all new m (n - m) (subst (λ o. Skips o new (n - m) false) reads.rest s)
+    ((reads_fits all octets old m reads (omega arith)).1) in
+    omega (arith, few, short)

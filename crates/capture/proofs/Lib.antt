@@ -3,5 +3,4 @@ pub mod Filling
 pub mod Reading
 pub mod Records
 pub mod Sections
-pub mod Shown
 pub mod Units

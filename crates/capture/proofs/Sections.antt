@@ -1,23 +1,24 @@
 -- A block of a pcapng file is read.
-use Rattle.std.proofs.Common.{◌≡◌, ◌≢◌, ℕ, ◌+◌, ◌-◌, ◌<◌, ◌≤◌, inl, inr, true, false, List}
+use Rattle.std.proofs.Common.{◌≡◌, ◌≢◌, ℕ, ◌+◌, ◌≤◌, inl, inr, true, false, List}
 use Rattle.std.proofs.Common.{length, take, drop, Option, None, Some, refl, ap, sym, subst, ◌∙◌, arith}
 use Rattle.std.proofs.Common.{Result, Ok, Err, IfOk, Bool, IsTrue, ◌↔◌}
 use Rattle.std.proofs.lemmas.List.{length-take, take-take, take-append-drop}
 use Rattle.wirebase.proofs.Pieces.{length-part}
+use Rattle.capture.specs.Capture as block
 use Rattle.capture.specs.Capture.{State, state, IsBlock, passed, header, described, held, BlockEnds}
-use Rattle.capture.specs.Capture.{cut, refused, Refused, no_section, no_interface, many, no_packet, large}
+use Rattle.capture.specs.Capture.{refused, Refused, no_section, no_interface, many, no_packet, large}
 use Rattle.capture.specs.Packet.{packet_in}
-use Rattle.capture.specs.Pcapng.{IsHead, IsRead, IsClosed, section_kind}
-use Rattle.capture.specs.Reader.{Reads, Skips}
+use Rattle.capture.specs.Pcapng.{IsHead, HeadEnds, IsRead, IsClosed, section_kind}
 use Rattle.capture.specs.Taken.{Splits, SectionTakes, InterfaceTakes, PacketTakes, BlockTakes, BlockGives, IsWholeBlock}
+use Rattle.capture.specs.Unit as unit
+use Rattle.capture.specs.Unit.{block_form, UnitEnds, none, no_head}
 use Rattle.capture.specs.declared.capture.Stage.TheVariants.{Section}
 use Rattle.capture.specs.declared.capture.Step.{Step}
 use Rattle.capture.specs.declared.capture.Step.TheVariants as step
-use Rattle.capture.specs.declared.ending.Ending.TheVariants.{Cut}
+use Rattle.capture.specs.declared.ending.Ending.{Ending}
 use Rattle.capture.specs.declared.order.Order.{Order}
 use Rattle.capture.specs.declared.pcapng.Head.{Head}
 use Rattle.capture.specs.declared.pcapng.Interface.{Interface}
-use Rattle.capture.proofs.Filling.{reads_length, skips_reads, skips_short}
 
 pub if_ok : {T E : Type 0} (P Q : T → Type 0) (r : Result T E) → ((x : T) → P x → Q x) → IfOk r P → IfOk r Q
 if_ok P Q (Ok x) f h = f x h
@@ -29,32 +30,14 @@ told b is yes' = is.0 yes'
 pub told_not : {P : Type 0} (b : Bool) → (IsTrue b ↔ P) → b ≡ false → P → ⊥
 told_not b is no' p = let both : true ≡ false = sym (is.1 p) ∙ no' in cc
 
--- ---- the bytes of a block
+-- ---- what ends a section at a block
 
-module _ (section : Order) (all octets : List ℕ) (old new : Option (List ℕ)) (h : Head)
-    (is : IsHead section (take 12 all) h) where
-  pub passed_over : length octets ≤ h.total_len → Reads all old octets (length octets)
-      → Skips old new (h.total_len - length octets) true
-      → (h.total_len ≤ length all) × (new ≡ Some (drop h.total_len all))
-  passed_over few reads skips =
-      let known =
-      skips_reads all octets old new (length octets) (h.total_len - length octets) reads skips (omega arith) in
-      let sum : length octets + (h.total_len - length octets) ≡ h.total_len = omega (arith, few) in
-      (subst (λ n. n ≤ length all) sum known.1, subst (λ n. new ≡ Some (drop n all)) sum known.0)
-
-  pub cut_passed : (interfaces : List Interface) → length octets ≤ h.total_len → Reads all old octets (length octets)
-      → Skips old new (h.total_len - length octets) false → BlockEnds section interfaces all Cut
-  cut_passed interfaces few reads skips =
-      cut h is (omega (
-        arith,
-        few,
-        skips_short all octets old new (length octets) (h.total_len - length octets) reads skips (omega arith),
-      )) refl
-
-  pub cut_read : (interfaces : List Interface) → Reads all new octets h.total_len → length octets < h.total_len
-      → BlockEnds section interfaces all Cut
-  cut_read interfaces reads short =
-      cut h is (reads_length all octets new h.total_len h.total_len reads (omega arith) short) refl
+pub block_ends : (section : Order) (interfaces : List Interface) (all : List ℕ) (ending : Ending)
+    → UnitEnds 12 block_form section all ending → BlockEnds section interfaces all ending
+block_ends section interfaces all ending (none e is) =
+    block.no_head (subst (HeadEnds section (take 12 all)) (sym is) (ap (take 12) e))
+block_ends section interfaces all ending (no_head ends) = block.no_head ends
+block_ends section interfaces all ending (unit.cut h is short e) = block.cut h is short e
 
 -- ---- what a block is
 

@@ -4,8 +4,8 @@ use Rattle.std.specs.Prelude.{Option, None, Some}
 use Rattle.wirebase.specs.Bytes.{part}
 use Rattle.capture.specs.Packet.{PacketValue}
 use Rattle.capture.specs.Pcap.{IsFileHeader, FileEnds, IsRecord, RecordEnds}
-use Rattle.capture.specs.Pcapng.{IsSectionKind, section_kind, IsRead, IsHead, HeadEnds, IsClosed, IsSection, SectionEnds}
-use Rattle.capture.specs.Pcapng.{IsInterface, IsPacket}
+use Rattle.capture.specs.Pcapng.{IsSectionKind, section_kind, IsRead, IsHead, HeadEnds, IsClosed, IsSection}
+use Rattle.capture.specs.Pcapng.{SectionEnds, IsInterface, IsPacket}
 use Rattle.capture.specs.declared.capture.Capture.{Capture}
 use Rattle.capture.specs.declared.capture.Next.{Next}
 use Rattle.capture.specs.declared.capture.Next.TheVariants as next

@@ -6,3 +6,4 @@ pub mod Pcapng
 pub mod Reader
 pub mod Taken
 pub mod Time
+pub mod Unit

@@ -1,6 +1,9 @@
 -- What is read of an input.
 use Rattle.std.specs.Prelude.{◌≡◌, ℕ, Bool, true, false, ◌<◌, ◌≤◌, List, ◌++◌, length, take, drop, Option, Some, OnSome}
-use Rattle.std.specs.Io.KnownBytes.{Consumes, IsAtEnd}
+use Rattle.std.specs.Prelude.{IfSome, Result, IfOk}
+use Rattle.std.specs.Io.KnownBytes.{Consumes, Keeps, IsAtEnd}
+use Rattle.capture.specs.declared.ending.Fault.{Fault}
+use denote.Ref.{Bor}
 
 -- bytes were taken off what a reader had left, at most so many, and fewer only at its end
 pub record Takes (old new : Option (List ℕ)) (taken : List ℕ) (most : ℕ) : Type 0 where
@@ -35,3 +38,8 @@ pub record SkipsPart (old new : Option (List ℕ)) (missing count : ℕ) (ended 
   pub counted : length passed ≡ count
   pub few : count ≤ missing
   pub all : ended ≡ true → count < missing → OnSome old (IsAtEnd new)
+
+-- a look at the buffer kept the bytes that are known, and what it showed may be consumed
+abbrev pub LookKeeps : Option (List ℕ) → Option (List ℕ) → Option ℕ → Result (Option (Bor (List ℕ))) Fault → Type 0
+LookKeeps old new limit r =
+    Keeps old new × IfSome old (λ _. IfOk r (λ shown. IfSome shown (λ s. IfSome limit (λ n. length s.now ≤ n))))

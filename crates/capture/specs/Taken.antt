@@ -1,5 +1,5 @@
 -- What the parts of the reader answer, beside what their bytes are.
-use Rattle.std.specs.Prelude.{◌≡◌, ℕ, ◌<◌, ◌≤◌, ◌⊎◌, List, [], ◌∷◌, ◌++◌, length, take, drop, Option, None, Some}
+use Rattle.std.specs.Prelude.{◌≡◌, ℕ, ◌<◌, ◌≤◌, ◌⊎◌, List, [], ◌∷◌, ◌++◌, length, take, Option, None, Some}
 use Rattle.capture.specs.Capture.{State, state, IsBlock, BlockEnds, Refused, IsUnit, Ends, most_octets, most_interfaces}
 use Rattle.capture.specs.Packet.{PacketValue, packet_in, IsPlace}
 use Rattle.capture.specs.Pcap.{IsRecord, RecordEnds}
@@ -7,8 +7,6 @@ use Rattle.capture.specs.Pcapng.{IsRead, IsHead, IsSection, SectionEnds, IsInter
 use Rattle.capture.specs.declared.ending.Ending.TheVariants.{TooLarge, Malformed}
 use Rattle.capture.specs.declared.packet.Packet.{Packet}
 use Rattle.capture.specs.declared.capture.Stage.TheVariants as stage
-use Rattle.capture.specs.declared.capture.shown.Block.{Block}
-use Rattle.capture.specs.declared.capture.shown.Block.TheVariants as block
 use Rattle.capture.specs.declared.capture.Step.{Step}
 use Rattle.capture.specs.declared.capture.Step.TheVariants as step
 use Rattle.capture.specs.declared.order.Order.{Order}
@@ -28,12 +26,6 @@ IfPacket step.Passed P = Unit {0}
 IfPacket (step.Packet k) P = P k
 IfPacket (step.Ended ending) P = Unit {0}
 
--- of a block that was read
-abbrev pub IfRead : Block → (Head → Type 0) → Type 0
-IfRead (block.Passed h) P = Unit {0}
-IfRead (block.Read h) P = P h
-IfRead (block.Ended ending) P = Unit {0}
-
 -- the octets are a whole block, of a kind that is read
 pub record IsWholeBlock (section : Order) (octets : List ℕ) (h : Head) : Type 0 where
   pub head : IsHead section (take 12 octets) h
@@ -46,17 +38,6 @@ RecordGives h all step.Passed octets left = ⊥
 RecordGives h all (step.Packet k) octets left =
     Splits all octets left × IsRecord most_octets h octets (packet_in k octets)
 RecordGives h all (step.Ended ending) octets left = RecordEnds most_octets h all ending
-
--- a block was read into `octets`, or passed over
-abbrev pub BlockReads : Order → List ℕ → Block → List ℕ → Option (List ℕ) → Type 0
-BlockReads section all (block.Passed h) octets left =
-    IsHead section (take 12 all) h × (IsRead h.kind → ⊥) × (h.total_len ≤ length all)
-    × (left ≡ Some (drop h.total_len all))
-BlockReads section all (block.Read h) octets left =
-    IsHead section (take 12 all) h × IsRead h.kind × (h.total_len ≤ length all) × (octets ≡ take h.total_len all)
-    × (left ≡ Some (drop h.total_len all))
-BlockReads section all (block.Ended ending) octets left =
-    (interfaces : List Interface) → BlockEnds section interfaces all ending
 
 -- a section header, an interface description or a packet was taken
 abbrev pub SectionTakes : Order → List ℕ → Step → State → Type 0

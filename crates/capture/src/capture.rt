@@ -1,22 +1,21 @@
 //! The records of a capture, read one after another in bounded memory.
 
 ghost use Rattle.std.specs.Prelude.{◌≡◌, ◌≤◌, ◌⊎◌, ℕ, List, [], IfOk, IfErr, IfSome, length};
-ghost use Rattle.capture.specs.Capture.{IfRecord, state, state_of, octets_of, count_of, GivesNext, IsInOrder, packet_of};
+ghost use Rattle.capture.specs.Capture.{IfRecord, state, state_of, octets_of, count_of, packet_of, GivesNext};
+ghost use Rattle.capture.specs.Capture.{IsInOrder};
 ghost use Rattle.capture.specs.Packet.{packet_in, IsPlace};
 ghost use Rattle.capture.specs.Reader.{Reads};
 ghost use Rattle.capture.specs.Taken.{BlockTakes, BlockGives, StepGives, SectionTakes, InterfaceTakes, PacketTakes};
-ghost use Rattle.capture.specs.Taken.{IfPacket, IsWholeBlock};
-
-mod shown;
+ghost use Rattle.capture.specs.Taken.{IfPacket, RecordGives, IsWholeBlock};
 
 use crate::ending::{Ending, Fault};
 use crate::order::Order;
 use crate::packet::Packet;
-use crate::pcap::{self, FileHeader};
+use crate::pcap::{self, FileHeader, RecordHeader};
 use crate::pcapng::{self, Head, Interface};
 use crate::reader::fill;
 use crate::time::Time;
-use shown::{Block, read_octets, read_record};
+use crate::unit::{Taken, read_unit};
 use std::alloc::Global;
 use std::io::BufRead;
 
@@ -166,7 +165,7 @@ impl Capture {
         self.octets.clear();
         match self.stage {
             Stage::Start => self.read_first(input),
-            Stage::File(header) => read_record(input, &mut self.octets, header),
+            Stage::File(header) => self.read_record(input, header),
             Stage::Section(section) => self.read_block(input, section),
             Stage::End(ending) => Ok(Step::Ended(ending)),
         }
@@ -197,6 +196,24 @@ impl Capture {
         }
     }
 
+    // Reads the next record of a file with a header.
+    fn read_record<R: BufRead>(&mut self, input: &mut R, header: FileHeader) -> Result<Step, Fault>
+        requires { self.old.octets.items ≡ [] }
+        ensures gives { IfOk result (λ step. (all : List ℕ) → Reads all (R.remaining input.old) [] 0
+            → RecordGives header all step self.new.octets.items (R.remaining input.new)) }
+        ensures place { IfOk result (λ step. IfPacket step (λ k. IsPlace k self.new.octets.items)) }
+        ensures state { state_of self.new ≡ state_of self.old }
+        ensures count { count_of self.new ≡ count_of self.old }
+        ensures fault { IfErr result (λ fault. (fault ≡ Fault.Read) ⊎ (fault ≡ Fault.Memory)) }
+    {
+        let record: Taken<RecordHeader> = read_unit(input, &mut self.octets, header.order)?;
+        match record {
+            Taken::Passed(_) => Ok(Step::Passed),
+            Taken::Read(head) => Ok(Step::Packet(pcap::packet(&header, &head))),
+            Taken::Ended(ending) => Ok(Step::Ended(ending)),
+        }
+    }
+
     // Reads the next block of a section, of which some bytes may be read.
     fn read_block<R: BufRead>(&mut self, input: &mut R, section: Order) -> Result<Step, Fault>
         requires { length self.old.octets.items ≤ 12 }
@@ -208,14 +225,14 @@ impl Capture {
         ensures count { count_of self.new ≡ count_of self.old }
         ensures fault { IfErr result (λ fault. (fault ≡ Fault.Read) ⊎ (fault ≡ Fault.Memory)) }
     {
-        let block = read_octets(input, &mut self.octets, section)?;
+        let block: Taken<Head> = read_unit(input, &mut self.octets, section)?;
         match block {
-            Block::Passed(_) => {
+            Taken::Passed(_) => {
                 self.stage = Stage::Section(section);
                 Ok(Step::Passed)
             }
-            Block::Read(head) => self.take_block(section, head),
-            Block::Ended(ending) => Ok(Step::Ended(ending)),
+            Taken::Read(head) => self.take_block(section, head),
+            Taken::Ended(ending) => Ok(Step::Ended(ending)),
         }
     }
 

@@ -6,10 +6,12 @@ ghost use Rattle.capture.specs.Pcap.{HasMagic, IsFileHeader, FileEnds, IsRecordH
 ghost use Rattle.capture.specs.declared.ending.Ending.{Ending};
 ghost use Rattle.capture.specs.declared.pcap.FileHeader.{FileHeader as Header};
 
+use crate::capture::MOST_OCTETS;
 use crate::ending::Ending;
 use crate::order::Order;
 use crate::packet::Packet;
 use crate::time::Time;
+use crate::unit::UnitHead;
 
 // The fields of both headers; their pictures are in specs/Pcap.antt.
 mod field {
@@ -126,6 +128,39 @@ impl RecordHeader {
             captured_len: order.u32_at(octets, field::CAPTURED_LEN),
             original_len: order.u32_at(octets, field::ORIGINAL_LEN),
         }
+    }
+}
+
+impl UnitHead for RecordHeader {
+    ghost use Rattle.capture.specs.Unit.{record_form};
+
+    ghost LEN = { 16 };
+
+    ghost form = { record_form };
+
+    const LEN: usize = RECORD_HEADER_LEN;
+
+    #[inline]
+    fn of(order: Order, octets: &[u8]) -> Result<RecordHeader, Ending> {
+        if octets.is_empty() {
+            return Err(Ending::Whole);
+        }
+        if octets.len() < RECORD_HEADER_LEN {
+            return Err(Ending::Cut);
+        }
+        let head = RecordHeader::parse(order, octets);
+        if head.captured_len > MOST_OCTETS {
+            return Err(Ending::TooLarge);
+        }
+        Ok(head)
+    }
+
+    fn unit_len(&self) -> usize {
+        RECORD_HEADER_LEN + self.captured_len as usize
+    }
+
+    fn is_read(&self) -> bool {
+        true
     }
 }
 

@@ -2,7 +2,8 @@
 
 ghost use Rattle.std.specs.Prelude.{◌≡◌, ◌≤◌, ◌↔◌, IfOk, IfErr, IfSome, IsOk, IsOkAnd, IsSomeAnd, IsTrue, length};
 ghost use Rattle.capture.specs.Order.{number_in};
-ghost use Rattle.capture.specs.Pcapng.{kind_field, IsSectionKind, HasOrder, IsRead, IsHead, HeadEnds, IsClosed, IsSection, SectionEnds};
+ghost use Rattle.capture.specs.Pcapng.{kind_field, IsSectionKind, HasOrder, IsRead, IsHead, HeadEnds};
+ghost use Rattle.capture.specs.Pcapng.{IsClosed, IsSection, SectionEnds};
 ghost use Rattle.capture.specs.Pcapng.{HasResolution, IsInterface, IsTimed, IsSimple, IsPacket};
 ghost use Rattle.capture.specs.Pcapng.{kept_len};
 ghost use Rattle.capture.specs.Packet.{PacketValue, packet_in, IsPlace};
@@ -14,6 +15,7 @@ use crate::ending::Ending;
 use crate::order::Order;
 use crate::packet::Packet;
 use crate::time::Time;
+use crate::unit::UnitHead;
 use wirebase::{Error, Octets};
 
 // The fields of the blocks; their pictures are in specs/Pcapng.antt.
@@ -145,6 +147,28 @@ impl Head {
             kind,
             total_len,
         })
+    }
+}
+
+impl UnitHead for Head {
+    ghost use Rattle.capture.specs.Unit.{block_form};
+
+    ghost LEN = { 12 };
+
+    ghost form = { block_form };
+
+    const LEN: usize = HEAD_LEN;
+
+    fn of(order: Order, octets: &[u8]) -> Result<Head, Ending> {
+        Head::parse(order, octets)
+    }
+
+    fn unit_len(&self) -> usize {
+        self.total_len as usize
+    }
+
+    fn is_read(&self) -> bool {
+        is_read(self.kind)
     }
 }
 

@@ -1,7 +1,10 @@
 //! Bytes of an input, so many at a time.
 
-ghost use Rattle.std.specs.Prelude.{◌≡◌, ◌≤◌, ◌-◌, ◌++◌, ◌⊎◌, ℕ, List, IfOk, IfErr, OnOk, length};
-ghost use Rattle.capture.specs.Reader.{Takes, TakesPart, Skips, SkipsPart};
+ghost use Rattle.std.specs.Prelude.{◌≡◌, ◌≤◌, ◌-◌, ◌++◌, ◌⊎◌, ℕ, List, [], IfOk, IfErr, IfSome, OnOk, length};
+ghost use Rattle.std.specs.Borrow.{sem};
+ghost use Rattle.std.specs.Io.{StartsWith};
+ghost use Rattle.std.specs.Io.BufRead.{Rests};
+ghost use Rattle.capture.specs.Reader.{Takes, TakesPart, Skips, SkipsPart, LookKeeps};
 
 use crate::ending::Fault;
 use std::io::{BufRead, ErrorKind};
@@ -32,15 +35,8 @@ fn take_part<R: BufRead>(input: &mut R, octets: &mut Vec<u8>, missing: usize) ->
         octets.old.items octets.new.items missing ended) }
     ensures fault { IfErr result (λ fault. (fault ≡ Fault.Read) ⊎ (fault ≡ Fault.Memory)) }
 {
-    let shown = match input.fill_buf() {
-        Ok(shown) => shown,
-        Err(error) => {
-            return if error.kind() == ErrorKind::Interrupted {
-                Ok(false)
-            } else {
-                Err(Fault::Read)
-            };
-        }
+    let Some(shown) = look(input)? else {
+        return Ok(false);
     };
     let count = shown.len().min(missing);
     let Ok(()) = octets.extend_from_slice(&shown[..count]) else {
@@ -74,17 +70,28 @@ fn skip_part<R: BufRead>(input: &mut R, missing: usize) -> Result<(usize, bool),
         answer.0 answer.1) }
     ensures fault { IfErr result (λ fault. fault ≡ Fault.Read) }
 {
-    let shown = match input.fill_buf() {
-        Ok(shown) => shown.len(),
-        Err(error) => {
-            return if error.kind() == ErrorKind::Interrupted {
-                Ok((0, false))
-            } else {
-                Err(Fault::Read)
-            };
-        }
+    let Some(shown) = look(input)? else {
+        return Ok((0, false));
     };
-    let count = shown.min(missing);
+    let len = shown.len();
+    let count = len.min(missing);
     input.consume(count);
-    Ok((count, count == missing || shown == 0))
+    Ok((count, count == missing || len == 0))
+}
+
+/// What the input's buffer shows, or none where the reading of more was interrupted, so that it is to be tried again.
+pub fn look<R: BufRead>(input: &mut R) -> Result<Option<&[u8]>, Fault>
+    ensures front { IfSome (R.remaining input.old) (λ xs. IfOk result (λ shown. IfSome shown (λ s.
+        StartsWith xs s.now))) }
+    ensures end { IfSome (R.remaining input.old) (λ xs. IfOk result (λ shown. IfSome shown (λ s.
+        length s.now ≡ 0 → xs ≡ []))) }
+    ensures* after_borrow { sem 𝓛 (Rests R.row input.entry (λ new.
+        LookKeeps (R.remaining input.old) (R.remaining new) (R.consumable_len new) result)) }
+    ensures fault { IfErr result (λ fault. fault ≡ Fault.Read) }
+{
+    match input.fill_buf() {
+        Ok(shown) => Ok(Some(shown)),
+        Err(error) if error.kind() == ErrorKind::Interrupted => Ok(None),
+        Err(_) => Err(Fault::Read),
+    }
 }

@@ -1,5 +1,6 @@
 -- What comes next is told by how far the capture is read.
-use Rattle.std.proofs.Common.{sym, subst, arith}
+use Rattle.std.proofs.Common.{sym, subst, ap, ◌∙◌, arith}
+use Rattle.capture.specs.Capture.{State, state_of}
 use Rattle.capture.specs.Reader.{Reads}
 use Rattle.capture.proofs.Sections.{if_ok}
 use Rattle.capture.proofs.Units.{record_gives, block_gives}
@@ -8,8 +9,8 @@ use Rattle.capture.proofs.capture.Capture.read_step.Goals as goal
 pub returns-in-File-clause-gives : goal.returns-in-File-clause-gives
 returns-in-File-clause-gives g c =
     if_ok _ _ c.read_record.result
-    (λ s t all none. record_gives _ all _ _ _ c.in-File.header c.in-File.is c.in-File.is s (t all none))
-    c.read_record.ensures.gives
+    (λ s t all none. record_gives (state_of c.args.self.now) all _ (state_of c.read_record.new.self) _ c.in-File.header
+    c.in-File.is (ap State.stage c.read_record.ensures.state ∙ c.in-File.is) s (t all none)) c.read_record.ensures.gives
 
 pub returns-in-Section-clause-gives : goal.returns-in-Section-clause-gives
 returns-in-Section-clause-gives g c =
