@@ -1,6 +1,6 @@
 //! The records and blocks of an input: taken in one step where its buffer shows the whole of one, else read in parts.
 
-ghost use Rattle.std.specs.Prelude.{◌≡◌, ◌≤◌, ◌↔◌, ◌⊎◌, ℕ, List, IfOk, IfErr, IfSome, IsTrue, OnOk, length, take};
+ghost use Rattle.std.specs.Prelude.{◌≡◌, ◌≤◌, ◌↔◌, ◌⊎◌, ℕ, List, IfOk, IfErr, IsTrue, OnOk, length, take};
 ghost use Rattle.capture.specs.Reader.{Reads};
 ghost use Rattle.capture.specs.Unit.{Form, UnitReads, IfRead};
 
@@ -72,33 +72,28 @@ pub fn read_unit<R: BufRead, H: UnitHead>(
     if shown.is_empty() {
         return Ok(Taken::Ended(Ending::Whole));
     }
-    let Some(head) = shown_head::<H>(order, shown) else {
+    let Some(front) = shown.get(..H::LEN) else {
+        return read_parts(input, octets, order);
+    };
+    let Ok(head) = H::of(order, front) else {
         return read_parts(input, octets, order);
     };
     let len = head.unit_len();
     if shown.len() < len {
         return read_rest(input, octets, head);
     }
-    let taken = if head.is_read() {
+    let is_read = head.is_read();
+    if is_read {
         let Ok(()) = octets.extend_from_slice(&shown[..len]) else {
             return Err(Fault::Memory);
         };
+    }
+    input.consume(len);
+    Ok(if is_read {
         Taken::Read(head)
     } else {
         Taken::Passed(head)
-    };
-    input.consume(len);
-    Ok(taken)
-}
-
-// The head at the front of the octets, where it is there and not refused.
-fn shown_head<H: UnitHead>(order: Order, octets: &[u8]) -> Option<H>
-    ensures head { IfSome result (λ h. H.form.IsHead order (take H.LEN octets.now) h) }
-    ensures there { IfSome result (λ h. H.LEN ≤ length octets.now) }
-    ensures least { IfSome result (λ h. H.LEN ≤ H.form.unit_len h) }
-    ensures most { IfSome result (λ h. H.form.unit_len h ≤ usize.MAX) }
-{
-    H::of(order, octets.get(..H::LEN)?).ok()
+    })
 }
 
 // Reads the octets of the next record or block, its head first and then the rest, or passes over it.
