@@ -41,7 +41,7 @@ are_short-long [] word more long = rw long refl
 are_short-long (first ∷ words) word more long =
     rw (are_short-long words word more long) (and-false (nat_le (length first) 131070))
 
-shape_of-long : (words : List (List ℕ)) (word : List ℕ) (more : List (List ℕ)) → nat_le (length word) 131070 ≡ false
+pub shape_of-long : (words : List (List ℕ)) (word : List ℕ) (more : List (List ℕ)) → nat_le (length word) 131070 ≡ false
     → shape_of (words ++ (word ∷ more)) ≡ bad
 shape_of-long words word more long = rw (are_short-long words word more long) refl
 

@@ -6,6 +6,7 @@ ghost use Rattle.std.specs.Prelude.{◌≡◌, ◌≢◌, ◌<◌, ◌≤◌, �
 const STEP: usize = 16;
 
 /// How many spaces are in front. The first ones are looked at one by one, since most words have one before them.
+#[inline(always)]
 pub fn spaces_len(octets: &[u8]) -> usize
     ensures bound { result ≤ length octets.now }
     ensures spaces { All (λ octet. octet ≡ 32) (take result octets.now) }

@@ -1,14 +1,15 @@
 //! The shape of a line: a command and a packet, or nothing that is known.
 
-ghost use Rattle.std.specs.Prelude.{◌≡◌, [], ◌∷◌, IfOk, IfErr, map, option_map};
+ghost use Rattle.std.specs.Prelude.{◌≡◌, IfOk, IfErr, map, true};
 ghost use Rattle.std.specs.Io.BufRead.{strip_last};
-ghost use Rattle.wiredump.specs.Lines.{are_short as all_short, words_in};
-ghost use Rattle.wiredump.specs.Listing.{line_shape, shape_of, shape_with};
+ghost use Rattle.wiredump.specs.Lines.{are_short, words_in};
+ghost use Rattle.wiredump.specs.Listing.{line_shape, shape_of};
 ghost use Rattle.wiredump.specs.Shapes.{seen};
 
 use crate::Fault;
 use crate::command::Command;
-use crate::words::{MOST_OCTETS, next_word, read_word_into};
+use crate::words::{MOST_OCTETS, MOST_WORDS, next_word, read_word};
+use arrayvec::ArrayVec;
 use std::alloc::Global;
 
 /// The shape of a line.
@@ -36,100 +37,39 @@ impl<'a> Shape<'a> {
         ensures shape { IfOk result (λ shape. seen shape ≡ shape_of (words_in text.now)) }
         ensures fault { IfErr result (λ fault. fault ≡ Fault.Memory) }
     {
-        let (word, rest) = next_word(text);
-        if word.is_empty() {
-            return Ok(Shape::Blank);
+        let mut words = ArrayVec::<&[u8], MOST_WORDS>::new();
+        let mut rest = text;
+        loop {
+            let (word, behind) = next_word(rest);
+            if word.is_empty() {
+                return Shape::of_words(alloc, room, words.as_slice());
+            }
+            if word.len() > MOST_OCTETS || words.try_push(word).is_err() {
+                return Ok(Shape::Bad);
+            }
+            rest = behind;
         }
-        let (first, rest) = next_word(rest);
-        if first.is_empty() {
-            return Ok(Shape::Bad);
-        }
-        let (second, rest) = next_word(rest);
-        if second.is_empty() {
-            return Shape::of_two(alloc, room, word, first);
-        }
-        let (third, rest) = next_word(rest);
-        if third.is_empty() {
-            return Shape::of_three(alloc, room, word, first, second);
-        }
-        let (fourth, _) = next_word(rest);
-        if fourth.is_empty() {
-            return Shape::of_four(alloc, room, word, first, second, third);
-        }
-        Ok(Shape::Bad)
     }
 
-    // The shape of a line of two words: a command and a packet.
-    fn of_two(
-        alloc: Global,
-        room: &'a mut Vec<u8>,
-        word: &[u8],
-        packet: &[u8],
-    ) -> Result<Shape<'a>, Fault>
-        ensures shape { IfOk result (λ shape. seen shape ≡ shape_of (word.now ∷ packet.now ∷ [])) }
-        ensures fault { IfErr result (λ fault. fault ≡ Fault.Memory) }
-    {
-        if !are_short(&[word, packet]) {
-            return Ok(Shape::Bad);
-        }
-        let packet = read_word_into(alloc, room, packet)?;
-        Ok(Shape::with(Command::alone(word), packet))
-    }
-
-    // The same with a word between.
-    fn of_three(
-        alloc: Global,
-        room: &'a mut Vec<u8>,
-        word: &[u8],
-        first: &[u8],
-        packet: &[u8],
-    ) -> Result<Shape<'a>, Fault>
+    // The shape of a line of these words.
+    fn of_words(alloc: Global, room: &'a mut Vec<u8>, words: &[&[u8]]) -> Result<Shape<'a>, Fault>
+        requires { are_short (map (λ word. word.now) words.now) ≡ true }
         ensures shape { IfOk result (λ shape.
-            seen shape ≡ shape_of (word.now ∷ first.now ∷ packet.now ∷ [])) }
+            seen shape ≡ shape_of (map (λ word. word.now) words.now)) }
         ensures fault { IfErr result (λ fault. fault ≡ Fault.Memory) }
     {
-        if !are_short(&[word, first, packet]) {
-            return Ok(Shape::Bad);
-        }
-        let packet = read_word_into(alloc, room, packet)?;
-        Ok(Shape::with(Command::at(word, first), packet))
-    }
-
-    // The same with two words between.
-    fn of_four(
-        alloc: Global,
-        room: &'a mut Vec<u8>,
-        word: &[u8],
-        first: &[u8],
-        second: &[u8],
-        packet: &[u8],
-    ) -> Result<Shape<'a>, Fault>
-        ensures shape { IfOk result (λ shape.
-            seen shape ≡ shape_of (word.now ∷ first.now ∷ second.now ∷ packet.now ∷ [])) }
-        ensures fault { IfErr result (λ fault. fault ≡ Fault.Memory) }
-    {
-        if !are_short(&[word, first, second, packet]) {
-            return Ok(Shape::Bad);
-        }
-        let packet = read_word_into(alloc, room, packet)?;
-        Ok(Shape::with(Command::between(word, first, second), packet))
-    }
-
-    fn with(command: Option<Command>, packet: Option<&'a [u8]>) -> Shape<'a>
-        ensures { seen result ≡ shape_with command (option_map (λ octets. octets.now) packet.entry) }
-    {
-        match command {
-            Some(command) => match packet {
-                Some(packet) => {
-                    if command.reads(packet) {
-                        Shape::Packet(command, packet)
-                    } else {
-                        Shape::Bad
-                    }
+        match words {
+            [] => Ok(Shape::Blank),
+            [word, arguments @ .., packet] => {
+                let Some(command) = Command::of(word, arguments) else {
+                    return Ok(Shape::Bad);
+                };
+                match read_word(alloc, room, packet)? {
+                    Some(packet) if command.reads(packet) => Ok(Shape::Packet(command, packet)),
+                    _ => Ok(Shape::Bad),
                 }
-                None => Shape::Bad,
-            },
-            None => Shape::Bad,
+            }
+            [_] => Ok(Shape::Bad),
         }
     }
 }
@@ -142,16 +82,4 @@ pub fn without_cr(line: &[u8]) -> &[u8]
         [front @ .., b'\r'] => front,
         _ => line,
     }
-}
-
-// Whether each word has an octet count that a word may have.
-fn are_short(words: &[&[u8]]) -> bool
-    ensures { result ≡ all_short (map (λ word. word.now) words.now) }
-{
-    for word in words {
-        if word.len() > MOST_OCTETS {
-            return false;
-        }
-    }
-    true
 }

@@ -1,8 +1,8 @@
 //! Lines of every shape, and at the limits of what a line may have.
 
 use super::{append, check_input, check_line, check_run, joined, repeated};
-use crate::read_word;
 use crate::testing::{holds_of, same_of};
+use crate::words::read_word;
 use std::alloc::Global;
 use std::fmt::{Debug, Write};
 use std::process::Abort;
@@ -134,11 +134,12 @@ fn check_length(
 // A word of so many digits is so many octets, or none, and a line of it prints this.
 fn check_digits(rt: &impl Abort, alloc: Global, digits: usize, length: Option<usize>, want: &str) {
     let word = repeated(rt, alloc, &[("0", digits)]);
-    let Ok(octets) = read_word(alloc, word.as_bytes()) else {
+    let mut room = Vec::new(alloc);
+    let Ok(octets) = read_word(alloc, &mut room, word.as_bytes()) else {
         holds_of(rt, digits, false);
         return;
     };
-    let octets_len = octets.as_ref().map(|octets| octets.len());
+    let octets_len = octets.map(|octets| octets.len());
     same_of(rt, digits, octets_len, length);
     let line = joined(rt, alloc, &["hbh ", word.as_str()]);
     let (input, want) = (line.as_bytes(), want.as_bytes());

@@ -1,17 +1,22 @@
 //! Words, and what they spell.
 
-use crate::read_word;
 use crate::testing::{holds_of, same_of};
-use crate::words::{read_address, read_offset};
+use crate::words::{read_address, read_offset, read_word};
 use std::alloc::Global;
 use std::process::Abort;
 
-fn check_word(rt: &impl Abort, alloc: Global, text: &str, octets: Option<&[u8]>) {
-    let Ok(word) = read_word(alloc, text.as_bytes()) else {
+fn check_word(
+    rt: &impl Abort,
+    alloc: Global,
+    room: &mut Vec<u8>,
+    text: &str,
+    octets: Option<&[u8]>,
+) {
+    let Ok(word) = read_word(alloc, room, text.as_bytes()) else {
         holds_of(rt, text, false);
         return;
     };
-    same_of(rt, text, word.as_ref().map(|word| word.as_slice()), octets);
+    same_of(rt, text, word, octets);
 }
 
 #[test]
@@ -22,6 +27,7 @@ fn words_and_the_octets_they_spell(rt: HostRuntime) {
         ("0f", Some(b"\x0f")),
         ("f0", Some(b"\xf0")),
         ("09afAF", Some(b"\x09\xaf\xaf")),
+        ("ff", Some(b"\xff")),
         ("", None),
         ("0", None),
         ("012", None),
@@ -35,8 +41,10 @@ fn words_and_the_octets_they_spell(rt: HostRuntime) {
         ("0g", None),
         (" 00", None),
     ];
+    // The room is kept, so that shorter words stand where longer ones did.
+    let mut room = Vec::new(rt.alloc());
     for &(text, octets) in ROWS {
-        check_word(&rt, rt.alloc(), text, octets);
+        check_word(&rt, rt.alloc(), &mut room, text, octets);
     }
 }
 

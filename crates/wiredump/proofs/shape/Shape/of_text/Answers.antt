@@ -1,60 +1,37 @@
--- The words are cut off in turn, until there is none.
-use Rattle.std.proofs.Common.{refl, sym, ◌∙◌, eqb-true}
+-- Each turn cuts a word off, which is too long, one too many, or kept.
+use Rattle.std.proofs.Common.{◌≡◌, [], ◌∷◌, ◌++◌, ◌∙◌, ap, append_assoc, length, map, rules, sym}
+use Rattle.std.proofs.lemmas.List.{length-map, map-append}
 use Rattle.wiredump.specs.Lines.{words_in}
-use Rattle.wiredump.proofs.Shaping.{some_octet, shape_of-one, shape_of-many}
+use Rattle.wiredump.specs.Listing.{shape_of}
+use Rattle.wiredump.proofs.Shaping.{some_octet, are_short-more, shape_of-full, shape_of-too_long}
+use Rattle.wiredump.proofs.shape.Shape.of_text.Goals.{then-word-gt-MOST_OCTETS-via-then-word-gt-MOST_OCTETS}
+use Rattle.wiredump.proofs.shape.Shape.of_text.Goals.{then-word-gt-MOST_OCTETS-via-else-word-gt-MOST_OCTETS+then-is_err}
 use Rattle.wiredump.proofs.shape.Shape.of_text.Goals as goal
 
-pub returns-then-is_empty-clause-shape : goal.returns-then-is_empty-clause-shape
-returns-then-is_empty-clause-shape c =
-    rw (c.next_word.ensures.none (eqb-true _ _ (sym c.is_empty.ensures ∙ c.if-is_empty.true)))
-    refl
+pub returns-then-word-gt-MOST_OCTETS-clause-shape :
+    goal.returns-then-word-gt-MOST_OCTETS-clause-shape
+returns-then-word-gt-MOST_OCTETS-clause-shape c =
+    let cut = c.next_word.ensures.some (some_octet _ _ c.is_empty.ensures c.if-is_empty.false) in
+    let kept = map (λ word. word.now) c.loop-word.words.items in
+    let more = words_in c.next_word.result.1.now in
+    let words = c.loop-word.invariant.so_far ∙ ap (λ l. kept ++ l) cut in
+    elim c.then-word-gt-MOST_OCTETS.branch [
+      | then-word-gt-MOST_OCTETS-via-then-word-gt-MOST_OCTETS w ↦
+          sym (ap shape_of words ∙ shape_of-too_long kept _ more w.if-word-gt-MOST_OCTETS.true)
+      | then-word-gt-MOST_OCTETS-via-else-word-gt-MOST_OCTETS+then-is_err w ↦
+          let full : length c.loop-word.words.items ≡ 4 = search rules in
+          sym (ap shape_of words
+          ∙ shape_of-full kept _ more (length-map c.loop-word.words.items (λ word. word.now) ∙ full))
+    ]
 
-pub returns-then-is_empty-2-clause-shape : goal.returns-then-is_empty-2-clause-shape
-returns-then-is_empty-2-clause-shape c =
-    rw (
-      c.next_word.ensures.some (some_octet _ _ c.is_empty.ensures c.if-is_empty.false),
-      c.next_word-2.ensures.none (eqb-true _ _ (sym c.is_empty-2.ensures ∙ c.if-is_empty-2.true)),
-    )
-    (sym (shape_of-one _))
-
-pub returns-then-is_empty-3-clause-shape : goal.returns-then-is_empty-3-clause-shape
-returns-then-is_empty-3-clause-shape c =
-    rw (
-      c.next_word.ensures.some (some_octet _ _ c.is_empty.ensures c.if-is_empty.false),
-      c.next_word-2.ensures.some (some_octet _ _ c.is_empty-2.ensures c.if-is_empty-2.false),
-      c.next_word-3.ensures.none (eqb-true _ _ (sym c.is_empty-3.ensures ∙ c.if-is_empty-3.true)),
-    )
-    c.of_two.ensures.shape
-
-pub returns-then-is_empty-4-clause-shape : goal.returns-then-is_empty-4-clause-shape
-returns-then-is_empty-4-clause-shape c =
-    rw (
-      c.next_word.ensures.some (some_octet _ _ c.is_empty.ensures c.if-is_empty.false),
-      c.next_word-2.ensures.some (some_octet _ _ c.is_empty-2.ensures c.if-is_empty-2.false),
-      c.next_word-3.ensures.some (some_octet _ _ c.is_empty-3.ensures c.if-is_empty-3.false),
-      c.next_word-4.ensures.none (eqb-true _ _ (sym c.is_empty-4.ensures ∙ c.if-is_empty-4.true)),
-    )
-    c.of_three.ensures.shape
-
-pub returns-then-is_empty-5-clause-shape : goal.returns-then-is_empty-5-clause-shape
-returns-then-is_empty-5-clause-shape c =
-    rw (
-      c.next_word.ensures.some (some_octet _ _ c.is_empty.ensures c.if-is_empty.false),
-      c.next_word-2.ensures.some (some_octet _ _ c.is_empty-2.ensures c.if-is_empty-2.false),
-      c.next_word-3.ensures.some (some_octet _ _ c.is_empty-3.ensures c.if-is_empty-3.false),
-      c.next_word-4.ensures.some (some_octet _ _ c.is_empty-4.ensures c.if-is_empty-4.false),
-      c.next_word-5.ensures.none (eqb-true _ _ (sym c.is_empty-5.ensures ∙ c.if-is_empty-5.true)),
-    )
-    c.of_four.ensures.shape
-
-pub returns-clause-shape : goal.returns-clause-shape
-returns-clause-shape c =
-    rw (
-      c.next_word.ensures.some (some_octet _ _ c.is_empty.ensures c.if-is_empty.false),
-      c.next_word-2.ensures.some (some_octet _ _ c.is_empty-2.ensures c.if-is_empty-2.false),
-      c.next_word-3.ensures.some (some_octet _ _ c.is_empty-3.ensures c.if-is_empty-3.false),
-      c.next_word-4.ensures.some (some_octet _ _ c.is_empty-4.ensures c.if-is_empty-4.false),
-      c.next_word-5.ensures.some (some_octet _ _ c.is_empty-5.ensures c.if-is_empty-5.false),
-    )
-    (sym (shape_of-many c.next_word.result.0.now c.next_word-2.result.0.now c.next_word-3.result.0.now
-    c.next_word-4.result.0.now c.next_word-5.result.0.now (words_in c.next_word-5.result.1.now)))
+pub loop-word-preserved : goal.loop-word-preserved
+loop-word-preserved c =
+    let cut = c.next_word.ensures.some (some_octet _ _ c.is_empty.ensures c.if-is_empty.false) in
+    let kept = map (λ word. word.now) c.loop-word.words.items in
+    let items : c.try_push.new.self.items ≡ c.loop-word.words.items ++ (c.next_word.result.0 ∷ []) = search rules in
+    record {
+      so_far = rw (items, map-append)
+          (c.loop-word.invariant.so_far ∙ ap (λ l. kept ++ l) cut ∙ sym (append_assoc kept _ _));
+      short = rw (items, map-append)
+          (are_short-more kept _ c.loop-word.invariant.short c.if-word-gt-MOST_OCTETS.false);
+    }
