@@ -1,6 +1,7 @@
 -- The first line of what is at hand, and what is printed for it.
 use Rattle.std.proofs.Common.{◌≡◌, ◌≢◌, ℕ, ◌+◌, ◌<◌, Bool, List, [], ◌∷◌, ◌++◌, All, length, get_or, take, Option, None}
-use Rattle.std.proofs.Common.{Some, Result, Ok, Err, IfOk, IfSome, OnSome, ap, sym, ◌∙◌, arith, append_assoc, length-append}
+use Rattle.std.proofs.Common.{Some, Result, Ok, Err, IfOk, IfSome, OnSome, ap, sym, ◌∙◌, arith, append_assoc}
+use Rattle.std.proofs.Common.{length-append}
 use Rattle.std.proofs.lemmas.List.{take_more}
 use Rattle.std.specs.Io.KnownBytes.{Consumes, IsAtEnd, Keeps}
 use Rattle.std.specs.Io.BufRead.{strip_last, take_through, drop_through}

@@ -5,10 +5,11 @@ ghost use Rattle.std.specs.Io.KnownBytes.{Consumes, IsAtEnd};
 ghost use Rattle.wiredump.specs.Glances.{Sees};
 
 use crate::Fault;
+use crate::reading::try_again;
 use crate::search::len_before;
 use crate::shape::Shape;
 use std::alloc::Global;
-use std::io::{BufRead, ErrorKind};
+use std::io::BufRead;
 
 /// What a look at an input tells of its next line.
 #[derive(Clone, Copy)]
@@ -35,11 +36,8 @@ pub fn look<'a, R: BufRead>(
     let available = match input.fill_buf() {
         Ok(available) => available,
         Err(error) => {
-            return if error.kind() == ErrorKind::Interrupted {
-                Ok(Glance::Part)
-            } else {
-                Err(Fault::Read)
-            };
+            try_again(&error)?;
+            return Ok(Glance::Part);
         }
     };
     let (count, glance) = look_at(alloc, room, available)?;

@@ -183,8 +183,8 @@ fn long_input(rt: &impl Abort, alloc: Global) -> String {
     repeated(rt, alloc, &[(lines.as_str(), 1), (long.as_str(), 60)])
 }
 
-// Compares what was printed to a sink with what is printed to one that never fails, or with so many octets of that where
-// a write failed; true where none did.
+// Compares what was printed to a sink with what is printed to one that never fails, or with so many octets of that
+// where a write failed; true where none did.
 fn check_written(
     rt: &impl Abort,
     fails_at: usize,
@@ -204,8 +204,8 @@ fn check_written(
     false
 }
 
-// Compares what is printed to a sink that fails at one call, or from it on; true where no write failed. What it was given
-// when it failed is given again.
+// Compares what is printed to a sink that fails at one call, or from it on; true where no write failed. What it was
+// given when it failed is given again.
 fn check_sink(
     rt: &impl Abort,
     alloc: Global,

@@ -5,8 +5,8 @@ use Rattle.std.proofs.BufReadLemmas.{Consumes_shown}
 use Rattle.wiredump.proofs.Looking.{all_left}
 use Rattle.wiredump.proofs.glance.look.Goals as goal
 
-pub returns-then-eq-clause-sees : goal.returns-then-eq-clause-sees
-returns-then-eq-clause-sees g c = all_left _ _ c.fill_buf.follows.holds-at-none.0
+pub returns-in-Err-clause-sees : goal.returns-in-Err-clause-sees
+returns-in-Err-clause-sees g c = all_left _ _ c.fill_buf.follows.holds-at-none.0
 
 pub returns-clause-sees : goal.returns-clause-sees
 returns-clause-sees g c =
