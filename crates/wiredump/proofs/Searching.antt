@@ -1,6 +1,6 @@
 -- Octets that stand in a front of others, or do not.
 use Rattle.std.proofs.Common.{◌≡◌, ◌≢◌, ℕ, ◌+◌, ◌*◌, ◌-◌, ◌<◌, ◌≤◌, Bool, true, false, List, All, length, take, drop}
-use Rattle.std.proofs.Common.{get_or, Option, None, Some, refl, arith, eq-eqb, length-take-le}
+use Rattle.std.proofs.Common.{◌⊎◌, inl, inr, get_or, Option, None, Some, refl, arith, eq-eqb, length-take-le}
 use Rattle.std.proofs.lemmas.Bool.{eqb-true, not-false}
 use Rattle.std.proofs.lemmas.List.{get_or-take}
 use Rattle.std.proofs.Math.Seq.{take-add}
@@ -44,6 +44,16 @@ either_left false b is = absurd (cc is)
 either_right : (a b : Bool) → b ≡ true → a || b ≡ true
 either_right true b is = refl
 either_right false b is = is
+
+either_true : (a b : Bool) → a || b ≡ true → (a ≡ true) ⊎ (b ≡ true)
+either_true true b is = inl refl
+either_true false b is = inr is
+
+pub is_first_or_second : (first second x : ℕ) → is_byte2 first second x ≡ true → (x ≡ first) ⊎ (x ≡ second)
+is_first_or_second first second x is = elim (either_true (x == first) (x == second) is) [
+  | inl one ↦ inl (eqb-true x first one)
+  | inr other ↦ inr (eqb-true x second other)
+]
 
 pub is_not_first : (first second x : ℕ) → (is_byte2 first second x ≡ true → ⊥) → x ≢ first
 is_not_first first second x fails = λ is. fails (either_left (x == first) (x == second) (eq-eqb x first is))

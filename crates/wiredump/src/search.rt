@@ -1,6 +1,6 @@
 //! Where an octet stands among others: a word's end or a line's, or the end of a run of spaces.
 
-ghost use Rattle.std.specs.Prelude.{◌≡◌, ◌≢◌, ◌<◌, ◌≤◌, All, false, length, slice_index, take};
+ghost use Rattle.std.specs.Prelude.{◌≡◌, ◌≢◌, ◌<◌, ◌≤◌, ◌⊎◌, All, false, length, slice_index, take};
 
 use memchr::{memchr, memchr2};
 
@@ -82,6 +82,8 @@ pub fn len_before_either(octets: &[u8], first: u8, second: u8) -> usize
     ensures bound { result ≤ length octets.now }
     ensures no_first { All (λ octet. octet ≢ first) (take result octets.now) }
     ensures no_second { All (λ octet. octet ≢ second) (take result octets.now) }
+    ensures found { result < length octets.now
+        → (slice_index octets.now result ≡ first) ⊎ (slice_index octets.now result ≡ second) }
 {
     memchr2(first, second, octets).unwrap_or(octets.len())
 }
