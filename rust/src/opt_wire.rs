@@ -9,3 +9,4 @@ pub mod ndiscoption;
 mod plain_reader;
 #[cfg(test)]
 mod testing;
+pub mod writing;

@@ -3,7 +3,7 @@
 
 mod name;
 mod packet;
-mod part;
+pub(crate) mod part;
 mod question;
 mod record;
 mod repr;

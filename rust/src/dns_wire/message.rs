@@ -1,7 +1,8 @@
 // Made from crates/dns_wire/src/message.rt by rust/erase.
-//! The octets behind the view of a message, for the crates above.
+//! The octets behind the view of a message, and the parts of the names in it, for the crates above.
 
 use crate::dns_wire::dns::Packet;
+pub use crate::dns_wire::dns::part::{Front, follow, read_front};
 
 /// The octets of a message, for as long as they live.
 #[inline]

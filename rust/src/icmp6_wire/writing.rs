@@ -6,9 +6,7 @@ use crate::wirebase::{ByteWriter, Ipv6Address};
 
 // Writes the type, the code 0 and no checksum.
 pub(crate) fn put_type(w: &mut ByteWriter<'_>, kind: Message) {
-    w.put_u8(kind.into());
-    w.put_u8(0);
-    w.put_u16(0);
+    w.put_bytes(&[kind.into(), 0, 0, 0]);
 }
 
 // Writes an address.

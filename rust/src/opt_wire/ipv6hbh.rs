@@ -87,6 +87,7 @@ impl<'a> Repr<'a> {
     }
 
     /// The header of the multicast listener reports of version 2: one router alert (RFC 3810 section 5).
+    #[inline]
     pub fn mldv2_router_alert() -> Repr<'a> {
         let mut options = ArrayVec::new();
         options.push(ipv6option::Repr::RouterAlert(
@@ -96,6 +97,7 @@ impl<'a> Repr<'a> {
     }
 
     /// Adds padding, a PadN of `n` bytes of data, last. Requires that the list has room.
+    #[inline]
     pub fn push_padn_option(&mut self, n: u8) {
         self.options.push(ipv6option::Repr::PadN(n));
     }
@@ -133,13 +135,8 @@ fn read_options<'a>(
 // Writes options one after another.
 fn put_options(w: &mut ByteWriter<'_>, options: &[ipv6option::Repr<'_>]) {
     for option in options {
-        put_option(w, option);
+        option.put(w);
     }
-}
-
-// Writes an option.
-fn put_option(w: &mut ByteWriter<'_>, option: &ipv6option::Repr<'_>) {
-    option.emit_into(w.part(option.buffer_len()));
 }
 
 #[cfg(test)]

@@ -156,11 +156,13 @@ impl Default for Repr<'_> {
 impl<'a> Repr<'a> {
     /// The option at the front of the octets. Refused where none stands there whole, and where a router alert
     /// doesn't count 2 bytes of data. What padding is filled with is not looked at.
+    #[inline]
     pub fn parse<B: AsRef<[u8]> + ?Sized>(opt: &Ipv6Option<&'a B>) -> Result<Repr<'a>> {
         Repr::read(opt)
     }
 
     // The option at the front of the octets.
+    #[inline]
     fn read<B: AsRef<[u8]> + ?Sized>(opt: &Ipv6Option<&'a B>) -> Result<Repr<'a>> {
         opt.check_len()?;
         match opt.option_type() {
@@ -202,8 +204,8 @@ impl<'a> Repr<'a> {
         self.put(&mut w);
     }
 
-    // Writes each field of the option.
-    fn put(&self, w: &mut ByteWriter<'_>) {
+    // Writes the text of the option.
+    pub(super) fn put(&self, w: &mut ByteWriter<'_>) {
         match *self {
             Repr::Pad1 => w.put_u8(Type::Pad1.into()),
             Repr::PadN(length) => {
@@ -211,8 +213,8 @@ impl<'a> Repr<'a> {
                 w.put_zeros(length as usize);
             }
             Repr::RouterAlert(alert) => {
-                put_counted(w, Type::RouterAlert, RouterAlert::DATA_LEN);
-                w.put_u16(alert.into());
+                let [high, low] = u16::from(alert).to_be_bytes();
+                w.put_bytes(&[Type::RouterAlert.into(), RouterAlert::DATA_LEN, high, low]);
             }
             Repr::Unknown {
                 type_,
@@ -228,8 +230,7 @@ impl<'a> Repr<'a> {
 
 // Writes the type of an option and the length of its data.
 fn put_counted(w: &mut ByteWriter<'_>, kind: Type, data_len: u8) {
-    w.put_u8(kind.into());
-    w.put_u8(data_len);
+    w.put_bytes(&[kind.into(), data_len]);
 }
 
 impl fmt::Display for Repr<'_> {

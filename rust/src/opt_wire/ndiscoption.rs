@@ -1,6 +1,7 @@
 // Made from crates/opt_wire/src/ndiscoption.rt by rust/erase.
 //! Options of neighbor discovery (RFC 4861 section 4.6).
 
+use crate::opt_wire::writing::UNIT;
 use crate::wirebase::{
     Duration, Error, Ipv6Address, Octets, OctetsMut, RawHardwareAddress, Result,
 };
@@ -14,6 +15,7 @@ pub use tables::{PrefixInfoFlags, Type};
 
 // The fields of an option (RFC 4861 section 4.6), of units of 8 bytes.
 mod field {
+    use crate::opt_wire::writing::UNIT;
     use crate::wirebase::Field;
 
     pub const TYPE: Field = 0..1;
@@ -35,9 +37,6 @@ mod field {
     pub const REDIRECTED_RESERVED: Field = 2..8;
 
     pub const MTU: Field = 4..8;
-
-    // The bytes of a unit.
-    pub const UNIT: usize = 8;
 
     // The data of an option of so many units.
     pub fn data(units: u8) -> Field {
@@ -88,7 +87,7 @@ impl<T: Octets> NdiscOption<T> {
     /// link-layer address of an option that counts no units.
     pub fn check_len(&self) -> Result<()> {
         let len = self.buffer.octets().len();
-        if len < field::UNIT {
+        if len < UNIT {
             return Err(Error);
         }
         let units = self.data_len();
@@ -97,7 +96,7 @@ impl<T: Octets> NdiscOption<T> {
             Type::RedirectedHeader => 6,
             _ => 0,
         };
-        if len < field::UNIT * units as usize || units < least {
+        if len < UNIT * units as usize || units < least {
             return Err(Error);
         }
         Ok(())
@@ -121,7 +120,7 @@ impl<T: Octets> NdiscOption<T> {
     /// The link-layer address of a source or target: what the option has room for, but no more than 8 bytes. Requires
     /// those bytes, and that the option counts one unit or more.
     pub fn link_layer_addr(&self) -> RawHardwareAddress {
-        let room = field::UNIT * self.data_len() as usize - field::LENGTH.end;
+        let room = UNIT * self.data_len() as usize - field::LENGTH.end;
         // The number of bytes is a constant at each call, so that they are copied by moves.
         if room == field::SHORT_ADDR.end - field::SHORT_ADDR.start {
             RawHardwareAddress::from_bytes(self.buffer.field(field::SHORT_ADDR))

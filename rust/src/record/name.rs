@@ -6,13 +6,13 @@ mod part;
 mod text;
 
 use crate::dns_wire::dns::Packet;
-use crate::dns_wire::message::octets_of;
-use crate::record::name::label::{push_octets, split_label};
-use crate::record::name::part::{Mark, labels_len, read_mark};
-use crate::record::name::text::{LabelText, is_root, put_labels};
+use crate::dns_wire::message::{Front, follow, octets_of};
+use crate::record::name::label::{push_end, push_octets};
+use crate::record::name::part::read_labels;
+use crate::record::name::text::{fmt_labels, is_root, put_labels};
 use crate::wirebase::{Error, Result};
 use arrayvec::ArrayVec;
-use core::fmt::{self, Display};
+use core::fmt;
 
 /// The most octets that a name has (RFC 1035 section 2.3.4).
 pub const MAX_NAME_LEN: usize = 255;
@@ -31,9 +31,7 @@ impl Name {
     ) -> Result<Name> {
         let mut octets = ArrayVec::new();
         put_name(&mut octets, octets_of(packet), bytes)?;
-        if octets.try_push(0).is_err() {
-            return Err(Error);
-        }
+        push_end(&mut octets)?;
         Ok(Name { octets })
     }
 
@@ -47,9 +45,7 @@ impl Name {
         }
         let mut octets = ArrayVec::new();
         put_labels(&mut octets, text)?;
-        if octets.try_push(0).is_err() {
-            return Err(Error);
-        }
+        push_end(&mut octets)?;
         Ok(Name { octets })
     }
 
@@ -70,28 +66,27 @@ impl Name {
 // large, so it is written where it stays, and labels that stand side by side are copied as one. A pointer leads to one
 // of the bytes that are open, and leaves those below that place open, so this ends. Refused where there is no name, and
 // where its labels have more than 255 octets.
-fn put_name(octets: &mut ArrayVec<u8, MAX_NAME_LEN>, message: &[u8], bytes: &[u8]) -> Result<()> {
+fn put_name<'a>(
+    octets: &mut ArrayVec<u8, MAX_NAME_LEN>,
+    message: &'a [u8],
+    bytes: &'a [u8],
+) -> Result<()> {
     let mut left = bytes;
     // The bytes of the message that are open.
     let mut reach = message;
     loop {
-        match read_mark(left) {
-            Mark::End => return Ok(()),
-            Mark::Pointer(target) => {
-                if target >= reach.len() {
+        let (len, front) = read_labels(left);
+        push_octets(octets, &left[..len])?;
+        match front {
+            Front::End => return Ok(()),
+            Front::Pointer(target) => {
+                let Some((next, open)) = follow(reach, target) else {
                     return Err(Error);
-                }
-                left = &reach[target..];
-                reach = &reach[..target];
+                };
+                left = next;
+                reach = open;
             }
-            Mark::Other => {
-                let len = labels_len(left);
-                if len == 0 {
-                    return Err(Error);
-                }
-                push_octets(octets, &left[..len])?;
-                left = &left[len..];
-            }
+            Front::Label(..) | Front::Torn => return Err(Error),
         }
     }
 }
@@ -104,29 +99,7 @@ impl fmt::Display for Name {
         if octets.len() == 1 {
             return write!(f, ".");
         }
-        Labels(octets).fmt(f)
-    }
-}
-
-// The same of the labels in octets. It stands apart, so that the root is written without the registers that it needs.
-struct Labels<'a>(&'a [u8]);
-
-impl fmt::Display for Labels<'_> {
-    fn fmt(&self, f: &mut fmt::Formatter<'_>) -> fmt::Result {
-        let Some((first, rest)) = split_label(self.0) else {
-            return f.write_str(".");
-        };
-        let mut label = first;
-        let mut left = rest;
-        loop {
-            LabelText(label).fmt(f)?;
-            let Some((next, rest)) = split_label(left) else {
-                return Ok(());
-            };
-            f.write_str(".")?;
-            label = next;
-            left = rest;
-        }
+        fmt_labels(f, octets)
     }
 }
 

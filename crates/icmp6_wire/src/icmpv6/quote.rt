@@ -11,7 +11,7 @@ ghost use Rattle.icmp6_wire.specs.Icmpv6Tables.{message_number};
 use super::tables::Message;
 use super::{MAX_QUOTED_DATA, field};
 use opt_wire::writing::put_header;
-use wirebase::{ByteWriter, IPV6_HEADER_LEN, Ipv6Packet, Ipv6Repr};
+use wirebase::{ByteWriter, IPV6_HEADER_LEN, Ipv6Packet, Ipv6Repr, icmp};
 
 // The bytes of an error that quotes this header and as much of this data as it may.
 pub(super) fn error_len(quoted: &Ipv6Repr, data: &[u8]) -> usize
@@ -39,7 +39,7 @@ pub(super) fn write_error(
 }
 
 // The same through a writer.
-#[tactic(auto, using(wirebase::proofs::Ipv6Header::header_texts))]
+#[tactic(auto, using(wirebase::proofs::Ipv6Header::header_texts), unfolding(wirebase::specs::ByteWriter::be32))]
 fn put_error(
     w: &mut ByteWriter<'_>,
     kind: Message,
@@ -53,8 +53,7 @@ fn put_error(
     ensures { Puts w.old w.new
         (error_fields (message_number kind) code word quoted.now «data».now) }
 {
-    let [a, b, c, d] = word.to_be_bytes();
-    w.put_bytes(&[kind.into(), code, 0, 0, a, b, c, d]);
+    icmp::put_header(w, kind.into(), code, word.to_be_bytes());
     put_header(w, quoted);
     w.put_bytes(quotable(data));
 }

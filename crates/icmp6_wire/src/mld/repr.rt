@@ -16,7 +16,7 @@ use super::field;
 use super::record::AddressRecordRepr;
 use crate::icmpv6::{Message, Packet};
 use crate::writing::put_address;
-use wirebase::{ByteWriter, Error, Ipv6Address, OctetsMut, Result, are_bytes};
+use wirebase::{ByteWriter, Error, Ipv6Address, OctetsMut, Result, are_bytes, icmp};
 
 /// A message (RFC 3810 section 5).
 #[derive(Debug, PartialEq, Eq, Clone, Copy)]
@@ -221,7 +221,7 @@ fn put_query(
         (query_fields max_resp_code mcast_addr s_flag qrv qqic num_srcs «data».now) }
 {
     let [a, b] = max_resp_code.to_be_bytes();
-    w.put_bytes(&[Message::MldQuery.into(), 0, 0, 0, a, b, 0, 0]);
+    icmp::put_header(w, Message::MldQuery.into(), 0, [a, b, 0, 0]);
     put_address(w, &mcast_addr);
     let flag = if s_flag { 8 } else { 0 };
     let [a, b] = num_srcs.to_be_bytes();
@@ -258,7 +258,7 @@ fn put_report_header(w: &mut ByteWriter<'_>, count: u16)
     ensures room { length (free w.old) ≡ 8 + length (free w.new) }
 {
     let [a, b] = count.to_be_bytes();
-    w.put_bytes(&[Message::MldReport.into(), 0, 0, 0, 0, 0, a, b]);
+    icmp::put_header(w, Message::MldReport.into(), 0, [0, 0, a, b]);
 }
 
 // Writes each record.

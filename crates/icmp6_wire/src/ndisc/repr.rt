@@ -24,11 +24,12 @@ use super::options::{
 };
 use super::reading::{neighbor_advert, neighbor_solicit, redirect, router_advert, router_solicit};
 use crate::icmpv6::{Message, Packet};
-use crate::writing::{put_address, put_type};
+use crate::writing::put_address;
 use bitflags::Flags as _;
 use opt_wire::ndiscoption::{PrefixInformation, RedirectedHeader};
 use wirebase::{
     ByteWriter, Duration, Error, Ipv6Address, OctetsMut, RawHardwareAddress, Result, are_bytes,
+    icmp,
 };
 
 /// A message (RFC 4861 section 4). Its options are there or not; of several of one kind the last is read.
@@ -238,8 +239,8 @@ impl<'a> Repr<'a> {
                 retrans_time,
                 ..
             } => {
-                put_router(w, *hop_limit, *flags);
-                put_times(w, router_lifetime, reachable_time, retrans_time);
+                put_router(w, *hop_limit, *flags, router_lifetime);
+                put_times(w, reachable_time, retrans_time);
             }
             Repr::NeighborSolicit { target_addr, .. } => {
                 put_reserved(w, Message::NeighborSolicit);
@@ -317,16 +318,17 @@ fn redirect_options_len(
     target_len(lladdr) + redirected_len(header)
 }
 
-// Writes a router advertisement up to its times.
-fn put_router(w: &mut ByteWriter<'_>, hop_limit: u8, flags: RouterFlags)
-    requires room { 6 ≤ length (free w.old) }
-    ensures puts { Puts w.old w.new
-        (be8 0x86 ∷ be8 0 ∷ be16 0 ∷ be8 hop_limit ∷ be8 (router_bits flags) ∷ []) }
-    ensures room { length (free w.old) ≡ 6 + length (free w.new) }
+// Writes a router advertisement up to its times in milliseconds.
+fn put_router(w: &mut ByteWriter<'_>, hop_limit: u8, flags: RouterFlags, lifetime: &Duration)
+    requires room { 8 ≤ length (free w.old) }
+    requires lifetime { seconds_of lifetime.now ≤ 65535 }
+    ensures puts { Puts w.old w.new (be8 0x86 ∷ be8 0 ∷ be16 0
+        ∷ be8 hop_limit ∷ be8 (router_bits flags) ∷ be16 (seconds_of lifetime.now) ∷ []) }
+    ensures room { length (free w.old) ≡ 8 + length (free w.new) }
 {
-    put_type(w, Message::RouterAdvert);
-    w.put_u8(hop_limit);
-    w.put_u8(flags.bits());
+    let [a, b] = (lifetime.secs() as u16).to_be_bytes();
+    let rest = [hop_limit, flags.bits(), a, b];
+    icmp::put_header(w, Message::RouterAdvert.into(), 0, rest);
 }
 
 // Writes the options of a router advertisement.
@@ -373,30 +375,33 @@ fn put_neighbor(w: &mut ByteWriter<'_>, flags: NeighborFlags)
         (be8 0x88 ∷ be8 0 ∷ be16 0 ∷ be8 (neighbor_bits flags) ∷ be8 0 ∷ be16 0 ∷ []) }
     ensures room { length (free w.old) ≡ 8 + length (free w.new) }
 {
-    let kind = Message::NeighborAdvert.into();
-    w.put_bytes(&[kind, 0, 0, 0, flags.bits(), 0, 0, 0]);
+    icmp::put_header(
+        w,
+        Message::NeighborAdvert.into(),
+        0,
+        [flags.bits(), 0, 0, 0],
+    );
 }
 
 // Writes the type, the code 0, no checksum and a word that is reserved.
+#[tactic(auto, unfolding(wirebase::specs::ByteWriter::be32))]
 fn put_reserved(w: &mut ByteWriter<'_>, kind: Message)
     requires room { 8 ≤ length (free w.old) }
     ensures puts { Puts w.old w.new (be8 (message_number kind) ∷ be8 0 ∷ be16 0 ∷ be32 0 ∷ []) }
     ensures room { length (free w.old) ≡ 8 + length (free w.new) }
 {
-    w.put_bytes(&[kind.into(), 0, 0, 0, 0, 0, 0, 0]);
+    icmp::put_header(w, kind.into(), 0, [0; 4]);
 }
 
-// Writes the times of a router advertisement, in whole seconds and twice in whole milliseconds.
-fn put_times(w: &mut ByteWriter<'_>, lifetime: &Duration, reachable: &Duration, retrans: &Duration)
-    requires room { 10 ≤ length (free w.old) }
-    requires lifetime { seconds_of lifetime.now ≤ 65535 }
+// Writes the times of a router advertisement that are in whole milliseconds.
+fn put_times(w: &mut ByteWriter<'_>, reachable: &Duration, retrans: &Duration)
+    requires room { 8 ≤ length (free w.old) }
     requires reachable { millis_of reachable.now ≤ 4294967295 }
     requires retrans { millis_of retrans.now ≤ 4294967295 }
-    ensures puts { Puts w.old w.new (be16 (seconds_of lifetime.now)
-        ∷ be32 (millis_of reachable.now) ∷ be32 (millis_of retrans.now) ∷ []) }
-    ensures room { length (free w.old) ≡ 10 + length (free w.new) }
+    ensures puts { Puts w.old w.new
+        (be32 (millis_of reachable.now) ∷ be32 (millis_of retrans.now) ∷ []) }
+    ensures room { length (free w.old) ≡ 8 + length (free w.new) }
 {
-    w.put_u16(lifetime.secs() as u16);
     w.put_u32(reachable.total_millis() as u32);
     w.put_u32(retrans.total_millis() as u32);
 }

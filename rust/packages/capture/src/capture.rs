@@ -1,19 +1,17 @@
 // Made from crates/capture/src/capture.rt by rust/erase.
 //! The records of a capture, read one after another in bounded memory.
 
-#[allow(unused_imports)]
-use rattle_std::prelude::*;
-mod shown;
-
 use crate::ending::{Ending, Fault};
 use crate::order::Order;
 use crate::packet::Packet;
-use crate::pcap::{self, FileHeader};
+use crate::pcap::{self, FileHeader, RecordHeader};
 use crate::pcapng::{self, Head, Interface};
 use crate::reader::fill;
 use crate::time::Time;
+use crate::unit::{Taken, read_unit};
 use rattle_std::io::BufRead;
-use shown::{Block, read_octets, read_record};
+#[allow(unused_imports)]
+use rattle_std::prelude::*;
 
 /// The most bytes that are kept of a packet.
 pub const MOST_OCTETS: u32 = 262_144;
@@ -137,7 +135,7 @@ impl Capture {
         self.octets.clear();
         match self.stage {
             Stage::Start => self.read_first(input),
-            Stage::File(header) => read_record(input, &mut self.octets, header),
+            Stage::File(header) => self.read_record(input, header),
             Stage::Section(section) => self.read_block(input, section),
             Stage::End(ending) => Ok(Step::Ended(ending)),
         }
@@ -159,16 +157,30 @@ impl Capture {
         }
     }
 
+    // Reads the next record of a file with a header.
+    fn read_record<R: BufRead>(
+        &mut self,
+        input: &mut R,
+        header: FileHeader,
+    ) -> Result<Step, Fault> {
+        let record: Taken<RecordHeader> = read_unit(input, &mut self.octets, header.order)?;
+        match record {
+            Taken::Passed(_) => Ok(Step::Passed),
+            Taken::Read(head) => Ok(Step::Packet(pcap::packet(&header, &head))),
+            Taken::Ended(ending) => Ok(Step::Ended(ending)),
+        }
+    }
+
     // Reads the next block of a section, of which some bytes may be read.
     fn read_block<R: BufRead>(&mut self, input: &mut R, section: Order) -> Result<Step, Fault> {
-        let block = read_octets(input, &mut self.octets, section)?;
+        let block: Taken<Head> = read_unit(input, &mut self.octets, section)?;
         match block {
-            Block::Passed(_) => {
+            Taken::Passed(_) => {
                 self.stage = Stage::Section(section);
                 Ok(Step::Passed)
             }
-            Block::Read(head) => self.take_block(section, head),
-            Block::Ended(ending) => Ok(Step::Ended(ending)),
+            Taken::Read(head) => self.take_block(section, head),
+            Taken::Ended(ending) => Ok(Step::Ended(ending)),
         }
     }
 

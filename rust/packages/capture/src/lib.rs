@@ -11,6 +11,7 @@ mod reader;
 #[cfg(test)]
 mod testing;
 mod time;
+mod unit;
 
 pub use capture::{Capture, MOST_INTERFACES, MOST_OCTETS, Next, Record};
 pub use ending::{Ending, Fault};

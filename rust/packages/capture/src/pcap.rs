@@ -1,10 +1,12 @@
 // Made from crates/capture/src/pcap.rt by rust/erase.
 //! The headers of a pcap file and of its records (draft-ietf-opsawg-pcap sections 4 and 5).
 
+use crate::capture::MOST_OCTETS;
 use crate::ending::Ending;
 use crate::order::Order;
 use crate::packet::Packet;
 use crate::time::Time;
+use crate::unit::UnitHead;
 
 // The fields of both headers.
 mod field {
@@ -110,6 +112,33 @@ impl RecordHeader {
             captured_len: order.u32_at(octets, field::CAPTURED_LEN),
             original_len: order.u32_at(octets, field::ORIGINAL_LEN),
         }
+    }
+}
+
+impl UnitHead for RecordHeader {
+    const LEN: usize = RECORD_HEADER_LEN;
+
+    #[inline]
+    fn of(order: Order, octets: &[u8]) -> Result<RecordHeader, Ending> {
+        if octets.is_empty() {
+            return Err(Ending::Whole);
+        }
+        if octets.len() < RECORD_HEADER_LEN {
+            return Err(Ending::Cut);
+        }
+        let head = RecordHeader::parse(order, octets);
+        if head.captured_len > MOST_OCTETS {
+            return Err(Ending::TooLarge);
+        }
+        Ok(head)
+    }
+
+    fn unit_len(&self) -> usize {
+        RECORD_HEADER_LEN + self.captured_len as usize
+    }
+
+    fn is_read(&self) -> bool {
+        true
     }
 }
 

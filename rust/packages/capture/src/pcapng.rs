@@ -5,6 +5,7 @@ use crate::ending::Ending;
 use crate::order::Order;
 use crate::packet::Packet;
 use crate::time::Time;
+use crate::unit::UnitHead;
 use control_wire::{Error, Octets};
 
 // The fields of the blocks.
@@ -132,6 +133,22 @@ impl Head {
             kind,
             total_len,
         })
+    }
+}
+
+impl UnitHead for Head {
+    const LEN: usize = HEAD_LEN;
+
+    fn of(order: Order, octets: &[u8]) -> Result<Head, Ending> {
+        Head::parse(order, octets)
+    }
+
+    fn unit_len(&self) -> usize {
+        self.total_len as usize
+    }
+
+    fn is_read(&self) -> bool {
+        is_read(self.kind)
     }
 }
 

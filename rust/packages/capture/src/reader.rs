@@ -27,15 +27,8 @@ fn take_part<R: BufRead>(
     octets: &mut Vec<u8>,
     missing: usize,
 ) -> Result<bool, Fault> {
-    let shown = match input.fill_buf() {
-        Ok(shown) => shown,
-        Err(error) => {
-            return if error.kind() == ErrorKind::Interrupted {
-                Ok(false)
-            } else {
-                Err(Fault::Read)
-            };
-        }
+    let Some(shown) = look(input)? else {
+        return Ok(false);
     };
     let count = shown.len().min(missing);
     let Ok(()) = octets.extend_from_slice(&shown[..count]) else {
@@ -62,17 +55,20 @@ pub fn skip<R: BufRead>(input: &mut R, count: usize) -> Result<bool, Fault> {
 // Passes over what is at hand of so many octets; answers how many these are, and whether they are all or the input has
 // ended.
 fn skip_part<R: BufRead>(input: &mut R, missing: usize) -> Result<(usize, bool), Fault> {
-    let shown = match input.fill_buf() {
-        Ok(shown) => shown.len(),
-        Err(error) => {
-            return if error.kind() == ErrorKind::Interrupted {
-                Ok((0, false))
-            } else {
-                Err(Fault::Read)
-            };
-        }
+    let Some(shown) = look(input)? else {
+        return Ok((0, false));
     };
-    let count = shown.min(missing);
+    let len = shown.len();
+    let count = len.min(missing);
     input.consume(count);
-    Ok((count, count == missing || shown == 0))
+    Ok((count, count == missing || len == 0))
+}
+
+/// What the input's buffer shows, or none where the reading of more was interrupted, so that it is to be tried again.
+pub fn look<R: BufRead>(input: &mut R) -> Result<Option<&[u8]>, Fault> {
+    match input.fill_buf() {
+        Ok(shown) => Ok(Some(shown)),
+        Err(error) if error.kind() == ErrorKind::Interrupted => Ok(None),
+        Err(_) => Err(Fault::Read),
+    }
 }

@@ -38,8 +38,21 @@ pub enum Command {
 }
 
 impl Command {
-    /// The command of a word alone, or None where there is none.
-    pub fn alone(word: &[u8]) -> Option<Command> {
+    /// The command of a word and the words between it and the packet, or None where there is none.
+    pub fn of(word: &[u8], arguments: &[&[u8]]) -> Option<Command> {
+        match arguments {
+            [] => Command::alone(word),
+            [offset] if is(word, "name") => Some(Command::Name(read_offset(offset)?)),
+            [source, destination] if is(word, "icmp6") => Some(Command::Icmp6(
+                read_address(source)?,
+                read_address(destination)?,
+            )),
+            _ => None,
+        }
+    }
+
+    // The command of a word alone.
+    fn alone(word: &[u8]) -> Option<Command> {
         if is(word, "hbh") {
             Some(Command::Hbh)
         } else if is(word, "icmp4") {
@@ -56,31 +69,6 @@ impl Command {
             Some(Command::Question)
         } else {
             None
-        }
-    }
-
-    /// The command of a word and an offset, or None where there is none.
-    pub fn at(word: &[u8], offset: &[u8]) -> Option<Command> {
-        if !is(word, "name") {
-            return None;
-        }
-        match read_offset(offset) {
-            Some(offset) => Some(Command::Name(offset)),
-            None => None,
-        }
-    }
-
-    /// The command of a word and two addresses, or None where there is none.
-    pub fn between(word: &[u8], source: &[u8], destination: &[u8]) -> Option<Command> {
-        if !is(word, "icmp6") {
-            return None;
-        }
-        match read_address(source) {
-            Some(source) => match read_address(destination) {
-                Some(destination) => Some(Command::Icmp6(source, destination)),
-                None => None,
-            },
-            None => None,
         }
     }
 

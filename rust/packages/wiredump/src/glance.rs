@@ -2,9 +2,10 @@
 //! One look at an input for its next line, which is read where it stands if it is at hand whole.
 
 use crate::Fault;
+use crate::reading::try_again;
 use crate::search::len_before;
 use crate::shape::Shape;
-use rattle_std::io::{BufRead, ErrorKind};
+use rattle_std::io::BufRead;
 #[allow(unused_imports)]
 use rattle_std::prelude::*;
 
@@ -25,11 +26,8 @@ pub fn look<'a, R: BufRead>(room: &'a mut Vec<u8>, input: &mut R) -> Result<Glan
     let available = match input.fill_buf() {
         Ok(available) => available,
         Err(error) => {
-            return if error.kind() == ErrorKind::Interrupted {
-                Ok(Glance::Part)
-            } else {
-                Err(Fault::Read)
-            };
+            try_again(&error)?;
+            return Ok(Glance::Part);
         }
     };
     let (count, glance) = look_at(room, available)?;

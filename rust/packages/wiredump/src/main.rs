@@ -35,7 +35,6 @@ pub use fault::Fault;
 use rattle_std::{env, io};
 pub use run::{run, run_onto, status};
 use std::process::ExitCode;
-pub use words::read_word;
 
 // The status where an argument was given.
 const USAGE_STATUS: u8 = 2;

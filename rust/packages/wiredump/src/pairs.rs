@@ -19,9 +19,39 @@ fn is_digit(octet: u8) -> bool {
 
 /// The octets that digits spell.
 pub fn decode(text: &[u8], octets: &mut [u8]) {
-    for i in 0..octets.len() {
+    let words = octets.len() / 4;
+    for i in 0..words {
+        let Some(digits) = text[8 * i..].first_chunk() else {
+            unreachable!();
+        };
+        octets[4 * i..4 * i + 4].copy_from_slice(&decode_word(digits));
+    }
+    for i in 4 * words..octets.len() {
         octets[i] = 16 * digit_value(text[2 * i]) + digit_value(text[2 * i + 1]);
     }
+}
+
+// What is taken of each octet of a word of digits: the bits of its value, and the bit of a letter, moved to the lowest.
+const VALUES: u64 = 0x0f0f_0f0f_0f0f_0f0f;
+
+const LETTERS: u64 = 0x0101_0101_0101_0101;
+
+// Every other octet of a word, and every other two.
+const OCTETS: u64 = 0x00ff_00ff_00ff_00ff;
+
+const PAIRS: u64 = 0x0000_ffff_0000_ffff;
+
+// The octets that eight digits spell, the first of them in the lowest octet of a word. Each step is of the whole word,
+// so that one instruction does for all digits what `digit_value` does for one.
+#[inline(always)]
+fn decode_word(digits: &[u8; 8]) -> [u8; 4] {
+    let word = u64::from_le_bytes(*digits);
+    let values = (word & VALUES) + 9 * ((word / 64) & LETTERS);
+    // Each value with the next is an octet, of which every other one is of a pair. These are then moved together.
+    let octets = (16 * values + values / 256) & OCTETS;
+    let pairs = (octets + octets / 256) & PAIRS;
+    let whole = (pairs + pairs / 65_536) % (1 << 32);
+    (whole as u32).to_le_bytes()
 }
 
 /// The octets that digits spell, at the front of a room for them.

@@ -8,6 +8,7 @@ use crate::Fault;
 use crate::search::{len_before, len_before_either, spaces_len};
 use crate::shape::Shape;
 use crate::words::{MOST_OCTETS, MOST_WORDS};
+use rattle_std::io;
 use rattle_std::io::{BufRead, ErrorKind};
 #[allow(unused_imports)]
 use rattle_std::prelude::*;
@@ -98,17 +99,23 @@ pub fn read_line<R: BufRead>(input: &mut R, line: &mut Line) -> Result<bool, Fau
     Err(Fault::Read)
 }
 
+/// A read that was interrupted is tried again, and no other that failed.
+pub fn try_again(error: &io::Error) -> Result<(), Fault> {
+    if error.kind() == ErrorKind::Interrupted {
+        Ok(())
+    } else {
+        Err(Fault::Read)
+    }
+}
+
 // Takes spaces and what is at hand of a word behind them; answers how many octets were taken, and whether the line
 // or the input has ended.
 fn take_part<R: BufRead>(input: &mut R, line: &mut Line) -> Result<(usize, bool), Fault> {
     let available = match input.fill_buf() {
         Ok(available) => available,
         Err(error) => {
-            return if error.kind() == ErrorKind::Interrupted {
-                Ok((0, false))
-            } else {
-                Err(Fault::Read)
-            };
+            try_again(&error)?;
+            return Ok((0, false));
         }
     };
     let (count, ended) = take_shown(line, available)?;

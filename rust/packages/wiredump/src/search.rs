@@ -1,10 +1,14 @@
 // Made from crates/wiredump/src/search.rt by rust/erase.
-//! Where an octet stands among others: a word's end or a line's, looked for in sixteen octets at a time.
+//! Where an octet stands among others: a word's end or a line's, or the end of a run of spaces.
 
-// How many octets are looked at in one step.
+use memchr::{memchr, memchr2};
+
+// How many spaces are looked at in one step.
 const STEP: usize = 16;
 
 /// How many spaces are in front. The first ones are looked at one by one, since most words have one before them.
+// Inlined, since each word of a line asks.
+#[inline(always)]
 pub fn spaces_len(octets: &[u8]) -> usize {
     for (i, octet) in octets.iter().enumerate() {
         if *octet != b' ' {
@@ -39,7 +43,8 @@ fn steps_of_spaces(octets: &[u8]) -> usize {
     steps * STEP
 }
 
-// Whether another octet than a space stands among these. As in `has` there is no branch between the octets.
+// Whether another octet than a space stands among these. There is no branch between the octets, so that all are
+// compared at once.
 #[inline(always)]
 fn has_other(octets: &[u8]) -> bool {
     let mut found = false;
@@ -51,45 +56,10 @@ fn has_other(octets: &[u8]) -> bool {
 
 /// How many octets are in front of the first that is this one.
 pub fn len_before(octets: &[u8], wanted: u8) -> usize {
-    len_before_either(octets, wanted, wanted)
+    memchr(wanted, octets).unwrap_or(octets.len())
 }
 
-/// How many octets are in front of the first that is one of these two. Nothing behind it is looked at but the rest of
-/// its step, so that short words cost no search of all that follows them.
-// This and what it calls are inlined, so that one octet is looked for once where the two are one.
-#[inline(always)]
-#[allow(clippy::needless_range_loop)] // the invariant speaks of the index
+/// How many octets are in front of the first that is one of these two.
 pub fn len_before_either(octets: &[u8], first: u8, second: u8) -> usize {
-    let start = steps_before(octets, first, second);
-    for i in start..octets.len() {
-        if octets[i] == first || octets[i] == second {
-            return i;
-        }
-    }
-    octets.len()
-}
-
-// How many octets are in front of the first whole step in which one of them stands, or else of the octets behind the
-// last step.
-#[inline(always)]
-fn steps_before(octets: &[u8], first: u8, second: u8) -> usize {
-    let steps = octets.len() / STEP;
-    for step in 0..steps {
-        let start = step * STEP;
-        let octets_of_step = &octets[start..start + STEP];
-        if has(octets_of_step, first) || has(octets_of_step, second) {
-            return start;
-        }
-    }
-    steps * STEP
-}
-
-// Whether it stands among these. There is no branch between the octets, so that all are compared at once.
-#[inline(always)]
-fn has(octets: &[u8], wanted: u8) -> bool {
-    let mut found = false;
-    for octet in octets {
-        found |= *octet == wanted;
-    }
-    found
+    memchr2(first, second, octets).unwrap_or(octets.len())
 }

@@ -3,7 +3,8 @@
 
 use crate::Fault;
 use crate::command::Command;
-use crate::words::{MOST_OCTETS, next_word, read_word_into};
+use crate::words::{MOST_OCTETS, MOST_WORDS, next_word, read_word};
+use arrayvec::ArrayVec;
 #[allow(unused_imports)]
 use rattle_std::prelude::*;
 
@@ -26,80 +27,34 @@ impl<'a> Shape<'a> {
 
     // The shape of a line without its end.
     fn of_text(room: &'a mut Vec<u8>, text: &[u8]) -> Result<Shape<'a>, Fault> {
-        let (word, rest) = next_word(text);
-        if word.is_empty() {
-            return Ok(Shape::Blank);
+        let mut words = ArrayVec::<&[u8], MOST_WORDS>::new();
+        let mut rest = text;
+        loop {
+            let (word, behind) = next_word(rest);
+            if word.is_empty() {
+                return Shape::of_words(room, words.as_slice());
+            }
+            if word.len() > MOST_OCTETS || words.try_push(word).is_err() {
+                return Ok(Shape::Bad);
+            }
+            rest = behind;
         }
-        let (first, rest) = next_word(rest);
-        if first.is_empty() {
-            return Ok(Shape::Bad);
-        }
-        let (second, rest) = next_word(rest);
-        if second.is_empty() {
-            return Shape::of_two(room, word, first);
-        }
-        let (third, rest) = next_word(rest);
-        if third.is_empty() {
-            return Shape::of_three(room, word, first, second);
-        }
-        let (fourth, _) = next_word(rest);
-        if fourth.is_empty() {
-            return Shape::of_four(room, word, first, second, third);
-        }
-        Ok(Shape::Bad)
     }
 
-    // The shape of a line of two words: a command and a packet.
-    fn of_two(room: &'a mut Vec<u8>, word: &[u8], packet: &[u8]) -> Result<Shape<'a>, Fault> {
-        if !are_short(&[word, packet]) {
-            return Ok(Shape::Bad);
-        }
-        let packet = read_word_into(room, packet)?;
-        Ok(Shape::with(Command::alone(word), packet))
-    }
-
-    // The same with a word between.
-    fn of_three(
-        room: &'a mut Vec<u8>,
-        word: &[u8],
-        first: &[u8],
-        packet: &[u8],
-    ) -> Result<Shape<'a>, Fault> {
-        if !are_short(&[word, first, packet]) {
-            return Ok(Shape::Bad);
-        }
-        let packet = read_word_into(room, packet)?;
-        Ok(Shape::with(Command::at(word, first), packet))
-    }
-
-    // The same with two words between.
-    fn of_four(
-        room: &'a mut Vec<u8>,
-        word: &[u8],
-        first: &[u8],
-        second: &[u8],
-        packet: &[u8],
-    ) -> Result<Shape<'a>, Fault> {
-        if !are_short(&[word, first, second, packet]) {
-            return Ok(Shape::Bad);
-        }
-        let packet = read_word_into(room, packet)?;
-        Ok(Shape::with(Command::between(word, first, second), packet))
-    }
-
-    fn with(command: Option<Command>, packet: Option<&'a [u8]>) -> Shape<'a> {
-        match command {
-            Some(command) => match packet {
-                Some(packet) => {
-                    if command.reads(packet) {
-                        Shape::Packet(command, packet)
-                    } else {
-                        Shape::Bad
-                    }
+    // The shape of a line of these words.
+    fn of_words(room: &'a mut Vec<u8>, words: &[&[u8]]) -> Result<Shape<'a>, Fault> {
+        match words {
+            [] => Ok(Shape::Blank),
+            [word, arguments @ .., packet] => {
+                let Some(command) = Command::of(word, arguments) else {
+                    return Ok(Shape::Bad);
+                };
+                match read_word(room, packet)? {
+                    Some(packet) if command.reads(packet) => Ok(Shape::Packet(command, packet)),
+                    _ => Ok(Shape::Bad),
                 }
-                None => Shape::Bad,
-            },
-            None => Shape::Bad,
+            }
+            [_] => Ok(Shape::Bad),
         }
     }
 }
@@ -110,14 +65,4 @@ pub fn without_cr(line: &[u8]) -> &[u8] {
         [front @ .., b'\r'] => front,
         _ => line,
     }
-}
-
-// Whether each word has an octet count that a word may have.
-fn are_short(words: &[&[u8]]) -> bool {
-    for word in words {
-        if word.len() > MOST_OCTETS {
-            return false;
-        }
-    }
-    true
 }

@@ -26,7 +26,7 @@ const ADDRESS_DIGITS: usize = 32;
 pub fn next_word<'a>(text: &'a [u8]) -> (&'a [u8], &'a [u8]) {
     let rest = &text[spaces_len(text)..];
     let len = len_before(rest, b' ');
-    (&rest[..len], &rest[len..])
+    rest.split_at(len)
 }
 
 /// Whether a word is this one.
@@ -34,26 +34,12 @@ pub fn is(word: &[u8], name: &str) -> bool {
     word == name.as_bytes()
 }
 
-/// The octets that a word spells, or None where it spells none.
+/// The octets that a word spells, or None where it spells none. They stand in a room that is kept from word to word and
+/// grows where it is too small.
 ///
-/// `-` spells no octets, and an even number, 2 to 131,070, of hexadecimal digits of either case an
-/// octet for each two, the high digit first.
-pub fn read_word(text: &[u8]) -> Result<Option<Vec<u8>>, Fault> {
-    if is(text, "-") {
-        return Ok(Some(Vec::new()));
-    }
-    if !are_pairs(text) {
-        return Ok(None);
-    }
-    let Ok(mut octets) = rattle_std::vec![ 0u8; text.len() / 2] else {
-        return Err(Fault::Memory);
-    };
-    decode(text, octets.as_mut_slice());
-    Ok(Some(octets))
-}
-
-/// The same, in a room that is kept from word to word and grows where it is too small.
-pub fn read_word_into<'a>(room: &'a mut Vec<u8>, text: &[u8]) -> Result<Option<&'a [u8]>, Fault> {
+/// `-` spells no octets, and an even number, 2 to 131,070, of hexadecimal digits of either case an octet for each two,
+/// the high digit first.
+pub fn read_word<'a>(room: &'a mut Vec<u8>, text: &[u8]) -> Result<Option<&'a [u8]>, Fault> {
     if is(text, "-") {
         return Ok(Some(&[]));
     }

@@ -2,7 +2,7 @@
 //! A query (RFC 1035 section 4.1).
 
 use crate::dns_wire::dns::packet::{HEADER_LEN, Packet};
-use crate::dns_wire::dns::question::Question;
+use crate::dns_wire::dns::question::{Question, put_pair};
 use crate::dns_wire::dns::tables::{Flags, Opcode};
 use crate::wirebase::{ByteWriter, OctetsMut};
 
@@ -44,12 +44,10 @@ impl<'a> Repr<'a> {
 
     // Writes each field of the query.
     fn put(&self, w: &mut ByteWriter<'_>) {
-        w.put_u16(self.transaction_id);
-        w.put_u16(word_of(self.flags, self.opcode));
-        w.put_u16(1);
-        w.put_u16(0);
-        w.put_u16(0);
-        w.put_u16(0);
+        put_pair(w, self.transaction_id, word_of(self.flags, self.opcode));
+        // One question, and no records of any section.
+        put_pair(w, 1, 0);
+        put_pair(w, 0, 0);
         self.question.put(w);
     }
 }

@@ -1,5 +1,6 @@
 // Made from crates/dns_wire/src/dns/tests.rt by rust/erase.
 use super::{Flags, Opcode, Packet, Question, Rcode, Record, RecordData, Type};
+use crate::dns_wire::message::{Front, follow, read_front};
 use crate::dns_wire::testing::{fail, same, same_of};
 use crate::wirebase::{Ipv4Address, Ipv6Address};
 
@@ -332,4 +333,37 @@ fn views_are_equal_where_their_octets_are() {
     same(view == Packet::new_unchecked(&copy[..27]), false);
     same(view == Packet::new_unchecked(&copy[1..]), false);
     same(view.into_inner(), QUERY.as_slice());
+}
+
+#[test]
+fn fronts_of_parts_of_names() {
+    const ROWS: &[(&[u8], Front<'_>)] = &[
+        (b"\x03www\x03com\0", Front::Label(b"www", b"\x03com\0")),
+        (b"\x01a", Front::Label(b"a", b"")),
+        (b"\0\x01a", Front::End),
+        (b"\xc0\x14\0", Front::Pointer(20)),
+        (b"\xff\xff", Front::Pointer(16383)),
+        (b"", Front::Torn),
+        (b"\x02a", Front::Torn),
+        (b"\x40", Front::Torn),
+        (b"\xbf\0", Front::Torn),
+        (b"\xc0", Front::Torn),
+    ];
+    for &(text, front) in ROWS {
+        same_of(text, read_front(text), front);
+    }
+}
+
+#[test]
+fn pointers_lead_to_open_bytes_alone() {
+    // Where a pointer into these bytes leads, and what stands there and in front of it.
+    const OPEN: &[u8] = b"abc";
+    const ROWS: &[(usize, Option<(&[u8], &[u8])>)] = &[
+        (0, Some((b"abc", b""))),
+        (2, Some((b"c", b"ab"))),
+        (3, None),
+    ];
+    for &(target, parts) in ROWS {
+        same_of(target, follow(OPEN, target), parts);
+    }
 }

@@ -4,6 +4,7 @@
 
 use super::tables::Message;
 use super::{MAX_QUOTED_DATA, field};
+use crate::opt_wire::writing::put_header;
 use crate::wirebase::{ByteWriter, IPV6_HEADER_LEN, Ipv6Packet, Ipv6Repr};
 
 // The bytes of an error that quotes this header and as much of this data as it may.
@@ -32,17 +33,10 @@ fn put_error(
     quoted: &Ipv6Repr,
     data: &[u8],
 ) {
-    w.put_u8(kind.into());
-    w.put_u8(code);
-    w.put_u16(0);
-    w.put_u32(word);
-    write_header(quoted, w.part(quoted.buffer_len()));
+    let [a, b, c, d] = word.to_be_bytes();
+    w.put_bytes(&[kind.into(), code, 0, 0, a, b, c, d]);
+    put_header(w, quoted);
     w.put_bytes(quotable(data));
-}
-
-// Writes a header into octets of just its length.
-fn write_header(header: &Ipv6Repr, octets: &mut [u8]) {
-    header.emit_into(octets);
 }
 
 // The data that an error may quote.

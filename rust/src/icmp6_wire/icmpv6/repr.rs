@@ -10,7 +10,6 @@ use crate::icmp6_wire::mld::{read_query, read_report};
 use crate::icmp6_wire::ndisc::{
     Found, neighbor_advert, neighbor_solicit, redirect, router_advert, router_solicit,
 };
-use crate::icmp6_wire::writing::put_type;
 use crate::icmp6_wire::{mld, ndisc};
 use crate::wirebase::{
     ByteWriter, ChecksumCapabilities, Error, Ipv6Address, Ipv6Repr, Octets, OctetsMut, Result,
@@ -255,9 +254,10 @@ fn write_echo(octets: &mut [u8], kind: Message, ident: u16, seq_no: u16, data: &
 
 // Writes an echo of this type, as much of its data as there is room for.
 fn put_echo(w: &mut ByteWriter<'_>, kind: Message, ident: u16, seq_no: u16, data: &[u8]) {
-    put_type(w, kind);
-    w.put_u16(ident);
-    w.put_u16(seq_no);
+    // The header is written at once: the checksum, which reads it right after, would else wait for its bytes.
+    let [a, b] = ident.to_be_bytes();
+    let [c, d] = seq_no.to_be_bytes();
+    w.put_bytes(&[kind.into(), 0, 0, 0, a, b, c, d]);
     w.put_front(data);
 }
 

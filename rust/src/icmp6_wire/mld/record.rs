@@ -170,19 +170,17 @@ impl<'a> AddressRecordRepr<'a> {
     }
 
     /// The same into a slice.
-    // A hint, so that the report around the record has its code where the two are compiled apart.
-    #[inline]
     pub fn emit_into(&self, octets: &mut [u8]) {
         self.write(octets);
     }
 
-    // Writes the fields.
+    // Writes the fields, for the report around the record too, of whose code it becomes a part where the two are
+    // compiled apart.
     #[inline]
-    fn write(&self, octets: &mut [u8]) {
+    pub(super) fn write(&self, octets: &mut [u8]) {
         let mut w = ByteWriter::new(octets);
-        w.put_u8(self.record_type.into());
-        w.put_u8(self.aux_data_len);
-        w.put_u16(self.num_srcs);
+        let [a, b] = self.num_srcs.to_be_bytes();
+        w.put_bytes(&[self.record_type.into(), self.aux_data_len, a, b]);
         put_address(&mut w, &self.mcast_addr);
     }
 }

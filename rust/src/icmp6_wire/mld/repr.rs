@@ -4,7 +4,7 @@
 use super::field;
 use super::record::AddressRecordRepr;
 use crate::icmp6_wire::icmpv6::{Message, Packet};
-use crate::icmp6_wire::writing::{put_address, put_type};
+use crate::icmp6_wire::writing::put_address;
 use crate::wirebase::{ByteWriter, Error, Ipv6Address, OctetsMut, Result};
 
 /// A message (RFC 3810 section 5).
@@ -157,14 +157,12 @@ fn put_query(
     num_srcs: u16,
     data: &[u8],
 ) {
-    put_type(w, Message::MldQuery);
-    w.put_u16(max_resp_code);
-    w.put_u16(0);
+    let [a, b] = max_resp_code.to_be_bytes();
+    w.put_bytes(&[Message::MldQuery.into(), 0, 0, 0, a, b, 0, 0]);
     put_address(w, &mcast_addr);
     let flag = if s_flag { 8 } else { 0 };
-    w.put_u8(flag + qrv);
-    w.put_u8(qqic);
-    w.put_u16(num_srcs);
+    let [a, b] = num_srcs.to_be_bytes();
+    w.put_bytes(&[flag + qrv, qqic, a, b]);
     w.put_bytes(data);
 }
 
@@ -182,9 +180,8 @@ fn put_list(w: &mut ByteWriter<'_>, records: &[AddressRecordRepr<'_>]) {
 
 // Writes the header of a report of so many records.
 fn put_report_header(w: &mut ByteWriter<'_>, count: u16) {
-    put_type(w, Message::MldReport);
-    w.put_u16(0);
-    w.put_u16(count);
+    let [a, b] = count.to_be_bytes();
+    w.put_bytes(&[Message::MldReport.into(), 0, 0, 0, 0, 0, a, b]);
 }
 
 // Writes each record.
@@ -196,5 +193,5 @@ fn put_records(w: &mut ByteWriter<'_>, records: &[AddressRecordRepr<'_>]) {
 
 // Writes a record.
 fn put_record(w: &mut ByteWriter<'_>, repr: &AddressRecordRepr<'_>) {
-    repr.emit_into(w.part(repr.buffer_len()));
+    repr.write(w.part(repr.buffer_len()));
 }

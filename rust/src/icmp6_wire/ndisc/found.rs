@@ -3,10 +3,8 @@
 
 use crate::opt_wire::ndiscoption;
 use crate::opt_wire::ndiscoption::{NdiscOption, PrefixInformation, RedirectedHeader};
+use crate::opt_wire::writing::UNIT;
 use crate::wirebase::{Error, RawHardwareAddress, Result};
-
-// The bytes of a unit.
-const UNIT: usize = 8;
 
 // What the options said so far, each field as the last option of its kind.
 #[derive(Clone, Copy)]

@@ -270,16 +270,13 @@ fn put_redirect_options(
 
 // Writes a neighbor advertisement up to its address.
 fn put_neighbor(w: &mut ByteWriter<'_>, flags: NeighborFlags) {
-    put_type(w, Message::NeighborAdvert);
-    w.put_u8(flags.bits());
-    w.put_u8(0);
-    w.put_u16(0);
+    let kind = Message::NeighborAdvert.into();
+    w.put_bytes(&[kind, 0, 0, 0, flags.bits(), 0, 0, 0]);
 }
 
 // Writes the type, the code 0, no checksum and a word that is reserved.
 fn put_reserved(w: &mut ByteWriter<'_>, kind: Message) {
-    put_type(w, kind);
-    w.put_u32(0);
+    w.put_bytes(&[kind.into(), 0, 0, 0, 0, 0, 0, 0]);
 }
 
 // Writes the times of a router advertisement, in whole seconds and twice in whole milliseconds.

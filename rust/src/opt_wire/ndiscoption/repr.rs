@@ -2,6 +2,8 @@
 //! The values of options of neighbor discovery (RFC 4861 section 4.6).
 
 use super::{NdiscOption, PrefixInfoFlags, Type, field};
+use crate::opt_wire::writing;
+use crate::opt_wire::writing::UNIT;
 use crate::wirebase::{
     ByteWriter, Duration, Error, Ipv6Address, Ipv6Packet, Ipv6Repr, OctetsMut, RawHardwareAddress,
     Result,
@@ -127,14 +129,12 @@ impl<'a> Repr<'a> {
     /// number.
     pub fn buffer_len(&self) -> usize {
         match self {
-            Repr::SourceLinkLayerAddr(addr) => field::UNIT * units_of(2 + addr.len()),
-            Repr::TargetLinkLayerAddr(addr) => field::UNIT * units_of(2 + addr.len()),
-            Repr::PrefixInformation(_) => field::PREFIX.end,
-            Repr::RedirectedHeader(redirected) => {
-                field::UNIT * units_of(48 + redirected.data.len())
-            }
-            Repr::Mtu(_) => field::MTU.end,
-            Repr::Unknown { length, .. } => field::UNIT * *length as usize,
+            Repr::SourceLinkLayerAddr(addr) => writing::link_layer_addr_len(addr),
+            Repr::TargetLinkLayerAddr(addr) => writing::link_layer_addr_len(addr),
+            Repr::PrefixInformation(_) => writing::PREFIX_LEN,
+            Repr::RedirectedHeader(redirected) => writing::redirected_len(redirected),
+            Repr::Mtu(_) => writing::MTU_LEN,
+            Repr::Unknown { length, .. } => UNIT * *length as usize,
         }
     }
 
@@ -152,28 +152,24 @@ impl<'a> Repr<'a> {
         self.put(&mut w);
     }
 
-    // Writes each field of the option.
+    // Writes the text of the option.
     fn put(&self, w: &mut ByteWriter<'_>) {
-        match *self {
-            Repr::SourceLinkLayerAddr(addr) => put_link(w, Type::SourceLinkLayerAddr, addr),
-            Repr::TargetLinkLayerAddr(addr) => put_link(w, Type::TargetLinkLayerAddr, addr),
-            Repr::PrefixInformation(info) => put_prefix(w, &info),
-            Repr::RedirectedHeader(RedirectedHeader { header, data }) => {
-                put_redirected(w, &header, data);
+        match self {
+            Repr::SourceLinkLayerAddr(addr) => {
+                writing::put_link_layer_addr(w, Type::SourceLinkLayerAddr, addr);
             }
-            Repr::Mtu(mtu) => {
-                w.put_u8(Type::Mtu.into());
-                w.put_u8(1);
-                w.put_u16(0);
-                w.put_u32(mtu);
+            Repr::TargetLinkLayerAddr(addr) => {
+                writing::put_link_layer_addr(w, Type::TargetLinkLayerAddr, addr);
             }
+            Repr::PrefixInformation(info) => writing::put_prefix(w, info),
+            Repr::RedirectedHeader(redirected) => writing::put_redirected(w, redirected),
+            Repr::Mtu(mtu) => writing::put_mtu(w, *mtu),
             Repr::Unknown {
                 type_,
                 length,
                 data,
             } => {
-                w.put_u8(type_);
-                w.put_u8(length);
+                w.put_bytes(&[*type_, *length]);
                 w.put_bytes(data);
             }
         }
@@ -188,61 +184,13 @@ impl<'a, B: AsRef<[u8]> + ?Sized> NdiscOption<&'a B> {
     }
 }
 
-// The header of a packet, and its payload.
+// The header of a packet, and its payload. It stands apart, so that a parser has no registers and no places in memory for
+// them when it reads one of the other options.
+#[inline(never)]
 fn read_redirected(octets: &[u8]) -> Result<(Ipv6Repr, &[u8])> {
     let packet = Ipv6Packet::new_checked(octets)?;
     let header = Ipv6Repr::parse(&packet)?;
     Ok((header, packet.payload()))
-}
-
-// The units that so many bytes take.
-fn units_of(count: usize) -> usize {
-    count.div_ceil(field::UNIT)
-}
-
-// Writes a link-layer address as an option of this type.
-fn put_link(w: &mut ByteWriter<'_>, kind: Type, addr: RawHardwareAddress) {
-    let len = 2 + addr.len();
-    let units = units_of(len);
-    w.put_u8(kind.into());
-    w.put_u8(units as u8);
-    w.put_bytes(addr.as_bytes());
-    w.put_zeros(field::UNIT * units - len);
-}
-
-// Writes a prefix.
-fn put_prefix(w: &mut ByteWriter<'_>, info: &PrefixInformation) {
-    w.put_u8(Type::PrefixInformation.into());
-    w.put_u8(4);
-    w.put_u8(info.prefix_len);
-    w.put_u8(info.flags.bits());
-    w.put_u32(info.valid_lifetime.secs() as u32);
-    w.put_u32(info.preferred_lifetime.secs() as u32);
-    w.put_u32(0);
-    w.put_bytes(&info.prefix.octets());
-}
-
-// Writes a redirected packet.
-fn put_redirected(w: &mut ByteWriter<'_>, header: &Ipv6Repr, data: &[u8]) {
-    let len = 48 + data.len();
-    let units = units_of(len);
-    w.put_u8(Type::RedirectedHeader.into());
-    w.put_u8(units as u8);
-    w.put_u16(0);
-    w.put_u32(0);
-    put_packet(w, header, data);
-    w.put_zeros(field::UNIT * units - len);
-}
-
-// Writes a header and its payload.
-fn put_packet(w: &mut ByteWriter<'_>, header: &Ipv6Repr, data: &[u8]) {
-    write_header(header, w.part(header.buffer_len()));
-    w.put_bytes(data);
-}
-
-// Writes a header into octets of just its length.
-fn write_header(header: &Ipv6Repr, octets: &mut [u8]) {
-    header.emit_into(octets);
 }
 
 /// What the option has, as `NDISC Option: MTU mtu=1500`.

@@ -37,3 +37,11 @@ pub(super) fn push_octets(octets: &mut ArrayVec<u8, MAX_NAME_LEN>, more: &[u8]) 
     }
     Ok(())
 }
+
+/// Writes the byte 0 that ends a name. Refused where there is no room.
+pub(super) fn push_end(octets: &mut ArrayVec<u8, MAX_NAME_LEN>) -> Result<()> {
+    if octets.try_push(0).is_err() {
+        return Err(Error);
+    }
+    Ok(())
+}

@@ -2,10 +2,10 @@
 //! The characters and the labels of a name's text (RFC 1035 section 5.1).
 
 use crate::record::name::MAX_NAME_LEN;
-use crate::record::name::label::{MAX_LABEL_LEN, push_label};
+use crate::record::name::label::{MAX_LABEL_LEN, push_label, split_label};
 use crate::wirebase::{Error, Result};
 use arrayvec::ArrayVec;
-use core::fmt::{self, Display};
+use core::fmt;
 
 /// Whether this is the text of the root, a dot alone.
 pub(super) fn is_root(text: &[u8]) -> bool {
@@ -71,7 +71,7 @@ fn read_label(text: &[u8]) -> Result<(ArrayVec<u8, MAX_LABEL_LEN>, &[u8])> {
 fn read_byte(text: &[u8]) -> Option<(u8, &[u8])> {
     match text {
         [b'\\', rest @ ..] => read_quoted(rest),
-        [byte, rest @ ..] if *byte < ASCII_END && is_plain(*byte) => Some((*byte, rest)),
+        [byte, rest @ ..] if is_plain(*byte) => Some((*byte, rest)),
         _ => None,
     }
 }
@@ -104,14 +104,10 @@ fn digit_value(digit: u8) -> u16 {
     (digit - b'0') as u16
 }
 
-// The bytes from here on are no ASCII.
-const ASCII_END: u8 = 128;
+// A bit for each byte, the first word's lowest for byte 0: whether it is visible and has no meaning of its own.
+const PLAIN: [u64; 4] = [0xf7ff_bcea_0000_0000, 0x7fff_ffff_efff_fffe, 0, 0];
 
-// A bit for each byte below 64, and for each one below 128: whether it is visible and has no meaning of its own.
-const PLAIN: [u64; 2] = [0xf7ff_bcea_0000_0000, 0x7fff_ffff_efff_fffe];
-
-// Whether a byte of ASCII is written as itself. A look-up, since a name's bytes are of no order that a processor could
-// foresee.
+// Whether a byte is written as itself. A look-up, since a name's bytes are of no order that a processor could foresee.
 fn is_plain(byte: u8) -> bool {
     PLAIN[(byte / 64) as usize] >> (byte % 64) & 1 == 1
 }
@@ -121,63 +117,71 @@ fn is_special(byte: u8) -> bool {
     matches!(byte, b'"' | b'$' | b'(' | b')' | b'.' | b';' | b'@' | b'\\')
 }
 
-/// The text of a label.
-pub(super) struct LabelText<'a>(pub(super) &'a [u8]);
+// The most octets of text that are written at once, and the most that a character has.
+const PIECE_LEN: usize = 64;
 
-impl fmt::Display for LabelText<'_> {
-    fn fmt(&self, f: &mut fmt::Formatter<'_>) -> fmt::Result {
-        for byte in self.0 {
-            Character(*byte).fmt(f)?;
+const CHARACTER_LEN: usize = 4;
+
+// Text that waits to be written, since each write costs a call.
+type Piece = ArrayVec<u8, PIECE_LEN>;
+
+/// Writes the labels in octets with dots between them, and a dot alone where there are none. It stands apart, so that
+/// the root is written without the room that a piece takes.
+#[inline(never)]
+pub(super) fn fmt_labels(f: &mut fmt::Formatter<'_>, octets: &[u8]) -> fmt::Result {
+    let Some((first, rest)) = split_label(octets) else {
+        return f.write_str(".");
+    };
+    let mut piece = ArrayVec::new();
+    put_label(f, &mut piece, first)?;
+    let mut left = rest;
+    while let Some((label, rest)) = split_label(left) {
+        make_room(f, &mut piece)?;
+        piece.push(b'.');
+        put_label(f, &mut piece, label)?;
+        left = rest;
+    }
+    write_piece(f, &piece)
+}
+
+// Puts the text of a label behind what waits.
+fn put_label(f: &mut fmt::Formatter<'_>, piece: &mut Piece, label: &[u8]) -> fmt::Result {
+    for byte in label {
+        make_room(f, piece)?;
+        if is_plain(*byte) {
+            piece.push(*byte);
+        } else {
+            put_quoted(piece, *byte);
         }
-        Ok(())
     }
+    Ok(())
 }
 
-// The character that a byte is written as.
-struct Character(u8);
-
-impl fmt::Display for Character {
-    fn fmt(&self, f: &mut fmt::Formatter<'_>) -> fmt::Result {
-        let byte = self.0;
-        if byte < ASCII_END && is_plain(byte) {
-            return Ascii { byte }.fmt(f);
-        }
-        Quoted(byte).fmt(f)
+// Writes what waits, where there is no room for the longest character behind it.
+fn make_room(f: &mut fmt::Formatter<'_>, piece: &mut Piece) -> fmt::Result {
+    if piece.len() > PIECE_LEN - CHARACTER_LEN {
+        write_piece(f, piece)?;
+        piece.clear();
     }
+    Ok(())
 }
 
-// A byte behind a backslash: itself where it has a meaning of its own, and else its number.
-struct Quoted(u8);
+// Writes what waits.
+fn write_piece(f: &mut fmt::Formatter<'_>, piece: &Piece) -> fmt::Result {
+    // ASCII is UTF-8.
+    f.write_str(core::str::from_utf8(piece.as_slice()).unwrap_or(""))
+}
 
-impl fmt::Display for Quoted {
-    // It stands apart, so that the loop over plain characters stays small.
-    #[inline(never)]
-    fn fmt(&self, f: &mut fmt::Formatter<'_>) -> fmt::Result {
-        let byte = self.0;
-        f.write_str("\\")?;
-        if is_special(byte) {
-            return Ascii { byte }.fmt(f);
-        }
-        digit(byte / 100).fmt(f)?;
-        digit(byte / 10 % 10).fmt(f)?;
-        digit(byte % 10).fmt(f)
+// Puts a byte behind a backslash: itself where it has a meaning of its own, and else its number. It stands apart, so
+// that the loop over plain characters stays small.
+#[inline(never)]
+fn put_quoted(piece: &mut Piece, byte: u8) {
+    piece.push(b'\\');
+    if is_special(byte) {
+        piece.push(byte);
+        return;
     }
-}
-
-// The digit of this value.
-fn digit(value: u8) -> Ascii {
-    Ascii { byte: b'0' + value }
-}
-
-// A byte of ASCII, which is written as itself: in one write, with none of the work that `write!` does for a formatter's
-// options.
-struct Ascii {
-    byte: u8,
-}
-
-impl fmt::Display for Ascii {
-    fn fmt(&self, f: &mut fmt::Formatter<'_>) -> fmt::Result {
-        let mut encoded = [0; 4];
-        f.write_str(char::from(self.byte).encode_utf8(&mut encoded))
-    }
+    piece.push(b'0' + byte / 100);
+    piece.push(b'0' + byte / 10 % 10);
+    piece.push(b'0' + byte % 10);
 }

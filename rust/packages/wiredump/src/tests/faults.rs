@@ -182,8 +182,8 @@ fn long_input() -> String {
     repeated(&[(lines.as_str(), 1), (long.as_str(), 60)])
 }
 
-// Compares what was printed to a sink with what is printed to one that never fails, or with so many octets of that where
-// a write failed; true where none did.
+// Compares what was printed to a sink with what is printed to one that never fails, or with so many octets of that
+// where a write failed; true where none did.
 fn check_written(
     fails_at: usize,
     answers: (Result<bool, Fault>, Result<bool, Fault>),
@@ -202,8 +202,8 @@ fn check_written(
     false
 }
 
-// Compares what is printed to a sink that fails at one call, or from it on; true where no write failed. What it was given
-// when it failed is given again.
+// Compares what is printed to a sink that fails at one call, or from it on; true where no write failed. What it was
+// given when it failed is given again.
 fn check_sink(
     input: &[u8],
     fails_at: usize,

@@ -2,8 +2,8 @@
 //! Lines of every shape, and at the limits of what a line may have.
 
 use super::{append, check_input, check_line, check_run, joined, repeated};
-use crate::read_word;
 use crate::testing::{holds_of, same_of};
+use crate::words::read_word;
 #[allow(unused_imports)]
 use rattle_std::prelude::*;
 use std::fmt::{Debug, Write};
@@ -128,11 +128,12 @@ fn check_length(of: &impl Debug, input: &[u8], is_known: bool, want: &[u8]) {
 // A word of so many digits is so many octets, or none, and a line of it prints this.
 fn check_digits(digits: usize, length: Option<usize>, want: &str) {
     let word = repeated(&[("0", digits)]);
-    let Ok(octets) = read_word(word.as_bytes()) else {
+    let mut room = Vec::new();
+    let Ok(octets) = read_word(&mut room, word.as_bytes()) else {
         holds_of(digits, false);
         return;
     };
-    let octets_len = octets.as_ref().map(|octets| octets.len());
+    let octets_len = octets.map(|octets| octets.len());
     same_of(digits, octets_len, length);
     let line = joined(&["hbh ", word.as_str()]);
     let (input, want) = (line.as_bytes(), want.as_bytes());

@@ -1,16 +1,17 @@
 // Made from crates/wiredump/src/tests/words.rt by rust/erase.
 //! Words, and what they spell.
 
-use crate::read_word;
 use crate::testing::{holds_of, same_of};
-use crate::words::{read_address, read_offset};
+use crate::words::{read_address, read_offset, read_word};
+#[allow(unused_imports)]
+use rattle_std::prelude::*;
 
-fn check_word(text: &str, octets: Option<&[u8]>) {
-    let Ok(word) = read_word(text.as_bytes()) else {
+fn check_word(room: &mut Vec<u8>, text: &str, octets: Option<&[u8]>) {
+    let Ok(word) = read_word(room, text.as_bytes()) else {
         holds_of(text, false);
         return;
     };
-    same_of(text, word.as_ref().map(|word| word.as_slice()), octets);
+    same_of(text, word, octets);
 }
 
 #[test]
@@ -21,6 +22,7 @@ fn words_and_the_octets_they_spell() {
         ("0f", Some(b"\x0f")),
         ("f0", Some(b"\xf0")),
         ("09afAF", Some(b"\x09\xaf\xaf")),
+        ("ff", Some(b"\xff")),
         ("", None),
         ("0", None),
         ("012", None),
@@ -34,8 +36,10 @@ fn words_and_the_octets_they_spell() {
         ("0g", None),
         (" 00", None),
     ];
+    // The room is kept, so that shorter words stand where longer ones did.
+    let mut room = Vec::new();
     for &(text, octets) in ROWS {
-        check_word(text, octets);
+        check_word(&mut room, text, octets);
     }
 }
 

@@ -4,5 +4,5 @@ use Rattle.icmp6_wire.proofs.ndisc.repr.put_neighbor.Goals as goal
 
 pub returns-clause-puts : goal.returns-clause-puts
 returns-clause-puts c =
-    puts-fields c.args.w.now c.put_bytes.new.self _ _ c.put_bytes.ensures.puts
-    (flags_bytes c.into-kind.result _ c.bits.result _ c.into-kind.ensures (c.bits.ensures _))
+    puts-fields c.args.w.now c.put_header.new.w _ _ c.put_header.ensures.puts
+    (flags_bytes c.into.result _ c.bits.result _ c.into.ensures (c.bits.ensures _))

@@ -1,0 +1,109 @@
+// Made from crates/capture/src/unit.rt by rust/erase.
+//! The records and blocks of an input: taken in one step where its buffer shows the whole of one, else read in parts.
+
+use crate::ending::{Ending, Fault};
+use crate::order::Order;
+use crate::reader::{fill, look, skip};
+use rattle_std::io::BufRead;
+#[allow(unused_imports)]
+use rattle_std::prelude::*;
+
+/// What stands in front of a record or a block, and says how long that is.
+pub trait UnitHead: Copy {
+    /// How many bytes it has.
+    const LEN: usize;
+
+    /// The head at the front of the octets. Refused where the capture ends at it.
+    fn of(order: Order, octets: &[u8]) -> Result<Self, Ending>;
+
+    /// The bytes of the record or block, with the head.
+    fn unit_len(&self) -> usize;
+
+    /// Whether these are read, and not passed over.
+    fn is_read(&self) -> bool;
+}
+
+/// A record or a block that was read last, or passed over.
+#[derive(Debug, PartialEq, Eq, Clone, Copy)]
+pub enum Taken<H> {
+    /// It was passed over.
+    Passed(H),
+    /// Its octets were read.
+    Read(H),
+    /// Nothing more is read.
+    Ended(Ending),
+}
+
+/// Reads the octets of the next record or block, of which some may be read, or passes over it.
+#[inline]
+pub fn read_unit<R: BufRead, H: UnitHead>(
+    input: &mut R,
+    octets: &mut Vec<u8>,
+    order: Order,
+) -> Result<Taken<H>, Fault> {
+    if !octets.as_slice().is_empty() {
+        return read_parts(input, octets, order);
+    }
+    let Some(shown) = look(input)? else {
+        return read_parts(input, octets, order);
+    };
+    if shown.is_empty() {
+        return Ok(Taken::Ended(Ending::Whole));
+    }
+    let Some(front) = shown.get(..H::LEN) else {
+        return read_parts(input, octets, order);
+    };
+    let Ok(head) = H::of(order, front) else {
+        return read_parts(input, octets, order);
+    };
+    let len = head.unit_len();
+    if shown.len() < len {
+        return read_rest(input, octets, head);
+    }
+    let is_read = head.is_read();
+    if is_read {
+        let Ok(()) = octets.extend_from_slice(&shown[..len]) else {
+            return Err(Fault::Memory);
+        };
+    }
+    input.consume(len);
+    Ok(if is_read {
+        Taken::Read(head)
+    } else {
+        Taken::Passed(head)
+    })
+}
+
+// Reads the octets of the next record or block, its head first and then the rest, or passes over it.
+fn read_parts<R: BufRead, H: UnitHead>(
+    input: &mut R,
+    octets: &mut Vec<u8>,
+    order: Order,
+) -> Result<Taken<H>, Fault> {
+    fill(input, octets, H::LEN)?;
+    match H::of(order, octets.as_slice()) {
+        Ok(head) => read_rest(input, octets, head),
+        Err(ending) => Ok(Taken::Ended(ending)),
+    }
+}
+
+// Reads what is missing of a record or block with this head, or passes over it.
+fn read_rest<R: BufRead, H: UnitHead>(
+    input: &mut R,
+    octets: &mut Vec<u8>,
+    head: H,
+) -> Result<Taken<H>, Fault> {
+    let len = head.unit_len();
+    if !head.is_read() {
+        let whole = skip(input, len - octets.as_slice().len())?;
+        if !whole {
+            return Ok(Taken::Ended(Ending::Cut));
+        }
+        return Ok(Taken::Passed(head));
+    }
+    fill(input, octets, len)?;
+    if octets.as_slice().len() < len {
+        return Ok(Taken::Ended(Ending::Cut));
+    }
+    Ok(Taken::Read(head))
+}
