@@ -14,7 +14,7 @@ use super::repr::Repr;
 use super::tables::Message;
 use wirebase::{Error, IPV6_HEADER_LEN, Result};
 
-// The error in octets of such a type.
+// The error in octets of such a type, of a packet that is too big of code 0.
 #[inline(always)]
 pub(super) fn read_error<'a>(packet: &Packet<&'a [u8]>, kind: Message) -> Result<Repr<'a>>
     requires whole { BeginsWhole (view_octets packet.now) }
@@ -28,21 +28,37 @@ pub(super) fn read_error<'a>(packet: &Packet<&'a [u8]>, kind: Message) -> Result
     if payload.len() < IPV6_HEADER_LEN {
         return Err(Error);
     }
+    let code = packet.msg_code();
+    let (header, data) = read_quote(payload);
     match kind {
         Message::DstUnreachable => {
-            return Ok(read_unreachable(packet));
+            return Ok(Repr::DstUnreachable {
+                reason: code.into(),
+                header,
+                data,
+            });
         }
-        Message::PktTooBig => {
-            if packet.msg_code() != 0 {
-                return Err(Error);
-            }
-            return Ok(read_too_big(packet));
+        Message::PktTooBig if code == 0 => {
+            return Ok(Repr::PktTooBig {
+                mtu: packet.pkt_too_big_mtu(),
+                header,
+                data,
+            });
         }
         Message::TimeExceeded => {
-            return Ok(read_time_exceeded(packet));
+            return Ok(Repr::TimeExceeded {
+                reason: code.into(),
+                header,
+                data,
+            });
         }
         Message::ParamProblem => {
-            return Ok(read_param_problem(packet));
+            return Ok(Repr::ParamProblem {
+                reason: code.into(),
+                pointer: packet.param_problem_ptr(),
+                header,
+                data,
+            });
         }
         _ => {
             return Err(Error);
@@ -50,72 +66,10 @@ pub(super) fn read_error<'a>(packet: &Packet<&'a [u8]>, kind: Message) -> Result
     }
 }
 
-// The error of an unreachable destination in octets of that type that hold a quoted header.
-#[inline(always)]
-fn read_unreachable<'a>(packet: &Packet<&'a [u8]>) -> Repr<'a>
-    requires kind { byte_of type_field (view_octets packet.now) ≡ 1 }
-    requires quote_ { 48 ≤ length (view_octets packet.now) }
-    ensures { IsContent (view_octets packet.now) (value_of result) }
-{
-    let (header, data) = read_quote(behind_header(packet));
-    Repr::DstUnreachable {
-        reason: packet.msg_code().into(),
-        header,
-        data,
-    }
-}
-
-// The same of a packet that is too big, whose code is 0.
-#[inline(always)]
-fn read_too_big<'a>(packet: &Packet<&'a [u8]>) -> Repr<'a>
-    requires kind { byte_of type_field (view_octets packet.now) ≡ 2 }
-    requires code { byte_of code_field (view_octets packet.now) ≡ 0 }
-    requires quote_ { 48 ≤ length (view_octets packet.now) }
-    ensures { IsContent (view_octets packet.now) (value_of result) }
-{
-    let (header, data) = read_quote(behind_header(packet));
-    Repr::PktTooBig {
-        mtu: packet.pkt_too_big_mtu(),
-        header,
-        data,
-    }
-}
-
-// The same of a time that was exceeded.
-#[inline(always)]
-fn read_time_exceeded<'a>(packet: &Packet<&'a [u8]>) -> Repr<'a>
-    requires kind { byte_of type_field (view_octets packet.now) ≡ 3 }
-    requires quote_ { 48 ≤ length (view_octets packet.now) }
-    ensures { IsContent (view_octets packet.now) (value_of result) }
-{
-    let (header, data) = read_quote(behind_header(packet));
-    Repr::TimeExceeded {
-        reason: packet.msg_code().into(),
-        header,
-        data,
-    }
-}
-
-// The same of a parameter problem.
-#[inline(always)]
-fn read_param_problem<'a>(packet: &Packet<&'a [u8]>) -> Repr<'a>
-    requires kind { byte_of type_field (view_octets packet.now) ≡ 4 }
-    requires quote_ { 48 ≤ length (view_octets packet.now) }
-    ensures { IsContent (view_octets packet.now) (value_of result) }
-{
-    let (header, data) = read_quote(behind_header(packet));
-    Repr::ParamProblem {
-        reason: packet.msg_code().into(),
-        pointer: packet.param_problem_ptr(),
-        header,
-        data,
-    }
-}
-
 // The echo request in octets of that type and of code 0.
 #[inline(always)]
 pub(super) fn read_echo_request<'a>(packet: &Packet<&'a [u8]>) -> Repr<'a>
-    requires whole { BeginsWhole (view_octets packet.now) }
+    requires some { 8 ≤ length (view_octets packet.now) }
     requires kind { byte_of type_field (view_octets packet.now) ≡ 0x80 }
     requires code { byte_of code_field (view_octets packet.now) ≡ 0 }
     ensures { IsContent (view_octets packet.now) (value_of result) }
@@ -130,7 +84,7 @@ pub(super) fn read_echo_request<'a>(packet: &Packet<&'a [u8]>) -> Repr<'a>
 // The same of an echo reply.
 #[inline(always)]
 pub(super) fn read_echo_reply<'a>(packet: &Packet<&'a [u8]>) -> Repr<'a>
-    requires whole { BeginsWhole (view_octets packet.now) }
+    requires some { 8 ≤ length (view_octets packet.now) }
     requires kind { byte_of type_field (view_octets packet.now) ≡ 0x81 }
     requires code { byte_of code_field (view_octets packet.now) ≡ 0 }
     ensures { IsContent (view_octets packet.now) (value_of result) }

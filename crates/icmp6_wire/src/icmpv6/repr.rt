@@ -1,10 +1,10 @@
 //! Messages as values (RFC 4443).
 
-ghost use Rattle.std.specs.Prelude.{◌≡◌, ◌≤◌, ◌<◌, ◌+◌, ◌^◌, length, IsOk, IfOk, IsOkAnd};
-ghost use Rattle.wirebase.specs.Bytes.{Reaches, over};
+ghost use Rattle.std.specs.Prelude.{◌≡◌, ◌≢◌, ◌⊎◌, ◌≤◌, ◌<◌, ◌+◌, ◌^◌, length, IsOk, IfOk, IsOkAnd};
+ghost use Rattle.wirebase.specs.Bytes.{Reaches, byte_of, over};
 ghost use Rattle.wirebase.specs.ByteWriter.{free, Puts, fields};
 ghost use Rattle.wirebase.specs.Format.{Rewrites, SameText};
-ghost use Rattle.wirebase.specs.Icmp.{header, checksum_field, echo_fields};
+ghost use Rattle.wirebase.specs.Icmp.{type_field, header, checksum_field, echo_fields};
 ghost use Rattle.wirebase.specs.declared.capabilities.ChecksumCapabilities.{ChecksumCapabilities};
 ghost use Rattle.wirebase.specs.declared.ipv6.address.Ipv6Address.{Ipv6Address};
 ghost use Rattle.wirebase.specs.declared.ipv6.Ipv6Repr.{Ipv6Repr};
@@ -15,11 +15,11 @@ ghost use Rattle.icmp6_wire.specs.Icmpv6.{text_len, told_len};
 ghost use Rattle.icmp6_wire.specs.Icmpv6.{IsErrorValue, seal, packet_text, CanEmit, IsMessage, format};
 ghost use Rattle.icmp6_wire.specs.Icmpv6.{Emits};
 
-use super::field;
 use super::packet::{Packet, fill};
 use super::quote::{error_len, write_error};
 use super::reading::{read_echo_reply, read_echo_request, read_error};
 use super::tables::{DstUnreachable, Message, ParamProblem, TimeExceeded};
+use super::{ECHO_REPLY, ECHO_REQUEST, field};
 use crate::mld::{read_query, read_report};
 use crate::ndisc::{
     Found, neighbor_advert, neighbor_solicit, redirect, router_advert, router_solicit,
@@ -123,16 +123,51 @@ impl<'a> Repr<'a> {
         if packet.buffer.len() < field::HEADER_END {
             return Err(Error);
         }
+        // Echoes apart, since they are the most: the function for the others has their places to clear.
+        let kind = packet.buffer[field::TYPE.start];
+        if kind == ECHO_REQUEST || kind == ECHO_REPLY {
+            return Repr::read_echo(src_addr, dst_addr, packet, checksum_caps);
+        }
         Repr::read(src_addr, dst_addr, packet, checksum_caps)
     }
 
-    // The message in the octets.
+    // The echo in octets of either type.
+    #[inline]
+    fn read_echo(
+        src_addr: &Ipv6Address,
+        dst_addr: &Ipv6Address,
+        packet: &Packet<&'a [u8]>,
+        checksum_caps: &ChecksumCapabilities,
+    ) -> Result<Repr<'a>>
+        requires some { 8 ≤ length (view_octets packet.now) }
+        requires echo { (byte_of type_field (view_octets packet.now) ≡ 0x80)
+            ⊎ (byte_of type_field (view_octets packet.now) ≡ 0x81) }
+        ensures sound { IfOk result (λ repr. IsMessage checksum_caps.now src_addr.now dst_addr.now
+            (view_octets packet.now) (value_of repr)) }
+        ensures reads { (value : MessageValue)
+            → IsMessage checksum_caps.now src_addr.now dst_addr.now (view_octets packet.now) value
+            → IsOk result }
+    {
+        if packet.msg_code() != 0
+            || checksum_caps.icmpv6.rx() && !packet.verify_checksum(src_addr, dst_addr)
+        {
+            return Err(Error);
+        }
+        if packet.buffer[field::TYPE.start] == ECHO_REQUEST {
+            return Ok(read_echo_request(packet));
+        }
+        Ok(read_echo_reply(packet))
+    }
+
+    // The message in the octets, of another type than an echo.
     fn read(
         src_addr: &Ipv6Address,
         dst_addr: &Ipv6Address,
         packet: &Packet<&'a [u8]>,
         checksum_caps: &ChecksumCapabilities,
     ) -> Result<Repr<'a>>
+        requires no_request { byte_of type_field (view_octets packet.now) ≢ 0x80 }
+        requires no_reply { byte_of type_field (view_octets packet.now) ≢ 0x81 }
         ensures sound { IfOk result (λ repr. IsMessage checksum_caps.now src_addr.now dst_addr.now
             (view_octets packet.now) (value_of repr)) }
         ensures reads { (value : MessageValue)
@@ -153,8 +188,6 @@ impl<'a> Repr<'a> {
         // where the caller has room for it.
         if !kind.is_ndisc() {
             match kind {
-                Message::EchoRequest => return Ok(read_echo_request(packet)),
-                Message::EchoReply => return Ok(read_echo_reply(packet)),
                 Message::MldQuery => return Ok(Repr::Mld(read_query(packet))),
                 Message::MldReport => return Ok(Repr::Mld(read_report(packet))),
                 _ => return Err(Error),

@@ -18,3 +18,9 @@ returns-clause-rewrites c =
     all_rewrites (format c.args.checksum_caps.now c.args.src_addr.now c.args.dst_addr.now)
     (icmpv6_format c.args.checksum_caps.now c.args.src_addr.now c.args.dst_addr.now)
     value_of (view_octets c.args.packet.now) c.read.result c.are_bytes.ensures c.read.ensures.sound
+
+pub returns-then-kind-clause-rewrites : goal.returns-then-kind-clause-rewrites
+returns-then-kind-clause-rewrites c =
+    all_rewrites (format c.args.checksum_caps.now c.args.src_addr.now c.args.dst_addr.now)
+    (icmpv6_format c.args.checksum_caps.now c.args.src_addr.now c.args.dst_addr.now)
+    value_of (view_octets c.args.packet.now) c.read_echo.result c.are_bytes.ensures c.read_echo.ensures.sound
