@@ -22,13 +22,6 @@ pub router_bytes : (k t hops b flags n lifetime : ℕ) (a : List ℕ) → k ≡ 
 unfolding fields be8 be16
 router_bytes k t hops b flags n lifetime a kind bits is same = rw (kind, bits, is, same) refl
 
--- an echo
-pub echo_bytes : (k t ident seq_no : ℕ) (a b d : List ℕ) → k ≡ t → a ≡ to_be_bytes w16 ident → b ≡ to_be_bytes w16 seq_no
-    → fields ((k ∷ 0 ∷ 0 ∷ 0 ∷ slice_index a 0 ∷ slice_index a 1 ∷ slice_index b 0 ∷ slice_index b 1 ∷ []) ∷ d ∷ [])
-    ≡ fields (echo_fields t ident seq_no d)
-unfolding fields be8 be16
-echo_bytes k t ident seq_no a b d kind first second = rw (kind, first, second) refl
-
 -- a query and a report for listeners
 pub query_bytes : (k code m qqic sources : ℕ) (group : Ipv6Address) (flag : Bool) (qrv : ℕ) (a b d : List ℕ) → k ≡ 0x82
     → a ≡ to_be_bytes w16 code → m ≡ sqrv flag qrv → b ≡ to_be_bytes w16 sources

@@ -18,6 +18,11 @@ const MAX_ERROR_PACKET_LEN: usize = IPV6_MIN_MTU - IPV6_HEADER_LEN;
 
 const MAX_QUOTED_DATA: usize = MAX_ERROR_PACKET_LEN - field::HEADER_END - IPV6_HEADER_LEN;
 
+// The types of echoes (RFC 4443 sections 4.1 and 4.2).
+const ECHO_REQUEST: u8 = 128;
+
+const ECHO_REPLY: u8 = 129;
+
 // The fields of a message.
 pub(crate) mod field {
     use crate::wirebase::Field;

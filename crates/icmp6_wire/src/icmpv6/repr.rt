@@ -27,7 +27,7 @@ use crate::ndisc::{
 use crate::{mld, ndisc};
 use wirebase::{
     ByteWriter, ChecksumCapabilities, Error, Ipv6Address, Ipv6Repr, Octets, OctetsMut, Result,
-    are_bytes,
+    are_bytes, icmp,
 };
 
 /// A message (RFC 4443).
@@ -353,19 +353,8 @@ fn write_echo(octets: &mut [u8], kind: Message, ident: u16, seq_no: u16, data: &
     ensures { octets.new ≡ over octets.old
         (fields (echo_fields (message_number kind) ident seq_no «data».now)) }
 {
-    put_echo(&mut ByteWriter::new(octets), kind, ident, seq_no, data);
-}
-
-// Writes an echo of this type, as much of its data as there is room for.
-fn put_echo(w: &mut ByteWriter<'_>, kind: Message, ident: u16, seq_no: u16, data: &[u8])
-    requires { 8 ≤ length (free w.old) }
-    ensures { Puts w.old w.new (echo_fields (message_number kind) ident seq_no «data».now) }
-{
-    // The header is written at once: the checksum, which reads it right after, would else wait for its bytes.
-    let [a, b] = ident.to_be_bytes();
-    let [c, d] = seq_no.to_be_bytes();
-    w.put_bytes(&[kind.into(), 0, 0, 0, a, b, c, d]);
-    w.put_front(data);
+    let mut w = ByteWriter::new(octets);
+    icmp::put_echo(&mut w, kind.into(), ident, seq_no, data);
 }
 
 // Writes the checksum, where it is computed.

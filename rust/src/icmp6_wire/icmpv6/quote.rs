@@ -5,7 +5,7 @@
 use super::tables::Message;
 use super::{MAX_QUOTED_DATA, field};
 use crate::opt_wire::writing::put_header;
-use crate::wirebase::{ByteWriter, IPV6_HEADER_LEN, Ipv6Packet, Ipv6Repr};
+use crate::wirebase::{ByteWriter, IPV6_HEADER_LEN, Ipv6Packet, Ipv6Repr, icmp};
 
 // The bytes of an error that quotes this header and as much of this data as it may.
 pub(super) fn error_len(quoted: &Ipv6Repr, data: &[u8]) -> usize {
@@ -33,8 +33,7 @@ fn put_error(
     quoted: &Ipv6Repr,
     data: &[u8],
 ) {
-    let [a, b, c, d] = word.to_be_bytes();
-    w.put_bytes(&[kind.into(), code, 0, 0, a, b, c, d]);
+    icmp::put_header(w, kind.into(), code, word.to_be_bytes());
     put_header(w, quoted);
     w.put_bytes(quotable(data));
 }

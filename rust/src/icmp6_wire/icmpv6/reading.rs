@@ -8,7 +8,7 @@ use super::repr::Repr;
 use super::tables::Message;
 use crate::wirebase::{Error, IPV6_HEADER_LEN, Result};
 
-// The error in octets of such a type.
+// The error in octets of such a type, of a packet that is too big of code 0.
 #[inline(always)]
 pub(super) fn read_error<'a, B: AsRef<[u8]> + ?Sized>(
     packet: &Packet<&'a B>,
@@ -18,70 +18,41 @@ pub(super) fn read_error<'a, B: AsRef<[u8]> + ?Sized>(
     if payload.len() < IPV6_HEADER_LEN {
         return Err(Error);
     }
+    let code = packet.msg_code();
+    let (header, data) = read_quote(payload);
     match kind {
         Message::DstUnreachable => {
-            return Ok(read_unreachable(packet));
+            return Ok(Repr::DstUnreachable {
+                reason: code.into(),
+                header,
+                data,
+            });
         }
-        Message::PktTooBig => {
-            if packet.msg_code() != 0 {
-                return Err(Error);
-            }
-            return Ok(read_too_big(packet));
+        Message::PktTooBig if code == 0 => {
+            return Ok(Repr::PktTooBig {
+                mtu: packet.pkt_too_big_mtu(),
+                header,
+                data,
+            });
         }
         Message::TimeExceeded => {
-            return Ok(read_time_exceeded(packet));
+            return Ok(Repr::TimeExceeded {
+                reason: code.into(),
+                header,
+                data,
+            });
         }
         Message::ParamProblem => {
-            return Ok(read_param_problem(packet));
+            return Ok(Repr::ParamProblem {
+                reason: code.into(),
+                pointer: packet.param_problem_ptr(),
+                header,
+                data,
+            });
         }
         _ => {
             return Err(Error);
         }
-    }
-}
-
-// The error of an unreachable destination in octets of that type that hold a quoted header.
-#[inline(always)]
-fn read_unreachable<'a, B: AsRef<[u8]> + ?Sized>(packet: &Packet<&'a B>) -> Repr<'a> {
-    let (header, data) = read_quote(behind_header(packet));
-    Repr::DstUnreachable {
-        reason: packet.msg_code().into(),
-        header,
-        data,
-    }
-}
-
-// The same of a packet that is too big, whose code is 0.
-#[inline(always)]
-fn read_too_big<'a, B: AsRef<[u8]> + ?Sized>(packet: &Packet<&'a B>) -> Repr<'a> {
-    let (header, data) = read_quote(behind_header(packet));
-    Repr::PktTooBig {
-        mtu: packet.pkt_too_big_mtu(),
-        header,
-        data,
-    }
-}
-
-// The same of a time that was exceeded.
-#[inline(always)]
-fn read_time_exceeded<'a, B: AsRef<[u8]> + ?Sized>(packet: &Packet<&'a B>) -> Repr<'a> {
-    let (header, data) = read_quote(behind_header(packet));
-    Repr::TimeExceeded {
-        reason: packet.msg_code().into(),
-        header,
-        data,
-    }
-}
-
-// The same of a parameter problem.
-#[inline(always)]
-fn read_param_problem<'a, B: AsRef<[u8]> + ?Sized>(packet: &Packet<&'a B>) -> Repr<'a> {
-    let (header, data) = read_quote(behind_header(packet));
-    Repr::ParamProblem {
-        reason: packet.msg_code().into(),
-        pointer: packet.param_problem_ptr(),
-        header,
-        data,
     }
 }
 

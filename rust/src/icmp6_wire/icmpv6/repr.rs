@@ -1,18 +1,18 @@
 // Made from crates/icmp6_wire/src/icmpv6/repr.rt by rust/erase.
 //! Messages as values (RFC 4443).
 
-use super::field;
 use super::packet::{Packet, fill};
 use super::quote::{error_len, write_error};
 use super::reading::{read_echo_reply, read_echo_request, read_error};
 use super::tables::{DstUnreachable, Message, ParamProblem, TimeExceeded};
+use super::{ECHO_REPLY, ECHO_REQUEST, field};
 use crate::icmp6_wire::mld::{read_query, read_report};
 use crate::icmp6_wire::ndisc::{
     Found, neighbor_advert, neighbor_solicit, redirect, router_advert, router_solicit,
 };
 use crate::icmp6_wire::{mld, ndisc};
 use crate::wirebase::{
-    ByteWriter, ChecksumCapabilities, Error, Ipv6Address, Ipv6Repr, Octets, OctetsMut, Result,
+    ByteWriter, ChecksumCapabilities, Error, Ipv6Address, Ipv6Repr, Octets, OctetsMut, Result, icmp,
 };
 
 /// A message (RFC 4443).
@@ -98,10 +98,34 @@ impl<'a> Repr<'a> {
         if packet.buffer.as_ref().len() < field::HEADER_END {
             return Err(Error);
         }
+        // Echoes apart, since they are the most: the function for the others has their places to clear.
+        let kind = packet.buffer.as_ref()[field::TYPE.start];
+        if kind == ECHO_REQUEST || kind == ECHO_REPLY {
+            return Repr::read_echo(src_addr, dst_addr, packet, checksum_caps);
+        }
         Repr::read(src_addr, dst_addr, packet, checksum_caps)
     }
 
-    // The message in the octets.
+    // The echo in octets of either type.
+    #[inline]
+    fn read_echo<B: AsRef<[u8]> + ?Sized>(
+        src_addr: &Ipv6Address,
+        dst_addr: &Ipv6Address,
+        packet: &Packet<&'a B>,
+        checksum_caps: &ChecksumCapabilities,
+    ) -> Result<Repr<'a>> {
+        if packet.msg_code() != 0
+            || checksum_caps.icmpv6.rx() && !packet.verify_checksum(src_addr, dst_addr)
+        {
+            return Err(Error);
+        }
+        if packet.buffer.as_ref()[field::TYPE.start] == ECHO_REQUEST {
+            return Ok(read_echo_request(packet));
+        }
+        Ok(read_echo_reply(packet))
+    }
+
+    // The message in the octets, of another type than an echo.
     fn read<B: AsRef<[u8]> + ?Sized>(
         src_addr: &Ipv6Address,
         dst_addr: &Ipv6Address,
@@ -122,8 +146,6 @@ impl<'a> Repr<'a> {
         // where the caller has room for it.
         if !kind.is_ndisc() {
             match kind {
-                Message::EchoRequest => return Ok(read_echo_request(packet)),
-                Message::EchoReply => return Ok(read_echo_reply(packet)),
                 Message::MldQuery => return Ok(Repr::Mld(read_query(packet))),
                 Message::MldReport => return Ok(Repr::Mld(read_report(packet))),
                 _ => return Err(Error),
@@ -249,16 +271,8 @@ impl<'a> Repr<'a> {
 
 // Writes an echo of this type over the front of the octets.
 fn write_echo(octets: &mut [u8], kind: Message, ident: u16, seq_no: u16, data: &[u8]) {
-    put_echo(&mut ByteWriter::new(octets), kind, ident, seq_no, data);
-}
-
-// Writes an echo of this type, as much of its data as there is room for.
-fn put_echo(w: &mut ByteWriter<'_>, kind: Message, ident: u16, seq_no: u16, data: &[u8]) {
-    // The header is written at once: the checksum, which reads it right after, would else wait for its bytes.
-    let [a, b] = ident.to_be_bytes();
-    let [c, d] = seq_no.to_be_bytes();
-    w.put_bytes(&[kind.into(), 0, 0, 0, a, b, c, d]);
-    w.put_front(data);
+    let mut w = ByteWriter::new(octets);
+    icmp::put_echo(&mut w, kind.into(), ident, seq_no, data);
 }
 
 // Writes the checksum, where it is computed.

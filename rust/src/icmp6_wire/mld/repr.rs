@@ -5,7 +5,7 @@ use super::field;
 use super::record::AddressRecordRepr;
 use crate::icmp6_wire::icmpv6::{Message, Packet};
 use crate::icmp6_wire::writing::put_address;
-use crate::wirebase::{ByteWriter, Error, Ipv6Address, OctetsMut, Result};
+use crate::wirebase::{ByteWriter, Error, Ipv6Address, OctetsMut, Result, icmp};
 
 /// A message (RFC 3810 section 5).
 #[derive(Debug, PartialEq, Eq, Clone, Copy)]
@@ -158,7 +158,7 @@ fn put_query(
     data: &[u8],
 ) {
     let [a, b] = max_resp_code.to_be_bytes();
-    w.put_bytes(&[Message::MldQuery.into(), 0, 0, 0, a, b, 0, 0]);
+    icmp::put_header(w, Message::MldQuery.into(), 0, [a, b, 0, 0]);
     put_address(w, &mcast_addr);
     let flag = if s_flag { 8 } else { 0 };
     let [a, b] = num_srcs.to_be_bytes();
@@ -181,7 +181,7 @@ fn put_list(w: &mut ByteWriter<'_>, records: &[AddressRecordRepr<'_>]) {
 // Writes the header of a report of so many records.
 fn put_report_header(w: &mut ByteWriter<'_>, count: u16) {
     let [a, b] = count.to_be_bytes();
-    w.put_bytes(&[Message::MldReport.into(), 0, 0, 0, 0, 0, a, b]);
+    icmp::put_header(w, Message::MldReport.into(), 0, [0, 0, a, b]);
 }
 
 // Writes each record.

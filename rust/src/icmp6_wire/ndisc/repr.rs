@@ -10,10 +10,10 @@ use super::options::{
 };
 use super::reading::{neighbor_advert, neighbor_solicit, redirect, router_advert, router_solicit};
 use crate::icmp6_wire::icmpv6::{Message, Packet};
-use crate::icmp6_wire::writing::{put_address, put_type};
+use crate::icmp6_wire::writing::put_address;
 use crate::opt_wire::ndiscoption::{PrefixInformation, RedirectedHeader};
 use crate::wirebase::{
-    ByteWriter, Duration, Error, Ipv6Address, OctetsMut, RawHardwareAddress, Result,
+    ByteWriter, Duration, Error, Ipv6Address, OctetsMut, RawHardwareAddress, Result, icmp,
 };
 
 /// A message (RFC 4861 section 4). Its options are there or not; of several of one kind the last is read.
@@ -176,8 +176,8 @@ impl<'a> Repr<'a> {
                 retrans_time,
                 ..
             } => {
-                put_router(w, *hop_limit, *flags);
-                put_times(w, router_lifetime, reachable_time, retrans_time);
+                put_router(w, *hop_limit, *flags, router_lifetime);
+                put_times(w, reachable_time, retrans_time);
             }
             Repr::NeighborSolicit { target_addr, .. } => {
                 put_reserved(w, Message::NeighborSolicit);
@@ -239,11 +239,11 @@ fn redirect_options_len(
     target_len(lladdr) + redirected_len(header)
 }
 
-// Writes a router advertisement up to its times.
-fn put_router(w: &mut ByteWriter<'_>, hop_limit: u8, flags: RouterFlags) {
-    put_type(w, Message::RouterAdvert);
-    w.put_u8(hop_limit);
-    w.put_u8(flags.bits());
+// Writes a router advertisement up to its times in milliseconds.
+fn put_router(w: &mut ByteWriter<'_>, hop_limit: u8, flags: RouterFlags, lifetime: &Duration) {
+    let [a, b] = (lifetime.secs() as u16).to_be_bytes();
+    let rest = [hop_limit, flags.bits(), a, b];
+    icmp::put_header(w, Message::RouterAdvert.into(), 0, rest);
 }
 
 // Writes the options of a router advertisement.
@@ -270,23 +270,21 @@ fn put_redirect_options(
 
 // Writes a neighbor advertisement up to its address.
 fn put_neighbor(w: &mut ByteWriter<'_>, flags: NeighborFlags) {
-    let kind = Message::NeighborAdvert.into();
-    w.put_bytes(&[kind, 0, 0, 0, flags.bits(), 0, 0, 0]);
+    icmp::put_header(
+        w,
+        Message::NeighborAdvert.into(),
+        0,
+        [flags.bits(), 0, 0, 0],
+    );
 }
 
 // Writes the type, the code 0, no checksum and a word that is reserved.
 fn put_reserved(w: &mut ByteWriter<'_>, kind: Message) {
-    w.put_bytes(&[kind.into(), 0, 0, 0, 0, 0, 0, 0]);
+    icmp::put_header(w, kind.into(), 0, [0; 4]);
 }
 
-// Writes the times of a router advertisement, in whole seconds and twice in whole milliseconds.
-fn put_times(
-    w: &mut ByteWriter<'_>,
-    lifetime: &Duration,
-    reachable: &Duration,
-    retrans: &Duration,
-) {
-    w.put_u16(lifetime.secs() as u16);
+// Writes the times of a router advertisement that are in whole milliseconds.
+fn put_times(w: &mut ByteWriter<'_>, reachable: &Duration, retrans: &Duration) {
     w.put_u32(reachable.total_millis() as u32);
     w.put_u32(retrans.total_millis() as u32);
 }
