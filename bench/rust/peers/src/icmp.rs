@@ -19,6 +19,23 @@ pub fn rows() {
     v6(&data);
 }
 
+// What a responder takes from a request: its identifier, its sequence number and its data.
+type Echo<'a> = (u16, u16, &'a [u8]);
+
+fn echo_v4(slice: Icmpv4Slice<'_>) -> Option<Echo<'_>> {
+    match slice.icmp_type() {
+        Icmpv4Type::EchoRequest(echo) => Some((echo.id, echo.seq, slice.payload())),
+        _ => None,
+    }
+}
+
+fn echo_v6(slice: Icmpv6Slice<'_>) -> Option<Echo<'_>> {
+    match slice.icmp_type() {
+        Icmpv6Type::EchoRequest(echo) => Some((echo.id, echo.seq, slice.payload())),
+        _ => None,
+    }
+}
+
 fn v4(data: &[u8]) {
     let caps = ChecksumCapabilities::default();
     let none = ChecksumCapabilities::ignored();
@@ -30,19 +47,35 @@ fn v4(data: &[u8]) {
     let mut octets = vec![0; request.buffer_len()];
     request.emit_into(&mut octets, &caps);
     let packet = || icmpv4::Packet::new_unchecked(black_box(&octets[..]));
-    let read = || icmpv4::Repr::parse(&packet(), &caps);
-    let read_unverified = || icmpv4::Repr::parse(&packet(), &none);
-    let theirs = || Icmpv4Slice::from_slice(black_box(&octets)).map(|it| it.icmp_type());
+    let read = || match icmpv4::Repr::parse(&packet(), &caps) {
+        Ok(icmpv4::Repr::EchoRequest {
+            ident,
+            seq_no,
+            data,
+        }) => Some((ident, seq_no, data)),
+        _ => None,
+    };
+    let read_unverified = || match icmpv4::Repr::parse(&packet(), &none) {
+        Ok(icmpv4::Repr::EchoRequest {
+            ident,
+            seq_no,
+            data,
+        }) => Some((ident, seq_no, data)),
+        _ => None,
+    };
+    let theirs = || echo_v4(Icmpv4Slice::from_slice(black_box(&octets)).ok()?);
     // etherparse has the call for ICMPv6 alone, so its sum is taken of the octets, as that call does.
     let verified = || {
         let slice = Icmpv4Slice::from_slice(black_box(&octets)).ok()?;
         let sum = Sum16BitWords::new().add_slice(slice.slice());
-        (sum.ones_complement() == 0).then(|| slice.icmp_type())
+        if sum.ones_complement() != 0 {
+            return None;
+        }
+        echo_v4(slice)
     };
-    assert_eq!(read(), Ok(request));
-    assert_eq!(read_unverified(), Ok(request));
-    assert_eq!(theirs().unwrap(), Icmpv4Type::EchoRequest(ECHO));
-    assert_eq!(verified().unwrap(), Icmpv4Type::EchoRequest(ECHO));
+    let wanted = Some((ECHO.id, ECHO.seq, data));
+    assert_eq!([read(), read_unverified()], [wanted; 2]);
+    assert_eq!([theirs(), verified()], [wanted; 2]);
     row("ICMPv4 echo, verified", "etherparse", read, verified);
     row(
         "ICMPv4 echo, not verified",
@@ -82,20 +115,34 @@ fn v6(data: &[u8]) {
     let mut octets = vec![0; request.buffer_len()];
     request.emit_into(&SOURCE, &DESTINATION, &mut octets, &caps);
     let packet = || icmpv6::Packet::new_unchecked(black_box(&octets[..]));
-    let read = || icmpv6::Repr::parse(&SOURCE, &DESTINATION, &packet(), &caps);
-    let read_unverified = || icmpv6::Repr::parse(&SOURCE, &DESTINATION, &packet(), &none);
-    let theirs = || Icmpv6Slice::from_slice(black_box(&octets)).map(|it| it.icmp_type());
+    let read = || match icmpv6::Repr::parse(&SOURCE, &DESTINATION, &packet(), &caps) {
+        Ok(icmpv6::Repr::EchoRequest {
+            ident,
+            seq_no,
+            data,
+        }) => Some((ident, seq_no, data)),
+        _ => None,
+    };
+    let read_unverified = || match icmpv6::Repr::parse(&SOURCE, &DESTINATION, &packet(), &none) {
+        Ok(icmpv6::Repr::EchoRequest {
+            ident,
+            seq_no,
+            data,
+        }) => Some((ident, seq_no, data)),
+        _ => None,
+    };
+    let theirs = || echo_v6(Icmpv6Slice::from_slice(black_box(&octets)).ok()?);
     let (source, destination) = (SOURCE.octets(), DESTINATION.octets());
     let verified = || {
         let slice = Icmpv6Slice::from_slice(black_box(&octets)).ok()?;
-        slice
-            .is_checksum_valid(source, destination)
-            .then(|| slice.icmp_type())
+        if !slice.is_checksum_valid(source, destination) {
+            return None;
+        }
+        echo_v6(slice)
     };
-    assert_eq!(read(), Ok(request));
-    assert_eq!(read_unverified(), Ok(request));
-    assert_eq!(theirs().unwrap(), Icmpv6Type::EchoRequest(ECHO));
-    assert_eq!(verified().unwrap(), Icmpv6Type::EchoRequest(ECHO));
+    let wanted = Some((ECHO.id, ECHO.seq, data));
+    assert_eq!([read(), read_unverified()], [wanted; 2]);
+    assert_eq!([theirs(), verified()], [wanted; 2]);
     row("ICMPv6 echo, verified", "etherparse", read, verified);
     row(
         "ICMPv6 echo, not verified",
