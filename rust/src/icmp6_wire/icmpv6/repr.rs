@@ -125,7 +125,8 @@ impl<'a> Repr<'a> {
         Ok(read_echo_reply(packet))
     }
 
-    // The message in the octets, of another type than an echo.
+    // The message in the octets, of another type than an echo. Never inlined, so that `parse` is where echoes are read.
+    #[inline(never)]
     fn read<B: AsRef<[u8]> + ?Sized>(
         src_addr: &Ipv6Address,
         dst_addr: &Ipv6Address,
