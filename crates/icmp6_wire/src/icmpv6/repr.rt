@@ -26,8 +26,8 @@ use crate::ndisc::{
 };
 use crate::{mld, ndisc};
 use wirebase::{
-    ByteWriter, ChecksumCapabilities, Error, Ipv6Address, Ipv6Repr, Octets, OctetsMut, Result,
-    are_bytes, icmp,
+    ByteWriter, ChecksumCapabilities, Error, Ipv6Address, Ipv6Repr, OctetsMut, Result, are_bytes,
+    icmp,
 };
 
 /// A message (RFC 4443).
@@ -128,7 +128,7 @@ impl<'a> Repr<'a> {
         if kind == ECHO_REQUEST || kind == ECHO_REPLY {
             return Repr::read_echo(src_addr, dst_addr, packet, checksum_caps);
         }
-        Repr::read(src_addr, dst_addr, packet, checksum_caps)
+        Repr::read(src_addr, dst_addr, packet.buffer, checksum_caps)
     }
 
     // The echo in octets of either type.
@@ -159,22 +159,23 @@ impl<'a> Repr<'a> {
         Ok(read_echo_reply(packet))
     }
 
-    // The message in the octets, of another type than an echo. Never inlined, so that `parse` is where echoes are read.
-    #[inline(never)]
+    // The message in the octets, of another type than an echo. It takes the octets, not their view, which in Rust is of
+    // any type that lends octets: so it is no part of `parse`, which is inlined where echoes are read.
     fn read(
         src_addr: &Ipv6Address,
         dst_addr: &Ipv6Address,
-        packet: &Packet<&'a [u8]>,
+        octets: &'a [u8],
         checksum_caps: &ChecksumCapabilities,
     ) -> Result<Repr<'a>>
-        requires no_request { byte_of type_field (view_octets packet.now) ≢ 0x80 }
-        requires no_reply { byte_of type_field (view_octets packet.now) ≢ 0x81 }
+        requires no_request { byte_of type_field octets.now ≢ 0x80 }
+        requires no_reply { byte_of type_field octets.now ≢ 0x81 }
         ensures sound { IfOk result (λ repr. IsMessage checksum_caps.now src_addr.now dst_addr.now
-            (view_octets packet.now) (value_of repr)) }
+            octets.now (value_of repr)) }
         ensures reads { (value : MessageValue)
-            → IsMessage checksum_caps.now src_addr.now dst_addr.now (view_octets packet.now) value
+            → IsMessage checksum_caps.now src_addr.now dst_addr.now octets.now value
             → IsOk result }
     {
+        let packet = &Packet::new_unchecked(octets);
         let kind = packet.checked_type()?;
         if checksum_caps.icmpv6.rx() && !packet.verify_checksum(src_addr, dst_addr) {
             return Err(Error);
@@ -186,7 +187,8 @@ impl<'a> Repr<'a> {
             return Err(Error);
         }
         // Each arm returns, and what it returns is made by calls that have one way out: the value is then written once,
-        // where the caller has room for it.
+        // where the caller has room for it. The parsers of both protocols have these arms again, since a value that one
+        // function made for both would be copied.
         if !kind.is_ndisc() {
             match kind {
                 Message::MldQuery => return Ok(Repr::Mld(read_query(packet))),

@@ -1,11 +1,11 @@
 //! Messages made from the octets of a packet and what its options say, by their types.
 
 ghost use Rattle.std.specs.Prelude.{◌≡◌};
-ghost use Rattle.wirebase.specs.Bytes.{byte_of};
-ghost use Rattle.wirebase.specs.Icmp.{type_field};
-ghost use Rattle.icmp6_wire.specs.Icmpv6Packet.{view_octets, payload_in, BeginsWhole};
+ghost use Rattle.icmp6_wire.specs.Icmpv6Packet.{view_octets, message_in, payload_in, BeginsWhole};
 ghost use Rattle.icmp6_wire.specs.Ndisc.{value_of, IsMessage};
 ghost use Rattle.icmp6_wire.specs.NdiscFound.{kept_of, Says};
+ghost use Rattle.icmp6_wire.specs.declared.icmpv6.tables.Message.TheVariants.{RouterSolicit, RouterAdvert, Redirect};
+ghost use Rattle.icmp6_wire.specs.declared.icmpv6.tables.Message.TheVariants.{NeighborSolicit, NeighborAdvert};
 
 use super::found::Found;
 use super::repr::Repr;
@@ -15,7 +15,7 @@ use crate::icmpv6::Packet;
 #[inline(always)]
 pub(crate) fn router_solicit<'a>(packet: &Packet<&'a [u8]>, found: &Found<'a>) -> Repr<'a>
     requires whole { BeginsWhole (view_octets packet.now) }
-    requires kind { byte_of type_field (view_octets packet.now) ≡ 0x85 }
+    requires kind { message_in (view_octets packet.now) ≡ RouterSolicit }
     requires says { Says (payload_in (view_octets packet.now)) (kept_of found.now) }
     ensures { IsMessage (view_octets packet.now) (value_of result) }
 {
@@ -28,7 +28,7 @@ pub(crate) fn router_solicit<'a>(packet: &Packet<&'a [u8]>, found: &Found<'a>) -
 #[inline(always)]
 pub(crate) fn router_advert<'a>(packet: &Packet<&'a [u8]>, found: &Found<'a>) -> Repr<'a>
     requires whole { BeginsWhole (view_octets packet.now) }
-    requires kind { byte_of type_field (view_octets packet.now) ≡ 0x86 }
+    requires kind { message_in (view_octets packet.now) ≡ RouterAdvert }
     requires says { Says (payload_in (view_octets packet.now)) (kept_of found.now) }
     ensures { IsMessage (view_octets packet.now) (value_of result) }
 {
@@ -48,7 +48,7 @@ pub(crate) fn router_advert<'a>(packet: &Packet<&'a [u8]>, found: &Found<'a>) ->
 #[inline(always)]
 pub(crate) fn neighbor_solicit<'a>(packet: &Packet<&'a [u8]>, found: &Found<'a>) -> Repr<'a>
     requires whole { BeginsWhole (view_octets packet.now) }
-    requires kind { byte_of type_field (view_octets packet.now) ≡ 0x87 }
+    requires kind { message_in (view_octets packet.now) ≡ NeighborSolicit }
     requires says { Says (payload_in (view_octets packet.now)) (kept_of found.now) }
     ensures { IsMessage (view_octets packet.now) (value_of result) }
 {
@@ -62,7 +62,7 @@ pub(crate) fn neighbor_solicit<'a>(packet: &Packet<&'a [u8]>, found: &Found<'a>)
 #[inline(always)]
 pub(crate) fn neighbor_advert<'a>(packet: &Packet<&'a [u8]>, found: &Found<'a>) -> Repr<'a>
     requires whole { BeginsWhole (view_octets packet.now) }
-    requires kind { byte_of type_field (view_octets packet.now) ≡ 0x88 }
+    requires kind { message_in (view_octets packet.now) ≡ NeighborAdvert }
     requires says { Says (payload_in (view_octets packet.now)) (kept_of found.now) }
     ensures { IsMessage (view_octets packet.now) (value_of result) }
 {
@@ -77,7 +77,7 @@ pub(crate) fn neighbor_advert<'a>(packet: &Packet<&'a [u8]>, found: &Found<'a>) 
 #[inline(always)]
 pub(crate) fn redirect<'a>(packet: &Packet<&'a [u8]>, found: &Found<'a>) -> Repr<'a>
     requires whole { BeginsWhole (view_octets packet.now) }
-    requires kind { byte_of type_field (view_octets packet.now) ≡ 0x89 }
+    requires kind { message_in (view_octets packet.now) ≡ Redirect }
     requires says { Says (payload_in (view_octets packet.now)) (kept_of found.now) }
     ensures { IsMessage (view_octets packet.now) (value_of result) }
 {

@@ -1,5 +1,7 @@
 use Rattle.std.proofs.Common.{refl}
-use Rattle.icmp6_wire.proofs.NdiscTiling.{said_source, said_mtu, said_prefix, message_said}
+use Rattle.icmp6_wire.specs.Icmpv6Packet.{view_octets}
+use Rattle.icmp6_wire.specs.declared.icmpv6.tables.Message.TheVariants as message
+use Rattle.icmp6_wire.proofs.NdiscTiling.{kind_read, said_source, said_mtu, said_prefix, message_said}
 use Rattle.icmp6_wire.proofs.ndisc.reading.router_advert.Goals as goal
 
 pub returns : goal.returns
@@ -7,7 +9,7 @@ returns c =
     let s = c.requires.says in
     message_said c.requires.whole refl s (
       record {
-        kind = c.requires.kind;
+        kind = kind_read (view_octets c.args.packet.now) message.RouterAdvert c.requires.kind;
         hops_ = c.current_hop_limit.ensures;
         flags_ = c.router_flags.ensures;
         lifetime_ = c.router_lifetime.ensures;
