@@ -2,7 +2,6 @@
 use Rattle.std.proofs.Common.{◌≡◌, ℕ, Bool, List, [], ◌∷◌, refl, slice_index}
 use Rattle.std.specs.Int.{w16, to_be_bytes}
 use Rattle.wirebase.specs.ByteWriter.{be8, be16, fields}
-use Rattle.wirebase.specs.Icmp.{echo_fields}
 use Rattle.wirebase.specs.Ipv6Address.{octets_of}
 use Rattle.wirebase.specs.declared.ipv6.address.Ipv6Address.{Ipv6Address}
 use Rattle.icmp6_wire.specs.Mld.{sqrv, query_fields, report_fields}

@@ -12,7 +12,7 @@ use crate::icmp6_wire::ndisc::{
 };
 use crate::icmp6_wire::{mld, ndisc};
 use crate::wirebase::{
-    ByteWriter, ChecksumCapabilities, Error, Ipv6Address, Ipv6Repr, Octets, OctetsMut, Result, icmp,
+    ByteWriter, ChecksumCapabilities, Error, Ipv6Address, Ipv6Repr, OctetsMut, Result, icmp,
 };
 
 /// A message (RFC 4443).
@@ -103,7 +103,7 @@ impl<'a> Repr<'a> {
         if kind == ECHO_REQUEST || kind == ECHO_REPLY {
             return Repr::read_echo(src_addr, dst_addr, packet, checksum_caps);
         }
-        Repr::read(src_addr, dst_addr, packet, checksum_caps)
+        Repr::read(src_addr, dst_addr, packet.buffer.as_ref(), checksum_caps)
     }
 
     // The echo in octets of either type.
@@ -125,14 +125,15 @@ impl<'a> Repr<'a> {
         Ok(read_echo_reply(packet))
     }
 
-    // The message in the octets, of another type than an echo. Never inlined, so that `parse` is where echoes are read.
-    #[inline(never)]
-    fn read<B: AsRef<[u8]> + ?Sized>(
+    // The message in the octets, of another type than an echo. It takes the octets, not their view, which in Rust is of
+    // any type that lends octets: so it is no part of `parse`, which is inlined where echoes are read.
+    fn read(
         src_addr: &Ipv6Address,
         dst_addr: &Ipv6Address,
-        packet: &Packet<&'a B>,
+        octets: &'a [u8],
         checksum_caps: &ChecksumCapabilities,
     ) -> Result<Repr<'a>> {
+        let packet = &Packet::new_unchecked(octets);
         let kind = packet.checked_type()?;
         if checksum_caps.icmpv6.rx() && !packet.verify_checksum(src_addr, dst_addr) {
             return Err(Error);
@@ -144,7 +145,8 @@ impl<'a> Repr<'a> {
             return Err(Error);
         }
         // Each arm returns, and what it returns is made by calls that have one way out: the value is then written once,
-        // where the caller has room for it.
+        // where the caller has room for it. The parsers of both protocols have these arms again, since a value that one
+        // function made for both would be copied.
         if !kind.is_ndisc() {
             match kind {
                 Message::MldQuery => return Ok(Repr::Mld(read_query(packet))),
