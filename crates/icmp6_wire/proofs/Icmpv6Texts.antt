@@ -22,7 +22,8 @@ use Rattle.icmp6_wire.specs.Icmpv6Tables.{param_problem_rows, param_problem_of, 
 use Rattle.icmp6_wire.specs.Icmpv6Tables.{time_exceeded_rows, time_exceeded_of}
 use Rattle.icmp6_wire.specs.Icmpv6.{MessageValue, unreachable, too_big, time_exceeded, param_problem, echo_request}
 use Rattle.icmp6_wire.specs.Icmpv6.{echo_reply, mld, ndisc, quoted_data, error_fields, text, error_len, text_len, seal}
-use Rattle.icmp6_wire.specs.Icmpv6.{packet_text, CanEmit, IsError, IsContent, IsMessage, CanQuote, IsCanonical, Fills, norm}
+use Rattle.icmp6_wire.specs.Icmpv6.{packet_text, CanEmit, IsError, IsContent, IsMessage, CanQuote, IsCanonical}
+use Rattle.icmp6_wire.specs.Icmpv6.{Fills, norm}
 use Rattle.icmp6_wire.specs.declared.icmpv6.tables.DstUnreachable.{DstUnreachable}
 use Rattle.icmp6_wire.specs.declared.icmpv6.tables.DstUnreachable.TheVariants as reasons
 use Rattle.icmp6_wire.specs.declared.icmpv6.tables.ParamProblem.{ParamProblem}

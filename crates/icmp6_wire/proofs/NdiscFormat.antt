@@ -389,7 +389,8 @@ norm-text (router_advert hops flags lifetime reachable retrans l m p) c =
     (millis-times (millis_of retrans))
     ∙ ap (λ (o : List ℕ). router_text hops bits (seconds_of lifetime) (millis_of reachable) (millis_of retrans) o middle
     (option_text (prefixes (option_map whole_prefix p)))) (source-text l c.1.0)
-    ∙ ap (λ (o : List ℕ). router_text hops bits (seconds_of lifetime) (millis_of reachable) (millis_of retrans) first middle o)
+    ∙ ap (λ (o : List ℕ). router_text hops bits (seconds_of lifetime) (millis_of reachable) (millis_of retrans) first
+    middle o)
     (prefix-text p c.1.1.1.0)
 norm-text (neighbor_solicit t l) c =
     ap (λ (o : List ℕ). fields (be8 0x87 ∷ be8 0 ∷ be16 0 ∷ be32 0 ∷ octets_of t ∷ o ∷ [])) (source-text l c.1.0)

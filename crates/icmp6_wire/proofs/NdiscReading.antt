@@ -180,7 +180,8 @@ message_at first second (router_advert hops flags lifetime reachable retrans l m
               ap (λ (n : ℕ). 1000000 * n)
               (sym (big_number-reads_back 2 (seconds_of lifetime) [] (omega (arith, c.0.2.0))));
           reachable_ =
-              ap (λ (n : ℕ). 1000 * n) (sym (big_number-reads_back 4 (millis_of reachable) [] (omega (arith, c.0.2.1))));
+              ap (λ (n : ℕ). 1000 * n)
+              (sym (big_number-reads_back 4 (millis_of reachable) [] (omega (arith, c.0.2.1))));
           retrans_ =
               ap (λ (n : ℕ). 1000 * n) (sym (big_number-reads_back 4 (millis_of retrans) [] (omega (arith, c.0.2.2))));
         },

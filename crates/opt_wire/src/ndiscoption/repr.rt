@@ -246,8 +246,8 @@ impl<'a> NdiscOption<&'a [u8]> {
     }
 }
 
-// The header of a packet, and its payload. It stands apart, so that a parser has no registers and no places in memory for
-// them when it reads one of the other options.
+// The header of a packet, and its payload. It stands apart, so that a parser has no registers and no places in memory
+// for them when it reads one of the other options.
 #[inline(never)]
 fn read_redirected(octets: &[u8]) -> Result<(Ipv6Repr, &[u8])>
     ensures sound { IfOk result (λ packet. IsPacket octets.now packet.0

@@ -184,8 +184,8 @@ impl<'a, B: AsRef<[u8]> + ?Sized> NdiscOption<&'a B> {
     }
 }
 
-// The header of a packet, and its payload. It stands apart, so that a parser has no registers and no places in memory for
-// them when it reads one of the other options.
+// The header of a packet, and its payload. It stands apart, so that a parser has no registers and no places in memory
+// for them when it reads one of the other options.
 #[inline(never)]
 fn read_redirected(octets: &[u8]) -> Result<(Ipv6Repr, &[u8])> {
     let packet = Ipv6Packet::new_checked(octets)?;
