@@ -1,6 +1,7 @@
--- Text that is written by the piece: what a formatter wrote, and what waits in a piece.
-use Rattle.std.specs.Prelude.{◌≡◌, ℕ, List, ◌++◌, IsOk, Result}
+-- Text that is written by the piece: what a formatter wrote, and what waits at the front of a piece.
+use Rattle.std.specs.Prelude.{◌≡◌, ℕ, List, ◌++◌, IfOk, Result, take}
 use Rattle.std.specs.Fmt.{HasWritten, IsPlainFormatter}
+use Rattle.std.specs.Str.{IsAscii}
 use Rattle.std.specs.declared.fmt.Error.{Error}
 use Rattle.std.specs.declared.fmt.Formatter.{Formatter}
 
@@ -10,8 +11,10 @@ pub record Takes {W : Type 0} (took : W → List ℕ → W → Type 0) (old : Fo
   pub written : List ℕ
   pub has : HasWritten took old written new
   pub whole : waited ++ text ≡ written ++ waits
+  pub ascii : IsAscii waits
 
-abbrev pub TakesOnOk : {W : Type 0} → (W → List ℕ → W → Type 0) → Formatter W → List ℕ → Result (Unit {0}) Error
-    → List ℕ → Formatter W → List ℕ → Type 0
-TakesOnOk took old waited result text new waits = IsPlainFormatter old → IsOk result
-    → Takes took old waited text new waits
+-- The same where no write failed, by the length of what waits in the piece.
+abbrev pub TakesOnOk : {W : Type 0} → (W → List ℕ → W → Type 0) → Formatter W → List ℕ → Result ℕ Error → List ℕ
+    → Formatter W → List ℕ → Type 0
+TakesOnOk took old waited result text new piece = IsPlainFormatter old → IsAscii waited
+    → IfOk result (λ len. Takes took old waited text new (take len piece))

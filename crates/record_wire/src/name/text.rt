@@ -1,7 +1,7 @@
 //! The characters and the labels of a name's text (RFC 1035 section 5.1).
 
 ghost use Rattle.std.specs.Prelude.{◌≡◌, ◌↔◌, ◌≤◌, ◌<◌, ◌+◌, ◌-◌, ◌∷◌, [], ◌++◌, ℕ, List, length, codes, false};
-ghost use Rattle.std.specs.Prelude.{IfOk, IsOk, OnOk, IsTrue};
+ghost use Rattle.std.specs.Prelude.{IfOk, IsOk, OnOk, IsTrue, take};
 ghost use Rattle.std.specs.Prelude.{◌&&◌, not};
 ghost use Rattle.std.specs.Char.{is_ascii_digit, is_ascii_graphic};
 ghost use Rattle.std.specs.Fmt.{WritesOnOk};
@@ -16,7 +16,7 @@ ghost use Rattle.record_wire.specs.NamePieces.{TakesOnOk};
 use crate::name::MAX_NAME_LEN;
 use crate::name::label::{MAX_LABEL_LEN, push_label, split_label};
 use arrayvec::ArrayVec;
-use std::fmt;
+use std::{fmt, result};
 use wirebase::{Error, Result};
 
 /// Whether this is the text of the root, a dot alone.
@@ -159,13 +159,10 @@ fn is_special(byte: u8) -> bool
     matches!(byte, b'"' | b'$' | b'(' | b')' | b'.' | b';' | b'@' | b'\\')
 }
 
-// The most octets of text that are written at once, and the most that a character has.
+// The most octets of text that are written at once, since each write costs a call, and the most that a character has.
 const PIECE_LEN: usize = 64;
 
 const CHARACTER_LEN: usize = 4;
-
-// Text that waits to be written, since each write costs a call.
-type Piece = ArrayVec<u8, PIECE_LEN>;
 
 /// Writes the labels in octets with dots between them, and a dot alone where there are none. It stands apart, so that
 /// the root is written without the room that a piece takes.
@@ -176,78 +173,91 @@ pub(super) fn fmt_labels<W: fmt::Write>(f: &mut fmt::Formatter<W>, octets: &[u8]
     let Some((first, rest)) = split_label(octets) else {
         return f.write_str(".");
     };
-    let mut piece = ArrayVec::new();
-    put_label(f, &mut piece, first)?;
+    let mut piece = [0; PIECE_LEN];
+    let mut len = 0;
+    let mut label = first;
     let mut left = rest;
-    while let Some((label, rest)) = split_label(left) {
-        make_room(f, &mut piece)?;
-        piece.push(b'.');
-        put_label(f, &mut piece, label)?;
+    loop {
+        len = put_label(f, &mut piece, len, label)?;
+        let Some((next, rest)) = split_label(left) else {
+            return write_piece(f, &piece[..len]);
+        };
+        len = make_room(f, &piece, len)?;
+        piece[len] = b'.';
+        len += 1;
+        label = next;
         left = rest;
     }
-    write_piece(f, &piece)
 }
 
-// Puts the text of a label behind what waits.
+// Puts the text of a label behind what waits, which has this length, and gives the length of what waits then. The
+// length is no part of the piece, so that it stays in a register.
 fn put_label<W: fmt::Write>(
     f: &mut fmt::Formatter<W>,
-    piece: &mut Piece,
+    piece: &mut [u8; PIECE_LEN],
+    waiting: usize,
     label: &[u8],
-) -> fmt::Result
-    requires { IsAscii piece.old.items }
-    ensures ascii { IsAscii piece.new.items }
-    ensures takes { TakesOnOk W.write_str_gives f.old piece.old.items result (label_text «label».now)
-        f.new piece.new.items }
+) -> result::Result<usize, fmt::Error>
+    requires { waiting ≤ 64 }
+    ensures fits { IfOk result (λ len. len ≤ 64) }
+    ensures takes { TakesOnOk W.write_str_gives f.old (take waiting piece.old) result (label_text «label».now)
+        f.new piece.new }
 {
+    let mut len = waiting;
     for byte in label {
-        make_room(f, piece)?;
+        len = make_room(f, piece, len)?;
         if is_plain(*byte) {
-            piece.push(*byte);
+            piece[len] = *byte;
+            len += 1;
         } else {
-            put_quoted(piece, *byte);
+            len = put_quoted(piece, len, *byte);
         }
     }
-    Ok(())
+    Ok(len)
 }
 
 // Writes what waits, where there is no room for the longest character behind it.
-fn make_room<W: fmt::Write>(f: &mut fmt::Formatter<W>, piece: &mut Piece) -> fmt::Result
-    requires { IsAscii piece.old.items }
-    ensures ascii { IsAscii piece.new.items }
-    ensures room { OnOk result (array_vec_len piece.new + 4 ≤ 64) }
-    ensures takes { TakesOnOk W.write_str_gives f.old piece.old.items result [] f.new piece.new.items }
+fn make_room<W: fmt::Write>(
+    f: &mut fmt::Formatter<W>,
+    piece: &[u8; PIECE_LEN],
+    waiting: usize,
+) -> result::Result<usize, fmt::Error>
+    requires { waiting ≤ 64 }
+    ensures room { IfOk result (λ len. len + 4 ≤ 64) }
+    ensures takes { TakesOnOk W.write_str_gives f.old (take waiting piece.now) result [] f.new piece.now }
 {
-    if piece.len() > PIECE_LEN - CHARACTER_LEN {
-        write_piece(f, piece)?;
-        piece.clear();
+    if waiting <= PIECE_LEN - CHARACTER_LEN {
+        return Ok(waiting);
     }
-    Ok(())
+    write_piece(f, &piece[..waiting])?;
+    Ok(0)
 }
 
 // Writes what waits.
-fn write_piece<W: fmt::Write>(f: &mut fmt::Formatter<W>, piece: &Piece) -> fmt::Result
-    requires { IsAscii piece.now.items }
-    ensures { WritesOnOk W.write_str_gives f.old result piece.now.items f.new }
+fn write_piece<W: fmt::Write>(f: &mut fmt::Formatter<W>, text: &[u8]) -> fmt::Result
+    ensures { IsAscii text.now → WritesOnOk W.write_str_gives f.old result text.now f.new }
 {
     // ASCII is UTF-8.
-    f.write_str(std::str::from_utf8(piece.as_slice()).unwrap_or(""))
+    f.write_str(std::str::from_utf8(text).unwrap_or(""))
 }
 
-// Puts a byte behind a backslash: itself where it has a meaning of its own, and else its number. It stands apart, so
-// that the loop over plain characters stays small.
+// Puts a byte behind a backslash: itself where it has a meaning of its own, and else its number. Gives the length of
+// what waits then. It stands apart, so that the loop over plain characters stays small.
 #[inline(never)]
-#[tactic(auto, using(std::proofs::lemmas::Fmt::decimal_digit))]
-fn put_quoted(piece: &mut Piece, byte: u8)
-    requires room { array_vec_len piece.old + 4 ≤ 64 }
+#[tactic(auto, using(std::proofs::lemmas::List::take_more_set))]
+fn put_quoted(piece: &mut [u8; PIECE_LEN], waiting: usize, byte: u8) -> usize
+    requires room { waiting + 4 ≤ 64 }
     requires quoted { is_ascii_graphic byte && not (is_special byte) ≡ false }
-    ensures { piece.new.items ≡ piece.old.items ++ character byte }
+    ensures fits { result ≤ 64 }
+    ensures puts { take result piece.new ≡ take waiting piece.old ++ character byte }
 {
-    piece.push(b'\\');
+    piece[waiting] = b'\\';
     if is_special(byte) {
-        piece.push(byte);
-        return;
+        piece[waiting + 1] = byte;
+        return waiting + 2;
     }
-    piece.push(b'0' + byte / 100);
-    piece.push(b'0' + byte / 10 % 10);
-    piece.push(b'0' + byte % 10);
+    piece[waiting + 1] = b'0' + byte / 100;
+    piece[waiting + 2] = b'0' + byte / 10 % 10;
+    piece[waiting + 3] = b'0' + byte % 10;
+    waiting + 4
 }

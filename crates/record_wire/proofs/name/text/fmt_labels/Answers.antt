@@ -1,11 +1,11 @@
-use Rattle.std.proofs.Common.{rules, ◌≡◌, ◌++◌, IsOk, codes, refl, sym, ap, ◌∙◌, subst, append_assoc}
-use Rattle.std.proofs.lemmas.List.{append-nil}
+use Rattle.std.proofs.Common.{rules, ◌≡◌, [], ◌++◌, codes, refl, sym, ap, ◌∙◌, subst, append_assoc, arith}
+use Rattle.std.proofs.lemmas.List.{append-nil, length-set, take_more_set}
+use Rattle.std.proofs.lemmas.Str.Ascii.{IsAscii-nil}
 use Rattle.std.specs.Fmt.{HasWritten}
 use Rattle.record_wire.specs.Labels.{labels_in}
 use Rattle.record_wire.specs.NameText.{label_text, behind_dots, name_text}
-use Rattle.record_wire.specs.NamePieces.{Takes}
 use Rattle.record_wire.proofs.LabelLists.{labels-some, labels-none}
-use Rattle.record_wire.proofs.NamePieces.{takes_two, takes_more, takes_all}
+use Rattle.record_wire.proofs.NamePieces.{takes_two, takes_more, takes_all, small_ascii}
 use Rattle.record_wire.proofs.name.text.fmt_labels.Goals as goal
 
 pub returns-in_default : goal.returns-in_default
@@ -14,47 +14,49 @@ returns-in_default g c = λ plain ok.
     subst (λ t. HasWritten g.W.Write.write_str_gives c.args.f.now t c.write_str.new.self) (sym none)
     (c.write_str.ensures.writes plain ok)
 
-pub loop-label-init : goal.loop-label-init
-loop-label-init g c =
-    let ok : IsOk c.put_label.result = search rules in
-    let first = c.in-Some.first.now in
-    record {
-      ascii = c.put_label.ensures.ascii;
-      takes = λ plain. (
-        label_text first,
-        sym (ap name_text (labels-some c.args.octets.now first c.in-Some.rest.now (sym c.in-Some.ensures))),
-        subst (λ p. Takes g.W.Write.write_str_gives c.args.f.now p (label_text first) c.put_label.new.f
-            c.put_label.new.piece.items) c.new-piece.ensures (c.put_label.ensures.takes plain ok),
-      );
-    }
+pub loop-len-init : goal.loop-len-init
+loop-len-init g c = record {
+  long = refl;
+  fits = omega arith;
+  takes = λ plain. (
+    [],
+    sym (ap name_text (labels-some c.args.octets.now c.in-Some.first.now c.in-Some.rest.now (sym c.in-Some.ensures))),
+    record { written = []; has = search rules; whole = refl; ascii = IsAscii-nil },
+  );
+}
 
-pub loop-label-preserved : goal.loop-label-preserved
-loop-label-preserved g c =
-    let room : IsOk c.make_room.result = search rules in
-    let put : IsOk c.put_label-in-Some-split_label.result = search rules in
-    let label = c.in-Some-split_label.label.now in
+pub returns-in_default-split_label : goal.returns-in_default-split_label
+returns-in_default-split_label g c = λ plain ok.
+    let (done, is, before) = c.loop-len.invariant.takes plain in
+    let label = label_text c.loop-len.label.now in
+    let taken = takes_two _ _ _ _ _ _ _ _ _ _ before (c.in_ok-len.ensures.takes before.has.plain before.ascii) refl in
+    let none = ap behind_dots (labels-none c.loop-len.left.now (sym c.in_default-split_label.ensures)) in
+    let whole : done ++ label ≡ name_text (labels_in c.args.octets.now) =
+    sym (append-nil (done ++ label)) ∙ (ap (λ t. done ++ label ++ t) (sym none) ∙ is) in
+    subst (λ t. HasWritten g.W.Write.write_str_gives c.args.f.now t c.write_piece.new.f) whole
+    (takes_all _ _ _ _ _ _ taken (c.write_piece.ensures taken.ascii taken.has.plain ok))
+
+pub loop-len-preserved : goal.loop-len-preserved
+loop-len-preserved g c =
+    let piece = c.put_label.new.piece in
+    let label = label_text c.loop-len.label.now in
+    let next = label_text c.in-Some-split_label.next.now in
     record {
-      ascii = c.put_label-in-Some-split_label.ensures.ascii;
+      long = length-set piece c.in_ok-len-2.len 46 ∙ c.put_label.array_long;
+      fits = omega (arith, c.in_ok-len-2.ensures.room);
       takes = λ plain.
-          let (done, is, before) = c.loop-label.invariant.takes plain in
-          let roomy = takes_two _ _ _ _ _ _ _ _ _ done before (c.make_room.ensures.takes before.has.plain room)
-          (append-nil done) in
-          let dot = takes_more _ _ _ _ _ _ (codes ".") _ (done ++ codes ".") roomy c.push.ensures.items refl in
+          let (done, is, before) = c.loop-len.invariant.takes plain in
+          let taken = takes_two _ _ _ _ _ _ _ _ _ _ before (c.in_ok-len.ensures.takes before.has.plain before.ascii)
+          refl in
+          let roomy = takes_two _ _ _ _ _ _ _ _ _ (done ++ label) taken
+          (c.in_ok-len-2.ensures.takes taken.has.plain taken.ascii) (append-nil (done ++ label)) in
+          let dot = take_more_set piece c.in_ok-len-2.len 46
+          (omega (arith, c.in_ok-len-2.ensures.room, c.put_label.array_long)) in
           let turn = ap behind_dots
-          (labels-some c.loop-label.left.now label c.in-Some-split_label.rest.now
+          (labels-some c.loop-len.left.now c.in-Some-split_label.next.now c.in-Some-split_label.rest.now
           (sym c.in-Some-split_label.ensures)) in (
-            done ++ (codes "." ++ label_text label),
-            append_assoc done _ _ ∙ (ap (λ t. done ++ t) (sym turn) ∙ is),
-            takes_two _ _ _ _ _ _ _ _ _ _ dot (c.put_label-in-Some-split_label.ensures.takes dot.has.plain put)
-                (append_assoc done (codes ".") (label_text label)),
+            (done ++ label) ++ codes ".",
+            grind (arith, append_assoc, is, turn),
+            takes_more _ _ _ _ _ _ (codes ".") _ _ roomy dot refl (small_ascii 46 (omega arith)),
           );
     }
-
-pub returns : goal.returns
-returns g c = λ plain ok.
-    let (done, is, before) = c.loop-label.invariant.takes plain in
-    let none = ap behind_dots (labels-none c.loop-label.left.now (sym c.in_default-split_label.ensures)) in
-    let whole : done ≡ name_text (labels_in c.args.octets.now) =
-    sym (append-nil done) ∙ (ap (λ t. done ++ t) (sym none) ∙ is) in
-    subst (λ t. HasWritten g.W.Write.write_str_gives c.args.f.now t c.write_piece.new.f) whole
-    (takes_all _ _ _ _ done _ before (c.write_piece.ensures before.has.plain ok))

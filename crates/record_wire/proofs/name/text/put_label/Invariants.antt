@@ -1,4 +1,4 @@
-use Rattle.std.proofs.Common.{take}
+use Rattle.std.proofs.Common.{◌≤◌, take}
 use Rattle.std.specs.Fmt.{IsPlainFormatter}
 use Rattle.std.specs.Str.{IsAscii}
 use Rattle.record_wire.specs.NameText.{label_text}
@@ -7,7 +7,8 @@ use Rattle.record_wire.proofs.name.text.put_label.Given as goal
 
 abbrev pub invariant-loop-byte : goal.invariant-loop-byte
 invariant-loop-byte g l = record {
-  ascii : IsAscii l.piece.items;
-  takes : IsPlainFormatter l.fn.f → Takes g.W.Write.write_str_gives l.fn.f l.fn.piece.items
-      (label_text (take l.byte-index l.label)) l.f l.piece.items;
+  fits : l.len ≤ 64;
+  takes : IsPlainFormatter l.fn.f → IsAscii (take l.waiting l.fn.piece)
+      → Takes g.W.Write.write_str_gives l.fn.f (take l.waiting l.fn.piece) (label_text (take l.byte-index l.label)) l.f
+      (take l.len l.piece);
 }
