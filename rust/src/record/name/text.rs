@@ -5,7 +5,7 @@ use crate::record::name::MAX_NAME_LEN;
 use crate::record::name::label::{MAX_LABEL_LEN, push_label, split_label};
 use crate::wirebase::{Error, Result};
 use arrayvec::ArrayVec;
-use core::fmt;
+use core::{fmt, result};
 
 /// Whether this is the text of the root, a dot alone.
 pub(super) fn is_root(text: &[u8]) -> bool {
@@ -117,13 +117,10 @@ fn is_special(byte: u8) -> bool {
     matches!(byte, b'"' | b'$' | b'(' | b')' | b'.' | b';' | b'@' | b'\\')
 }
 
-// The most octets of text that are written at once, and the most that a character has.
+// The most octets of text that are written at once, since each write costs a call, and the most that a character has.
 const PIECE_LEN: usize = 64;
 
 const CHARACTER_LEN: usize = 4;
-
-// Text that waits to be written, since each write costs a call.
-type Piece = ArrayVec<u8, PIECE_LEN>;
 
 /// Writes the labels in octets with dots between them, and a dot alone where there are none. It stands apart, so that
 /// the root is written without the room that a piece takes.
@@ -132,56 +129,74 @@ pub(super) fn fmt_labels(f: &mut fmt::Formatter<'_>, octets: &[u8]) -> fmt::Resu
     let Some((first, rest)) = split_label(octets) else {
         return f.write_str(".");
     };
-    let mut piece = ArrayVec::new();
-    put_label(f, &mut piece, first)?;
+    let mut piece = [0; PIECE_LEN];
+    let mut len = 0;
+    let mut label = first;
     let mut left = rest;
-    while let Some((label, rest)) = split_label(left) {
-        make_room(f, &mut piece)?;
-        piece.push(b'.');
-        put_label(f, &mut piece, label)?;
+    loop {
+        len = put_label(f, &mut piece, len, label)?;
+        let Some((next, rest)) = split_label(left) else {
+            return write_piece(f, &piece[..len]);
+        };
+        len = make_room(f, &piece, len)?;
+        piece[len] = b'.';
+        len += 1;
+        label = next;
         left = rest;
     }
-    write_piece(f, &piece)
 }
 
-// Puts the text of a label behind what waits.
-fn put_label(f: &mut fmt::Formatter<'_>, piece: &mut Piece, label: &[u8]) -> fmt::Result {
+// Puts the text of a label behind what waits, which has this length, and gives the length of what waits then. The
+// length is no part of the piece, so that it stays in a register.
+fn put_label(
+    f: &mut fmt::Formatter<'_>,
+    piece: &mut [u8; PIECE_LEN],
+    waiting: usize,
+    label: &[u8],
+) -> result::Result<usize, fmt::Error> {
+    let mut len = waiting;
     for byte in label {
-        make_room(f, piece)?;
+        len = make_room(f, piece, len)?;
         if is_plain(*byte) {
-            piece.push(*byte);
+            piece[len] = *byte;
+            len += 1;
         } else {
-            put_quoted(piece, *byte);
+            len = put_quoted(piece, len, *byte);
         }
     }
-    Ok(())
+    Ok(len)
 }
 
 // Writes what waits, where there is no room for the longest character behind it.
-fn make_room(f: &mut fmt::Formatter<'_>, piece: &mut Piece) -> fmt::Result {
-    if piece.len() > PIECE_LEN - CHARACTER_LEN {
-        write_piece(f, piece)?;
-        piece.clear();
+fn make_room(
+    f: &mut fmt::Formatter<'_>,
+    piece: &[u8; PIECE_LEN],
+    waiting: usize,
+) -> result::Result<usize, fmt::Error> {
+    if waiting <= PIECE_LEN - CHARACTER_LEN {
+        return Ok(waiting);
     }
-    Ok(())
+    write_piece(f, &piece[..waiting])?;
+    Ok(0)
 }
 
 // Writes what waits.
-fn write_piece(f: &mut fmt::Formatter<'_>, piece: &Piece) -> fmt::Result {
+fn write_piece(f: &mut fmt::Formatter<'_>, text: &[u8]) -> fmt::Result {
     // ASCII is UTF-8.
-    f.write_str(core::str::from_utf8(piece.as_slice()).unwrap_or(""))
+    f.write_str(core::str::from_utf8(text).unwrap_or(""))
 }
 
-// Puts a byte behind a backslash: itself where it has a meaning of its own, and else its number. It stands apart, so
-// that the loop over plain characters stays small.
+// Puts a byte behind a backslash: itself where it has a meaning of its own, and else its number. Gives the length of
+// what waits then. It stands apart, so that the loop over plain characters stays small.
 #[inline(never)]
-fn put_quoted(piece: &mut Piece, byte: u8) {
-    piece.push(b'\\');
+fn put_quoted(piece: &mut [u8; PIECE_LEN], waiting: usize, byte: u8) -> usize {
+    piece[waiting] = b'\\';
     if is_special(byte) {
-        piece.push(byte);
-        return;
+        piece[waiting + 1] = byte;
+        return waiting + 2;
     }
-    piece.push(b'0' + byte / 100);
-    piece.push(b'0' + byte / 10 % 10);
-    piece.push(b'0' + byte % 10);
+    piece[waiting + 1] = b'0' + byte / 100;
+    piece[waiting + 2] = b'0' + byte / 10 % 10;
+    piece[waiting + 3] = b'0' + byte % 10;
+    waiting + 4
 }
