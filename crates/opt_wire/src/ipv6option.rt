@@ -357,6 +357,7 @@ impl<'a> Repr<'a> {
 }
 
 // Writes the type of an option and the length of its data.
+#[tactic(auto, using(crate::proofs::FieldsAtOnce::two_bytes))]
 fn put_counted(w: &mut ByteWriter<'_>, kind: Type, data_len: u8)
     requires { 2 ≤ length (free w.old) }
     ensures puts { Puts w.old w.new (be8 (type_number kind) ∷ be8 data_len ∷ []) }

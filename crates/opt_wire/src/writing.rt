@@ -69,6 +69,7 @@ pub fn put_link_layer_addr(w: &mut ByteWriter<'_>, kind: Type, addr: &RawHardwar
 
 // Writes the same with zeros up to whole units. It stands apart, so that the common case needs few registers.
 #[inline(never)]
+#[tactic(auto, using(crate::proofs::FieldsAtOnce::two_bytes))]
 fn put_padded(w: &mut ByteWriter<'_>, kind: Type, addr: &RawHardwareAddress)
     requires room { 8 * units (2 + length (raw_bytes addr.now)) ≤ length (free w.old) }
     ensures puts { Puts w.old w.new (link_fields (type_number kind) (raw_bytes addr.now)) }

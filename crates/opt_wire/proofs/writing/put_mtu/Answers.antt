@@ -1,7 +1,6 @@
-use Rattle.opt_wire.proofs.FieldsAtOnce.{puts-text, mtu_bytes}
+use Rattle.wirebase.specs.ByteWriter.{be8, be16, be32, fields}
 use Rattle.opt_wire.proofs.writing.put_mtu.Goals as goal
 
 pub returns-clause-puts : goal.returns-clause-puts
-returns-clause-puts c =
-    puts-text c.args.w.now c.put_bytes.new.self _ _ c.put_bytes.ensures.puts
-    (mtu_bytes c.into.result c.args.mtu c.to_be_bytes.result c.into.ensures c.to_be_bytes.ensures)
+unfolding fields be8 be16 be32
+returns-clause-puts c = rw (c.into.ensures, c.to_be_bytes.ensures) at c.put_bytes.ensures.puts

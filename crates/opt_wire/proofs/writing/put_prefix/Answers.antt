@@ -1,10 +1,16 @@
-use Rattle.std.proofs.Common.{rules}
-use Rattle.opt_wire.proofs.FieldsAtOnce.{puts-text, prefix_bytes}
+use Rattle.wirebase.specs.ByteWriter.{be8, be32, fields}
+use Rattle.opt_wire.proofs.FieldsAtOnce.{puts-then, puts-text}
 use Rattle.opt_wire.proofs.writing.put_prefix.Goals as goal
 
 pub returns-clause-puts : goal.returns-clause-puts
+unfolding fields be8 be32
 returns-clause-puts c =
-    puts-text c.args.w.now c.put_bytes-2.new.self _ _ (search rules)
-    (prefix_bytes c.args.info.now c.into-kind.result c.bits-flags.result c.secs.result c.secs-2.result
-    c.to_be_bytes.result c.to_be_bytes-2.result c.octets.result c.into-kind.ensures (c.bits-flags.ensures _)
-    c.secs.ensures c.to_be_bytes.ensures c.secs-2.ensures c.to_be_bytes-2.ensures c.octets.ensures)
+    puts-text (puts-then c.put_bytes.ensures.puts c.put_bytes-2.ensures.puts) (rw (
+      c.into-kind.ensures,
+      c.bits-flags.ensures _,
+      c.to_be_bytes.ensures,
+      c.to_be_bytes-2.ensures,
+      c.secs.ensures,
+      c.secs-2.ensures,
+      c.octets.ensures,
+    ))

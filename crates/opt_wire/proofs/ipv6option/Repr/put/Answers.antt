@@ -1,8 +1,8 @@
-use Rattle.opt_wire.proofs.FieldsAtOnce.{puts-text, alert_bytes}
+use Rattle.wirebase.specs.ByteWriter.{be8, be16, fields}
 use Rattle.opt_wire.proofs.ipv6option.Repr.put.Goals as goal
 
 pub returns-in-RouterAlert-clause-puts : goal.returns-in-RouterAlert-clause-puts
+unfolding fields be8 be16
 returns-in-RouterAlert-clause-puts c =
-    rw c.in-RouterAlert.is (puts-text c.args.w.now c.put_bytes.new.self _ _ c.put_bytes.ensures.puts
-    (alert_bytes c.into-in-RouterAlert.result c.from.result c.to_be_bytes.result c.in-RouterAlert.alert
-    c.into-in-RouterAlert.ensures c.from.ensures.value c.to_be_bytes.ensures))
+    rw c.in-RouterAlert.is
+    (rw (c.into-in-RouterAlert.ensures, c.to_be_bytes.ensures, c.from.ensures.value) at c.put_bytes.ensures.puts)
