@@ -2,10 +2,39 @@
 use Rattle.std.proofs.Common.{◌≡◌, ℕ, zero, suc, ◌+◌, List, [], ◌∷◌, ◌++◌, length, drop, refl, sym, ap, ◌∙◌, arith}
 use Rattle.std.proofs.Common.{slice_index}
 use Rattle.std.proofs.lemmas.List.{drop_more, drop_all}
-use Rattle.wirebase.specs.ByteWriter.{Sheet, Writer, sheet, put, put_all, Puts, be8, fields}
+use Rattle.std.specs.Int.{w16, w32, to_be_bytes}
+use Rattle.wirebase.specs.ByteWriter.{Sheet, Writer, sheet, put, put_all, Puts, be8, be16, be32, fields}
 use Rattle.wirebase.proofs.Chains.{put-append, put-fields}
 
--- texts that are written after others
+-- ---- a number behind other bytes
+
+pub put-two : (s : Sheet) (m n : ℕ) → put (put s (be8 m)) (be8 n) ≡ put s (m ∷ n ∷ [])
+unfolding be8
+put-two s m n = sym (put-append s (m ∷ []) (n ∷ []))
+
+pub put-zero16 : (s : Sheet) (a : List ℕ) → put (put s a) (be16 0) ≡ put s (a ++ 0 ∷ 0 ∷ [])
+unfolding be16
+put-zero16 s a = sym (put-append s a (0 ∷ 0 ∷ []))
+
+pub put-zero32 : (s : Sheet) (a : List ℕ) → put (put s a) (be32 0) ≡ put s (a ++ 0 ∷ 0 ∷ 0 ∷ 0 ∷ [])
+unfolding be32
+put-zero32 s a = sym (put-append s a (0 ∷ 0 ∷ 0 ∷ 0 ∷ []))
+
+pub put-be16 : (s : Sheet) (a : List ℕ) (n : ℕ) (b : List ℕ) → b ≡ to_be_bytes w16 n
+    → put (put s a) (be16 n) ≡ put s (a ++ slice_index b 0 ∷ slice_index b 1 ∷ [])
+unfolding be16
+put-be16 s a n b e = rw e (sym (put-append s a (be16 n)))
+
+pub put-be32 : (s : Sheet) (a : List ℕ) (n : ℕ) (b : List ℕ) → b ≡ to_be_bytes w32 n
+    → put (put s a) (be32 n)
+    ≡ put s (a ++ slice_index b 0 ∷ slice_index b 1 ∷ slice_index b 2 ∷ slice_index b 3 ∷ [])
+unfolding be32
+put-be32 s a n b e = rw e (sym (put-append s a (be32 n)))
+
+pub ruleset at_once = (put-fields, put-two, put-zero16, put-zero32, put-be16, put-be32)
+
+-- ---- fields that are more than a ruleset finds: texts written after others, and texts that join to one text
+
 put_all-append : (s : Sheet) (fs gs : List (List ℕ)) → put_all s (fs ++ gs) ≡ put_all (put_all s fs) gs
 put_all-append s [] gs = refl
 put_all-append s (f ∷ fs) gs = put_all-append (put s f) fs gs
@@ -17,27 +46,14 @@ puts-then {w} {middle} {new} {fs} {gs} first second = record {
   same_slice = second.same_slice ∙ first.same_slice;
 }
 
--- texts that join to one text are written as it is, and as other texts that join to it
-pub puts-text : {w new : Writer} {wide : List (List ℕ)} {text : List ℕ} → Puts w new wide → fields wide ≡ text
-    → Puts w new (text ∷ [])
-puts-text {w} {new} {wide} {text} written same = record {
-  puts = written.puts ∙ sym (put-fields (sheet w) wide) ∙ ap (put (sheet w)) same;
+pub puts-fields : {w new : Writer} {wide fs : List (List ℕ)} → Puts w new wide → fields wide ≡ fields fs → Puts w new fs
+puts-fields {w} {new} {wide} {fs} written same = record {
+  puts = written.puts ∙ sym (put-fields (sheet w) wide) ∙ ap (put (sheet w)) same ∙ put-fields (sheet w) fs;
   same_slice = written.same_slice;
 }
 
-pub puts-fields : {w new : Writer} {wide fs : List (List ℕ)} → Puts w new wide → fields wide ≡ fields fs → Puts w new fs
-puts-fields {w} {new} {wide} {fs} written same =
-    let whole : Puts w new (fields fs ∷ []) = puts-text written same in
-    record { puts = whole.puts ∙ put-fields (sheet w) fs; same_slice = whole.same_slice }
+-- ---- bytes that are taken one by one: so many, from an index on
 
--- two bytes
-pub put-two : (s : Sheet) (m n : ℕ) → put (put s (be8 m)) (be8 n) ≡ put s (m ∷ n ∷ [])
-unfolding be8
-put-two s m n = sym (put-append s (m ∷ []) (n ∷ []))
-
-pub ruleset two_bytes = (put-two)
-
--- so many bytes from an index on, each by its index
 abbrev pub bytes_from : List ℕ → ℕ → ℕ → List ℕ
 bytes_from l i zero = []
 bytes_from l i (suc n) = slice_index l i ∷ bytes_from l (i + 1) n

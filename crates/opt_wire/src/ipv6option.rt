@@ -327,7 +327,7 @@ impl<'a> Repr<'a> {
     {}
 
     // Writes the text of the option.
-    #[tactic(auto, using(wirebase::proofs::Chains::chain))]
+    #[tactic(auto, using(crate::proofs::FieldsAtOnce::at_once))]
     pub(super) fn put(&self, w: &mut ByteWriter<'_>)
         requires enough { HasData (value_of self.now) }
         requires room { text_len (value_of self.now) ≤ length (free w.old) }
@@ -357,7 +357,7 @@ impl<'a> Repr<'a> {
 }
 
 // Writes the type of an option and the length of its data.
-#[tactic(auto, using(crate::proofs::FieldsAtOnce::two_bytes))]
+#[tactic(auto, using(crate::proofs::FieldsAtOnce::at_once))]
 fn put_counted(w: &mut ByteWriter<'_>, kind: Type, data_len: u8)
     requires { 2 ≤ length (free w.old) }
     ensures puts { Puts w.old w.new (be8 (type_number kind) ∷ be8 data_len ∷ []) }

@@ -51,6 +51,7 @@ fn units_of(count: usize) -> usize
 
 /// Writes the option of a link-layer address, whose type is given. Requires the bytes that it takes.
 #[inline]
+#[tactic(auto, using(wirebase::proofs::Chains::chain))]
 pub fn put_link_layer_addr(w: &mut ByteWriter<'_>, kind: Type, addr: &RawHardwareAddress)
     requires room { 8 * units (2 + length (raw_bytes addr.now)) ≤ length (free w.old) }
     ensures puts { Puts w.old w.new (fields (link_fields (type_number kind) (raw_bytes addr.now)) ∷ []) }
@@ -69,7 +70,7 @@ pub fn put_link_layer_addr(w: &mut ByteWriter<'_>, kind: Type, addr: &RawHardwar
 
 // Writes the same with zeros up to whole units. It stands apart, so that the common case needs few registers.
 #[inline(never)]
-#[tactic(auto, using(crate::proofs::FieldsAtOnce::two_bytes))]
+#[tactic(auto, using(crate::proofs::FieldsAtOnce::at_once))]
 fn put_padded(w: &mut ByteWriter<'_>, kind: Type, addr: &RawHardwareAddress)
     requires room { 8 * units (2 + length (raw_bytes addr.now)) ≤ length (free w.old) }
     ensures puts { Puts w.old w.new (link_fields (type_number kind) (raw_bytes addr.now)) }
@@ -104,6 +105,7 @@ pub fn put_prefix(w: &mut ByteWriter<'_>, info: &PrefixInformation)
 /// Writes the option of a redirected packet. Requires the bytes that it takes, and that the header counts the data as
 /// its payload, 1,992 bytes at most.
 #[inline]
+#[tactic(auto, using(crate::proofs::FieldsAtOnce::at_once))]
 pub fn put_redirected(w: &mut ByteWriter<'_>, redirected: &RedirectedHeader<'_>)
     requires room { 8 * units (48 + length redirected.now.«data».now) ≤ length (free w.old) }
     requires payload { redirected.now.header.payload_len ≡ length redirected.now.«data».now }
@@ -124,6 +126,7 @@ pub fn put_redirected(w: &mut ByteWriter<'_>, redirected: &RedirectedHeader<'_>)
 
 /// Writes the option of an MTU. Requires the bytes that it takes.
 #[inline]
+#[tactic(auto, using(crate::proofs::FieldsAtOnce::at_once))]
 pub fn put_mtu(w: &mut ByteWriter<'_>, mtu: u32)
     requires room { 8 ≤ length (free w.old) }
     ensures puts { Puts w.old w.new (fields (mtu_fields mtu) ∷ []) }

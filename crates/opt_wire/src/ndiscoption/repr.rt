@@ -202,7 +202,7 @@ impl<'a> Repr<'a> {
     {}
 
     // Writes the text of the option.
-    #[tactic(auto, using(wirebase::proofs::Chains::chain, crate::proofs::FieldsAtOnce::two_bytes))]
+    #[tactic(auto, using(crate::proofs::FieldsAtOnce::at_once))]
     fn put(&self, w: &mut ByteWriter<'_>)
         requires sound { CanEmit (value_of self.now) }
         requires room { text_len (value_of self.now) ≤ length (free w.old) }

@@ -1,6 +1,6 @@
-use Rattle.std.proofs.Common.{◌≡◌, ℕ, List, refl, arith}
+use Rattle.std.proofs.Common.{◌≡◌, ℕ, List, arith}
 use Rattle.wirebase.specs.ByteWriter.{be8, fields}
-use Rattle.opt_wire.proofs.FieldsAtOnce.{puts-text, all_bytes, bytes_from}
+use Rattle.opt_wire.proofs.FieldsAtOnce.{all_bytes, bytes_from}
 use Rattle.opt_wire.proofs.writing.put_link_layer_addr.Goals as goal
 
 pub returns-in-len6-clause-puts : goal.returns-in-len6-clause-puts
@@ -16,6 +16,3 @@ returns-in-len8-clause-puts c =
     let l : List ℕ = c.as_bytes.result.now in
     let eight : l ≡ bytes_from l 0 8 = all_bytes l 0 8 (omega (arith, c.in-len8.len_at_least, c.in-len8.len_below)) in
     rw (← c.as_bytes.ensures.value, ← c.into-in-len8.ensures, eight) c.put_bytes-in-len8.ensures.puts
-
-pub returns-in_default-clause-puts : goal.returns-in_default-clause-puts
-returns-in_default-clause-puts c = puts-text c.put_padded.ensures.puts refl

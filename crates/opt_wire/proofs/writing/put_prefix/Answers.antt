@@ -1,11 +1,14 @@
+use Rattle.std.proofs.Common.{sym}
+use Rattle.std.proofs.lemmas.List.{append-nil}
 use Rattle.wirebase.specs.ByteWriter.{be8, be32, fields}
-use Rattle.opt_wire.proofs.FieldsAtOnce.{puts-then, puts-text}
+use Rattle.opt_wire.proofs.FieldsAtOnce.{puts-then, puts-fields}
 use Rattle.opt_wire.proofs.writing.put_prefix.Goals as goal
 
 pub returns-clause-puts : goal.returns-clause-puts
 unfolding fields be8 be32
 returns-clause-puts c =
-    puts-text (puts-then c.put_bytes.ensures.puts c.put_bytes-2.ensures.puts) (rw (
+    puts-fields (puts-then c.put_bytes.ensures.puts c.put_bytes-2.ensures.puts)
+    (rw (
       c.into-kind.ensures,
       c.bits-flags.ensures _,
       c.to_be_bytes.ensures,
@@ -13,4 +16,4 @@ returns-clause-puts c =
       c.secs.ensures,
       c.secs-2.ensures,
       c.octets.ensures,
-    ))
+    ) (sym (append-nil _)))
