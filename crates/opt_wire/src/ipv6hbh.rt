@@ -189,6 +189,7 @@ impl<'a> Repr<'a> {
 
     /// Does nothing. Of two lists of options that a header can hold, equal texts mean equal normal forms, and
     /// conversely.
+    #[tactic(auto, using(crate::proofs::Ipv6HbhFormat::header_same_text))]
     pub fn same_text(a: &Self, b: &Self)
         ensures { SameText (format IPV6_HBH_MAX_OPTIONS) (value_of a.now) (value_of b.now) }
     {}

@@ -322,6 +322,7 @@ impl<'a> Repr<'a> {
     }
 
     /// Does nothing. Of two options that bytes can hold, equal texts mean equal normal forms, and conversely.
+    #[tactic(auto, using(crate::proofs::Ipv6OptionFormat::option_same_text))]
     pub fn same_text(a: &Self, b: &Self)
         ensures { SameText format (value_of a.now) (value_of b.now) }
     {}

@@ -197,6 +197,7 @@ impl<'a> Repr<'a> {
     }
 
     /// Does nothing. Of two options that a packet can hold, equal texts mean equal normal forms, and conversely.
+    #[tactic(auto, using(crate::proofs::NdiscOptionFormat::ndisc_option_same_text))]
     pub fn same_text(a: &Self, b: &Self)
         ensures { SameText format (value_of a.now) (value_of b.now) }
     {}
