@@ -1,10 +1,11 @@
 -- The format of options: what was read is canonical and its own normal form, and a normal form has the text of its
 -- value.
-use Rattle.std.proofs.Common.{◌≡◌, ℕ, ◌+◌, ◌-◌, ◌*◌, ◌<◌, ◌≤◌, ◌^◌, ◌⊎◌, inl, inr, true, false, min, List, []}
-use Rattle.std.proofs.Common.{◌++◌, length, take, drop, replicate, refl, sym, ap, subst, ◌∙◌, arith, length-append}
-use Rattle.std.proofs.Common.{◌∷◌, ltb}
-use Rattle.std.proofs.lemmas.Bool.{cases_lt, lt-ltb, le-ltb}
+use Rattle.std.proofs.Common.{◌≡◌, ℕ, ◌+◌, ◌-◌, ◌*◌, ◌<◌, ◌≤◌, ◌^◌, ◌⊎◌, inl, inr, min, List, []}
+use Rattle.std.proofs.Common.{length, take, drop, refl, sym, ap, subst, ◌∙◌, arith, length-append}
+use Rattle.std.proofs.Common.{◌∷◌}
+use Rattle.std.proofs.lemmas.Bool.{cases_lt}
 use Rattle.std.proofs.lemmas.List.{append-nil, length-take, length-replicate, get_or-take, get_or_past}
+use Rattle.std.proofs.lemmas.Bool.Decides.{nat_tests}
 use Rattle.std.proofs.lemmas.Nat.{and_assoc}
 use Rattle.byteorder.specs.Endian.{big_number}
 use Rattle.wirebase.specs.Bytes.{IsBytes, part, over, byte_of, bytes_of}
@@ -61,66 +62,14 @@ four_small bytes are =
 
 -- ---- addresses that are filled
 
-fills : (address : List ℕ) → ((length address ≤ 6) × (filled address ≡ address ++ replicate (6 - length address) 0))
-    ⊎ ((7 ≤ length address) × (filled address ≡ address ++ replicate (8 - length address) 0))
-fills address = elim (cases_lt 6 (length address)) [
-  | inl more ↦ let e : ltb 6 (length address) ≡ true = lt-ltb 6 (length address) more in inr (more, rw e refl)
-  | inr six ↦ let e : ltb 6 (length address) ≡ false = le-ltb 6 (length address) six in inl (six, rw e refl)
-]
-
 length-filled : (address : List ℕ) → (length (filled address) ≡ 6) ⊎ (8 ≤ length (filled address))
-length-filled address = elim (fills address) [
-  | inl six ↦
-      inl (omega (
-        arith,
-        ap (λ (l : List ℕ). length l) six.1,
-        length-append address (replicate (6 - length address) 0),
-        length-replicate {A = ℕ} (6 - length address) 0,
-        six.0,
-      ))
-  | inr more ↦
-      inr (omega (
-        arith,
-        ap (λ (l : List ℕ). length l) more.1,
-        length-append address (replicate (8 - length address) 0),
-        length-replicate {A = ℕ} (8 - length address) 0,
-        more.0,
-      ))
-]
+length-filled address = grind (arith, nat_tests, length-append, length-replicate)
 
 filled-small : (address : List ℕ) → length address ≤ 8 → length (filled address) ≤ 8
-filled-small address small = elim (fills address) [
-  | inl six ↦
-      omega (
-        arith,
-        ap (λ (l : List ℕ). length l) six.1,
-        length-append address (replicate (6 - length address) 0),
-        length-replicate {A = ℕ} (6 - length address) 0,
-        six.0,
-      )
-  | inr more ↦
-      omega (
-        arith,
-        small,
-        ap (λ (l : List ℕ). length l) more.1,
-        length-append address (replicate (8 - length address) 0),
-        length-replicate {A = ℕ} (8 - length address) 0,
-        more.0,
-      )
-]
-
-full : (address : List ℕ) (n : ℕ) → n ≡ 0 → address ++ replicate n 0 ≡ address
-full address n e = ap (λ (k : ℕ). address ++ replicate k 0) e ∙ append-nil address
+filled-small address small = grind (arith, nat_tests, length-append, length-replicate)
 
 filled-whole : (address : List ℕ) → (length address ≡ 6) ⊎ (8 ≤ length address) → filled address ≡ address
-filled-whole address (inl exact) = elim (fills address) [
-  | inl six ↦ six.1 ∙ full address (6 - length address) (omega (arith, exact))
-  | inr more ↦ absurd (omega (arith, exact, more.0))
-]
-filled-whole address (inr eight) = elim (fills address) [
-  | inl six ↦ absurd (omega (arith, eight, six.0))
-  | inr more ↦ more.1 ∙ full address (8 - length address) (omega (arith, eight))
-]
+filled-whole address long = grind (arith, nat_tests, append-nil)
 
 -- ---- what was read
 

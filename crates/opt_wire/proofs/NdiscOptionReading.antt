@@ -1,5 +1,5 @@
 -- Texts of options are read back as their normal forms, whatever stands behind them.
-use Rattle.std.proofs.Common.{◌≡◌, ℕ, ◌+◌, ◌-◌, ◌*◌, ◌<◌, ◌≤◌, ◌^◌, List, [], ◌∷◌, ◌++◌, length, take, drop, refl, sym}
+use Rattle.std.proofs.Common.{◌≡◌, ◌≢◌, ℕ, ◌+◌, ◌-◌, ◌*◌, ◌<◌, ◌≤◌, ◌^◌, List, [], ◌∷◌, ◌++◌, length, take, drop, refl, sym}
 use Rattle.std.proofs.Common.{ap, subst, ◌∙◌, arith, length-append}
 use Rattle.std.proofs.lemmas.List.{append-nil, append_assoc, length-replicate, take_at, drop_at}
 use Rattle.byteorder.specs.Endian.{big_bytes}
@@ -24,6 +24,23 @@ use Rattle.opt_wire.specs.NdiscOptionRepr.{IsCanonicalRedirected, IsCanonical, I
 use Rattle.opt_wire.specs.declared.ndiscoption.repr.PrefixInformation.{PrefixInformation}
 use Rattle.opt_wire.proofs.NdiscOptionTexts.{link_text, prefix_text, redirected_text, mtu_text, unknown_text}
 
+-- ---- blocks of no fixed length
+
+block_at : (t n : ℕ) (d rest : List ℕ) → t ≢ 3 → t ≢ 4 → 1 ≤ n → 2 + length d ≡ 8 * n
+    → BeginsWithBlock (t ∷ n ∷ (d ++ rest))
+unfolding part
+block_at t n d rest no_prefix no_packet some long =
+    let all = length-append d rest in
+    record {
+      whole = record {
+        fixed = omega (arith, all);
+        counted = omega (arith, all);
+        prefix_ = λ is. absurd (no_prefix is);
+        redirected = λ is. absurd (no_packet is);
+      };
+      some = some;
+    }
+
 -- ---- link-layer addresses
 
 abbrev link_at : ℕ → List ℕ → List ℕ → List ℕ
@@ -36,15 +53,7 @@ six_read : (t a b c d e f : ℕ) (rest : List ℕ) → t < 3 → ReadsLink t (t 
     (a ∷ b ∷ c ∷ d ∷ e ∷ f ∷ [])
 unfolding part
 six_read t a b c d e f rest small = (
-  record {
-    whole = record {
-      fixed = omega arith;
-      counted = omega arith;
-      prefix_ = λ is. absurd (omega (arith, is));
-      redirected = λ is. absurd (omega (arith, is));
-    };
-    some = omega arith;
-  },
+  block_at t 1 (a ∷ b ∷ c ∷ d ∷ e ∷ f ∷ []) rest (λ is. omega (arith, is)) (λ is. omega (arith, is)) (omega arith) refl,
   record { kind = refl; address_ = refl },
 )
 
@@ -53,15 +62,8 @@ eight_read : (t a b c d e f g h : ℕ) (rest : List ℕ) → t < 3
     (a ∷ b ∷ c ∷ d ∷ e ∷ f ∷ g ∷ h ∷ [])
 unfolding part
 eight_read t a b c d e f g h rest small = (
-  record {
-    whole = record {
-      fixed = omega arith;
-      counted = omega arith;
-      prefix_ = λ is. absurd (omega (arith, is));
-      redirected = λ is. absurd (omega (arith, is));
-    };
-    some = omega arith;
-  },
+  block_at t 2 (a ∷ b ∷ c ∷ d ∷ e ∷ f ∷ g ∷ h ∷ 0 ∷ 0 ∷ 0 ∷ 0 ∷ 0 ∷ 0 ∷ []) rest (λ is. omega (arith, is))
+      (λ is. omega (arith, is)) (omega arith) refl,
   record { kind = refl; address_ = refl },
 )
 
@@ -224,66 +226,38 @@ redirected_read h d rest c =
 mtu_read : (n : ℕ) (rest : List ℕ) → n < 2 ^ 32 → BeginsWith (5 ∷ 1 ∷ 0 ∷ 0 ∷ (big_bytes 4 n ++ rest)) (mtu n)
 unfolding part
 mtu_read n rest fits = record {
-  block = record {
-    whole = record {
-      fixed = omega arith;
-      counted = omega arith;
-      prefix_ = λ is. absurd (omega (arith, is));
-      redirected = λ is. absurd (omega (arith, is));
-    };
-    some = omega arith;
-  };
+  block = block_at 5 1 (0 ∷ 0 ∷ big_bytes 4 n) rest (λ is. omega (arith, is)) (λ is. omega (arith, is)) (omega arith) refl;
   reading = record { kind = refl; count = refl; number = sym (big_number-reads_back 4 n [] (omega (arith, fits))) };
 }
 
 unknown_read : (t n : ℕ) (d rest : List ℕ) → IsUnnamed t → 1 ≤ n → 2 + length d ≡ 8 * n
     → BeginsWith (t ∷ n ∷ (d ++ rest)) (unknown t n d)
 unfolding part
-unknown_read t n d rest unnamed some long =
-    let all = length-append d rest in
-    record {
-      block = record {
-        whole = record {
-          fixed = omega (arith, all);
-          counted = omega (arith, all);
-          prefix_ = λ is. absurd (unnamed.2 is);
-          redirected = λ is. absurd (unnamed.3 is);
-        };
-        some = some;
-      };
-      reading = record {
-        kind = refl;
-        unnamed = unnamed;
-        count = refl;
-        data_ = sym (take_at d rest (8 * n - 2) (omega arith));
-      };
-    }
+unknown_read t n d rest unnamed some long = record {
+  block = block_at t n d rest unnamed.2 unnamed.3 some long;
+  reading = record {
+    kind = refl;
+    unnamed = unnamed;
+    count = refl;
+    data_ = sym (take_at d rest (8 * n - 2) (omega arith));
+  };
+}
 
 -- ---- all of them
 
 pub option_read : (v : OptionValue) (rest : List ℕ) → IsCanonical v → BeginsWith (text v ++ rest) (norm v)
 option_read (source address) rest c =
     let read = link_read 1 address rest (omega arith) c in
-    subst (λ (l : List ℕ). BeginsWith (l ++ rest) (source (filled address))) (sym (link_text 1 address))
-    (record { block = read.0; reading = read.1 })
+    rw (link_text 1 address) (record { block = read.0; reading = read.1 })
 option_read (target address) rest c =
     let read = link_read 2 address rest (omega arith) c in
-    subst (λ (l : List ℕ). BeginsWith (l ++ rest) (target (filled address))) (sym (link_text 2 address))
-    (record { block = read.0; reading = read.1 })
-option_read (prefix_ p) rest c =
-    subst (λ (l : List ℕ). BeginsWith (l ++ rest) (prefix_ (prefix_of p))) (sym (prefix_text p)) (prefix_read p rest c)
-option_read (redirected h d) rest c =
-    subst (λ (l : List ℕ). BeginsWith (l ++ rest) (redirected h d)) (sym (redirected_text h d))
-    (redirected_read h d rest c)
-option_read (mtu n) rest c =
-    subst (λ (l : List ℕ). BeginsWith (l ++ rest) (mtu n)) (sym (mtu_text n)) (mtu_read n rest c)
-option_read (unknown t n d) rest c =
-    subst (λ (l : List ℕ). BeginsWith (l ++ rest) (unknown t n d)) (sym (unknown_text t n d))
-    (unknown_read t n d rest c.0 c.2 c.4)
+    rw (link_text 2 address) (record { block = read.0; reading = read.1 })
+option_read (prefix_ p) rest c = rw (prefix_text p) (prefix_read p rest c)
+option_read (redirected h d) rest c = rw (redirected_text h d) (redirected_read h d rest c)
+option_read (mtu n) rest c = rw (mtu_text n) (mtu_read n rest c)
+option_read (unknown t n d) rest c = rw (unknown_text t n d) (unknown_read t n d rest c.0 c.2 c.4)
 
 -- the same where the text was written over the front of something
 pub option_over : (old : List ℕ) (v : OptionValue) → length (text v) ≤ length old → IsCanonical v
     → BeginsWith (over old (text v)) (norm v)
-option_over old v room c =
-    subst (λ (bytes : List ℕ). BeginsWith bytes (norm v)) (sym (over-fits old (text v) room))
-    (option_read v (drop (length (text v)) old) c)
+option_over old v room c = rw (over-fits old (text v) room) (option_read v (drop (length (text v)) old) c)
