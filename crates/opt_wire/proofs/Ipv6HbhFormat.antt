@@ -2,7 +2,7 @@
 use Rattle.std.proofs.Common.{◌≡◌, ◌≢◌, ℕ, zero, suc, ◌+◌, ◌≤◌, List, [], ◌∷◌, ◌++◌, length, take, Ok, Err, refl, sym}
 use Rattle.std.proofs.Common.{ap, subst, ◌∙◌, arith, add-one}
 use Rattle.std.specs.List.{AllByRecursion}
-use Rattle.std.proofs.lemmas.List.{length-take}
+use Rattle.std.proofs.lemmas.List.{length-map, length-take}
 use Rattle.wirebase.specs.Bytes.{IsBytes, over}
 use Rattle.wirebase.specs.ByteWriter.{be8, fields}
 use Rattle.wirebase.specs.Format.{SameText}
@@ -16,7 +16,7 @@ use Rattle.opt_wire.specs.Ipv6Hbh.{text, text_len, HaveData, IsHeader, IsCanonic
 use Rattle.opt_wire.proofs.Ipv6OptionText.{option_text, norm-canonical}
 use Rattle.opt_wire.proofs.Ipv6OptionFormat.{option-canonical, option-kept}
 use Rattle.opt_wire.proofs.Ipv6HbhGrammar.{all, header-end, header-unique}
-use Rattle.opt_wire.proofs.Ipv6HbhText.{text-cons, length-texts, length-norm, norm-norm, norm-text}
+use Rattle.opt_wire.proofs.Ipv6HbhText.{text-cons, length-texts, norm-norm, norm-text}
 
 -- ---- what was written
 
@@ -44,7 +44,7 @@ header-text : (most : ℕ) (options : List OptionValue) → IsCanonical most opt
     → IsHeader most (text options) (norm options)
 header-text most options c =
     header-end most (text options) (norm options) (all (norm options)) (texts_some options c.some)
-    (tile-text options c.each) refl (omega (arith, c.few, length-norm options))
+    (tile-text options c.each) refl (omega (arith, c.few, length-map options option.norm))
 
 canonical_options : (options : List OptionValue) → AllByRecursion option.IsCanonical options
     → AllByRecursion option.IsCanonical (norm options)
@@ -53,8 +53,8 @@ canonical_options (v ∷ options) h = (norm-canonical v h.0, canonical_options o
 
 canonical-norm : (most : ℕ) (options : List OptionValue) → IsCanonical most options → IsCanonical most (norm options)
 canonical-norm most options c = record {
-  some = omega (arith, c.some, length-norm options);
-  few = omega (arith, c.few, length-norm options);
+  some = omega (arith, c.some, length-map options option.norm);
+  few = omega (arith, c.few, length-map options option.norm);
   each = canonical_options options c.each;
 }
 

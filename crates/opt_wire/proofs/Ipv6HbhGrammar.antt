@@ -1,7 +1,7 @@
 -- Hop-by-hop headers against the tiling of their bytes.
 use Rattle.std.proofs.Common.{◌≡◌, ◌≢◌, ℕ, zero, suc, ◌+◌, ◌≤◌, List, [], ◌∷◌, ◌++◌, length, take, map, Ok, Err, refl}
 use Rattle.std.proofs.Common.{sym, ap, ◌∙◌, arith, add-one, length-append}
-use Rattle.std.proofs.lemmas.List.{append_assoc, take_all, take_at}
+use Rattle.std.proofs.lemmas.List.{append_assoc, length-map, map-append, take_all, take_at}
 use Rattle.wirebase.specs.declared.error.Error.{Error}
 use Rattle.opt_wire.specs.Ipv6Option.{OptionValue}
 use Rattle.opt_wire.specs.Ipv6OptionAnswers.{Answer, Tile}
@@ -12,14 +12,6 @@ use Rattle.opt_wire.proofs.Ipv6OptionTiles.{tile-unique}
 abbrev pub all : List OptionValue → List Answer
 all options = map Ok options
 
-pub length-all : (options : List OptionValue) → length (all options) ≡ length options
-length-all [] = refl
-length-all (v ∷ options) = ap (λ (n : ℕ). suc n) (length-all options)
-
-all-append : (xs ys : List OptionValue) → all (xs ++ ys) ≡ all xs ++ all ys
-all-append [] ys = refl
-all-append (x ∷ xs) ys = ap (λ (l : List Answer). Ok x ∷ l) (all-append xs ys)
-
 -- all options were read
 pub header-end : (most : ℕ) (bytes : List ℕ) (options : List OptionValue) (answers : List Answer) → bytes ≢ []
     → Tile bytes answers → answers ≡ all options → length options ≤ most → IsHeader most bytes options
@@ -28,7 +20,7 @@ header-end most bytes options answers some tile e l = record {
   read = options;
   some = some;
   tile = tile;
-  good = ap (take (most + 1)) e ∙ take_all (most + 1) (all options) (omega (arith, l, length-all options));
+  good = ap (take (most + 1)) e ∙ take_all (most + 1) (all options) (omega (arith, l, length-map {B = Answer} options Ok));
   kept = sym (take_all most options l);
 }
 
@@ -39,10 +31,10 @@ pub header-full : (most : ℕ) (bytes : List ℕ) (options : List OptionValue) (
     → IsHeader most bytes options
 header-full most bytes options v answers rest some tile e l =
     let read : List OptionValue = options ++ (v ∷ []) in
-    let long : length (all read) ≡ most + 1 = length-all read ∙ length-append options (v ∷ [])
+    let long : length (all read) ≡ most + 1 = length-map {B = Answer} read Ok ∙ length-append options (v ∷ [])
     ∙ ap (λ (n : ℕ). n + 1) l in
     let front : all options ++ (Ok v ∷ rest) ≡ all read ++ rest = sym (append_assoc (all options) (Ok v ∷ []) rest)
-    ∙ ap (λ (l : List Answer). l ++ rest) (sym (all-append options (v ∷ []))) in
+    ∙ ap (λ (l : List Answer). l ++ rest) (sym (map-append Ok options (v ∷ []))) in
     record {
       answers = answers;
       read = read;

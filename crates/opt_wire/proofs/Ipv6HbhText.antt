@@ -1,5 +1,5 @@
 -- The texts of options one after another.
-use Rattle.std.proofs.Common.{◌≡◌, ℕ, suc, ◌+◌, ◌<◌, List, [], ◌∷◌, ◌++◌, length, get_or, take, map, refl, sym, ap}
+use Rattle.std.proofs.Common.{◌≡◌, ℕ, ◌+◌, ◌<◌, List, [], ◌∷◌, ◌++◌, length, get_or, take, map, refl, sym, ap}
 use Rattle.std.proofs.Common.{◌∙◌, arith, length-append}
 use Rattle.std.proofs.lemmas.List.{map_more}
 use Rattle.std.proofs.lemmas.List.Sums.{sum_by-cons, sum_by_push}
@@ -32,10 +32,6 @@ text_len-more options i d h =
     ∙ sum_by_push option.text_len (map option.value_of (take i options)) (option.value_of (get_or options i d))
 
 -- ---- the normal form
-
-pub length-norm : (options : List OptionValue) → length (norm options) ≡ length options
-length-norm [] = refl
-length-norm (v ∷ options) = ap (λ (n : ℕ). suc n) (length-norm options)
 
 pub norm-norm : (options : List OptionValue) → norm (norm options) ≡ norm options
 norm-norm [] = refl

@@ -4,6 +4,7 @@ use Rattle.std.proofs.Common.{length, take, drop, slice_index, Option, Some, Non
 use Rattle.std.proofs.Common.{inr, arith, length-append}
 use Rattle.std.proofs.lemmas.Bool.{ltb-false, le-ltb, eqb-true, eqb-false, ne_eqb}
 use Rattle.std.proofs.lemmas.Bool.Decides.{nat_tests}
+use Rattle.std.proofs.lemmas.Option.{same_Some}
 use Rattle.std.proofs.lemmas.List.{take-append-drop, take_at, length-take-le}
 use Rattle.std.specs.Prelude.{Result, Ok, Err}
 use Rattle.std.specs.Result.{IfOk, IsOkAnd, IsErr}
@@ -17,15 +18,13 @@ use Rattle.opt_wire.specs.Ipv6OptionTables.{type_number, type_of, alert_of}
 use Rattle.opt_wire.specs.Ipv6Option.{option_type_field, opt_data_len_field, option_data_field, BeginsWhole}
 use Rattle.opt_wire.specs.Ipv6Option.{OptionValue, pad1, pad_n, router_alert, unknown, value_of, IsOption}
 use Rattle.opt_wire.specs.Ipv6Option.{BeginsWith}
+use Rattle.opt_wire.proofs.FieldsAtOnce.{all_bytes}
 use Rattle.opt_wire.specs.Ipv6OptionModel.{front_of, counted_at, known_at, alert_at}
 
 -- which way a test went
 chosen : {A : Type 0} (b : Bool) (x y z : A) → cond b x y ≡ z → ((b ≡ true) × (x ≡ z)) ⊎ ((b ≡ false) × (y ≡ z))
 chosen true x y z e = inl (refl, e)
 chosen false x y z e = inr (refl, e)
-
-same_value : (v w : OptionValue) → Some v ≡ Some w → v ≡ w
-same_value v w e = cc
 
 -- THE COMPUTED FRONT
 
@@ -83,31 +82,21 @@ pub front_of-other : (bytes : List ℕ) (k : Kind.Type) (n : ℕ) (d : List ℕ)
     → n ≡ byte_of opt_data_len_field bytes → d ≡ bytes_of (option_data_field bytes) bytes
     → front_of bytes ≡ Some (unknown k n d)
 front_of-other bytes k n d w e p q r same same_data =
-    let t = byte_of option_type_field bytes in
     let known =
-    known_at-other t (byte_of opt_data_len_field bytes) (bytes_of (option_data_field bytes) bytes)
-    (λ z. q (e ∙ ap type_of z)) (λ z. r (e ∙ ap type_of z)) in
-    front_of-whole bytes w (λ z. p (e ∙ ap type_of z)) ∙ known
-    ∙ ap (λ (x : Kind.Type). Some
-    (unknown x (byte_of opt_data_len_field bytes) (bytes_of (option_data_field bytes) bytes))) (sym e)
-    ∙ ap (λ (x : ℕ). Some (unknown k x (bytes_of (option_data_field bytes) bytes))) (sym same)
-    ∙ ap (λ (x : List ℕ). Some (unknown k n x)) (sym same_data)
+    known_at-other (byte_of option_type_field bytes) (byte_of opt_data_len_field bytes)
+    (bytes_of (option_data_field bytes) bytes) (λ z. q (e ∙ ap type_of z)) (λ z. r (e ∙ ap type_of z)) in
+    let whole = front_of-whole bytes w (λ z. p (e ∙ ap type_of z)) in
+    cc
 
 -- THE COMPUTED FRONT AND THE GRAMMAR
-
-two_bytes : (d : List ℕ) → length d ≡ 2 → d ≡ slice_index d 0 ∷ slice_index d 1 ∷ []
-two_bytes [] e = cc
-two_bytes (a ∷ []) e = absurd (omega (arith, e))
-two_bytes (a ∷ b ∷ []) e = refl
-two_bytes (a ∷ b ∷ c ∷ d) e = absurd (omega (arith, e))
 
 alert-option : (n : ℕ) (d : List ℕ) (v : OptionValue) → alert_at n d ≡ Some v → length d ≡ n → IsOption (5 ∷ n ∷ d) v
 alert-option n d v e l = elim (chosen (eqb n 2) (Some (router_alert (alert_of (big_number 2 d)))) None (Some v) e) [
   | inl a ↦
       let two : n ≡ 2 = eqb-true n 2 a.0 in
-      let shape : d ≡ slice_index d 0 ∷ slice_index d 1 ∷ [] = two_bytes d (l ∙ two) in
+      let shape : d ≡ slice_index d 0 ∷ slice_index d 1 ∷ [] = all_bytes d 0 2 (l ∙ two) in
       let number : big_number 2 d ≡ 256 * slice_index d 0 + slice_index d 1 = omega arith in
-      let is : router_alert (alert_of (big_number 2 d)) ≡ v = same_value _ _ a.1 in
+      let is : router_alert (alert_of (big_number 2 d)) ≡ v = same_Some _ _ a.1 in
       subst (λ (x : OptionValue). IsOption (5 ∷ n ∷ d) x) is (
         slice_index d 0,
         slice_index d 1,
@@ -123,12 +112,12 @@ known-option t n d v e l ne =
     elim
     (chosen (eqb t 1) (Some (pad_n n)) (cond (eqb t 5) (alert_at n d) (Some (unknown (type_of t) n d))) (Some v) e) [
       | inl a ↦
-          let is : pad_n n ≡ v = same_value _ _ a.1 in
+          let is : pad_n n ≡ v = same_Some _ _ a.1 in
           subst (λ (x : OptionValue). IsOption (t ∷ n ∷ d) x) is (d, ap (λ (k : ℕ). k ∷ n ∷ d) (eqb-true t 1 a.0), l)
       | inr b ↦ elim (chosen (eqb t 5) (alert_at n d) (Some (unknown (type_of t) n d)) (Some v) b.1) [
         | inl a ↦ subst (λ (k : ℕ). IsOption (k ∷ n ∷ d) v) (sym (eqb-true t 5 a.0)) (alert-option n d v a.1 l)
         | inr a ↦
-            let is : unknown (type_of t) n d ≡ v = same_value _ _ a.1 in
+            let is : unknown (type_of t) n d ≡ v = same_Some _ _ a.1 in
             subst (λ (x : OptionValue). IsOption (t ∷ n ∷ d) x) is
             (t, refl, l, refl, ne, eqb-false t 1 b.0, eqb-false t 5 a.0)
       ]
@@ -151,7 +140,7 @@ pub begins_with : (bytes : List ℕ) (v : OptionValue) → front_of bytes ≡ So
 begins_with [] v e = cc
 begins_with (t ∷ rest) v e = elim (chosen (eqb t 0) (Some pad1) (counted_at t rest) (Some v) e) [
   | inl a ↦
-      let is : pad1 ≡ v = same_value _ _ a.1 in
+      let is : pad1 ≡ v = same_Some _ _ a.1 in
       record {
         front = t ∷ [];
         rest = rest;
@@ -183,7 +172,7 @@ front_of-begins bytes v h = ap front_of h.whole ∙ option_front h.front h.rest 
 
 -- the bytes begin with one option at most
 pub begins_with-unique : (bytes : List ℕ) (v w : OptionValue) → BeginsWith bytes v → BeginsWith bytes w → v ≡ w
-begins_with-unique bytes v w a b = same_value v w (sym (front_of-begins bytes v a) ∙ front_of-begins bytes w b)
+begins_with-unique bytes v w a b = same_Some v w (sym (front_of-begins bytes v a) ∙ front_of-begins bytes w b)
 
 none_at_front : (bytes : List ℕ) (o : Option OptionValue) → front_of bytes ≡ o
     → ((v : OptionValue) → BeginsWith bytes v → ⊥) → o ≡ None

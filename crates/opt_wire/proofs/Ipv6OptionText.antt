@@ -1,7 +1,7 @@
 -- The text of an option: as it is read back, and what an emitter leaves.
 use Rattle.std.proofs.Common.{◌≡◌, ℕ, ◌+◌, ◌*◌, ◌/◌, ◌%◌, List, [], ◌∷◌, ◌++◌, length, take, replicate, refl, sym, ap}
 use Rattle.std.proofs.Common.{subst, ◌∙◌, arith}
-use Rattle.std.proofs.lemmas.List.{append-nil, length-replicate, length-take, length-take-le, take_all}
+use Rattle.std.proofs.lemmas.List.{append-nil, length-replicate, length-take-le, take-take}
 use Rattle.byteorder.specs.Endian.{big_bytes}
 use Rattle.wirebase.specs.ByteWriter.{be8, be16, fields}
 use Rattle.wirebase.specs.Numbered.{IsProper}
@@ -89,19 +89,16 @@ norm-canonical (pad_n n) c = c
 norm-canonical (router_alert a) c = c
 norm-canonical (unknown k n d) c = (c.0, c.1, c.2, c.3, c.4, c.5, omega (arith, length-take-le n d c.6))
 
-take-take : (n : ℕ) (d : List ℕ) → take n (take n d) ≡ take n d
-take-take n d = take_all n (take n d) (omega (arith, length-take {A = ℕ} n d))
-
 pub norm-norm : (v : OptionValue) → norm (norm v) ≡ norm v
 norm-norm pad1 = refl
 norm-norm (pad_n n) = refl
 norm-norm (router_alert a) = refl
-norm-norm (unknown k n d) = ap (unknown k n) (take-take n d)
+norm-norm (unknown k n d) = ap (unknown k n) (take-take n n d (omega arith))
 
 pub norm-text : (v : OptionValue) → text (norm v) ≡ text v
 norm-text pad1 = refl
 norm-text (pad_n n) = refl
 norm-text (router_alert a) = refl
-norm-text (unknown k n d) = ap (λ (l : List ℕ). fields (be8 (type_number k) ∷ be8 n ∷ l ∷ [])) (take-take n d)
+norm-text (unknown k n d) = ap (λ (l : List ℕ). fields (be8 (type_number k) ∷ be8 n ∷ l ∷ [])) (take-take n n d (omega arith))
 
 pub ruleset texts = (length-text)
