@@ -220,6 +220,7 @@ fn read_options<'a>(
 }
 
 // Writes options one after another.
+#[tactic(auto, using(std::proofs::lemmas::List::drop_all))]
 fn put_options(w: &mut ByteWriter<'_>, options: &[ipv6option::Repr<'_>])
     requires enough { HaveData (map option_value options.now) }
     requires room { text_len (map option_value options.now) ≤ length (free w.old) }
