@@ -1,9 +1,7 @@
 use Rattle.std.proofs.Common.{arith}
 use Rattle.wirebase.proofs.Chains.{chain}
-use Rattle.opt_wire.specs.Ipv6Option.{value_of}
 use Rattle.opt_wire.proofs.Ipv6OptionFormat.{option_emits}
 use Rattle.opt_wire.proofs.ipv6option.Repr.emit_into.Goals as goal
 
 pub returns : goal.returns
-returns c =
-    option_emits (value_of c.args.self.now) c.args.octets.now _ c.requires.enough c.requires.room (grind (arith, chain))
+returns c = option_emits _ _ _ c.requires.enough c.requires.room (grind (arith, chain))

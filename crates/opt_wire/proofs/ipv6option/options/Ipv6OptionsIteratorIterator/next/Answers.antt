@@ -1,8 +1,8 @@
-use Rattle.std.proofs.Common.{◌≡◌, ◌<◌, ℕ, List, Bor, length, drop, subst, sym, ap, ◌∙◌, inl, inr, arith}
+use Rattle.std.proofs.Common.{◌<◌, ℕ, length, drop, sym, ap, ◌∙◌, inl, inr, arith}
 use Rattle.std.proofs.lemmas.Bool.{eqb-true, eqb-false}
 use Rattle.std.proofs.lemmas.List.{take_rest}
 use Rattle.wirebase.proofs.Answers.{answer-progress}
-use Rattle.opt_wire.specs.Ipv6Option.{inner, value_of, BeginsWith}
+use Rattle.opt_wire.specs.Ipv6Option.{value_of}
 use Rattle.opt_wire.proofs.Ipv6OptionTiles.{next-option, next-refusal, next-end}
 use Rattle.opt_wire.proofs.ipv6option.options.Ipv6OptionsIteratorIterator.next.Goals.{then-self-via-then-self}
 use Rattle.opt_wire.proofs.ipv6option.options.Ipv6OptionsIteratorIterator.next.Goals.{then-self-via-else-self+then-is_empty}
@@ -21,11 +21,9 @@ returns-then-self-clause-steps c =
 pub returns-in-Ok-clause-steps : goal.returns-in-Ok-clause-steps
 returns-in-Ok-clause-steps c =
     let it = c.self.inside in
-    let same : (inner c.new_unchecked.result).now ≡ it.data.now =
-    ap (λ (b : Bor (List ℕ)). b.now) c.new_unchecked.ensures in
+    let read = rw c.new_unchecked.ensures at c.in-Ok.ensures.sound in
     sym c.self.view_is
-    ∙ next-option it.hit_error it.data.now _ (value_of c.in-Ok.repr) c.if-self.false
-    (subst (λ (b : List ℕ). BeginsWith b (value_of c.in-Ok.repr)) same c.in-Ok.ensures.sound)
+    ∙ next-option it.hit_error it.data.now _ _ c.if-self.false read
     (take_rest it.data.now c.buffer_len.result ∙ ap (λ (n : ℕ). drop n it.data.now) c.buffer_len.ensures.value)
 
 pub returns-in-Ok-clause-goes : goal.returns-in-Ok-clause-goes
@@ -34,13 +32,11 @@ returns-in-Ok-clause-goes c = answer-progress value_of _ _ _ (returns-in-Ok-clau
 pub returns-in-Err-clause-steps : goal.returns-in-Err-clause-steps
 returns-in-Err-clause-steps c =
     let it = c.self.inside in
-    let same : (inner c.new_unchecked.result).now ≡ it.data.now =
-    ap (λ (b : Bor (List ℕ)). b.now) c.new_unchecked.ensures in
+    let none = rw c.new_unchecked.ensures at c.in-Err.ensures.complete in
     let some : 0 < length it.data.now =
     omega (arith, eqb-false (length it.data.now) 0 (sym c.is_empty.ensures ∙ c.if-is_empty.false)) in
     sym c.self.view_is
-    ∙ next-refusal it.hit_error it.data.now c.in-Err.error c.if-self.false some
-    (λ v h. c.in-Err.ensures.complete v (subst (λ (b : List ℕ). BeginsWith b v) (sym same) h))
+    ∙ next-refusal it.hit_error it.data.now c.in-Err.error c.if-self.false some none
 
 pub returns-in-Err-clause-goes : goal.returns-in-Err-clause-goes
 returns-in-Err-clause-goes c = answer-progress value_of _ _ _ (returns-in-Err-clause-steps c)
