@@ -31,9 +31,7 @@ tile-text (v ∷ options) h =
 front_some : (v : OptionValue) (rest : List ℕ) → option.text v ++ rest ≢ []
 unfolding fields be8
 front_some pad1 rest e = cc
-front_some (pad_n n) rest e = cc
-front_some (router_alert a) rest e = cc
-front_some (unknown k n d) rest e = cc
+front_some _ rest e = cc
 
 texts_some : (options : List OptionValue) → 1 ≤ length options → text options ≢ []
 texts_some [] l e = absurd (omega (arith, l))

@@ -1,5 +1,5 @@
 -- The format of options: what was read is canonical, and it is its own normal form.
-use Rattle.std.proofs.Common.{◌≡◌, ℕ, ◌+◌, ◌*◌, ◌≤◌, ◌<◌, Bool, true, false, List, [], ◌∷◌, ◌++◌, length, drop, refl}
+use Rattle.std.proofs.Common.{◌≡◌, ℕ, ◌+◌, ◌*◌, ◌≤◌, Bool, true, false, List, [], ◌∷◌, ◌++◌, length, drop, refl}
 use Rattle.std.proofs.Common.{sym, ap, subst, ◌∙◌, arith}
 use Rattle.std.proofs.lemmas.List.{append-nil, take_all}
 use Rattle.wirebase.specs.Bytes.{IsBytes, over}
@@ -37,32 +37,27 @@ option-canonical w (pad_n n) are h =
     here 1
 option-canonical w (router_alert a) are h =
     let here : IsBytes (5 ∷ 2 ∷ h.0 ∷ h.1 ∷ []) = subst IsBytes h.2 are in
-    let high : h.0 < 256 = here 2 in
-    let low : h.1 < 256 = here 3 in
     let read =
     case-read alert_number alert.Unknown (λ k. refl) is_unknown_alert (λ k. refl) alerts (256 * h.0 + h.1) refl h.3 in (
       read.0,
-      omega (arith, read.1, high, low),
+      omega (arith, read.1, here 2, here 3),
     )
 option-canonical w (unknown k n d) are h =
     let t = h.0 in
     let here : IsBytes (t ∷ n ∷ d) = subst IsBytes h.1 are in
-    let read = case-read type_number kind.Unknown (λ k. refl) is_unknown_type (λ k. refl) types t refl h.3 in
-    let first : t < 256 = here 0 in (
+    let read = case-read type_number kind.Unknown (λ k. refl) is_unknown_type (λ k. refl) types t refl h.3 in (
       read.0,
       λ e. h.4 (sym read.1 ∙ ap type_number e),
       λ e. h.5 (sym read.1 ∙ ap type_number e),
       λ e. h.6 (sym read.1 ∙ ap type_number e),
-      omega (arith, read.1, first),
+      omega (arith, read.1, here 0),
       here 1,
       omega (arith, h.2),
     )
 
 pub option-kept : (w : List ℕ) (v : OptionValue) → IsOption w v → norm v ≡ v
-option-kept w pad1 h = refl
-option-kept w (pad_n n) h = refl
-option-kept w (router_alert a) h = refl
 option-kept w (unknown k n d) h = ap (unknown k n) (take_all n d (omega (arith, h.2)))
+option-kept w _ h = refl
 
 -- ---- all of it
 

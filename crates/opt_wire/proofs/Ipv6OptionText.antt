@@ -84,21 +84,15 @@ begins_with-text v rest c = record { front = text v; rest = rest; whole = refl; 
 -- ---- the normal form
 
 pub norm-canonical : (v : OptionValue) → IsCanonical v → IsCanonical (norm v)
-norm-canonical pad1 c = c
-norm-canonical (pad_n n) c = c
-norm-canonical (router_alert a) c = c
 norm-canonical (unknown k n d) c = (c.0, c.1, c.2, c.3, c.4, c.5, omega (arith, length-take-le n d c.6))
+norm-canonical _ c = c
 
 pub norm-norm : (v : OptionValue) → norm (norm v) ≡ norm v
-norm-norm pad1 = refl
-norm-norm (pad_n n) = refl
-norm-norm (router_alert a) = refl
 norm-norm (unknown k n d) = ap (unknown k n) (take-take n n d (omega arith))
+norm-norm _ = refl
 
 pub norm-text : (v : OptionValue) → text (norm v) ≡ text v
-norm-text pad1 = refl
-norm-text (pad_n n) = refl
-norm-text (router_alert a) = refl
 norm-text (unknown k n d) = ap (λ (l : List ℕ). fields (be8 (type_number k) ∷ be8 n ∷ l ∷ [])) (take-take n n d (omega arith))
+norm-text _ = refl
 
 pub ruleset texts = (length-text)

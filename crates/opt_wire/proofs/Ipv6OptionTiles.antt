@@ -18,10 +18,7 @@ length-option w (router_alert a) h = ap length h.2
 length-option w (unknown k n d) h = omega (arith, ap length h.1, h.2)
 
 counted_some : (v : OptionValue) → 1 ≤ text_len v
-counted_some pad1 = omega arith
-counted_some (pad_n n) = omega arith
-counted_some (router_alert a) = omega arith
-counted_some (unknown k n d) = omega arith
+counted_some v = grind arith
 
 -- the bytes after the option at the front
 rest_after : (front rest : List ℕ) (v : OptionValue) → IsOption front v → drop (text_len v) (front ++ rest) ≡ rest

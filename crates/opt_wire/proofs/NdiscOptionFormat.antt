@@ -54,11 +54,7 @@ IsBytes-part i j bytes are k = elim (cases_lt k (j - i)) [
 
 four_small : (bytes : List ℕ) → IsBytes bytes → big_number 4 bytes < 2 ^ 32
 four_small bytes are =
-    let a = are 0 in
-    let b = are 1 in
-    let c = are 2 in
-    let d = are 3 in
-    omega (arith, a, b, c, d)
+    omega (arith, are 0, are 1, are 2, are 3)
 
 -- ---- addresses that are filled
 
@@ -86,12 +82,10 @@ length-link t bytes address block r =
     ]
 
 link-small : (address : List ℕ) → (length address ≡ 6) ⊎ (length address ≡ 8) → length address ≤ 8
-link-small address (inl six) = omega (arith, six)
-link-small address (inr eight) = omega (arith, eight)
+link-small address long = grind arith
 
 link-full : (address : List ℕ) → (length address ≡ 6) ⊎ (length address ≡ 8) → filled address ≡ address
-link-full address (inl six) = filled-whole address (inl six)
-link-full address (inr eight) = filled-whole address (inr (omega (arith, eight)))
+link-full address long = filled-whole address (grind arith)
 
 redirected-canonical : (bytes : List ℕ) (h : Ipv6Repr) (d : List ℕ) → IsBytes bytes → BeginsWithBlock bytes
     → IsRedirected bytes h d → IsCanonicalRedirected h d
@@ -99,9 +93,6 @@ redirected-canonical bytes h d are block r =
     let packet : List ℕ = bytes_of (redirected_field bytes) bytes in
     let in_packet = IsBytes-part 8 (8 * units_in bytes) bytes are in
     let read = protocol-read (byte_of next_header_field packet) r.packet.header.protocol in
-    let next = in_packet 6 in
-    let hop = in_packet 7 in
-    let count = are 1 in
     let fits = r.packet.whole.total in
     let long : length packet ≡ 8 * units_in bytes - 8 =
     length-part bytes 8 (8 * units_in bytes) (omega (arith, block.some)) block.whole.counted in
@@ -110,38 +101,34 @@ redirected-canonical bytes h d are block r =
     (omega arith) fits in
     record {
       proper = read.0;
-      protocol_ = omega (arith, read.1, next);
-      hops = omega (arith, r.packet.header.hops, hop);
+      protocol_ = omega (arith, read.1, in_packet 6);
+      hops = omega (arith, r.packet.header.hops, in_packet 7);
       payload = omega (arith, r.packet.header.payload, data_);
-      small = omega (arith, data_, fits, long, count);
+      small = omega (arith, data_, fits, long, are 1);
     }
 
 reading-canonical : (bytes : List ℕ) (v : OptionValue) → IsBytes bytes → BeginsWithBlock bytes → IsReading bytes v
     → IsCanonical v
 reading-canonical bytes (source address) are block r = link-small address (length-link 1 bytes address block r)
 reading-canonical bytes (target address) are block r = link-small address (length-link 2 bytes address block r)
-reading-canonical bytes (prefix_ p) are block r =
-    let len = are 2 in
-    record {
-      len = omega (arith, r.len, len);
-      flags = ap known r.flags ∙ known-known (byte_of prefix_flags_field bytes) ∙ sym r.flags;
-      valid = few_seconds p.valid_lifetime _ r.valid (four_small (part bytes 4 8) (IsBytes-part 4 8 bytes are));
-      preferred =
-          few_seconds p.preferred_lifetime _ r.preferred (four_small (part bytes 8 12) (IsBytes-part 8 12 bytes are));
-    }
+reading-canonical bytes (prefix_ p) are block r = record {
+  len = omega (arith, r.len, are 2);
+  flags = ap known r.flags ∙ known-known (byte_of prefix_flags_field bytes) ∙ sym r.flags;
+  valid = few_seconds p.valid_lifetime _ r.valid (four_small (part bytes 4 8) (IsBytes-part 4 8 bytes are));
+  preferred =
+      few_seconds p.preferred_lifetime _ r.preferred (four_small (part bytes 8 12) (IsBytes-part 8 12 bytes are));
+}
 reading-canonical bytes (redirected h d) are block r = redirected-canonical bytes h d are block r
 reading-canonical bytes (mtu n) are block r =
     subst (λ (k : ℕ). k < 2 ^ 32) (sym r.number) (four_small (part bytes 4 8) (IsBytes-part 4 8 bytes are))
 reading-canonical bytes (unknown t n d) are block r =
-    let kind = are 0 in
-    let count = are 1 in
     let long : length d ≡ 8 * units_in bytes - 2 =
     ap (λ (l : List ℕ). length l) r.data_ ∙ length-part bytes 2 (8 * units_in bytes)
     (omega (arith, block.some)) block.whole.counted in (
       r.unnamed,
-      omega (arith, r.kind, kind),
+      omega (arith, r.kind, are 0),
       omega (arith, r.count, block.some),
-      omega (arith, r.count, count),
+      omega (arith, r.count, are 1),
       omega (arith, r.count, long, block.some),
     )
 
@@ -158,9 +145,7 @@ norm-read bytes (prefix_ p) block r =
     let preferred = whole_seconds-read p.preferred_lifetime _ r.preferred in
     ap (λ (t : Duration). timed p t (whole_seconds p.preferred_lifetime)) valid
     ∙ ap (λ (t : Duration). timed p p.valid_lifetime t) preferred
-norm-read bytes (redirected h d) block r = refl
-norm-read bytes (mtu n) block r = refl
-norm-read bytes (unknown t n d) block r = refl
+norm-read bytes _ block r = refl
 
 norm-canonical : (v : OptionValue) → IsCanonical v → IsCanonical (norm v)
 norm-canonical (source address) c = filled-small address c
@@ -171,9 +156,7 @@ norm-canonical (prefix_ p) c = record {
   valid = omega (arith, seconds-times (seconds_of p.valid_lifetime), c.valid);
   preferred = omega (arith, seconds-times (seconds_of p.preferred_lifetime), c.preferred);
 }
-norm-canonical (redirected h d) c = c
-norm-canonical (mtu n) c = c
-norm-canonical (unknown t n d) c = c
+norm-canonical _ c = c
 
 norm-norm : (v : OptionValue) → norm (norm v) ≡ norm v
 norm-norm (source address) = ap source (filled-whole (filled address) (length-filled address))
@@ -183,9 +166,7 @@ norm-norm (prefix_ p) =
     (whole_seconds-read (whole_seconds p.valid_lifetime) (seconds_of p.valid_lifetime) refl)
     ∙ ap (λ (t : Duration). timed p (whole_seconds p.valid_lifetime) t)
     (whole_seconds-read (whole_seconds p.preferred_lifetime) (seconds_of p.preferred_lifetime) refl)
-norm-norm (redirected h d) = refl
-norm-norm (mtu n) = refl
-norm-norm (unknown t n d) = refl
+norm-norm _ = refl
 
 abbrev timed_text : PrefixInformation → ℕ → ℕ → List ℕ
 timed_text p valid preferred =
@@ -199,9 +180,7 @@ norm-text (prefix_ p) c =
     ap (λ (n : ℕ). timed_text p n (seconds_of (whole_seconds p.preferred_lifetime)))
     (seconds-times (seconds_of p.valid_lifetime))
     ∙ ap (λ (n : ℕ). timed_text p (seconds_of p.valid_lifetime) n) (seconds-times (seconds_of p.preferred_lifetime))
-norm-text (redirected h d) c = refl
-norm-text (mtu n) c = refl
-norm-text (unknown t n d) c = refl
+norm-text _ c = refl
 
 -- ---- all of it
 

@@ -65,11 +65,7 @@ number_of_type (unknown t n d) = t
 type-reading : (bytes : List ℕ) (v : OptionValue) → IsReading bytes v → byte_of type_field bytes ≡ number_of_type v
 unfolding number_of_type
 type-reading bytes (source address) r = r.kind
-type-reading bytes (target address) r = r.kind
-type-reading bytes (prefix_ p) r = r.kind
-type-reading bytes (redirected h d) r = r.kind
-type-reading bytes (mtu n) r = r.kind
-type-reading bytes (unknown t n d) r = r.kind
+type-reading bytes _ r = r.kind
 
 same_reading : (bytes : List ℕ) (v w : OptionValue) → IsReading bytes v → IsReading bytes w
     → number_of_type v ≡ number_of_type w → v ≡ w
@@ -96,12 +92,9 @@ same_reading bytes _ _ a b same = absurd (omega arith)
 packet-reading : (bytes : List ℕ) → byte_of type_field bytes ≡ 4
     → ((h : Ipv6Repr) → IsPacket (bytes_of (redirected_field bytes) bytes) h → ⊥) → (v : OptionValue)
     → IsReading bytes v → ⊥
-packet-reading bytes four none (source address) b = omega (arith, four, b.kind)
-packet-reading bytes four none (target address) b = omega (arith, four, b.kind)
-packet-reading bytes four none (prefix_ p) b = omega (arith, four, b.kind)
 packet-reading bytes four none (redirected h d) b = none h b.packet
-packet-reading bytes four none (mtu n) b = omega (arith, four, b.kind)
 packet-reading bytes four none (unknown t n d) b = b.unnamed.3 (sym b.kind ∙ four)
+packet-reading bytes four none _ b = omega (arith, four, b.kind)
 
 pub one_option : (bytes : List ℕ) (v w : OptionValue) → BeginsWith bytes v → BeginsWith bytes w → v ≡ w
 one_option bytes v w a b =
