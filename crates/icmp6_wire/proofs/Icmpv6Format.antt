@@ -9,7 +9,7 @@ use Rattle.wirebase.specs.Bytes.{IsBytes, byte_of}
 use Rattle.wirebase.specs.ByteWriter.{fields}
 use Rattle.wirebase.specs.Format.{SameText}
 use Rattle.wirebase.specs.Icmp.{code_field, data_in}
-use Rattle.wirebase.specs.Ipv6.{next_header_field, hop_limit_field, IsHeader}
+use Rattle.wirebase.specs.Ipv6.{next_header_field, IsHeader}
 use Rattle.wirebase.proofs.ByteParts.{IsBytes-drop, number_of-small}
 use Rattle.wirebase.proofs.Format.{IsFormat, same_text-by}
 use Rattle.wirebase.proofs.IpProtocols.{protocol-read}
@@ -50,12 +50,10 @@ is_unknown_time _ = false
 
 header-read_canonical : (bytes : List ℕ) (quoted : Ipv6Repr) → IsBytes bytes → IsHeader bytes quoted → CanQuote quoted
 header-read_canonical bytes quoted are q =
-    let read = protocol-read (byte_of next_header_field bytes) q.protocol in
-    let next : byte_of next_header_field bytes < 256 = are 6 in
-    let hops : byte_of hop_limit_field bytes < 256 = are 7 in (
+    let read = protocol-read (byte_of next_header_field bytes) q.protocol in (
       read.0,
-      omega (arith, read.1, next),
-      omega (arith, q.hops, hops),
+      omega (arith, read.1, are 6),
+      omega (arith, q.hops, are 7),
       omega (arith, q.payload, number_of-small 4 6 bytes refl are),
     )
 
@@ -65,10 +63,9 @@ unfolding is_unknown_reason is_unknown_problem is_unknown_time
 content-canonical bytes (unreachable reason quoted d) are some small m =
     let read =
     case-read unreachable_number reasons.Unknown (λ k. refl) is_unknown_reason (λ k. refl) unreachables
-    (byte_of code_field bytes) refl m.1 in
-    let code = are 1 in (
+    (byte_of code_field bytes) refl m.1 in (
       read.0,
-      omega (arith, read.1, code),
+      omega (arith, read.1, are 1),
       header-read_canonical (data_in bytes) quoted (IsBytes-drop 8 bytes are) m.0.header_,
     )
 content-canonical bytes (too_big mtu quoted d) are some small m = (
@@ -78,19 +75,17 @@ content-canonical bytes (too_big mtu quoted d) are some small m = (
 content-canonical bytes (time_exceeded reason quoted d) are some small m =
     let read =
     case-read time_exceeded_number times.Unknown (λ k. refl) is_unknown_time (λ k. refl) time_exceededs
-    (byte_of code_field bytes) refl m.1 in
-    let code = are 1 in (
+    (byte_of code_field bytes) refl m.1 in (
       read.0,
-      omega (arith, read.1, code),
+      omega (arith, read.1, are 1),
       header-read_canonical (data_in bytes) quoted (IsBytes-drop 8 bytes are) m.0.header_,
     )
 content-canonical bytes (param_problem reason pointer quoted d) are some small m =
     let read =
     case-read param_problem_number problems.Unknown (λ k. refl) is_unknown_problem (λ k. refl) param_problems
-    (byte_of code_field bytes) refl m.1 in
-    let code = are 1 in (
+    (byte_of code_field bytes) refl m.1 in (
       read.0,
-      omega (arith, read.1, code),
+      omega (arith, read.1, are 1),
       omega (arith, m.2, number_of-small4 4 8 bytes refl are),
       header-read_canonical (data_in bytes) quoted (IsBytes-drop 8 bytes are) m.0.header_,
     )
@@ -110,14 +105,9 @@ content-canonical bytes (mld m) are some small c = mld_format.accepted bytes m a
 -- ---- the normal form
 
 norm-canonical : (v : MessageValue) → IsCanonical v → IsCanonical (norm v)
-norm-canonical (unreachable reason quoted d) c = c
-norm-canonical (too_big mtu quoted d) c = c
-norm-canonical (time_exceeded reason quoted d) c = c
-norm-canonical (param_problem reason pointer quoted d) c = c
-norm-canonical (echo_request ident seq_no d) c = c
-norm-canonical (echo_reply ident seq_no d) c = c
 norm-canonical (ndisc m) c = ndisc_format.norm_canonical m c
 norm-canonical (mld m) c = mld_format.norm_canonical m c
+norm-canonical _ c = c
 
 norm-norm : (v : MessageValue) → norm (norm v) ≡ norm v
 norm-norm (unreachable reason quoted d) = ap (λ (l : List ℕ). unreachable reason quoted l) (quoted-quoted d)
@@ -125,10 +115,9 @@ norm-norm (too_big mtu quoted d) = ap (λ (l : List ℕ). too_big mtu quoted l) 
 norm-norm (time_exceeded reason quoted d) = ap (λ (l : List ℕ). time_exceeded reason quoted l) (quoted-quoted d)
 norm-norm (param_problem reason pointer quoted d) =
     ap (λ (l : List ℕ). param_problem reason pointer quoted l) (quoted-quoted d)
-norm-norm (echo_request ident seq_no d) = refl
-norm-norm (echo_reply ident seq_no d) = refl
 norm-norm (ndisc m) = ap (λ (x : NdiscValue). ndisc x) (ndisc_format.norm_norm m)
 norm-norm (mld m) = ap (λ (x : MldValue). mld x) (mld_format.norm_norm m)
+norm-norm _ = refl
 
 quoted-fields : (t code word : ℕ) (quoted : Ipv6Repr) (d : List ℕ)
     → fields (error_fields t code word quoted (quoted_data d)) ≡ fields (error_fields t code word quoted d)
@@ -139,10 +128,9 @@ norm-text (unreachable reason quoted d) c = quoted-fields 1 (unreachable_number 
 norm-text (too_big mtu quoted d) c = quoted-fields 2 0 mtu quoted d
 norm-text (time_exceeded reason quoted d) c = quoted-fields 3 (time_exceeded_number reason) 0 quoted d
 norm-text (param_problem reason pointer quoted d) c = quoted-fields 4 (param_problem_number reason) pointer quoted d
-norm-text (echo_request ident seq_no d) c = refl
-norm-text (echo_reply ident seq_no d) c = refl
 norm-text (ndisc m) c = norm-ndisc m c
 norm-text (mld m) c = norm-mld m
+norm-text _ c = refl
 
 few : (d : List ℕ) → (1192 < length d → ⊥) → length d ≤ 1192
 few d uncut = grind (arith, uncut)
@@ -156,10 +144,9 @@ norm-uncut bytes (time_exceeded reason quoted d) are c uncut =
     ap (λ (l : List ℕ). time_exceeded reason quoted l) (quoted-whole d (few d uncut))
 norm-uncut bytes (param_problem reason pointer quoted d) are c uncut =
     ap (λ (l : List ℕ). param_problem reason pointer quoted l) (quoted-whole d (few d uncut))
-norm-uncut bytes (echo_request ident seq_no d) are c uncut = refl
-norm-uncut bytes (echo_reply ident seq_no d) are c uncut = refl
 norm-uncut bytes (ndisc m) are c uncut = ap (λ (x : NdiscValue). ndisc x) (message-kept bytes m are c.0)
 norm-uncut bytes (mld m) are c uncut = ap (λ (x : MldValue). mld x) (norm-read bytes m c.0)
+norm-uncut bytes _ are c uncut = refl
 
 -- ---- all of it
 

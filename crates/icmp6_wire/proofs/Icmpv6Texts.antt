@@ -94,27 +94,19 @@ length-text (ndisc m) = length-ndisc m
 length-text (mld m) = length-mld m
 
 pub text_some : (v : MessageValue) → 8 ≤ text_len v
-text_some (unreachable reason quoted d) = omega arith
-text_some (too_big mtu quoted d) = omega arith
-text_some (time_exceeded reason quoted d) = omega arith
-text_some (param_problem reason pointer quoted d) = omega arith
-text_some (echo_request ident seq_no d) = omega arith
-text_some (echo_reply ident seq_no d) = omega arith
 text_some (ndisc m) = ndisc_some m
 text_some (mld m) = mld_some m
+text_some _ = omega arith
 
 -- what a message is written into has room for a header
 pub room_some : (v : MessageValue) (bytes : List ℕ) → CanEmit v bytes → 8 ≤ length bytes
-room_some (unreachable reason quoted d) bytes c = omega (arith, c.0)
-room_some (too_big mtu quoted d) bytes c = omega (arith, c.0)
-room_some (time_exceeded reason quoted d) bytes c = omega (arith, c.0)
-room_some (param_problem reason pointer quoted d) bytes c = omega (arith, c.0)
 room_some (echo_request ident seq_no d) bytes c = c
 room_some (echo_reply ident seq_no d) bytes c = c
 room_some (ndisc m) bytes c = omega (arith, ndisc_some m, c.1)
 room_some (mld (listeners.query code group flag qrv qqic sources d)) bytes c = omega (arith, c.0)
 room_some (mld (listeners.report count d)) bytes c = omega (arith, c)
 room_some (mld (listeners.records rs)) bytes c = omega (arith, c.0)
+room_some _ bytes c = omega (arith, c.0)
 
 pub length-packet_text : (capabilities : ChecksumCapabilities) (source destination : Ipv6Address) (v : MessageValue)
     → length (packet_text capabilities source destination v) ≡ text_len v

@@ -1,4 +1,3 @@
-pub mod HeadersAtOnce
 pub mod Icmpv6Format
 pub mod Icmpv6Grammar
 pub mod Icmpv6Seals

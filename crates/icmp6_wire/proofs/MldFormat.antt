@@ -70,21 +70,17 @@ one_text count d =
     ∙ ap (λ (l : List ℕ). 0x8f ∷ 0 ∷ 0 ∷ 0 ∷ 0 ∷ 0 ∷ (big_bytes 2 count ++ l)) (append-nil d)
 
 one_report : (count : ℕ) (d : List ℕ) → count < 2 ^ 16 → IsReport (text (report count d)) count d
-one_report count d few =
-    subst (λ (bytes : List ℕ). IsReport bytes count d) (sym (one_text count d)) (report_read count d few)
+one_report count d few = rw (one_text count d) (report_read count d few)
 
 pub norm-text : (v : MldValue) → text (norm v) ≡ text v
-norm-text (query code group flag qrv qqic sources d) = refl
-norm-text (report count d) = refl
 norm-text (records rs) =
     one_text (length rs) (fields (record_texts rs)) ∙ sym (report_text (length rs) (record_texts rs))
+norm-text _ = refl
 
 -- the text of a canonical value is read as its normal form
 pub message_read : (v : MldValue) → IsCanonical v → IsMessage (text v) (norm v)
 message_read (query code group flag qrv qqic sources d) c =
-    subst (λ (bytes : List ℕ). IsQuery bytes code group flag qrv qqic sources d)
-    (sym (query_text code group flag qrv qqic sources d))
-    (query_read code group flag qrv qqic sources d c.0 c.1 c.3)
+    rw (query_text code group flag qrv qqic sources d) (query_read code group flag qrv qqic sources d c.0 c.1 c.3)
 message_read (report count d) c = one_report count d c.0
 message_read (records rs) c =
     subst (λ (bytes : List ℕ). IsReport bytes (length rs) (fields (record_texts rs))) (norm-text (records rs))
@@ -94,14 +90,13 @@ message_read (records rs) c =
 
 message-canonical : (bytes : List ℕ) (v : MldValue) → IsBytes bytes → length bytes ≤ 65515 → IsMessage bytes v
     → IsCanonical v
-message-canonical bytes (query code group flag qrv qqic sources d) are few m =
-    let interval = are 25 in (
-      omega (arith, m.code_, number_of-small 4 6 bytes refl are),
-      omega (arith, m.qrv_),
-      omega (arith, m.qqic_, interval),
-      omega (arith, m.sources_, number_of-small 26 28 bytes refl are),
-      omega (arith, ap (λ (l : List ℕ). length l) m.data_, length-drop 28 bytes, m.whole, few),
-    )
+message-canonical bytes (query code group flag qrv qqic sources d) are few m = (
+  omega (arith, m.code_, number_of-small 4 6 bytes refl are),
+  omega (arith, m.qrv_),
+  omega (arith, m.qqic_, are 25),
+  omega (arith, m.sources_, number_of-small 26 28 bytes refl are),
+  omega (arith, ap (λ (l : List ℕ). length l) m.data_, length-drop 28 bytes, m.whole, few),
+)
 message-canonical bytes (report count d) are few m = (
   omega (arith, m.count_, number_of-small 6 8 bytes refl are),
   omega (arith, ap (λ (l : List ℕ). length l) m.data_, length-drop 8 bytes, m.whole, few),
@@ -111,19 +106,16 @@ message-canonical bytes (records rs) are few m = absurd m
 -- ---- the format
 
 norm-canonical : (v : MldValue) → IsCanonical v → IsCanonical (norm v)
-norm-canonical (query code group flag qrv qqic sources d) c = c
-norm-canonical (report count d) c = c
 norm-canonical (records rs) c = (omega (arith, c.0), omega (arith, c.0, length-records rs))
+norm-canonical _ c = c
 
 norm-norm : (v : MldValue) → norm (norm v) ≡ norm v
-norm-norm (query code group flag qrv qqic sources d) = refl
-norm-norm (report count d) = refl
 norm-norm (records rs) = refl
+norm-norm _ = refl
 
 pub norm-read : (bytes : List ℕ) (v : MldValue) → IsMessage bytes v → norm v ≡ v
-norm-read bytes (query code group flag qrv qqic sources d) m = refl
-norm-read bytes (report count d) m = refl
 norm-read bytes (records rs) m = absurd m
+norm-read bytes _ m = refl
 
 pub mld_format : IsFormat format
 mld_format = record {

@@ -1,6 +1,6 @@
 -- Records of reports: their texts, what is read in them, and their format.
 use Rattle.std.proofs.Common.{◌≡◌, ℕ, ◌<◌, ◌^◌, Bool, true, false, List, [], ◌∷◌, ◌++◌, length, refl}
-use Rattle.std.proofs.Common.{sym, ap, subst, ◌∙◌, arith, Result, IfOk}
+use Rattle.std.proofs.Common.{sym, ap, ◌∙◌, arith, Result, IfOk}
 use Rattle.std.proofs.lemmas.List.{append-nil, take_all, drop_all, nil_from_length}
 use Rattle.byteorder.specs.Endian.{big_bytes}
 use Rattle.byteorder.specs.Numbers.{big_number-reads_back}
@@ -63,8 +63,7 @@ fields_read kind words sources group proper small = record {
 
 record_read : (v : RecordValue) → IsCanonical v → IsGroupRecord (text v) (norm v)
 record_read (address_record kind words sources group rest) c = (
-  subst (λ (bytes : List ℕ). IsFields bytes kind words sources group [])
-      (sym (record_text kind words sources group rest)) (fields_read kind words sources group c.0 c.3),
+  rw (record_text kind words sources group rest) (fields_read kind words sources group c.0 c.3),
   c.4,
 )
 
@@ -89,12 +88,10 @@ unfolding is_unknown
 record-canonical bytes (address_record kind words sources group rest) are m =
     let read =
     case-read record_type_number record_type.Unknown (λ k. refl) is_unknown (λ k. refl) record_types
-    (byte_of record_type_field bytes) refl m.0.kind_ in
-    let first : byte_of record_type_field bytes < 256 = are 0 in
-    let second = are 1 in (
+    (byte_of record_type_field bytes) refl m.0.kind_ in (
       read.0,
-      omega (arith, read.1, first),
-      omega (arith, m.0.words_, second),
+      omega (arith, read.1, are 0),
+      omega (arith, m.0.words_, are 1),
       omega (arith, m.0.sources_, number_of-small 2 4 bytes refl are),
       m.1,
     )
@@ -131,8 +128,6 @@ record_format = record {
 
 pub record_same_text : (a b : RecordValue) → SameText format a b
 record_same_text a b = same_text format record_format tt a b
-
-pub ruleset same_texts = (record_same_text)
 
 -- what a parser owes of a record, where its address is multicast: it is canonical whatever stands after its fields
 pub record_rewrites : (bytes : List ℕ) (v : RecordValue) → IsBytes bytes → IsRecord bytes v → IsMulticast (group_of v)

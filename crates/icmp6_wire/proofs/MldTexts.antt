@@ -47,9 +47,7 @@ length-text (report count d) = omega (arith, ap length (report_text count (d ∷
 length-text (records rs) = omega (arith, ap length (report_text (length rs) (record_texts rs)), length-records rs)
 
 pub text_some : (v : MldValue) → 8 ≤ text_len v
-text_some (query code group flag qrv qqic sources d) = omega arith
-text_some (report count d) = omega arith
-text_some (records rs) = omega arith
+text_some v = grind arith
 
 -- how many records there are, and how many bytes a message takes
 pub ruleset counts = (length-map, length-text)
@@ -72,13 +70,10 @@ message-one bytes (query code group flag qrv qqic sources d) (query other anothe
     let six = a.sources_ ∙ sym b.sources_ in
     let seven = a.data_ ∙ sym b.data_ in
     cc
-message-one bytes (query code group flag qrv qqic sources d) (report count e) a b =
-    absurd (let no = sym a.kind ∙ b.kind in omega (arith, no))
-message-one bytes (report count d) (query code group flag qrv qqic sources e) a b =
-    absurd (let no = sym a.kind ∙ b.kind in omega (arith, no))
 message-one bytes (report count d) (report other e) a b =
     let one = a.count_ ∙ sym b.count_ in
     let two = a.data_ ∙ sym b.data_ in
     cc
 message-one bytes (records rs) w a b = absurd a
 message-one bytes v (records rs) a b = absurd b
+message-one bytes _ _ a b = absurd (omega (arith, a.kind, b.kind))

@@ -7,13 +7,10 @@ use Rattle.std.specs.List.{AllByRecursion}
 use Rattle.std.specs.Option.{option_map, option_or}
 use Rattle.std.proofs.lemmas.Nat.{and_assoc}
 use Rattle.wirebase.specs.Bytes.{IsBytes, over, byte_of, number_of}
-use Rattle.wirebase.specs.ByteWriter.{be8, be16, be32, fields}
 use Rattle.wirebase.specs.Duration.{micros_of, millis_of, seconds_of, whole_millis, whole_seconds}
 use Rattle.wirebase.specs.Format.{SameText}
 use Rattle.wirebase.specs.Icmp.{type_field}
-use Rattle.wirebase.specs.Ipv6Address.{octets_of}
 use Rattle.wirebase.specs.declared.duration.Duration.{Duration}
-use Rattle.wirebase.specs.declared.ipv6.Ipv6Repr.{Ipv6Repr}
 use Rattle.wirebase.proofs.ByteParts.{IsBytes-drop, IsBytes-front, IsBytes-rest, number_of-small}
 use Rattle.wirebase.proofs.Durations.{same_duration, millis-times, seconds-times}
 use Rattle.wirebase.proofs.Durations.{whole_millis-read, whole_seconds-read}
@@ -31,7 +28,7 @@ use Rattle.icmp6_wire.specs.NdiscBlocks.{AreBlocks, ends, goes_on, skips, source
 use Rattle.icmp6_wire.specs.NdiscBlocks.{prefix_in, redirected_in}
 use Rattle.icmp6_wire.specs.NdiscPacket.{router_flags_field, neighbor_flags_field, router_lifetime_field}
 use Rattle.icmp6_wire.specs.NdiscPacket.{reachable_time_field, retrans_time_field}
-use Rattle.icmp6_wire.specs.NdiscTables.{router_bits, neighbor_bits, known_router, known_neighbor}
+use Rattle.icmp6_wire.specs.NdiscTables.{known_router, known_neighbor}
 use Rattle.icmp6_wire.specs.Ndisc.{NdiscValue, router_solicit, router_advert, neighbor_solicit, neighbor_advert}
 use Rattle.icmp6_wire.specs.Ndisc.{redirect}
 use Rattle.icmp6_wire.specs.Ndisc.{sources, targets, mtus, prefixes, packets, option_text, text, text_len}
@@ -61,11 +58,8 @@ same_neighbor_flags f g e = ap neighbor_flags_of e
 
 kind-content : (bytes : List ℕ) (os : List OptionValue) (v : NdiscValue) → IsContent bytes os v
     → byte_of type_field bytes ≡ kind_of v
-kind-content bytes os (router_solicit l) a = a.0
 kind-content bytes os (router_advert hops flags lifetime reachable retrans l m p) a = a.0.kind
-kind-content bytes os (neighbor_solicit t l) a = a.0
-kind-content bytes os (neighbor_advert flags t l) a = a.0
-kind-content bytes os (redirect t d l r) a = a.0
+kind-content bytes os _ a = a.0
 
 same_content : (bytes : List ℕ) (os : List OptionValue) (v w : NdiscValue) → IsContent bytes os v → IsContent bytes os w
     → kind_of v ≡ kind_of w → v ≡ w
@@ -118,8 +112,7 @@ good_blocks bytes os are ends = tt
 good_blocks bytes os are (goes_on {options = more} b r v h k t e) =
     let there : IsBytes (b ++ r) = subst (λ (l : List ℕ). IsBytes l) e are in
     let front = IsBytes-front b r there in
-    let count = front 1 in
-    let canonical = ndisc_option_format.accepted b v front (omega (arith, h.exact, count)) k in (
+    let canonical = ndisc_option_format.accepted b v front (omega (arith, h.exact, front 1)) k in (
       (canonical, ndisc_option_format.kept b v front canonical k (λ cut. cut)),
       good_blocks r more (IsBytes-rest b r there) t,
     )
@@ -169,13 +162,11 @@ AreGood (redirect t d l r) = IfThere IsGood (targets l) × IfThere IsGood (packe
 
 good_sources : (l : Option (List ℕ)) (os : List OptionValue) → AllByRecursion IsGood os → l ≡ last_of source_in os
     → IfThere IsGood (sources l)
-good_sources l os all e =
-    subst (λ (o : Option (List ℕ)). IfThere IsGood (sources o)) (sym e) (last_good source_in source good_source os all)
+good_sources l os all e = rw e (last_good source_in source good_source os all)
 
 good_targets : (l : Option (List ℕ)) (os : List OptionValue) → AllByRecursion IsGood os → l ≡ last_of target_in os
     → IfThere IsGood (targets l)
-good_targets l os all e =
-    subst (λ (o : Option (List ℕ)). IfThere IsGood (targets o)) (sym e) (last_good target_in target good_target os all)
+good_targets l os all e = rw e (last_good target_in target good_target os all)
 
 good_content : (bytes : List ℕ) (os : List OptionValue) (v : NdiscValue) → AllByRecursion IsGood os
     → IsContent bytes os v → AreGood v
@@ -183,16 +174,14 @@ unfolding AreGood
 good_content bytes os (router_solicit l) all a = good_sources l os all a.1
 good_content bytes os (router_advert hops flags lifetime reachable retrans l m p) all a = (
   good_sources l os all a.1,
-  subst (λ (o : Option ℕ). IfThere IsGood (mtus o)) (sym a.2) (last_good mtu_in mtu good_mtu os all),
-  subst (λ (o : Option PrefixInformation). IfThere IsGood (prefixes o)) (sym a.3)
-      (last_good prefix_in prefix_ good_prefix os all),
+  rw a.2 (last_good mtu_in mtu good_mtu os all),
+  rw a.3 (last_good prefix_in prefix_ good_prefix os all),
 )
 good_content bytes os (neighbor_solicit t l) all a = good_sources l os all a.2
 good_content bytes os (neighbor_advert flags t l) all a = good_targets l os all a.3
 good_content bytes os (redirect t d l r) all a = (
   good_targets l os all a.3,
-  subst (λ (o : Option (Ipv6Repr × List ℕ)). IfThere IsGood (packets o)) (sym a.4)
-      (last_good redirected_in (λ packet. redirected packet.0 packet.1) good_packet os all),
+  rw a.4 (last_good redirected_in (λ packet. redirected packet.0 packet.1) good_packet os all),
 )
 
 good_message : (bytes : List ℕ) (v : NdiscValue) → IsBytes bytes → IsMessage bytes v → AreGood v
@@ -219,23 +208,18 @@ few_millis time n e small = omega (arith, e, small)
 
 canonical_header : (bytes : List ℕ) (os : List OptionValue) (v : NdiscValue) → IsBytes bytes → IsContent bytes os v
     → IsCanonicalHeader v
-canonical_header bytes os (router_solicit l) are a = tt
-canonical_header bytes os (router_advert hops flags lifetime reachable retrans l m p) are a =
-    let hop = are 4 in (
-      omega (arith, a.0.hops_, hop),
-      ap known_router a.0.flags_ ∙ known-router (byte_of router_flags_field bytes) ∙ sym a.0.flags_,
-      (
-        few_seconds lifetime (number_of router_lifetime_field bytes) a.0.lifetime_
-            (number_of-small 6 8 bytes refl are),
-        few_millis reachable (number_of reachable_time_field bytes) a.0.reachable_
-            (number_of-small4 8 12 bytes refl are),
-        few_millis retrans (number_of retrans_time_field bytes) a.0.retrans_ (number_of-small4 12 16 bytes refl are),
-      ),
-    )
-canonical_header bytes os (neighbor_solicit t l) are a = tt
+canonical_header bytes os (router_advert hops flags lifetime reachable retrans l m p) are a = (
+  omega (arith, a.0.hops_, are 4),
+  ap known_router a.0.flags_ ∙ known-router (byte_of router_flags_field bytes) ∙ sym a.0.flags_,
+  (
+    few_seconds lifetime (number_of router_lifetime_field bytes) a.0.lifetime_ (number_of-small 6 8 bytes refl are),
+    few_millis reachable (number_of reachable_time_field bytes) a.0.reachable_ (number_of-small4 8 12 bytes refl are),
+    few_millis retrans (number_of retrans_time_field bytes) a.0.retrans_ (number_of-small4 12 16 bytes refl are),
+  ),
+)
 canonical_header bytes os (neighbor_advert flags t l) are a =
     ap known_neighbor a.1 ∙ known-neighbor (byte_of neighbor_flags_field bytes) ∙ sym a.1
-canonical_header bytes os (redirect t d l r) are a = tt
+canonical_header bytes os _ are a = tt
 
 canonical_options : (v : NdiscValue) → IsCanonicalHeader v → AreGood v → IsCanonical v
 unfolding AreGood
@@ -365,41 +349,19 @@ prefix-text : (p : Option PrefixInformation) → IfThere option.IsCanonical (pre
 prefix-text None c = refl
 prefix-text (Some p) c = ndisc_option_format.norm_text (prefix_ p) c (λ e. e)
 
-abbrev router_text : ℕ → ℕ → ℕ → ℕ → ℕ → List ℕ → List ℕ → List ℕ → List ℕ
-router_text hops bits lifetime reachable retrans one two three =
-    fields (be8 0x86 ∷ be8 0 ∷ be16 0 ∷ be8 hops ∷ be8 bits ∷ be16 lifetime ∷ be32 reachable ∷ be32 retrans
-    ∷ one ∷ two ∷ three ∷ [])
-
 pub norm-text : (v : NdiscValue) → IsCanonical v → text (norm v) ≡ text v
-norm-text (router_solicit l) c =
-    ap (λ (o : List ℕ). fields (be8 0x85 ∷ be8 0 ∷ be16 0 ∷ be32 0 ∷ o ∷ [])) (source-text l c.1.0)
+norm-text (router_solicit l) c = cc (source-text l c.1.0)
 norm-text (router_advert hops flags lifetime reachable retrans l m p) c =
-    let bits : ℕ = router_bits flags in
-    let middle : List ℕ = option_text (mtus m) in
-    let second : List ℕ = option_text (prefixes p) in
-    let first : List ℕ = option_text (sources l) in
-    ap (λ (n : ℕ). router_text hops bits n (millis_of (whole_millis reachable)) (millis_of (whole_millis retrans))
-    (option_text (sources (option_map filled l))) middle (option_text (prefixes (option_map whole_prefix p))))
-    (seconds-times (seconds_of lifetime))
-    ∙ ap (λ (n : ℕ). router_text hops bits (seconds_of lifetime) n (millis_of (whole_millis retrans))
-    (option_text (sources (option_map filled l))) middle (option_text (prefixes (option_map whole_prefix p))))
-    (millis-times (millis_of reachable))
-    ∙ ap (λ (n : ℕ). router_text hops bits (seconds_of lifetime) (millis_of reachable) n
-    (option_text (sources (option_map filled l))) middle (option_text (prefixes (option_map whole_prefix p))))
-    (millis-times (millis_of retrans))
-    ∙ ap (λ (o : List ℕ). router_text hops bits (seconds_of lifetime) (millis_of reachable) (millis_of retrans) o middle
-    (option_text (prefixes (option_map whole_prefix p)))) (source-text l c.1.0)
-    ∙ ap (λ (o : List ℕ). router_text hops bits (seconds_of lifetime) (millis_of reachable) (millis_of retrans) first
-    middle o)
-    (prefix-text p c.1.1.1.0)
-norm-text (neighbor_solicit t l) c =
-    ap (λ (o : List ℕ). fields (be8 0x87 ∷ be8 0 ∷ be16 0 ∷ be32 0 ∷ octets_of t ∷ o ∷ [])) (source-text l c.1.0)
-norm-text (neighbor_advert flags t l) c =
-    ap (λ (o : List ℕ). fields (be8 0x88 ∷ be8 0 ∷ be16 0 ∷ be8 (neighbor_bits flags) ∷ be8 0 ∷ be16 0
-    ∷ octets_of t ∷ o ∷ [])) (target-text l c.1.0)
-norm-text (redirect t d l r) c =
-    ap (λ (o : List ℕ). fields (be8 0x89 ∷ be8 0 ∷ be16 0 ∷ be32 0 ∷ octets_of t ∷ octets_of d ∷ o
-    ∷ option_text (packets r) ∷ [])) (target-text l c.1.0)
+    cc (
+      seconds-times (seconds_of lifetime),
+      millis-times (millis_of reachable),
+      millis-times (millis_of retrans),
+      source-text l c.1.0,
+      prefix-text p c.1.1.1.0,
+    )
+norm-text (neighbor_solicit t l) c = cc (source-text l c.1.0)
+norm-text (neighbor_advert flags t l) c = cc (target-text l c.1.0)
+norm-text (redirect t d l r) c = cc (target-text l c.1.0)
 
 -- ---- all of it
 

@@ -41,12 +41,10 @@ text_units (mtu n) = omega (arith, ap units_in (mtu_text n))
 text_units (unknown t n d) = omega (arith, ap units_in (unknown_text t n d))
 
 pub can_emit : (v : OptionValue) → option.IsCanonical v → option.CanEmit v
-can_emit (source address) c = tt
-can_emit (target address) c = tt
 can_emit (prefix_ p) c = (c.valid, c.preferred)
 can_emit (redirected h d) c = (c.payload, c.small)
-can_emit (mtu n) c = tt
 can_emit (unknown t n d) c = (c.2, c.4)
+can_emit _ c = tt
 
 text_read : (v : OptionValue) → option.IsCanonical v → BeginsWith (option.text v) (option.norm v)
 text_read v c =
@@ -76,13 +74,11 @@ options_text (Some v ∷ os) c =
 
 one_source : (l : Option (List ℕ)) → last_of source_in (read_options (sources l ∷ [])) ≡ option_map filled l
 unfolding read_options
-one_source None = refl
-one_source (Some a) = refl
+one_source l = grind arith
 
 one_target : (l : Option (List ℕ)) → last_of target_in (read_options (targets l ∷ [])) ≡ option_map filled l
 unfolding read_options
-one_target None = refl
-one_target (Some a) = refl
+one_target l = grind arith
 
 record OfRouter (l : Option (List ℕ)) (m : Option ℕ) (p : Option PrefixInformation) (os : List OptionValue)
     : Type 0 where
@@ -93,14 +89,7 @@ record OfRouter (l : Option (List ℕ)) (m : Option ℕ) (p : Option PrefixInfor
 of_router : (l : Option (List ℕ)) (m : Option ℕ) (p : Option PrefixInformation)
     → OfRouter l m p (read_options (sources l ∷ mtus m ∷ prefixes p ∷ []))
 unfolding read_options
-of_router None None None = record { link = refl; mtu_ = refl; prefix_info = refl }
-of_router None None (Some p) = record { link = refl; mtu_ = refl; prefix_info = refl }
-of_router None (Some m) None = record { link = refl; mtu_ = refl; prefix_info = refl }
-of_router None (Some m) (Some p) = record { link = refl; mtu_ = refl; prefix_info = refl }
-of_router (Some l) None None = record { link = refl; mtu_ = refl; prefix_info = refl }
-of_router (Some l) None (Some p) = record { link = refl; mtu_ = refl; prefix_info = refl }
-of_router (Some l) (Some m) None = record { link = refl; mtu_ = refl; prefix_info = refl }
-of_router (Some l) (Some m) (Some p) = record { link = refl; mtu_ = refl; prefix_info = refl }
+of_router l m p = record { link = grind arith; mtu_ = grind arith; prefix_info = grind arith }
 
 record OfRedirect (l : Option (List ℕ)) (r : Option (Ipv6Repr × List ℕ)) (os : List OptionValue) : Type 0 where
   link : option_map filled l ≡ last_of target_in os
@@ -109,10 +98,7 @@ record OfRedirect (l : Option (List ℕ)) (r : Option (Ipv6Repr × List ℕ)) (o
 of_redirect : (l : Option (List ℕ)) (r : Option (Ipv6Repr × List ℕ))
     → OfRedirect l r (read_options (targets l ∷ packets r ∷ []))
 unfolding read_options
-of_redirect None None = record { link = refl; packet = refl }
-of_redirect None (Some r) = record { link = refl; packet = refl }
-of_redirect (Some l) None = record { link = refl; packet = refl }
-of_redirect (Some l) (Some r) = record { link = refl; packet = refl }
+of_redirect l r = record { link = grind arith; packet = grind arith }
 
 -- ---- messages
 
@@ -141,10 +127,7 @@ body (redirect t d l r) = 0 ∷ 0 ∷ 0 ∷ 0 ∷ (octets_of t ++ (octets_of d +
 pub text_at : (v : NdiscValue) → text v ≡ kind_of v ∷ 0 ∷ 0 ∷ 0 ∷ body v
 unfolding fields be8 be16 be32 tail body
 text_at (router_solicit l) = refl
-text_at (router_advert hops flags lifetime reachable retrans l m p) = refl
-text_at (neighbor_solicit t l) = refl
-text_at (neighbor_advert flags t l) = refl
-text_at (redirect t d l r) = refl
+text_at _ = refl
 
 tail_blocks : (v : NdiscValue) → IsCanonical v → AreBlocks (tail v) (read_options (options_of v))
 unfolding tail
@@ -197,8 +180,7 @@ message_at first second (neighbor_solicit t l) c =
     record {
       options = read_options (options_of v);
       whole = record { fixed = omega arith; known = refl; whole = omega (arith, long, sixteen) };
-      tiling = subst (λ (b : List ℕ). AreBlocks b (read_options (options_of v)))
-          (sym (drop_at (octets_of t) (tail v) 16 t.whole)) (tail_blocks v c);
+      tiling = rw (drop_at (octets_of t) (tail v) 16 t.whole) (tail_blocks v c);
       content = (refl, sym (take_at (octets_of t) (tail v) 16 t.whole), sym (one_source l));
     }
 message_at first second (neighbor_advert flags t l) c =
@@ -208,8 +190,7 @@ message_at first second (neighbor_advert flags t l) c =
     record {
       options = read_options (options_of v);
       whole = record { fixed = omega arith; known = refl; whole = omega (arith, long, sixteen) };
-      tiling = subst (λ (b : List ℕ). AreBlocks b (read_options (options_of v)))
-          (sym (drop_at (octets_of t) (tail v) 16 t.whole)) (tail_blocks v c);
+      tiling = rw (drop_at (octets_of t) (tail v) 16 t.whole) (tail_blocks v c);
       content = (refl, sym c.0, sym (take_at (octets_of t) (tail v) 16 t.whole), sym (one_target l));
     }
 message_at first second (redirect t d l r) c =
@@ -223,8 +204,7 @@ message_at first second (redirect t d l r) c =
     record {
       options = read_options (options_of v);
       whole = record { fixed = omega arith; known = refl; whole = omega (arith, one, two, sixteen, more) };
-      tiling = subst (λ (b : List ℕ). AreBlocks b (read_options (options_of v)))
-          (sym (two_dropped (octets_of t) (octets_of d) (tail v) t.whole d.whole)) (tail_blocks v c);
+      tiling = rw (two_dropped (octets_of t) (octets_of d) (tail v) t.whole d.whole) (tail_blocks v c);
       content = (
         refl,
         sym (take_at (octets_of t) behind 16 t.whole),
@@ -238,8 +218,7 @@ message_at first second (redirect t d l r) c =
 -- the message of a canonical value, with any checksum, is read as its normal form
 pub begun_read : (bytes : List ℕ) (v : NdiscValue) → IsCanonical v → Begins bytes (kind_of v) 0 (body v)
     → IsMessage bytes (norm v)
-begun_read bytes v c b =
-    subst (λ (l : List ℕ). IsMessage l (norm v)) (sym b.whole) (message_at b.first b.second v c)
+begun_read bytes v c b = rw b.whole (message_at b.first b.second v c)
 
 pub message_text : (v : NdiscValue) → IsCanonical v → IsMessage (text v) (norm v)
 message_text v c = begun_read (text v) v c (record { first = 0; second = 0; whole = text_at v })

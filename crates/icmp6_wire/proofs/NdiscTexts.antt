@@ -1,9 +1,9 @@
 -- The texts of messages of neighbor discovery, and their lengths.
-use Rattle.std.proofs.Common.{◌≡◌, ℕ, ◌+◌, ◌-◌, ◌*◌, ◌≤◌, List, [], ◌∷◌, ◌++◌, length, refl, sym, ap}
+use Rattle.std.proofs.Common.{◌≡◌, ℕ, ◌+◌, ◌-◌, ◌*◌, ◌≤◌, List, [], ◌∷◌, ◌++◌, length, refl, ap}
 use Rattle.std.proofs.Common.{arith, length-append}
 use Rattle.std.specs.Prelude.{Option, None, Some}
 use Rattle.std.proofs.lemmas.List.{length-replicate}
-use Rattle.wirebase.specs.ByteWriter.{Writer, Sheet, sheet, put_all, Puts, be8, be16, be32, fields}
+use Rattle.wirebase.specs.ByteWriter.{Sheet, put, put_all, be8, be16, be32, fields}
 use Rattle.wirebase.specs.Ipv6.{header_text}
 use Rattle.wirebase.specs.Ipv6Address.{octets_of}
 use Rattle.wirebase.specs.declared.ipv6.Ipv6Repr.{Ipv6Repr}
@@ -121,23 +121,18 @@ length-text (redirect t d l r) =
 pub put_all-header : (v : NdiscValue) (behind : List (List ℕ)) (s : Sheet)
     → put_all s (header_fields v behind) ≡ put_all (put_all s (header_fields v [])) behind
 put_all-header (router_solicit l) behind s = refl
-put_all-header (router_advert hops flags lifetime reachable retrans l m p) behind s = refl
-put_all-header (neighbor_solicit t l) behind s = refl
-put_all-header (neighbor_advert flags t l) behind s = refl
-put_all-header (redirect t d l r) behind s = refl
+put_all-header _ behind s = refl
 
 pub text_some : (v : NdiscValue) → 8 ≤ text_len v
-text_some (router_solicit l) = omega arith
-text_some (router_advert hops flags lifetime reachable retrans l m p) = omega arith
-text_some (neighbor_solicit t l) = omega arith
-text_some (neighbor_advert flags t l) = omega arith
-text_some (redirect t d l r) = omega arith
+text_some v = grind arith
 
 pub ruleset texts = (length-text)
 
 -- ---- options that are written
 
 -- nothing is written where there is no option
-pub puts-nothing : (w : Writer) → Puts w w ([] ∷ [])
+pub put-nothing : (s : Sheet) → put s [] ≡ s
 unfolding fields
-puts-nothing w = record { puts = sym (put-fields (sheet w) []); same_slice = refl }
+put-nothing s = put-fields s []
+
+pub ruleset nothing = (put-nothing)

@@ -288,6 +288,7 @@ impl<'a> Repr<'a> {
     }
 
     /// Does nothing. Of two messages that a packet can hold, equal texts mean equal normal forms, and conversely.
+    #[tactic(auto, using(crate::proofs::Icmpv6Format::icmpv6_same_text))]
     pub fn same_text(
         a: &Self,
         b: &Self,

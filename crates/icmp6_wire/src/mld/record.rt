@@ -279,7 +279,7 @@ impl<'a> AddressRecordRepr<'a> {
     }
 
     /// Does nothing. Of two records that a packet can hold, equal texts mean equal normal forms, and conversely.
-    #[tactic(auto, using(crate::proofs::MldRecords::same_texts))]
+    #[tactic(auto, using(crate::proofs::MldRecords::record_same_text))]
     pub fn same_text(a: &Self, b: &Self)
         ensures { SameText format (value_of a.now) (value_of b.now) }
     {}
@@ -287,7 +287,7 @@ impl<'a> AddressRecordRepr<'a> {
     // Writes the fields, for the report around the record too, of whose code it becomes a part where the two are
     // compiled apart.
     #[inline]
-    #[tactic(auto, using(wirebase::proofs::Chains::chain))]
+    #[tactic(auto, using(wirebase::proofs::Chains::chain, opt_wire::proofs::FieldsAtOnce::at_once))]
     pub(super) fn write(&self, octets: &mut [u8])
         requires { Reaches mcast_addr_field octets.old }
         ensures { octets.new ≡ over octets.old (text (value_of self.now)) }

@@ -126,6 +126,7 @@ impl<'a> Repr<'a> {
     }
 
     /// Does nothing. Of two messages that a packet can hold, equal texts mean equal normal forms, and conversely.
+    #[tactic(auto, using(crate::proofs::MldFormat::mld_same_text))]
     pub fn same_text(a: &Self, b: &Self)
         ensures { SameText format (value_of a.now) (value_of b.now) }
     {}
@@ -262,6 +263,7 @@ fn put_report_header(w: &mut ByteWriter<'_>, count: u16)
 }
 
 // Writes each record.
+#[tactic(auto, using(std::proofs::lemmas::List::drop_all))]
 fn put_records(w: &mut ByteWriter<'_>, records: &[AddressRecordRepr<'_>])
     requires room { 20 * length records.now ≤ length (free w.old) }
     requires groups { AreGroups (values_of records.now) }

@@ -1,4 +1,5 @@
 //! The options of a message that is written, each there or not.
+#![tactic(auto, using(crate::proofs::NdiscTexts::nothing))]
 
 ghost use Rattle.std.specs.Prelude.{◌≡◌, ◌+◌, ◌*◌, ◌<◌, ◌≤◌, ◌^◌, [], ◌∷◌, length};
 ghost use Rattle.std.specs.Option.{option_map};

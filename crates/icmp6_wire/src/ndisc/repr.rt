@@ -207,6 +207,7 @@ impl<'a> Repr<'a> {
     }
 
     /// Does nothing. Of two messages that a packet can hold, equal texts mean equal normal forms, and conversely.
+    #[tactic(auto, using(crate::proofs::NdiscFormat::ndisc_same_text))]
     pub fn same_text(a: &Self, b: &Self)
         ensures { SameText format (value_of a.now) (value_of b.now) }
     {}

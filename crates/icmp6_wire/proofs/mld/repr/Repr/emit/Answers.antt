@@ -1,9 +1,4 @@
-use Rattle.std.proofs.Common.{sym}
-use Rattle.wirebase.proofs.Chains.{lent}
-use Rattle.icmp6_wire.specs.Mld.{value_of, Emits}
 use Rattle.icmp6_wire.proofs.mld.repr.Repr.emit.Goals as goal
 
 pub returns-clause-emits : goal.returns-clause-emits
-returns-clause-emits g c =
-    lent (Emits (value_of c.args.self.now)) c.octets_mut.ensures.value
-    (sym (g.met.T.OctetsMut.bytes_put c.args.packet.now.buffer _)) c.emit_into.ensures
+returns-clause-emits g c = rw (g.met.T.OctetsMut.bytes_put, ← c.octets_mut.ensures.value) c.emit_into.ensures
