@@ -27,8 +27,6 @@ use Rattle.icmp6_wire.specs.Icmpv6Tables.{time_exceeded_number, time_exceededs}
 use Rattle.icmp6_wire.specs.Icmpv6.{MessageValue, unreachable, too_big, time_exceeded, param_problem, echo_request}
 use Rattle.icmp6_wire.specs.Icmpv6.{echo_reply, mld, ndisc, quoted_data, error_fields, text, seal, IsContent, CanQuote}
 use Rattle.icmp6_wire.specs.Icmpv6.{IsCanonical, norm, IsCut, format}
-use Rattle.icmp6_wire.specs.Ndisc.{NdiscValue}
-use Rattle.icmp6_wire.specs.Mld.{MldValue}
 use Rattle.icmp6_wire.proofs.MldFormat.{mld_format, norm-text as norm-mld, norm-read}
 use Rattle.icmp6_wire.proofs.NdiscFormat.{ndisc_format, norm-text as norm-ndisc, message-kept}
 use Rattle.icmp6_wire.proofs.Icmpv6Grammar.{content-one, message-unique}
@@ -110,13 +108,12 @@ norm-canonical (mld m) c = mld_format.norm_canonical m c
 norm-canonical _ c = c
 
 norm-norm : (v : MessageValue) → norm (norm v) ≡ norm v
-norm-norm (unreachable reason quoted d) = ap (λ (l : List ℕ). unreachable reason quoted l) (quoted-quoted d)
-norm-norm (too_big mtu quoted d) = ap (λ (l : List ℕ). too_big mtu quoted l) (quoted-quoted d)
-norm-norm (time_exceeded reason quoted d) = ap (λ (l : List ℕ). time_exceeded reason quoted l) (quoted-quoted d)
-norm-norm (param_problem reason pointer quoted d) =
-    ap (λ (l : List ℕ). param_problem reason pointer quoted l) (quoted-quoted d)
-norm-norm (ndisc m) = ap (λ (x : NdiscValue). ndisc x) (ndisc_format.norm_norm m)
-norm-norm (mld m) = ap (λ (x : MldValue). mld x) (mld_format.norm_norm m)
+norm-norm (unreachable reason quoted d) = cc (quoted-quoted d)
+norm-norm (too_big mtu quoted d) = cc (quoted-quoted d)
+norm-norm (time_exceeded reason quoted d) = cc (quoted-quoted d)
+norm-norm (param_problem reason pointer quoted d) = cc (quoted-quoted d)
+norm-norm (ndisc m) = cc (ndisc_format.norm_norm m)
+norm-norm (mld m) = cc (mld_format.norm_norm m)
 norm-norm _ = refl
 
 quoted-fields : (t code word : ℕ) (quoted : Ipv6Repr) (d : List ℕ)
@@ -136,16 +133,12 @@ few : (d : List ℕ) → (1192 < length d → ⊥) → length d ≤ 1192
 few d uncut = grind (arith, uncut)
 
 norm-uncut : (bytes : List ℕ) (v : MessageValue) → IsBytes bytes → IsContent bytes v → (IsCut v → ⊥) → norm v ≡ v
-norm-uncut bytes (unreachable reason quoted d) are c uncut =
-    ap (λ (l : List ℕ). unreachable reason quoted l) (quoted-whole d (few d uncut))
-norm-uncut bytes (too_big mtu quoted d) are c uncut =
-    ap (λ (l : List ℕ). too_big mtu quoted l) (quoted-whole d (few d uncut))
-norm-uncut bytes (time_exceeded reason quoted d) are c uncut =
-    ap (λ (l : List ℕ). time_exceeded reason quoted l) (quoted-whole d (few d uncut))
-norm-uncut bytes (param_problem reason pointer quoted d) are c uncut =
-    ap (λ (l : List ℕ). param_problem reason pointer quoted l) (quoted-whole d (few d uncut))
-norm-uncut bytes (ndisc m) are c uncut = ap (λ (x : NdiscValue). ndisc x) (message-kept bytes m are c.0)
-norm-uncut bytes (mld m) are c uncut = ap (λ (x : MldValue). mld x) (norm-read bytes m c.0)
+norm-uncut bytes (unreachable reason quoted d) are c uncut = cc (quoted-whole d (few d uncut))
+norm-uncut bytes (too_big mtu quoted d) are c uncut = cc (quoted-whole d (few d uncut))
+norm-uncut bytes (time_exceeded reason quoted d) are c uncut = cc (quoted-whole d (few d uncut))
+norm-uncut bytes (param_problem reason pointer quoted d) are c uncut = cc (quoted-whole d (few d uncut))
+norm-uncut bytes (ndisc m) are c uncut = cc (message-kept bytes m are c.0)
+norm-uncut bytes (mld m) are c uncut = cc (norm-read bytes m c.0)
 norm-uncut bytes _ are c uncut = refl
 
 -- ---- all of it

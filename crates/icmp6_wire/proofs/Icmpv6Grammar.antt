@@ -76,33 +76,20 @@ content-unique : (bytes : List ℕ) (v w : MessageValue) → IsContent bytes v �
     → value_kind v ≡ value_kind w → v ≡ w
 content-unique bytes (unreachable reason quoted d) (unreachable other another e) a b same =
     let quotes = error-unique 1 bytes quoted another d e a.0 b.0 in
-    let one = quotes.0 in
-    let two = quotes.1 in
-    let three = a.1 ∙ sym b.1 in
-    cc
+    cc (a.1 ∙ sym b.1)
 content-unique bytes (too_big mtu quoted d) (too_big other another e) a b same =
     let quotes = error-unique 2 bytes quoted another d e a.0 b.0 in
-    let one = quotes.0 in
-    let two = quotes.1 in
-    let three = a.2 ∙ sym b.2 in
-    cc
+    cc (a.2 ∙ sym b.2)
 content-unique bytes (time_exceeded reason quoted d) (time_exceeded other another e) a b same =
     let quotes = error-unique 3 bytes quoted another d e a.0 b.0 in
-    let one = quotes.0 in
-    let two = quotes.1 in
-    let three = a.1 ∙ sym b.1 in
-    cc
+    cc (a.1 ∙ sym b.1)
 content-unique bytes (param_problem reason pointer quoted d) (param_problem other place another e) a b same =
     let quotes = error-unique 4 bytes quoted another d e a.0 b.0 in
-    let one = quotes.0 in
-    let two = quotes.1 in
-    let three = a.1 ∙ sym b.1 in
-    let four = a.2 ∙ sym b.2 in
-    cc
-content-unique bytes (echo_request ident seq_no d) (echo_request other number e) a b same = let one =
-    a.identifier ∙ sym b.identifier in let two = a.sequence ∙ sym b.sequence in let three = a.data_ ∙ sym b.data_ in cc
-content-unique bytes (echo_reply ident seq_no d) (echo_reply other number e) a b same = let one =
-    a.identifier ∙ sym b.identifier in let two = a.sequence ∙ sym b.sequence in let three = a.data_ ∙ sym b.data_ in cc
+    cc (a.1 ∙ sym b.1, a.2 ∙ sym b.2)
+content-unique bytes (echo_request ident seq_no d) (echo_request other number e) a b same =
+    cc (a.identifier ∙ sym b.identifier, a.sequence ∙ sym b.sequence, a.data_ ∙ sym b.data_)
+content-unique bytes (echo_reply ident seq_no d) (echo_reply other number e) a b same =
+    cc (a.identifier ∙ sym b.identifier, a.sequence ∙ sym b.sequence, a.data_ ∙ sym b.data_)
 content-unique bytes (ndisc m) (ndisc n) a b same = ap (λ (x : NdiscValue). ndisc x) (neighbor-one bytes m n a.0 b.0)
 content-unique bytes (mld m) (mld n) a b same = ap (λ (x : MldValue). mld x) (message-one bytes m n a.0 b.0)
 content-unique bytes _ _ a b same = absurd (omega arith)

@@ -13,7 +13,7 @@ use Rattle.wirebase.specs.Icmp.{code_field, checksum_field, IsEcho, echo_fields}
 use Rattle.wirebase.specs.Ipv6.{header_text}
 use Rattle.wirebase.specs.Numbered.{IsProper}
 use Rattle.wirebase.proofs.CapabilitySeals.{length-sealed_where, IsGood-sealed_where}
-use Rattle.wirebase.proofs.IcmpTexts.{echo_text, echo_read}
+use Rattle.wirebase.proofs.IcmpTexts.{echo_text, header_sealed, echo_read}
 use Rattle.wirebase.proofs.Ipv6Header.{length-header_text, header-read, drop-header_text}
 use Rattle.wirebase.proofs.Numbered.{case_in-unnamed}
 use Rattle.icmp6_wire.specs.Icmpv6Packet.{word_field, message_sum}
@@ -164,10 +164,8 @@ module _ (capabilities : ChecksumCapabilities) (source destination : Ipv6Address
   sealed_echo : (t ident seq_no : ℕ) (d : List ℕ) → ident < 2 ^ 16 → seq_no < 2 ^ 16
       → IsEcho t (seal capabilities source destination (fields (echo_fields t ident seq_no d))) ident seq_no d
   sealed_echo t ident seq_no d h k =
-      let b = sealed-begins capabilities.icmpv6 _
-      (message_sum source destination (length (fields (echo_fields t ident seq_no d)))) t 0 _
-      (echo_text t ident seq_no d) in
-      echo_read _ t ident seq_no d h k (record { first = b.first; second = b.second; whole = b.whole })
+      echo_read _ t ident seq_no d h k
+      (header_sealed _ capabilities.icmpv6 t 0 ident seq_no d _ (echo_text t ident seq_no d))
 
   sealed_mld : (m : MldValue) → listeners.IsCanonical m
       → IsContent (seal capabilities source destination (listeners.text m)) (mld (listeners.norm m))

@@ -76,20 +76,11 @@ same_content bytes os (router_advert hops flags lifetime reachable retrans l m p
     let eight = a.3 ∙ sym b.3 in
     cc
 same_content bytes os (neighbor_solicit t l) (neighbor_solicit u k) a b same =
-    let one = same_address t u (a.1 ∙ sym b.1) in
-    let two = a.2 ∙ sym b.2 in
-    cc
+    cc (same_address t u (a.1 ∙ sym b.1), a.2 ∙ sym b.2)
 same_content bytes os (neighbor_advert flags t l) (neighbor_advert marks u k) a b same =
-    let one = same_neighbor_flags flags marks (a.1 ∙ sym b.1) in
-    let two = same_address t u (a.2 ∙ sym b.2) in
-    let three = a.3 ∙ sym b.3 in
-    cc
+    cc (same_neighbor_flags flags marks (a.1 ∙ sym b.1), same_address t u (a.2 ∙ sym b.2), a.3 ∙ sym b.3)
 same_content bytes os (redirect t d l r) (redirect u e k s) a b same =
-    let one = same_address t u (a.1 ∙ sym b.1) in
-    let two = same_address d e (a.2 ∙ sym b.2) in
-    let three = a.3 ∙ sym b.3 in
-    let four = a.4 ∙ sym b.4 in
-    cc
+    cc (same_address t u (a.1 ∙ sym b.1), same_address d e (a.2 ∙ sym b.2), a.3 ∙ sym b.3, a.4 ∙ sym b.4)
 same_content bytes os _ _ a b same = absurd (omega arith)
 
 pub message-one : (bytes : List ℕ) (v w : NdiscValue) → IsMessage bytes v → IsMessage bytes w → v ≡ w
@@ -390,6 +381,6 @@ ndisc_emits v old new left =
       text_ = left;
       exact = exact;
       reads_back =
-          λ long c. subst (λ (bytes : List ℕ). IsMessage bytes (norm v)) (sym (exact long)) (message_text v c);
+          λ long c. rw (exact long) (message_text v c);
       round_trips = round_trips format ndisc_format v;
     }

@@ -2,6 +2,7 @@
 use Rattle.std.proofs.Common.{◌≡◌, ℕ, ◌+◌, ◌-◌, ◌*◌, ◌≤◌, List, [], ◌∷◌, ◌++◌, length, refl, ap}
 use Rattle.std.proofs.Common.{arith, length-append}
 use Rattle.std.specs.Prelude.{Option, None, Some}
+use Rattle.std.specs.List.{AllByRecursion}
 use Rattle.std.proofs.lemmas.List.{length-replicate}
 use Rattle.wirebase.specs.ByteWriter.{Sheet, put, put_all, be8, be16, be32, fields}
 use Rattle.wirebase.specs.Ipv6.{header_text}
@@ -9,12 +10,13 @@ use Rattle.wirebase.specs.Ipv6Address.{octets_of}
 use Rattle.wirebase.specs.declared.ipv6.Ipv6Repr.{Ipv6Repr}
 use Rattle.wirebase.proofs.Chains.{put-fields}
 use Rattle.wirebase.proofs.Ipv6Header.{length-header_text}
-use Rattle.opt_wire.specs.NdiscOptionRepr.{units, padding}
+use Rattle.opt_wire.specs.NdiscOptionRepr.{OptionValue, units, padding}
 use Rattle.opt_wire.specs.declared.ndiscoption.repr.PrefixInformation.{PrefixInformation}
 use Rattle.opt_wire.proofs.NdiscOptionTexts.{prefix_text, redirected_text, mtu_text, length-link}
 use Rattle.icmp6_wire.specs.Ndisc.{NdiscValue, router_solicit, router_advert, neighbor_solicit, neighbor_advert}
 use Rattle.icmp6_wire.specs.Ndisc.{redirect}
 use Rattle.icmp6_wire.specs.Ndisc.{sources, targets, mtus, prefixes, packets, option_text, option_texts, option_len}
+use Rattle.icmp6_wire.specs.Ndisc.{option_lens}
 use Rattle.icmp6_wire.specs.Ndisc.{header_fields, header_len, text, text_len, options_of}
 
 -- ---- options
@@ -65,56 +67,29 @@ length-header (redirect t d l r) behind =
       d.whole,
     )
 
-length-one : (a : List ℕ) → length (fields (a ∷ [])) ≡ length a
-unfolding fields
-length-one a = omega (arith, length-append {A = ℕ} a [])
+abbrev AreCounted : List (Option OptionValue) → Type 0
+AreCounted os = AllByRecursion (λ o. length (option_text o) ≡ option_len o) os
 
-length-more : (a : List ℕ) (rest : List (List ℕ)) → length (fields (a ∷ rest)) ≡ length a + length (fields rest)
+length-options : (os : List (Option OptionValue)) → AreCounted os → length (fields (option_texts os)) ≡ option_lens os
 unfolding fields
-length-more a rest = length-append a (fields rest)
+length-options [] h = refl
+length-options (o ∷ os) h =
+    omega (arith, length-append (option_text o) (fields (option_texts os)), h.0, length-options os h.1)
+
+are_counted : (v : NdiscValue) → AreCounted (options_of v)
+are_counted (router_solicit l) = (length-source l, tt)
+are_counted (router_advert hops flags lifetime reachable retrans l m p) =
+    (length-source l, (length-mtu m, (length-prefix p, tt)))
+are_counted (neighbor_solicit t l) = (length-source l, tt)
+are_counted (neighbor_advert flags t l) = (length-target l, tt)
+are_counted (redirect t d l r) = (length-target l, (length-packet r, tt))
 
 pub length-text : (v : NdiscValue) → length (text v) ≡ text_len v
-length-text (router_solicit l) =
-    omega (
-      arith,
-      length-header (router_solicit l) (option_texts (sources l ∷ [])),
-      length-one (option_text (sources l)),
-      length-source l,
-    )
-length-text (router_advert hops flags lifetime reachable retrans l m p) =
-    let v : NdiscValue = router_advert hops flags lifetime reachable retrans l m p in
+length-text v =
     omega (
       arith,
       length-header v (option_texts (options_of v)),
-      length-more (option_text (sources l)) (option_text (mtus m) ∷ option_text (prefixes p) ∷ []),
-      length-more (option_text (mtus m)) (option_text (prefixes p) ∷ []),
-      length-one (option_text (prefixes p)),
-      length-source l,
-      length-mtu m,
-      length-prefix p,
-    )
-length-text (neighbor_solicit t l) =
-    omega (
-      arith,
-      length-header (neighbor_solicit t l) (option_texts (sources l ∷ [])),
-      length-one (option_text (sources l)),
-      length-source l,
-    )
-length-text (neighbor_advert flags t l) =
-    omega (
-      arith,
-      length-header (neighbor_advert flags t l) (option_texts (targets l ∷ [])),
-      length-one (option_text (targets l)),
-      length-target l,
-    )
-length-text (redirect t d l r) =
-    omega (
-      arith,
-      length-header (redirect t d l r) (option_texts (targets l ∷ packets r ∷ [])),
-      length-more (option_text (targets l)) (option_text (packets r) ∷ []),
-      length-one (option_text (packets r)),
-      length-target l,
-      length-packet r,
+      length-options (options_of v) (are_counted v),
     )
 
 -- what is written behind a header

@@ -1,9 +1,8 @@
-use Rattle.std.proofs.Common.{◌≡◌, ◌≤◌, ℕ, List, length, sym, ap, subst, ◌∙◌, arith}
+use Rattle.std.proofs.Common.{◌≡◌, ◌≤◌, ℕ, List, length, sym, ap, ◌∙◌, arith}
 use Rattle.wirebase.specs.Bytes.{over}
-use Rattle.wirebase.specs.Checksum.{IsGood}
 use Rattle.wirebase.proofs.Format.{round_trips}
 use Rattle.wirebase.proofs.Pieces.{length-over, over-exact}
-use Rattle.icmp6_wire.specs.Icmpv6.{value_of, text, text_len, packet_text, seal, norm, IsMessage, format}
+use Rattle.icmp6_wire.specs.Icmpv6.{value_of, text, text_len, packet_text, seal, format}
 use Rattle.icmp6_wire.proofs.Icmpv6Format.{icmpv6_format}
 use Rattle.icmp6_wire.specs.Icmpv6Packet.{message_sum}
 use Rattle.icmp6_wire.proofs.Icmpv6Seals.{length-seal, good-seal}
@@ -30,13 +29,10 @@ returns c =
           let sum = message_sum source destination (length bytes) in
           let long = length-seal capabilities.icmpv6 bytes sum some in
           let good = good-seal capabilities.icmpv6 bytes sum some computed in
-          subst (λ (l : List ℕ). IsGood l (message_sum source destination (length l))) (sym left)
-          (subst (λ (n : ℕ). IsGood (seal capabilities source destination bytes) (message_sum source destination n))
-          (sym long) good);
+          rw (left, long) good;
       exact = exact;
       reads_back = λ long fills canonical.
-          subst (λ (bytes : List ℕ). IsMessage capabilities source destination bytes (norm v)) (sym (exact long))
-          (message_text capabilities source destination v fills canonical);
+          rw (exact long) (message_text capabilities source destination v fills canonical);
       round_trips =
           round_trips (format capabilities source destination) (icmpv6_format capabilities source destination) v;
     }

@@ -1,7 +1,7 @@
-use Rattle.std.proofs.Common.{◌≡◌, List, ℕ, length, sym, subst, ◌∙◌}
+use Rattle.std.proofs.Common.{◌≡◌, length, sym, ◌∙◌}
 use Rattle.wirebase.proofs.Format.{round_trips}
 use Rattle.wirebase.proofs.Pieces.{over-exact}
-use Rattle.icmp6_wire.specs.Mld.{value_of, text, text_len, norm, IsMessage, format}
+use Rattle.icmp6_wire.specs.Mld.{value_of, text, text_len, format}
 use Rattle.icmp6_wire.proofs.MldFormat.{mld_format, message_read}
 use Rattle.icmp6_wire.proofs.MldTexts.{length-text}
 use Rattle.icmp6_wire.proofs.mld.repr.Repr.emit_into.Goals as goal
@@ -15,6 +15,6 @@ returns c =
       text_ = c.write.ensures;
       exact = exact;
       reads_back = λ long canonical.
-          subst (λ (bytes : List ℕ). IsMessage bytes (norm v)) (sym (exact long)) (message_read v canonical);
+          rw (exact long) (message_read v canonical);
       round_trips = round_trips format mld_format v;
     }
