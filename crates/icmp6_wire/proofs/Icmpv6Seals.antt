@@ -6,16 +6,11 @@ use Rattle.wirebase.specs.Checksum.{IsGood, sealed}
 use Rattle.wirebase.specs.Icmp.{checksum_field}
 use Rattle.wirebase.specs.declared.capabilities.Checksum.{Checksum}
 use Rattle.wirebase.specs.declared.capabilities.Checksum.TheVariants.{Both, Rx, Tx, None}
-use Rattle.wirebase.proofs.CapabilitySeals.{length-sealed_where}
 use Rattle.wirebase.proofs.ChecksumSeals.{length-sealed, IsGood-sealed}
 
 pub length-sealed_message : (bytes : List ℕ) (extra : ℕ) → 4 ≤ length bytes
     → length (sealed checksum_field bytes extra) ≡ length bytes
 length-sealed_message bytes extra some = length-sealed checksum_field bytes extra refl some
-
-pub length-seal : (checksum : Checksum) (bytes : List ℕ) (extra : ℕ) → 4 ≤ length bytes
-    → length (sealed_where checksum checksum_field bytes extra) ≡ length bytes
-length-seal checksum bytes extra some = length-sealed_where checksum_field bytes extra refl some checksum
 
 -- what is computed is good
 pub good-seal : (checksum : Checksum) (bytes : List ℕ) (extra : ℕ) → 4 ≤ length bytes → is_computed checksum ≡ true

@@ -150,17 +150,6 @@ text-begins (records rs) = rw (report_text (length rs) (record_texts rs)) refl
 pub message-unsealed : (t code a b x y : ℕ) (rest : List ℕ) (v : MldValue) → IsMessage (t ∷ code ∷ a ∷ b ∷ rest) v
     → IsMessage (t ∷ code ∷ x ∷ y ∷ rest) v
 unfolding part
-message-unsealed t code a b x y rest (query c group flag qrv qqic sources d) m = record {
-  kind = m.kind;
-  whole = m.whole;
-  code_ = m.code_;
-  group_ = m.group_;
-  flag_ = m.flag_;
-  qrv_ = m.qrv_;
-  qqic_ = m.qqic_;
-  sources_ = m.sources_;
-  data_ = m.data_;
-}
-message-unsealed t code a b x y rest (report count d) m =
-    record { kind = m.kind; whole = m.whole; count_ = m.count_; data_ = m.data_ }
+message-unsealed t code a b x y rest (query c group flag qrv qqic sources d) m = search m
+message-unsealed t code a b x y rest (report count d) m = search m
 message-unsealed t code a b x y rest (records rs) m = m

@@ -98,6 +98,8 @@ pub put_all-header : (v : NdiscValue) (behind : List (List ℕ)) (s : Sheet)
 put_all-header (router_solicit l) behind s = refl
 put_all-header _ behind s = refl
 
+pub ruleset behind_header = (put_all-header)
+
 pub text_some : (v : NdiscValue) → 8 ≤ text_len v
 text_some v = grind arith
 

@@ -99,10 +99,9 @@ pub says_more : (bytes text block rest : List ℕ) (old new : Kept) → IsBlock 
     → (more : List OptionValue) → AreBlocks rest more → Says bytes (keep_all keep new more)
 unfolding keep_all
 says_more bytes text block rest old new b e (noted v reads is) so_far more blocks =
-    subst (λ (k : Kept). Says bytes (keep_all keep k more)) (sym is)
-    (so_far (v ∷ more) (goes_on block rest v b reads blocks e))
+    rw is (so_far (v ∷ more) (goes_on block rest v b reads blocks e))
 says_more bytes text block rest old new b e (passed none is) so_far more blocks =
-    subst (λ (k : Kept). Says bytes (keep_all keep k more)) (sym is) (so_far more (skips block rest b none blocks e))
+    rw is (so_far more (skips block rest b none blocks e))
 
 -- at the end
 pub says_all : (bytes : List ℕ) (k : Kept)

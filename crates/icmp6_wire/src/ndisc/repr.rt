@@ -213,6 +213,7 @@ impl<'a> Repr<'a> {
     {}
 
     // Writes the message.
+    #[tactic(auto, using(crate::proofs::NdiscTexts::behind_header))]
     fn put(&self, w: &mut ByteWriter<'_>)
         requires sound { CanEmit (value_of self.now) }
         requires room { text_len (value_of self.now) ≤ length (free w.old) }

@@ -1,11 +1,13 @@
-use Rattle.std.proofs.Common.{◌≡◌, ◌≤◌, ℕ, List, length, sym, ap, ◌∙◌, arith}
+use Rattle.std.proofs.Common.{◌≡◌, ◌≤◌, ℕ, List, length, refl, sym, ap, ◌∙◌, arith}
 use Rattle.wirebase.specs.Bytes.{over}
+use Rattle.wirebase.specs.Icmp.{checksum_field}
+use Rattle.wirebase.proofs.CapabilitySeals.{length-sealed_where}
 use Rattle.wirebase.proofs.Format.{round_trips}
 use Rattle.wirebase.proofs.Pieces.{length-over, over-exact}
 use Rattle.icmp6_wire.specs.Icmpv6.{value_of, text, text_len, packet_text, seal, format}
 use Rattle.icmp6_wire.proofs.Icmpv6Format.{icmpv6_format}
 use Rattle.icmp6_wire.specs.Icmpv6Packet.{message_sum}
-use Rattle.icmp6_wire.proofs.Icmpv6Seals.{length-seal, good-seal}
+use Rattle.icmp6_wire.proofs.Icmpv6Seals.{good-seal}
 use Rattle.icmp6_wire.proofs.Icmpv6Texts.{length-text, message_text, room_some}
 use Rattle.icmp6_wire.proofs.icmpv6.repr.Repr.emit_into.Goals as goal
 
@@ -27,7 +29,7 @@ returns c =
       text_ = left;
       good = λ computed.
           let sum = message_sum source destination (length bytes) in
-          let long = length-seal capabilities.icmpv6 bytes sum some in
+          let long = length-sealed_where checksum_field bytes sum refl some capabilities.icmpv6 in
           let good = good-seal capabilities.icmpv6 bytes sum some computed in
           rw (left, long) good;
       exact = exact;

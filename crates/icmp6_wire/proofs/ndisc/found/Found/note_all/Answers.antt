@@ -1,7 +1,6 @@
-use Rattle.std.proofs.Common.{ℕ, List, length, refl, sym, subst}
+use Rattle.std.proofs.Common.{length, refl, sym}
 use Rattle.std.proofs.lemmas.Bool.{eqb-true, eqb-false}
 use Rattle.std.proofs.lemmas.List.{nil_from_length}
-use Rattle.icmp6_wire.specs.NdiscBlocks.{AreBlocks}
 use Rattle.icmp6_wire.specs.NdiscFound.{kept_of}
 use Rattle.icmp6_wire.proofs.NdiscTiling.{front_lacks, blocks_behind, says_more, says_all}
 use Rattle.icmp6_wire.proofs.ndisc.found.Found.note_all.Goals as goal
@@ -32,5 +31,4 @@ returns-clause-sound c = λ ok.
     let rest = c.loop-rest.rest.now in
     let none = nil_from_length rest (eqb-true (length rest) 0 (sym c.loop-rest-test.ensures)) in
     says_all c.args.payload.now (kept_of c.loop-rest.self)
-    (λ more blocks. c.loop-rest.invariant.said more
-    (subst (λ (bytes : List ℕ). AreBlocks bytes more) (sym none) blocks))
+    (rw none at c.loop-rest.invariant.said)
