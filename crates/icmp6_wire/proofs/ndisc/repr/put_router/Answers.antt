@@ -1,7 +1,8 @@
+use Rattle.std.proofs.Common.{arith}
 use Rattle.wirebase.specs.ByteWriter.{be8, be16, fields}
 use Rattle.opt_wire.proofs.FieldsAtOnce.{puts-fields}
 use Rattle.icmp6_wire.proofs.ndisc.repr.put_router.Goals as goal
 
 pub returns-clause-puts : goal.returns-clause-puts
 unfolding fields be8 be16
-returns-clause-puts c = puts-fields c.put_header.ensures.puts (rw (c.into.ensures, c.bits.ensures _, c.to_be_bytes.ensures, c.secs.ensures))
+returns-clause-puts c = puts-fields c.put_header.ensures.puts (grind (arith, c.bits.ensures _))
