@@ -1,5 +1,7 @@
 //! Addresses and headers of IPv6, which stand in messages of several formats.
 
+#![tactic(auto, using(crate::proofs::Printing::gains_both))]
+
 ghost use Rattle.std.specs.Prelude.{OnOk};
 ghost use Rattle.wiredump.specs.ListingIpv6.{address_text, header_listing};
 ghost use Rattle.wiredump.specs.Output.{Gains};

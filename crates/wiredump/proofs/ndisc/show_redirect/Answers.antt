@@ -1,9 +1,0 @@
--- The lines, one after another.
-use Rattle.wiredump.proofs.Printing.{◌then◌, gains_last}
-use Rattle.wiredump.proofs.ndisc.show_redirect.Goals as goal
-
-pub returns : goal.returns
-returns g c =
-    gains_last _ _ _
-    (c.in_ok-line.ensures then c.in_ok-field.ensures then c.in_ok-field-2.ensures then c.in_ok-show_lladdr.ensures)
-    c.show_redirected_hdr.ensures
