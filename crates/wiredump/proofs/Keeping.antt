@@ -1,9 +1,10 @@
 -- What is kept of a line has the line's shape, whatever follows.
 use Rattle.std.proofs.Common.{◌≡◌, ◌≢◌, ℕ, ◌+◌, ◌<◌, Bool, true, false, List, [], ◌∷◌, ◌++◌, All, length}
 use Rattle.std.proofs.Common.{refl, ap, sym, ◌∙◌, arith, append_assoc, length-append}
+use Rattle.std.proofs.lemmas.Bool.{and_right, lt-leb}
 use Rattle.std.proofs.lemmas.List.{append-nil}
 use Rattle.std.proofs.lemmas.List.Elements.{All-head, All-tail}
-use Rattle.std.specs.Prelude.{◌&&◌, nat_le, if◌then◌else◌}
+use Rattle.std.specs.Prelude.{nat_le, if◌then◌else◌}
 use Rattle.std.specs.Io.BufRead.{strip_last}
 use Rattle.wiredump.specs.Lines.{are_short, words_in}
 use Rattle.wiredump.specs.Listing.{bad, shape_of, line_shape}
@@ -28,18 +29,11 @@ shape_of-five (a ∷ b ∷ c ∷ d ∷ []) more five = absurd (omega (arith, fiv
 shape_of-five (a ∷ b ∷ c ∷ d ∷ e ∷ f ∷ words) more five = absurd (omega (arith, five))
 
 -- a word that is too long
-pub le-leb-false : (m n : ℕ) → n < m → nat_le m n ≡ false
-le-leb-false m n h = grind arith
-
-and-false : (b : Bool) → b && false ≡ false
-and-false true = refl
-and-false false = refl
-
 are_short-long : (words : List (List ℕ)) (word : List ℕ) (more : List (List ℕ)) → nat_le (length word) 131070 ≡ false
     → are_short (words ++ (word ∷ more)) ≡ false
 are_short-long [] word more long = rw long refl
 are_short-long (first ∷ words) word more long =
-    rw (are_short-long words word more long) (and-false (nat_le (length first) 131070))
+    and_right (nat_le (length first) 131070) _ (are_short-long words word more long)
 
 pub shape_of-long : (words : List (List ℕ)) (word : List ℕ) (more : List (List ℕ)) → nat_le (length word) 131070 ≡ false
     → shape_of (words ++ (word ∷ more)) ≡ bad
@@ -121,4 +115,4 @@ module _ (front : List ℕ) (n : ℕ) (is : IsFront front n) where
   pub long_bad : (word rest : List ℕ) → Free word → 131071 < length word → line_shape (front ++ (word ++ rest)) ≡ bad
   long_bad word rest free long =
       let found = long_word word rest free long in
-      ap shape_of found.2 ∙ shape_of-long is.words found.0 found.1 (le-leb-false (length found.0) 131070 found.3)
+      ap shape_of found.2 ∙ shape_of-long is.words found.0 found.1 (lt-leb (length found.0) 131070 found.3)

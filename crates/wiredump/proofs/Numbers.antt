@@ -3,10 +3,9 @@ use Rattle.std.proofs.Common.{◌≡◌, ℕ, ◌+◌, ◌*◌, ◌-◌, ◌/◌
 use Rattle.std.proofs.Common.{get_or, drop, decimal, Option, None, refl, ap, ◌∙◌, arith, add-one, drop-cons}
 use Rattle.std.proofs.Common.{length-append}
 use Rattle.std.proofs.lemmas.Fmt.{decimal_digit, decimal_step, length-decimal-le}
-use Rattle.std.proofs.lemmas.Bool.{le-leb}
+use Rattle.std.proofs.lemmas.Bool.{le-leb, lt-leb}
 use Rattle.std.specs.Prelude.{◌&&◌, nat_le, if◌then◌else◌}
 use Rattle.wiredump.specs.Words.{number_behind, packet_offset}
-use Rattle.wiredump.proofs.Keeping.{le-leb-false}
 
 -- a number that is too great stays so
 grows : (n d : ℕ) → 65535 < n → 65535 < 10 * n + d
@@ -18,7 +17,7 @@ none_either true number none = none
 none_either false number none = refl
 
 pub offset-great : (n : ℕ) (digits : List ℕ) → 65535 < n → packet_offset (number_behind n digits) ≡ None
-offset-great n [] great = rw (le-leb-false n 65535 great) refl
+offset-great n [] great = rw (lt-leb n 65535 great) refl
 offset-great n (digit ∷ digits) great =
     none_either (nat_le 48 digit && nat_le digit 57) _
     (offset-great (10 * n + (digit - 48)) digits (grows n (digit - 48) great))
@@ -32,18 +31,6 @@ module _ (n i : ℕ) (text : List ℕ) (within : i < length text) where
       → packet_offset (number_behind n (drop i text)) ≡ packet_offset
       (number_behind (10 * n + (get_or text i 0 - 48)) (drop (i + 1) text))
   offset-digit least most = rw (rest_is, le-leb 48 (get_or text i 0) least, le-leb (get_or text i 0) 57 most) refl
-
-  pub offset-below : get_or text i 0 < 48 → packet_offset (number_behind n (drop i text)) ≡ None
-  offset-below below = rw (rest_is, le-leb-false 48 (get_or text i 0) below) refl
-
-  pub offset-above : 57 < get_or text i 0 → packet_offset (number_behind n (drop i text)) ≡ None
-  offset-above above = rw (rest_is, le-leb-false (get_or text i 0) 57 above) (at (nat_le 48 (get_or text i 0)))
-    where
-      at : (b : Bool)
-          → packet_offset
-          (if b && false then number_behind (10 * n + (get_or text i 0 - 48)) (drop (i + 1) text) else None) ≡ None
-      at true = refl
-      at false = refl
 
 -- how many digits a number has: few, and one more than those of its tenth
 pub digits_few : (n : ℕ) → n < 2 ^ 64 → length (decimal n) ≤ 20

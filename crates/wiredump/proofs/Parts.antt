@@ -22,7 +22,7 @@ stripped : (ends : Bool) (x : ℕ) (xs : List ℕ) (n : ℕ) → (if ends then t
 stripped true x xs n = refl
 stripped false x xs n = refl
 
-strip_last-more : (octet x : ℕ) (xs : List ℕ) (n : ℕ) → length xs ≡ suc n
+pub strip_last-more : (octet x : ℕ) (xs : List ℕ) (n : ℕ) → length xs ≡ suc n
     → strip_last octet (x ∷ xs) ≡ x ∷ strip_last octet xs
 strip_last-more octet x xs n e =
     let whole : length (x ∷ xs) - 1 ≡ suc n = omega (arith, e) in

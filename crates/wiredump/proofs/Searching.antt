@@ -1,7 +1,7 @@
 -- Octets that stand in a front of others, or do not.
 use Rattle.std.proofs.Common.{◌≡◌, ◌≢◌, ℕ, ◌+◌, ◌*◌, ◌-◌, ◌<◌, ◌≤◌, Bool, true, false, List, All, length, take, drop}
 use Rattle.std.proofs.Common.{◌⊎◌, inl, inr, get_or, Option, None, Some, refl, arith, eq-eqb, length-take-le}
-use Rattle.std.proofs.lemmas.Bool.{eqb-true, not-false}
+use Rattle.std.proofs.lemmas.Bool.{eqb-true, not-false, or_cases, or_left, or_right}
 use Rattle.std.proofs.lemmas.List.{get_or-take}
 use Rattle.std.proofs.Math.Seq.{take-add}
 use Rattle.std.proofs.lemmas.List.Elements.{All-append, All-from_get_or, All-more, All-same}
@@ -37,29 +37,17 @@ module _ (test : ℕ → Bool) (octets : List ℕ) where
 pub is_other : (wanted x : ℕ) → (is_byte wanted x ≡ true → ⊥) → x ≢ wanted
 is_other wanted x fails = λ is. fails (eq-eqb x wanted is)
 
-either_left : (a b : Bool) → a ≡ true → a || b ≡ true
-either_left true b is = refl
-either_left false b is = absurd (cc is)
-
-either_right : (a b : Bool) → b ≡ true → a || b ≡ true
-either_right true b is = refl
-either_right false b is = is
-
-either_true : (a b : Bool) → a || b ≡ true → (a ≡ true) ⊎ (b ≡ true)
-either_true true b is = inl refl
-either_true false b is = inr is
-
 pub is_first_or_second : (first second x : ℕ) → is_byte2 first second x ≡ true → (x ≡ first) ⊎ (x ≡ second)
-is_first_or_second first second x is = elim (either_true (x == first) (x == second) is) [
+is_first_or_second first second x is = elim (or_cases (x == first) (x == second) is) [
   | inl one ↦ inl (eqb-true x first one)
   | inr other ↦ inr (eqb-true x second other)
 ]
 
 pub is_not_first : (first second x : ℕ) → (is_byte2 first second x ≡ true → ⊥) → x ≢ first
-is_not_first first second x fails = λ is. fails (either_left (x == first) (x == second) (eq-eqb x first is))
+is_not_first first second x fails = λ is. fails (or_left (x == first) (x == second) (eq-eqb x first is))
 
 pub is_not_second : (first second x : ℕ) → (is_byte2 first second x ≡ true → ⊥) → x ≢ second
-is_not_second first second x fails = λ is. fails (either_right (x == first) (x == second) (eq-eqb x second is))
+is_not_second first second x fails = λ is. fails (or_right (x == first) (x == second) (eq-eqb x second is))
 
 -- Spaces alone, of which there is one at the next place too
 pub spaces_more : (octets : List ℕ) (i : ℕ) (found : Bool) → i < length octets

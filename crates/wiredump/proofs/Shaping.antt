@@ -1,12 +1,12 @@
 -- The shape of a line, of which the words are cut off in turn.
 use Rattle.std.proofs.Common.{◌≡◌, ℕ, suc, ◌-◌, ◌<◌, ◌≤◌, Bool, true, false, List, [], ◌∷◌, ◌++◌, length, take, drop}
 use Rattle.std.proofs.Common.{get_or, codes, None, refl, ap, sym, ◌∙◌, arith, append_assoc, length-append, true≢false}
-use Rattle.std.proofs.lemmas.Bool.{le-leb}
+use Rattle.std.proofs.lemmas.Bool.{le-leb, lt-leb}
 use Rattle.std.specs.Prelude.{◌==◌, bytes_eq, map}
 use Rattle.wiredump.specs.Lines.{are_short}
 use Rattle.wiredump.specs.Listing.{bad, command_of, shape_of, shape_with}
 use Rattle.wiredump.specs.Words.{word_of}
-use Rattle.wiredump.proofs.Keeping.{both_bad, le-leb-false, shape_of-five, shape_of-long}
+use Rattle.wiredump.proofs.Keeping.{both_bad, shape_of-five, shape_of-long}
 
 -- a text has no octet, or some
 pub some_octet : (text : List ℕ) (none : Bool) → none ≡ (length text == 0) → none ≡ false → 0 < length text
@@ -22,7 +22,7 @@ are_short-more (first ∷ words) word short one = grind (arith, are_short-more w
 -- a word behind some others is too long, or is a fifth
 pub shape_of-too_long : (words : List (List ℕ)) (word : List ℕ) (more : List (List ℕ)) → 131070 < length word
     → shape_of (words ++ (word ∷ more)) ≡ bad
-shape_of-too_long words word more long = shape_of-long words word more (le-leb-false (length word) 131070 long)
+shape_of-too_long words word more long = shape_of-long words word more (lt-leb (length word) 131070 long)
 
 pub shape_of-full : (words : List (List ℕ)) (word : List ℕ) (more : List (List ℕ)) → length words ≡ 4
     → shape_of (words ++ (word ∷ more)) ≡ bad
