@@ -1,6 +1,6 @@
 -- All digits of a word are turned at once.
 use Rattle.std.proofs.Common.{arith}
-use Rattle.wiredump.proofs.Lanes.{joined_in_word, decoded}
+use Rattle.wiredump.proofs.Turning.{joined_in_word, decoded}
 use Rattle.wiredump.proofs.pairs.decode_word.Goals as goal
 
 pub overflow_mul-octets : goal.overflow_mul-octets
