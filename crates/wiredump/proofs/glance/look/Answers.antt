@@ -2,11 +2,7 @@
 use Rattle.std.proofs.Common.{subst}
 use Rattle.std.specs.Io.BufRead.{FillKeeps}
 use Rattle.std.proofs.BufReadLemmas.{Consumes_shown}
-use Rattle.wiredump.proofs.Looking.{all_left}
 use Rattle.wiredump.proofs.glance.look.Goals as goal
-
-pub returns-in-Err-clause-sees : goal.returns-in-Err-clause-sees
-returns-in-Err-clause-sees g c = all_left _ _ c.fill_buf.follows.holds-at-none.0
 
 pub returns-clause-sees : goal.returns-clause-sees
 returns-clause-sees g c =

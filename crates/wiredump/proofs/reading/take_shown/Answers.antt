@@ -1,11 +1,6 @@
 -- The part ends with the line, or with what is at hand.
-use Rattle.wiredump.proofs.Taking.{part_lf, part_front}
+use Rattle.wiredump.proofs.Taking.{part_front}
 use Rattle.wiredump.proofs.reading.take_shown.Goals as goal
-
-pub returns-then-shown-end-eq10-clause-takes : goal.returns-then-shown-end-eq10-clause-takes
-returns-then-shown-end-eq10-clause-takes c old new consumed at_end =
-    part_lf _ _ _ _ c.in_ok-end.ensures.bound c.in_ok-end.ensures.takes c.in_ok-end.ensures.no_end old new
-    c.if-end-shown.true c.if-shown-end-eq10.true consumed
 
 pub returns-clause-takes : goal.returns-clause-takes
 returns-clause-takes c old new consumed at_end =
