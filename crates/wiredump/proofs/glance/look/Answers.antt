@@ -1,4 +1,4 @@
--- Nothing is shown, or what was is taken up to the end of its first line.
+-- What was shown is taken up to the end of its first line.
 use Rattle.std.proofs.Common.{subst}
 use Rattle.std.specs.Io.BufRead.{FillKeeps}
 use Rattle.std.proofs.BufReadLemmas.{Consumes_shown}

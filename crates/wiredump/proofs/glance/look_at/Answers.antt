@@ -1,4 +1,4 @@
--- There is nothing, or no LF, or a line up to its LF.
+-- A line up to its LF is seen.
 use Rattle.std.proofs.Common.{arith}
 use Rattle.wiredump.proofs.Looking.{line_seen}
 use Rattle.wiredump.proofs.glance.look_at.Goals as goal

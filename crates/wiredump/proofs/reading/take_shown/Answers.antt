@@ -1,4 +1,4 @@
--- The part ends with the line, or with what is at hand.
+-- The part ends with what is at hand.
 use Rattle.wiredump.proofs.Taking.{part_front}
 use Rattle.wiredump.proofs.reading.take_shown.Goals as goal
 
