@@ -36,10 +36,8 @@ const VALUES: u64 = 0x0f0f_0f0f_0f0f_0f0f;
 
 const LETTERS: u64 = 0x0101_0101_0101_0101;
 
-// Every other octet of a word, and every other two.
+// Every other octet of a word.
 const OCTETS: u64 = 0x00ff_00ff_00ff_00ff;
-
-const PAIRS: u64 = 0x0000_ffff_0000_ffff;
 
 // The octets that eight digits spell, the first of them in the lowest octet of a word. Each step is of the whole word,
 // so that one instruction does for all digits what `digit_value` does for one.
@@ -49,8 +47,8 @@ fn decode_word(digits: &[u8; 8]) -> [u8; 4] {
     let values = (word & VALUES) + 9 * ((word / 64) & LETTERS);
     // Each value with the next is an octet, of which every other one is of a pair. These are then moved together.
     let octets = (16 * values + values / 256) & OCTETS;
-    let pairs = (octets + octets / 256) & PAIRS;
-    let whole = (pairs + pairs / 65_536) % (1 << 32);
+    let pairs = octets + octets / 256;
+    let whole = (pairs % 65_536 + pairs / (1 << 32) * 65_536) % (1 << 32);
     (whole as u32).to_le_bytes()
 }
 
