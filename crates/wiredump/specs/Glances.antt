@@ -2,7 +2,7 @@
 use Rattle.std.specs.Prelude.{◌≡◌, ◌≢◌, ℕ, Bool, List, [], Option, None, Some}
 use Rattle.std.specs.Io.BufRead.{strip_last, take_through, drop_through}
 use Rattle.wiredump.specs.Listing.{Shape, LinePrints, is_known, line_shape}
-use Rattle.wiredump.specs.Output.{Gains, GainsSome}
+use Rattle.listing.specs.Output.{Gains, GainsSome}
 use Rattle.wiredump.specs.Shapes.{seen}
 use Rattle.wiredump.specs.declared.glance.Glance.{Glance}
 use Rattle.wiredump.specs.declared.glance.Glance.TheVariants.{Line, Part, End}

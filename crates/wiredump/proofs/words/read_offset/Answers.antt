@@ -1,6 +1,6 @@
 -- A number that is too great stays so.
 use Rattle.std.proofs.Common.{◌≡◌, ◌+◌, ◌*◌, ◌-◌, ◌<◌, drop, get_or, ◌∙◌, sym, arith}
-use Rattle.wiredump.proofs.Numbers.{offset-digit, offset-great}
+use Rattle.wiredump.proofs.Offsets.{offset-digit, offset-great}
 use Rattle.wiredump.proofs.words.read_offset.Goals as goal
 
 pub returns-then-offset-gt-MOST_OFFSET : goal.returns-then-offset-gt-MOST_OFFSET

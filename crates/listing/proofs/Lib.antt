@@ -1,0 +1,5 @@
+pub mod Addresses
+pub mod Digits
+pub mod Numbers
+pub mod Printing
+pub mod Walking

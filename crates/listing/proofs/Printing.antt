@@ -1,0 +1,97 @@
+-- What an output gains in several writes.
+use Rattle.std.proofs.Common.{◌≡◌, ℕ, ◌+◌, ◌<◌, List, [], ◌++◌, length, get_or, take, Option, Result, Ok, Err, OnOk}
+use Rattle.std.proofs.Common.{codes, decimal, refl, ap, inl, inr}
+use Rattle.std.proofs.lemmas.List.{append-nil, map-append, take_more}
+use Rattle.std.proofs.lemmas.Grind.{flat_map-append}
+use Rattle.std.specs.Prelude.{map, flat_map}
+use Rattle.std.proofs.KnownBytes.{Appends-nil, Appends-trans}
+use Rattle.std.specs.Io.KnownBytes.{Appends}
+use Rattle.wirebase.specs.Ipv4.{address_text, octets_of}
+use Rattle.wirebase.specs.declared.ipv4.Ipv4Address.{Ipv4Address}
+use Rattle.listing.specs.Layout.{line, IsListingOrRefused}
+use Rattle.listing.specs.Output.{Gains, GainsSome}
+
+-- what was appended was gained
+pub gained : (a b : Option (List ℕ)) (text : List ℕ) → Appends a b text → Gains a b text
+gained a b text appends = record { appends = appends }
+
+-- nothing is gained where nothing is written
+pub gains_none : (a : Option (List ℕ)) → Gains a a []
+gains_none a = record { appends = Appends-nil a }
+
+-- one text, and then another
+pub gains_both : (a b c : Option (List ℕ)) (text more : List ℕ) → Gains a b text → Gains b c more
+    → Gains a c (text ++ more)
+gains_both a b c text more first second =
+    record { appends = Appends-trans a b c text more first.appends second.appends }
+
+-- the same, to be written in a row
+infixl 20 ◌then◌
+pub ◌then◌ : {a b c : Option (List ℕ)} {text more : List ℕ} → Gains a b text → Gains b c more → Gains a c (text ++ more)
+first then second = gains_both _ _ _ _ _ first second
+
+-- the same, where the last write may fail
+pub gains_last : {E : Type 0} {a b : Option (List ℕ)} {text : List ℕ} (c : Option (List ℕ)) (more : List ℕ)
+    (r : Result (Unit {0}) E)
+    → Gains a b text → OnOk r (Gains b c more) → OnOk r (Gains a c (text ++ more))
+gains_last c more (Ok x) first second = gains_both _ _ _ _ _ first second
+gains_last c more (Err e) first second = tt
+
+-- what a write appended where it did not fail was gained there
+pub gained_on_ok : {E : Type 0} (a b : Option (List ℕ)) (text : List ℕ) (r : Result (Unit {0}) E)
+    → OnOk r (Appends a b text) → OnOk r (Gains a b text)
+gained_on_ok a b text (Ok x) appends = gained _ _ _ appends
+gained_on_ok a b text (Err e) appends = tt
+
+-- an address is gained by its octets and the dots between them
+pub gained_address : {E : Type 0} (address : Ipv4Address) (octets : List ℕ) (a b : Option (List ℕ))
+    (r : Result (Unit {0}) E) → octets ≡ octets_of address
+    → OnOk r (Gains a b (decimal (get_or octets 0 0) ++ codes "." ++ decimal (get_or octets 1 0) ++ codes "."
+    ++ decimal (get_or octets 2 0) ++ codes "." ++ decimal (get_or octets 3 0)))
+    → OnOk r (Gains a b (address_text address))
+gained_address address octets a b r are gains = rw are at gains
+
+-- a text of a kind that is gained where the last write does not fail, and one that is of another kind too
+pub gained_text : {E : Type 0} (IsText : List ℕ → Type 0) (text : List ℕ) (a b : Option (List ℕ))
+    (r : Result (Unit {0}) E) → IsText text → OnOk r (Gains a b text) → OnOk r (GainsSome a b IsText)
+gained_text IsText text a b (Ok x) is gains = (text, is, gains)
+gained_text IsText text a b (Err e) is gains = tt
+
+pub gained_as : {E : Type 0} (IsText IsOther : List ℕ → Type 0) (a b : Option (List ℕ)) (r : Result (Unit {0}) E)
+    → ((text : List ℕ) → IsText text → IsOther text) → OnOk r (GainsSome a b IsText) → OnOk r (GainsSome a b IsOther)
+gained_as IsText IsOther a b (Ok x) other (text, is, gains) = (text, other text is, gains)
+gained_as IsText IsOther a b (Err e) other gains = tt
+
+-- what is printed for octets that are a value, and for octets that are none
+pub listed : {V : Type 0} {IsValue : V → Type 0} {a b : Option (List ℕ)} (listing : V → List ℕ) (value : V)
+    → IsValue value → Gains a b (listing value)
+    → GainsSome a b (IsListingOrRefused IsValue listing)
+listed listing value is gains = (listing value, inl (value, is, refl), gains)
+
+pub listed_on_ok : {V E : Type 0} (IsValue : V → Type 0) (listing : V → List ℕ) (value : V)
+    (a b : Option (List ℕ)) (r : Result (Unit {0}) E) → IsValue value → OnOk r (Gains a b (listing value))
+    → OnOk r (GainsSome a b (IsListingOrRefused IsValue listing))
+listed_on_ok IsValue listing value a b r is gains =
+    gained_text (IsListingOrRefused IsValue listing) (listing value) a b r (inl (value, is, refl)) gains
+
+pub refused_on_ok : {V E : Type 0} {IsValue : V → Type 0} (listing : V → List ℕ) (a b : Option (List ℕ))
+    (r : Result (Unit {0}) E) → ((value : V) → IsValue value → ⊥)
+    → OnOk r (Gains a b (line (codes "refused"))) → OnOk r (GainsSome a b (IsListingOrRefused IsValue listing))
+refused_on_ok {IsValue = IsValue} listing a b r none gains =
+    gained_text (IsListingOrRefused IsValue listing) (line (codes "refused")) a b r (inr (none, refl)) gains
+
+-- a list that is printed in a loop: the listings of one element more than the first i
+pub one_more : {X : Type 0} (listing : X → List ℕ) (xs : List X) (i : ℕ) (d : X) → i < length xs
+    → flat_map listing (take (i + 1) xs) ≡ flat_map listing (take i xs) ++ listing (get_or xs i d)
+one_more listing xs i d h =
+    rw (take_more xs i d h, flat_map-append)
+    (ap (λ more. flat_map listing (take i xs) ++ more) (append-nil _))
+
+-- the same of each by its value
+pub one_more_listed : {X Y : Type 0} (value : X → Y) (listing : Y → List ℕ) (xs : List X) (i : ℕ) (d : X)
+    → i < length xs
+    → flat_map listing (map value (take (i + 1) xs)) ≡ flat_map listing (map value (take i xs))
+    ++ listing (value (get_or xs i d))
+one_more_listed value listing xs i d h =
+    rw (take_more xs i d h, map-append, flat_map-append)
+    (ap (λ more. flat_map listing (map value (take i xs)) ++ more) (append-nil _))

@@ -1,0 +1,11 @@
+-- The addresses behind the first so far, with a comma before each.
+use Rattle.std.proofs.Common.{take}
+use Rattle.std.specs.Prelude.{flat_map}
+use Rattle.listing.specs.Output.{Gains}
+use Rattle.listing.proofs.Addresses.{with_comma}
+use Rattle.listing.proofs.dhcp.RefSliceIpv4AddressValue.write_to.Given as goal
+
+abbrev pub invariant-loop-address : goal.invariant-loop-address
+invariant-loop-address g l =
+    Gains (g.W.Write.contents l.initial.output) (g.W.Write.contents l.output)
+    (flat_map with_comma (take l.address-index l.rest))

@@ -1,0 +1,7 @@
+-- The lines, one after another.
+use Rattle.listing.proofs.Printing.{◌then◌, gains_last}
+use Rattle.listing.proofs.igmp.show_report.Goals as goal
+
+pub returns : goal.returns
+returns g c =
+    gains_last _ _ _ (c.in_ok-line.ensures then c.in_ok-field.ensures) c.field-2.ensures

@@ -1,0 +1,6 @@
+-- The lines, one after another.
+use Rattle.listing.proofs.Printing.{◌then◌, gains_last}
+use Rattle.listing.proofs.ndisc.show_neighbor_solicit.Goals as goal
+
+pub returns : goal.returns
+returns g c = gains_last _ _ _ (c.in_ok-line.ensures then c.in_ok-field.ensures) c.show_lladdr.ensures

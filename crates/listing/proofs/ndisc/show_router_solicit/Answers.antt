@@ -1,0 +1,6 @@
+-- The lines, one after another.
+use Rattle.listing.proofs.Printing.{gains_last}
+use Rattle.listing.proofs.ndisc.show_router_solicit.Goals as goal
+
+pub returns : goal.returns
+returns g c = gains_last _ _ _ c.in_ok-line.ensures c.show_lladdr.ensures

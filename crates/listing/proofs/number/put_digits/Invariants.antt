@@ -1,0 +1,14 @@
+-- The digits so far stand behind those of what is left.
+use Rattle.std.proofs.Common.{◌≡◌, ◌+◌, ◌≤◌, ◌++◌, length, drop, decimal}
+use Rattle.listing.proofs.number.put_digits.Given as goal
+
+abbrev pub invariant-loop-left : goal.invariant-loop-left
+invariant-loop-left l = record {
+  bound : l.start ≤ 20;
+  room : length l.room ≡ 20;
+  lengths : l.start + length (decimal l.number) ≡ 20 + length (decimal l.left);
+  digits : decimal l.left ++ drop l.start l.room ≡ decimal l.number;
+}
+
+abbrev pub decreases-loop-left : goal.decreases-loop-left
+decreases-loop-left l = l.left

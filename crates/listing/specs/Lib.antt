@@ -1,0 +1,12 @@
+pub mod Layout
+pub mod ListingDhcp
+pub mod ListingDns
+pub mod ListingHbh
+pub mod ListingIcmp4
+pub mod ListingIcmp6
+pub mod ListingIgmp
+pub mod ListingIpv6
+pub mod ListingMld
+pub mod ListingNdisc
+pub mod ListingNdopt
+pub mod Output

@@ -1,0 +1,57 @@
+-- What a message of neighbor discovery prints.
+use Rattle.std.specs.Prelude.{ℕ, List, ◌++◌, Option, None, Some, codes, decimal}
+use Rattle.wirebase.specs.declared.duration.Duration.{Duration}
+use Rattle.wirebase.specs.declared.ipv6.Ipv6Repr.{Ipv6Repr}
+use Rattle.opt_wire.specs.declared.ndiscoption.repr.PrefixInformation.{PrefixInformation}
+use Rattle.icmp6_wire.specs.Ndisc.{NdiscValue, router_solicit, router_advert, neighbor_solicit, neighbor_advert}
+use Rattle.icmp6_wire.specs.Ndisc.{redirect}
+use Rattle.icmp6_wire.specs.NdiscTables.{router_bits, neighbor_bits}
+use Rattle.icmp6_wire.specs.declared.ndisc.flags.RouterFlags.{RouterFlags}
+use Rattle.listing.specs.Layout.{line, field, millis_text, octets_text, text_or_none}
+use Rattle.listing.specs.ListingIpv6.{address_text}
+use Rattle.listing.specs.ListingNdopt.{prefix_listing, redirected_listing}
+
+-- parts of which there may be none
+abbrev pub prefix_info_listing : Option PrefixInformation → List ℕ
+prefix_info_listing None = field (codes "prefix_info") (codes "none")
+prefix_info_listing (Some p) = prefix_listing (codes "prefix_info.") p
+
+abbrev pub redirected_hdr_listing : Option (Ipv6Repr × List ℕ) → List ℕ
+redirected_hdr_listing None = field (codes "redirected_hdr") (codes "none")
+redirected_hdr_listing (Some packet) =
+    redirected_listing (codes "redirected_hdr.header.") (codes "redirected_hdr.") packet.0 packet.1
+
+-- a link-layer address
+abbrev pub lladdr_listing : Option (List ℕ) → List ℕ
+lladdr_listing address = field (codes "lladdr") (text_or_none octets_text address)
+
+-- what a router advertises of itself
+abbrev pub router_listing : ℕ → RouterFlags → Duration → Duration → Duration → List ℕ
+router_listing hops flags lifetime reachable retrans =
+    line (codes "RouterAdvert")
+    ++ field (codes "hop_limit") (decimal hops)
+    ++ field (codes "flags") (decimal (router_bits flags))
+    ++ field (codes "router_lifetime") (millis_text lifetime)
+    ++ field (codes "reachable_time") (millis_text reachable)
+    ++ field (codes "retrans_time") (millis_text retrans)
+
+abbrev pub ndisc_listing : NdiscValue → List ℕ
+ndisc_listing (router_solicit l) = line (codes "RouterSolicit") ++ lladdr_listing l
+ndisc_listing (router_advert hops flags lifetime reachable retrans l m p) =
+    router_listing hops flags lifetime reachable retrans
+    ++ lladdr_listing l
+    ++ field (codes "mtu") (text_or_none decimal m)
+    ++ prefix_info_listing p
+ndisc_listing (neighbor_solicit t l) =
+    line (codes "NeighborSolicit") ++ field (codes "target_addr") (address_text t) ++ lladdr_listing l
+ndisc_listing (neighbor_advert flags t l) =
+    line (codes "NeighborAdvert")
+    ++ field (codes "flags") (decimal (neighbor_bits flags))
+    ++ field (codes "target_addr") (address_text t)
+    ++ lladdr_listing l
+ndisc_listing (redirect t d l r) =
+    line (codes "Redirect")
+    ++ field (codes "target_addr") (address_text t)
+    ++ field (codes "dest_addr") (address_text d)
+    ++ lladdr_listing l
+    ++ redirected_hdr_listing r

@@ -1,0 +1,183 @@
+//! What each value is printed with: names and fields, one a line.
+
+#![tactic(auto, using(crate::proofs::Printing::gained, crate::proofs::Printing::gains_both))]
+
+ghost use Rattle.std.specs.Prelude.{◌≤◌, ℕ, List, OnOk, decimal, length};
+ghost use Rattle.hex.specs.Hex.{encode_lower};
+ghost use Rattle.wirebase.specs.Ipv4.{address_text};
+ghost use Rattle.listing.specs.Layout.{line as line_text, field as field_text, part_field as part_field_text};
+ghost use Rattle.listing.specs.Layout.{octets_text, millis_text, truth_text, text_or_none};
+ghost use Rattle.listing.specs.Output.{Gains};
+
+use crate::number::write_number;
+use crate::pairs::encode;
+use std::io;
+use std::io::Write;
+use wirebase::{Duration, Ipv4Address};
+
+/// What may stand behind a field's name: a number, truth value, text, octets, or none of these.
+pub trait Value: Drop {
+    /// What the value is printed as.
+    ghost text: { Self → List ℕ };
+
+    /// Writes the value as it is printed, without a line's end.
+    fn write_to<W: Write>(self, output: &mut W) -> io::Result<()>
+        ensures { OnOk result (Gains (W.contents output.old) (W.contents output.new) (text self)) };
+}
+
+impl Value for u8 {
+    ghost text = { decimal };
+
+    fn write_to<W: Write>(self, output: &mut W) -> io::Result<()> {
+        write_number(output, u64::from(self))
+    }
+}
+
+impl Value for u16 {
+    ghost text = { decimal };
+
+    fn write_to<W: Write>(self, output: &mut W) -> io::Result<()> {
+        write_number(output, u64::from(self))
+    }
+}
+
+impl Value for u32 {
+    ghost text = { decimal };
+
+    fn write_to<W: Write>(self, output: &mut W) -> io::Result<()> {
+        write_number(output, u64::from(self))
+    }
+}
+
+impl Value for u64 {
+    ghost text = { decimal };
+
+    fn write_to<W: Write>(self, output: &mut W) -> io::Result<()> {
+        write_number(output, self)
+    }
+}
+
+impl Value for usize {
+    ghost text = { decimal };
+
+    fn write_to<W: Write>(self, output: &mut W) -> io::Result<()> {
+        write_number(output, self as u64)
+    }
+}
+
+impl Value for bool {
+    ghost text = { truth_text };
+
+    fn write_to<W: Write>(self, output: &mut W) -> io::Result<()> {
+        output.write_all(if self { b"true" } else { b"false" })
+    }
+}
+
+impl Value for &str {
+    ghost text = { λ name. name.now };
+
+    fn write_to<W: Write>(self, output: &mut W) -> io::Result<()> {
+        output.write_all(self.as_bytes())
+    }
+}
+
+// An address with dots.
+impl Value for Ipv4Address {
+    ghost text = { address_text };
+
+    fn write_to<W: Write>(self, output: &mut W) -> io::Result<()> {
+        let [a, b, c, d] = self.octets();
+        a.write_to(output)?;
+        output.write_all(b".")?;
+        b.write_to(output)?;
+        output.write_all(b".")?;
+        c.write_to(output)?;
+        output.write_all(b".")?;
+        d.write_to(output)
+    }
+}
+
+// A span of time in whole milliseconds.
+impl Value for Duration {
+    ghost text = { millis_text };
+
+    fn write_to<W: Write>(self, output: &mut W) -> io::Result<()> {
+        self.total_millis().write_to(output)
+    }
+}
+
+impl<V: Value> Value for Option<V> {
+    ghost text = { text_or_none V.text };
+
+    fn write_to<W: Write>(self, output: &mut W) -> io::Result<()> {
+        match self {
+            Some(value) => value.write_to(output),
+            None => output.write_all(b"none"),
+        }
+    }
+}
+
+// How many octets are turned into digits at a time, and the digits of these.
+const OCTETS: usize = 64;
+
+const DIGITS: usize = 2 * OCTETS;
+
+// Octets in lower-case hexadecimal digits, or `-` for none.
+impl Value for &[u8] {
+    ghost text = { λ octets. octets_text octets.now };
+
+    fn write_to<W: Write>(self, output: &mut W) -> io::Result<()> {
+        if self.is_empty() {
+            return output.write_all(b"-");
+        }
+        for octets in self.chunks(OCTETS) {
+            write_digits(output, octets)?;
+        }
+        Ok(())
+    }
+}
+
+// Writes the digits of so many octets at the most.
+fn write_digits<W: Write>(output: &mut W, octets: &[u8]) -> io::Result<()>
+    requires { length octets.now ≤ OCTETS }
+    ensures { OnOk result (Gains (W.contents output.old) (W.contents output.new)
+        (encode_lower octets.now)) }
+{
+    let mut room = [0u8; DIGITS];
+    let digits = &mut room[..2 * octets.len()];
+    encode(octets, digits);
+    output.write_all(digits)
+}
+
+/// Prints a line of its own: a variant's name, a value that has none, or an answer that is no value.
+pub fn line<V: Value, W: Write>(output: &mut W, value: V) -> io::Result<()>
+    ensures { OnOk result (Gains (W.contents output.old) (W.contents output.new)
+        (line_text (V.text value))) }
+{
+    value.write_to(output)?;
+    output.write_all(b"\n")
+}
+
+/// Prints a field, or a variant with one unnamed value, as `name=value`.
+pub fn field<V: Value, W: Write>(output: &mut W, name: &str, value: V) -> io::Result<()>
+    ensures { OnOk result (Gains (W.contents output.old) (W.contents output.new)
+        (field_text name.now (V.text value))) }
+{
+    output.write_all(name.as_bytes())?;
+    output.write_all(b"=")?;
+    line(output, value)
+}
+
+/// Prints a field of a part, whose name and a dot, `part`, stand before the field's name.
+pub fn part_field<V: Value, W: Write>(
+    output: &mut W,
+    part: &str,
+    name: &str,
+    value: V,
+) -> io::Result<()>
+    ensures { OnOk result (Gains (W.contents output.old) (W.contents output.new)
+        (part_field_text part.now name.now (V.text value))) }
+{
+    output.write_all(part.as_bytes())?;
+    field(output, name, value)
+}

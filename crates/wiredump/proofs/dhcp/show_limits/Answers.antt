@@ -1,7 +1,0 @@
--- The lines, one after another.
-use Rattle.wiredump.proofs.Printing.{◌then◌, gains_last}
-use Rattle.wiredump.proofs.dhcp.show_limits.Goals as goal
-
-pub returns : goal.returns
-returns g c =
-    gains_last _ _ _ (c.in_ok-field.ensures then c.in_ok-field-2.ensures then c.in_ok-field-3.ensures) c.field-4.ensures

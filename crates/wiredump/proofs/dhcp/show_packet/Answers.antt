@@ -1,9 +1,0 @@
--- The lines, one after another.
-use Rattle.wiredump.proofs.Printing.{◌then◌, gains_last}
-use Rattle.wiredump.proofs.dhcp.show_packet.Goals as goal
-
-pub returns : goal.returns
-returns g c =
-    gains_last _ _ _
-    (c.in_ok-show_sender.ensures then c.in_ok-show_addresses.ensures then c.in_ok-show_request.ensures)
-    c.show_limits.ensures

@@ -1,6 +1,0 @@
--- The lines, one after another.
-use Rattle.wiredump.proofs.Printing.{◌then◌, gains_last}
-use Rattle.wiredump.proofs.ndisc.show_neighbor_solicit.Goals as goal
-
-pub returns : goal.returns
-returns g c = gains_last _ _ _ (c.in_ok-line.ensures then c.in_ok-field.ensures) c.show_lladdr.ensures
