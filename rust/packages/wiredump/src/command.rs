@@ -1,16 +1,16 @@
 // Made from crates/wiredump/src/command.rt by rust/erase.
 //! How a packet is read: by the word before it.
 
-use crate::dhcp::show_dhcp;
-use crate::hbh::show_hbh;
-use crate::icmp4::show_icmp4;
-use crate::icmp6::show_icmp6;
-use crate::igmp::show_igmp;
-use crate::mld::show_mld;
-use crate::name::show_name;
-use crate::ndopt::show_ndopt;
-use crate::question::show_question;
 use crate::words::{is, read_address, read_offset};
+use listing::dhcp::show_dhcp;
+use listing::hbh::show_hbh;
+use listing::icmp4::show_icmp4;
+use listing::icmp6::show_icmp6;
+use listing::igmp::show_igmp;
+use listing::mld::show_mld;
+use listing::name::show_name;
+use listing::ndopt::show_ndopt;
+use listing::question::show_question;
 use rattle_std::io;
 use rattle_std::io::Write;
 

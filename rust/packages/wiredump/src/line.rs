@@ -1,9 +1,10 @@
 // Made from crates/wiredump/src/line.rt by rust/erase.
 //! What a line prints.
 
+use crate::Fault;
 use crate::reading::Line;
 use crate::shape::Shape;
-use crate::{Fault, printer};
+use listing::printer;
 use rattle_std::io::Write;
 #[allow(unused_imports)]
 use rattle_std::prelude::*;

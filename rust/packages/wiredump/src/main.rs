@@ -4,23 +4,10 @@
 //! A line says how to read a packet and gives its octets in hexadecimal, as `hbh 010400000000`.
 
 mod command;
-mod dhcp;
 mod fault;
 mod glance;
-mod hbh;
-mod icmp4;
-mod icmp6;
-mod igmp;
-mod ipv6;
 mod line;
-mod mld;
-mod name;
-mod ndisc;
-mod ndopt;
-mod number;
 mod pairs;
-mod printer;
-mod question;
 mod reading;
 mod run;
 mod search;

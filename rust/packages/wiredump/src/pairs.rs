@@ -1,5 +1,5 @@
 // Made from crates/wiredump/src/pairs.rt by rust/erase.
-//! Octets as hexadecimal digits, two for each. No step branches by a digit, so that many are turned at once.
+//! The octets that hexadecimal digits spell. No step branches by a digit, so that many are turned at once.
 
 /// Whether each is a digit of either case.
 pub fn are_digits(text: &[u8]) -> bool {
@@ -61,21 +61,4 @@ pub fn decode_front(text: &[u8], room: &mut [u8]) {
 // The value of a digit: its low four bits, and 9 more for a letter, which alone has the bit of 64.
 fn digit_value(digit: u8) -> u8 {
     digit % 16 + 9 * (digit / 64)
-}
-
-/// The digits of octets, in lower case.
-pub fn encode(octets: &[u8], digits: &mut [u8]) {
-    for i in 0..octets.len() {
-        digits[2 * i] = digit_of(octets[i] / 16);
-        digits[2 * i + 1] = digit_of(octets[i] % 16);
-    }
-}
-
-// The digit of a value.
-fn digit_of(value: u8) -> u8 {
-    if value < 10 {
-        b'0' + value
-    } else {
-        b'a' - 10 + value
-    }
 }

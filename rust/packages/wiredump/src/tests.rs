@@ -13,7 +13,6 @@ mod lines;
 mod ndisc;
 mod options;
 mod plain;
-mod values;
 mod words;
 
 use crate::run;

@@ -1,4 +1,4 @@
-// Made from crates/wiredump/src/hbh.rt by rust/erase.
+// Made from crates/listing/src/hbh.rt by rust/erase.
 //! The options of an IPv6 hop-by-hop header.
 
 use crate::ndopt::show_unknown;

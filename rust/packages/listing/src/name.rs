@@ -1,4 +1,4 @@
-// Made from crates/wiredump/src/name.rt by rust/erase.
+// Made from crates/listing/src/name.rt by rust/erase.
 //! Names of DNS messages.
 
 use crate::printer::{field, line};

@@ -1,4 +1,4 @@
-// Made from crates/wiredump/src/tests/values.rt by rust/erase.
+// Made from crates/listing/src/tests.rt by rust/erase.
 //! Values behind a field's name.
 
 use crate::printer::{Value, field, line, part_field};

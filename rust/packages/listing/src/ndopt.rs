@@ -1,4 +1,4 @@
-// Made from crates/wiredump/src/ndopt.rt by rust/erase.
+// Made from crates/listing/src/ndopt.rt by rust/erase.
 //! Options of neighbor discovery.
 
 use crate::ipv6::show_header;

@@ -1,4 +1,4 @@
-// Made from crates/wiredump/src/question.rt by rust/erase.
+// Made from crates/listing/src/question.rt by rust/erase.
 //! Questions of DNS.
 
 use crate::printer::{field, line};

@@ -1,4 +1,4 @@
-// Made from crates/wiredump/src/ndisc.rt by rust/erase.
+// Made from crates/listing/src/ndisc.rt by rust/erase.
 //! Messages of neighbor discovery.
 
 use crate::ndopt::{show_prefix, show_redirected};

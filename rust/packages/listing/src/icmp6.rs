@@ -1,4 +1,4 @@
-// Made from crates/wiredump/src/icmp6.rt by rust/erase.
+// Made from crates/listing/src/icmp6.rt by rust/erase.
 //! Messages of ICMPv6.
 
 use crate::icmp4::show_echo;

@@ -1,4 +1,4 @@
-// Made from crates/wiredump/src/dhcp.rt by rust/erase.
+// Made from crates/listing/src/dhcp.rt by rust/erase.
 //! Packets of DHCP.
 
 use crate::printer::{Value, field, line};

@@ -1,4 +1,4 @@
-// Made from crates/wiredump/src/ipv6.rt by rust/erase.
+// Made from crates/listing/src/ipv6.rt by rust/erase.
 //! Addresses and headers of IPv6, which stand in messages of several formats.
 
 use crate::printer::{Value, part_field};

@@ -1,4 +1,4 @@
-// Made from crates/wiredump/src/icmp4.rt by rust/erase.
+// Made from crates/listing/src/icmp4.rt by rust/erase.
 //! Messages of ICMPv4.
 
 use crate::printer::{field, line, part_field};

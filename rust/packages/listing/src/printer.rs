@@ -1,4 +1,4 @@
-// Made from crates/wiredump/src/printer.rt by rust/erase.
+// Made from crates/listing/src/printer.rt by rust/erase.
 //! What each value is printed with: names and fields, one a line.
 
 use crate::number::write_number;

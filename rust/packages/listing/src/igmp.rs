@@ -1,4 +1,4 @@
-// Made from crates/wiredump/src/igmp.rt by rust/erase.
+// Made from crates/listing/src/igmp.rt by rust/erase.
 //! Messages of IGMP.
 
 use crate::printer::{Value, field, line};

@@ -1,4 +1,4 @@
-// Made from crates/wiredump/src/mld.rt by rust/erase.
+// Made from crates/listing/src/mld.rt by rust/erase.
 //! Messages of multicast listener discovery.
 
 use crate::printer::{field, line};

@@ -1,4 +1,4 @@
-// Made from crates/wiredump/src/number.rt by rust/erase.
+// Made from crates/listing/src/number.rt by rust/erase.
 //! Numbers in decimal digits, all of a number written at once.
 
 use rattle_std::io;
