@@ -26,6 +26,11 @@ impl<R: Read> BufReader<R> {
     pub fn with_capacity(count: usize, from: R) -> std::result::Result<BufReader<R>, AllocError> {
         Ok(BufReader(std::io::BufReader::with_capacity(count, from)))
     }
+
+    /// What was read and is not yet consumed.
+    pub fn buffer(&self) -> &[u8] {
+        self.0.buffer()
+    }
 }
 
 impl<R: Read> Read for BufReader<R> {

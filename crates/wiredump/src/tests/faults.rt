@@ -236,6 +236,9 @@ fn check_sink(
     check_written(rt, fails_at, answers, fault, output, undisturbed, octets)
 }
 
+// More calls than a sink gets.
+const MOST_CALLS: usize = 32;
+
 // Fails at each call in turn, until there are no more calls.
 fn check_sinks(
     rt: &impl Abort,
@@ -245,12 +248,12 @@ fn check_sinks(
     undisturbed: &[u8],
 ) {
     let mut succeeded = false;
-    for fails_at in 0..16 {
+    for fails_at in 0..MOST_CALLS {
         let printed = check_sink(rt, alloc, input, fails_at, row, undisturbed);
         holds_of(rt, fails_at, printed || !succeeded);
         succeeded = printed;
     }
-    holds_of(rt, "16 calls were too few", succeeded);
+    holds_of(rt, "more calls than were tried", succeeded);
 }
 
 #[test]

@@ -5,13 +5,14 @@ use crate::Fault;
 use crate::glance::{Glance, look};
 use crate::line::{show_line, show_shape};
 use crate::reading::{Line, read_line};
-use rattle_std::io::{BufRead, BufReader, BufWriter, Read, Write};
+use rattle_std::io::{BufReader, BufWriter, Read, Write};
 #[allow(unused_imports)]
 use rattle_std::prelude::*;
 
 /// Prints what each line of the input holds; true where each line had a known shape.
 ///
-/// What was printed before a fault is written out first, as far as the output takes it.
+/// What was printed is written out before more of the input is waited for, and before a fault is answered, as far as
+/// the output takes it.
 pub fn run<R: Read, W: Write>(input: R, output: W) -> Result<bool, Fault> {
     let (all_known, _) = run_onto(input, output)?;
     Ok(all_known)
@@ -33,7 +34,10 @@ pub fn run_onto<R: Read, W: Write>(input: R, output: W) -> Result<(bool, W), Fau
 }
 
 // Prints what each line holds, and writes out what was printed, also where a fault ends that.
-fn show_flushed<R: BufRead, W: Write>(input: &mut R, output: &mut W) -> Result<bool, Fault> {
+fn show_flushed<R: Read, W: Write>(
+    input: &mut BufReader<R>,
+    output: &mut W,
+) -> Result<bool, Fault> {
     let answer = show_lines(input, output);
     let flushed = output.flush();
     let all_known = answer?;
@@ -44,7 +48,7 @@ fn show_flushed<R: BufRead, W: Write>(input: &mut R, output: &mut W) -> Result<b
 }
 
 // Prints what each line holds; true where each line had a known shape.
-fn show_lines<R: BufRead, W: Write>(input: &mut R, output: &mut W) -> Result<bool, Fault> {
+fn show_lines<R: Read, W: Write>(input: &mut BufReader<R>, output: &mut W) -> Result<bool, Fault> {
     let mut line = Line::new();
     let mut room = Vec::new();
     let mut all_known = true;
@@ -61,12 +65,13 @@ fn show_lines<R: BufRead, W: Write>(input: &mut R, output: &mut W) -> Result<boo
 
 // Prints what the next line holds, and answers whether its shape is known, or None where there is no line. What is kept
 // of a line that is not at hand whole is kept in `line`, and the packet of one that is in `room`.
-fn show_next<R: BufRead, W: Write>(
-    input: &mut R,
+fn show_next<R: Read, W: Write>(
+    input: &mut BufReader<R>,
     output: &mut W,
     line: &mut Line,
     room: &mut Vec<u8>,
 ) -> Result<Option<bool>, Fault> {
+    write_out_before_wait(input, output)?;
     let glance = look(room, input)?;
     match glance {
         Glance::Line(shape) => {
@@ -79,17 +84,37 @@ fn show_next<R: BufRead, W: Write>(
 }
 
 // The same of a line that is not at hand whole. Its packet may be long, and is not kept for the lines after it.
-fn show_part<R: BufRead, W: Write>(
-    input: &mut R,
+fn show_part<R: Read, W: Write>(
+    input: &mut BufReader<R>,
     output: &mut W,
     line: &mut Line,
 ) -> Result<Option<bool>, Fault> {
+    // The rest of the line is waited for.
+    write_out(output)?;
     let more = read_line(input, line)?;
     if !more {
         return Ok(None);
     }
     let known = show_line(&mut Vec::new(), output, line)?;
     Ok(Some(known))
+}
+
+// Writes out what was printed, where the next look at an input has to wait for more of it.
+fn write_out_before_wait<R: Read, W: Write>(
+    input: &BufReader<R>,
+    output: &mut W,
+) -> Result<(), Fault> {
+    if input.buffer().is_empty() {
+        return write_out(output);
+    }
+    Ok(())
+}
+
+fn write_out<W: Write>(output: &mut W) -> Result<(), Fault> {
+    match output.flush() {
+        Ok(()) => Ok(()),
+        Err(_) => Err(Fault::Write),
+    }
 }
 
 /// The exit status of a run's answer.

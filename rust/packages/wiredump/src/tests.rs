@@ -10,6 +10,7 @@ mod faults;
 mod icmp4;
 mod icmp6;
 mod lines;
+mod live;
 mod ndisc;
 mod options;
 mod plain;

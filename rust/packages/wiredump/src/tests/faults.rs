@@ -232,15 +232,18 @@ fn check_sink(
     check_written(fails_at, answers, fault, output, undisturbed, octets)
 }
 
+// More calls than a sink gets.
+const MOST_CALLS: usize = 32;
+
 // Fails at each call in turn, until there are no more calls.
 fn check_sinks(input: &[u8], row: &(ErrorKind, Fault, bool), undisturbed: &[u8]) {
     let mut succeeded = false;
-    for fails_at in 0..16 {
+    for fails_at in 0..MOST_CALLS {
         let printed = check_sink(input, fails_at, row, undisturbed);
         holds_of(fails_at, printed || !succeeded);
         succeeded = printed;
     }
-    holds_of("16 calls were too few", succeeded);
+    holds_of("more calls than were tried", succeeded);
 }
 
 #[test]
