@@ -1,8 +1,9 @@
 -- Headers that extend IPv6 stand one behind another.
-use Rattle.std.proofs.Common.{◌≡◌, ◌≢◌, ℕ, List, drop, slice_index, subst, sym}
+use Rattle.std.proofs.Common.{◌≡◌, ℕ, List, drop, slice_index, Option, subst}
 use Rattle.wirebase.specs.Ip.{protocol_of}
 use Rattle.wirebase.specs.declared.ip.IpProtocol.{IpProtocol}
-use Rattle.frame_wire.specs.Datagram.{IsExtension, HasExtension, extension_end, Routes, Leads, past, Stops, later}
+use Rattle.frame_wire.specs.Datagram.{IsExtension, HasExtension, extension_end, options_of, Routes, Leads, past, Stops}
+use Rattle.frame_wire.specs.Datagram.{later}
 use Rattle.frame_wire.specs.declared.datagram.Refusal.{Refusal}
 
 -- where the headers lead from here on, they lead from the first on
@@ -35,3 +36,9 @@ pub leads_at : (p p' : IpProtocol) (bytes bytes' start start' : List ℕ) (q : I
 leads_at p p' bytes bytes' start start' q payload final e f g leads =
     subst (λ x. Leads x bytes' start' q payload final) e
     (subst (λ l. Leads p l start' q payload final) f (subst (λ l. Leads p bytes l q payload final) g leads))
+
+-- the options are those of the same header
+pub options_at : (p p' : IpProtocol) (header header' : List ℕ) (options : Option (List ℕ)) → p ≡ p' → header ≡ header'
+    → options ≡ options_of p header → options ≡ options_of p' header'
+options_at p p' header header' options e f is =
+    subst (λ x. options ≡ options_of x header') e (subst (λ l. options ≡ options_of p l) f is)

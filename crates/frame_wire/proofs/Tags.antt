@@ -1,5 +1,5 @@
 -- Tags stand one behind another.
-use Rattle.std.proofs.Common.{◌≡◌, ℕ, ◌+◌, ◌-◌, ◌≤◌, List, [], ◌∷◌, ◌++◌, length, take, drop, refl, sym, ap, subst, ◌∙◌}
+use Rattle.std.proofs.Common.{◌≡◌, ℕ, ◌+◌, ◌-◌, ◌≤◌, List, [], ◌++◌, length, take, drop, refl, sym, ap, subst, ◌∙◌}
 use Rattle.std.proofs.Common.{arith, append_assoc, length-drop, ◌<◌, Bool, true, false, IsTrue, ◌↔◌, Result, Ok, Err}
 use Rattle.std.proofs.Common.{IfOk}
 use Rattle.std.proofs.lemmas.List.{drop-drop, append-nil}

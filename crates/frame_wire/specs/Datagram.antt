@@ -1,7 +1,8 @@
 -- Datagrams of IPv4 (RFC 791 section 3.1), and of IPv6 with the headers that extend it (RFC 8200 sections 3 and 4).
-use Rattle.std.specs.Prelude.{◌≡◌, ◌≢◌, ℕ, ◌+◌, ◌-◌, ◌*◌, ◌<◌, ◌≤◌, ◌⊎◌, ◌==◌, ◌||◌, ◌&&◌, nat_le, if◌then◌else◌}
-use Rattle.std.specs.Prelude.{List, length, drop, slice_index}
-use Rattle.wirebase.specs.Bytes.{field, part, byte_of, bytes_of}
+use Rattle.std.specs.Prelude.{◌≡◌, ◌≢◌, ℕ, ◌+◌, ◌-◌, ◌*◌, ◌<◌, ◌≤◌, ◌⊎◌, ◌==◌, ◌||◌, nat_le, if◌then◌else◌}
+use Rattle.std.specs.Prelude.{List, length, drop, slice_index, Option, None, Some}
+use Rattle.std.specs.Option.{option_map}
+use Rattle.wirebase.specs.Bytes.{part, byte_of, bytes_of}
 use Rattle.wirebase.specs.Ip.{protocol_of}
 use Rattle.wirebase.specs.Ipv4 as ipv4
 use Rattle.wirebase.specs.Ipv6 as ipv6
@@ -21,6 +22,7 @@ pub record DatagramValue : Type 0 where
   pub addresses : Addresses
   pub protocol : IpProtocol
   pub hop_limit : ℕ
+  pub hop_by_hop : Option (List ℕ)
   pub payload : List ℕ
 
 abbrev pub value_of : Datagram → DatagramValue
@@ -28,6 +30,7 @@ value_of d = record {
   addresses = d.addresses;
   protocol = d.protocol;
   hop_limit = d.hop_limit;
+  hop_by_hop = option_map (λ options. options.now) d.hop_by_hop;
   payload = d.payload.now;
 }
 
@@ -56,6 +59,7 @@ pub record IsDatagram4 (bytes : List ℕ) (v : DatagramValue) : Type 0 where
   pub addresses_ : v.addresses ≡ V4 source destination
   pub protocol_ : v.protocol ≡ protocol_of (byte_of ipv4.protocol_field bytes)
   pub hop_limit_ : v.hop_limit ≡ byte_of ipv4.time_to_live_field bytes
+  pub hop_by_hop_ : v.hop_by_hop ≡ None
   pub payload_ : v.payload ≡ part bytes (ipv4.header_len_in bytes) (ipv4.total_len_in bytes)
 
 -- what is told of other bytes: they end too early, contradict themselves, or are a fragment
@@ -78,6 +82,11 @@ extension_end bytes = 8 * slice_index bytes 1 + 8
 pub record HasExtension (bytes : List ℕ) : Type 0 where
   pub least : 8 ≤ length bytes
   pub whole : extension_end bytes ≤ length bytes
+
+-- the options of a hop-by-hop header, behind its first two bytes; other headers have none
+abbrev pub options_of : IpProtocol → List ℕ → Option (List ℕ)
+options_of HopByHop header = Some (part header 2 (extension_end header))
+options_of _ header = None
 
 -- Where a routing header leads that still has segments left: to the last address of types 0 and 2 (RFC 2460
 -- section 4.4, RFC 6275 section 6.4), and to the first that is written of type 4 (RFC 8754 section 2). That
@@ -124,6 +133,12 @@ pub record HasHeader6 (bytes : List ℕ) : Type 0 where
 abbrev pub total_len6 : List ℕ → ℕ
 total_len6 bytes = 40 + ipv6.payload_len_in bytes
 
+-- The hop-by-hop options of a datagram. Their header may stand only directly behind the fixed one (RFC 8200 section
+-- 4.3): a later one is passed like any other.
+abbrev pub hop_by_hop_in : List ℕ → Option (List ℕ)
+hop_by_hop_in bytes =
+    options_of (protocol_of (byte_of ipv6.next_header_field bytes)) (bytes_of (ipv6.payload_field bytes) bytes)
+
 -- The grammar: the bytes begin with a whole datagram by its own length, and what stands behind it is no part.
 pub record IsDatagram6 (bytes : List ℕ) (v : DatagramValue) : Type 0 where
   pub header : HasHeader6 bytes
@@ -133,6 +148,7 @@ pub record IsDatagram6 (bytes : List ℕ) (v : DatagramValue) : Type 0 where
   pub source_ : octets_of source ≡ bytes_of ipv6.src_addr_field bytes
   pub addresses_ : v.addresses ≡ V6 source destination
   pub hop_limit_ : v.hop_limit ≡ byte_of ipv6.hop_limit_field bytes
+  pub hop_by_hop_ : v.hop_by_hop ≡ hop_by_hop_in bytes
   pub leads_ : Leads (protocol_of (byte_of ipv6.next_header_field bytes)) (bytes_of (ipv6.payload_field bytes) bytes)
       (bytes_of ipv6.dst_addr_field bytes) v.protocol v.payload (octets_of destination)
 

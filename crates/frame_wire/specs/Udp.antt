@@ -11,7 +11,7 @@
 -- +- - - - - - - - - - - - - - - -
 use Rattle.std.specs.Prelude.{◌≡◌, ◌≢◌, ℕ, ◌≤◌, ◌⊎◌, true, List, length}
 use Rattle.std.specs.Borrow.{Bor}
-use Rattle.wirebase.specs.Bytes.{Field, field, Reaches, Writes, part, bytes_of, number_of}
+use Rattle.wirebase.specs.Bytes.{Field, field, Reaches, Writes, bytes_of, number_of}
 use Rattle.wirebase.specs.Capabilities.{is_verified}
 use Rattle.wirebase.specs.Checksum.{IsGood}
 use Rattle.wirebase.specs.declared.capabilities.ChecksumCapabilities.{ChecksumCapabilities}

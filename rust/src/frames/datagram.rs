@@ -55,6 +55,10 @@ pub struct Datagram<'a> {
     pub protocol: IpProtocol,
     /// The hops that are left.
     pub hop_limit: u8,
+    /// The options of the hop-by-hop header, which `ipv6hbh::Header` reads: its octets behind the first two, up to its
+    /// end. It may stand only directly behind the header of IPv6 (RFC 8200 section 4.3): None where it does not, and in
+    /// IPv4.
+    pub hop_by_hop: Option<&'a [u8]>,
     /// The payload: what stands behind the options or the headers that extend IPv6, up to the datagram's end.
     pub payload: &'a [u8],
 }
@@ -87,12 +91,13 @@ impl<'a> Datagram<'a> {
             addresses: Addresses::V4(packet.src_addr(), packet.dst_addr()),
             protocol: packet.next_header(),
             hop_limit: packet.hop_limit(),
+            hop_by_hop: None,
             payload: packet.payload(),
         })
     }
 
     /// The datagram of IPv6 at the front of the octets, by its payload length; what stands behind it is no part. Its
-    /// hop-by-hop, destination and routing headers are passed.
+    /// hop-by-hop, destination and routing headers are passed, and a hop-by-hop header in its place gives its options.
     pub fn parse_v6(octets: &'a [u8]) -> Result<Datagram<'a>, Refusal> {
         if octets.len() < IPV6_HEADER_LEN {
             return Err(Refusal::Cut);
@@ -104,14 +109,25 @@ impl<'a> Datagram<'a> {
         if octets.len() < IPV6_HEADER_LEN + packet.payload_len() as usize {
             return Err(Refusal::Cut);
         }
-        let upper = pass_headers(packet.next_header(), packet.payload(), packet.dst_addr())?;
+        let next_header = packet.next_header();
+        let payload = packet.payload();
+        let upper = pass_headers(next_header, payload, packet.dst_addr())?;
         Ok(Datagram {
             addresses: Addresses::V6(packet.src_addr(), upper.dst_addr),
             protocol: upper.protocol,
             hop_limit: packet.hop_limit(),
+            hop_by_hop: options_of(next_header, payload),
             payload: upper.payload,
         })
     }
+}
+
+// The options of a hop-by-hop header; other headers have none.
+fn options_of(protocol: IpProtocol, header: &[u8]) -> Option<&[u8]> {
+    if protocol == IpProtocol::HopByHop {
+        return Some(&header[2..8 * header[1] as usize + 8]);
+    }
+    None
 }
 
 // What the headers that extend IPv6 lead to.

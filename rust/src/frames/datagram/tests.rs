@@ -19,6 +19,7 @@ fn a_datagram_of_ipv4() {
         ),
         protocol: IpProtocol::Icmp,
         hop_limit: 1,
+        hop_by_hop: None,
         payload: &[0x08],
     };
     same_of(V4, Datagram::parse_v4(V4), Ok(want));
@@ -74,6 +75,7 @@ fn a_datagram_of_ipv6() {
         ),
         protocol: IpProtocol::Icmpv6,
         hop_limit: 64,
+        hop_by_hop: Some(&[0x05, 0x02, 0, 0, 0x01, 0x00]),
         payload: &[0x80],
     };
     same_of(V6, Datagram::parse_v6(V6), Ok(want));
@@ -121,5 +123,59 @@ fn headers_that_extend_ipv6() {
             None => None,
         };
         same_of((place, byte), answer_of(place, byte), (want, refusal));
+    }
+}
+
+// A report that adds ff02::db8 to what a host listens to, with the router alert option (RFC 3810 section 5).
+const REPORT: &[u8] = &[
+    0x60, 0, 0, 0, 0x00, 0x24, 0x00, 0x01, //
+    0xfe, 0x80, 0, 0, 0, 0, 0, 0, 0, 0, 0, 0, 0, 0, 0, 1, //
+    0xff, 0x02, 0, 0, 0, 0, 0, 0, 0, 0, 0, 0, 0, 0, 0, 0x16, //
+    0x3a, 0x00, 0x05, 0x02, 0x00, 0x00, 0x01, 0x00, //
+    0x8f, 0x00, 0x62, 0x52, 0, 0, 0, 1, 0x04, 0, 0, 0, //
+    0xff, 0x02, 0, 0, 0, 0, 0, 0, 0, 0, 0, 0, 0, 0, 0x0d, 0xb8,
+];
+
+// Hop-by-hop options behind destination options, where they may not stand, and one byte of ICMPv6.
+const MISPLACED: &[u8] = &[
+    0x60, 0, 0, 0, 0x00, 0x11, 0x3c, 0x40, //
+    0xfe, 0x80, 0, 0, 0, 0, 0, 0, 0, 0, 0, 0, 0, 0, 0, 1, //
+    0xff, 0x02, 0, 0, 0, 0, 0, 0, 0, 0, 0, 0, 0, 0, 0, 0x16, //
+    0x00, 0x00, 0x01, 0x04, 0, 0, 0, 0, //
+    0x3a, 0x00, 0x05, 0x02, 0x00, 0x00, 0x01, 0x00, //
+    0x80,
+];
+
+// Sixteen bytes of hop-by-hop header, eight more of a second one, one byte of ICMPv6, and a byte of padding.
+const TWICE: &[u8] = &[
+    0x60, 0, 0, 0, 0x00, 0x19, 0x00, 0x40, //
+    0xfe, 0x80, 0, 0, 0, 0, 0, 0, 0, 0, 0, 0, 0, 0, 0, 1, //
+    0xff, 0x02, 0, 0, 0, 0, 0, 0, 0, 0, 0, 0, 0, 0, 0, 0x16, //
+    0x00, 0x01, 0x05, 0x02, 0x00, 0x02, 0x01, 0x08, 0, 0, 0, 0, 0, 0, 0, 0, //
+    0x3a, 0x00, 0x05, 0x02, 0x00, 0x00, 0x01, 0x00, //
+    0x80, 0xff,
+];
+
+#[test]
+fn hop_by_hop_options_stand_behind_the_fixed_header_alone() {
+    const ROWS: &[(&[u8], Option<&[u8]>, usize)] = &[
+        (REPORT, Some(&[0x05, 0x02, 0, 0, 0x01, 0x00]), 28),
+        (MISPLACED, None, 1),
+        (
+            TWICE,
+            Some(&[0x05, 0x02, 0, 2, 0x01, 0x08, 0, 0, 0, 0, 0, 0, 0, 0]),
+            1,
+        ),
+    ];
+    for &(octets, options, len) in ROWS {
+        let read = match Datagram::parse_v6(octets) {
+            Ok(datagram) => Some((
+                datagram.protocol,
+                datagram.hop_by_hop,
+                datagram.payload.len(),
+            )),
+            Err(_) => None,
+        };
+        same_of(len, read, Some((IpProtocol::Icmpv6, options, len)));
     }
 }

@@ -1,5 +1,5 @@
 -- Tags are passed, one after another.
-use Rattle.std.proofs.Common.{◌≡◌, take, ap, sym, subst, ◌∙◌, arith}
+use Rattle.std.proofs.Common.{take, ap, sym, subst, ◌∙◌}
 use Rattle.byteorder.specs.Endian.{big_number}
 use Rattle.frame_wire.specs.Link.{IsTagged}
 use Rattle.frame_wire.proofs.Tags.{so_far-init, so_far-more, so_far-last, cut_none, part-behind, told, told_not}

@@ -50,6 +50,7 @@ pub fn add_datagram(datagram: &Datagram<'_>, digest: &mut Digest) {
         addresses,
         protocol,
         hop_limit,
+        hop_by_hop: _,
         payload,
     } = datagram;
     match addresses {
