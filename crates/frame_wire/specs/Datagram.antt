@@ -83,7 +83,7 @@ pub record HasExtension (bytes : List ℕ) : Type 0 where
   pub least : 8 ≤ length bytes
   pub whole : extension_end bytes ≤ length bytes
 
--- the options of a hop-by-hop header, behind its first two bytes; other headers have none
+-- the options of a hop-by-hop header, behind its first two bytes (RFC 8200 section 4.3); other headers have none
 abbrev pub options_of : IpProtocol → List ℕ → Option (List ℕ)
 options_of HopByHop header = Some (part header 2 (extension_end header))
 options_of _ header = None
@@ -134,7 +134,7 @@ abbrev pub total_len6 : List ℕ → ℕ
 total_len6 bytes = 40 + ipv6.payload_len_in bytes
 
 -- The hop-by-hop options of a datagram. Their header may stand only directly behind the fixed one (RFC 8200 section
--- 4.3): a later one is passed like any other.
+-- 4.1): a later one is passed like any other.
 abbrev pub hop_by_hop_in : List ℕ → Option (List ℕ)
 hop_by_hop_in bytes =
     options_of (protocol_of (byte_of ipv6.next_header_field bytes)) (bytes_of (ipv6.payload_field bytes) bytes)

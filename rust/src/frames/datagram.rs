@@ -56,7 +56,7 @@ pub struct Datagram<'a> {
     /// The hops that are left.
     pub hop_limit: u8,
     /// The options of the hop-by-hop header, which `ipv6hbh::Header` reads: its octets behind the first two, up to its
-    /// end. It may stand only directly behind the header of IPv6 (RFC 8200 section 4.3): None where it does not, and in
+    /// end. It may stand only directly behind the header of IPv6 (RFC 8200 section 4.1): None where it does not, and in
     /// IPv4.
     pub hop_by_hop: Option<&'a [u8]>,
     /// The payload: what stands behind the options or the headers that extend IPv6, up to the datagram's end.
