@@ -1,81 +1,118 @@
--- Kinds of blocks, the resolution that options tell, and packets by their kind.
-use Rattle.std.proofs.Common.{◌≡◌, ◌≢◌, ℕ, ◌-◌, ◌≤◌, List, length, take, drop, take_all, Result, Ok, Err}
-use Rattle.std.proofs.Common.{IfOk, refl, sym, subst, ◌∙◌, arith}
+-- What options tell, interfaces, and packets by their kind.
+use Rattle.std.proofs.Common.{◌≡◌, ◌≢◌, ℕ, ◌-◌, ◌<◌, ◌≤◌, List, length, take, drop, take_all, Result, Ok, Err}
+use Rattle.std.proofs.Common.{IfOk, ◌↔◌, ℤ, slice_index, refl, ap, sym, subst, ◌∙◌, arith}
 use Rattle.wirebase.specs.Bytes.{field, part}
 use Rattle.wirebase.specs.declared.error.Error.{Error}
-use Rattle.capture.specs.Order.{number_in}
+use Rattle.capture.specs.Order.{signed_number, number_in}
 use Rattle.capture.specs.Packet.{PacketValue, packet_in}
-use Rattle.capture.specs.Pcapng.{IsOption, IsResolution, option_end, TellsResolution, here, later, HasResolution, told}
-use Rattle.capture.specs.Pcapng.{microseconds, IsTimed, IsSimple, IsPacket, obsolete, simple, enhanced}
-use Rattle.capture.specs.Pcapng.{IsInterface, link_type_field, snap_len_field}
+use Rattle.capture.specs.Pcapng.{IsOption, option_end, TellsOption, here, later, HasResolution, told, microseconds}
+use Rattle.capture.specs.Pcapng.{HasOffset, moved_by, not_moved, link_type_field, snap_len_field, IsInterface}
+use Rattle.capture.specs.Pcapng.{IsTimed, IsSimple, IsPacket, obsolete, simple, enhanced}
 use Rattle.capture.specs.declared.order.Order.{Order}
 use Rattle.capture.specs.declared.pcapng.Interface.{Interface}
 use Rattle.capture.specs.declared.packet.Packet.{Packet}
 
--- ---- resolutions
+-- ---- options
 
-module _ (order : Order) where
+module _ (order : Order) (code n : ℕ) where
+  abbrev pub Tells : List ℕ → List ℕ → Type 0
+  Tells bytes value = TellsOption order code n bytes value
+
   -- behind another option, what the options behind it tell
-  tells_later : (bytes : List ℕ) (code n resolution : ℕ) → IsOption order bytes code n → (IsResolution code n → ⊥)
-      → TellsResolution order bytes resolution → TellsResolution order (drop (option_end n) bytes) resolution
-  tells_later bytes code n resolution is other (here found e) =
-      absurd (other (sym is.code_ ∙ found.code_, sym is.length_ ∙ found.length_))
-  tells_later bytes code n resolution is other (later code' n' is' some other' rest) =
-      subst (λ k. TellsResolution order (drop (option_end k) bytes) resolution) (sym is'.length_ ∙ is.length_) rest
-
-  pub has_later : (bytes : List ℕ) (code n resolution : ℕ) → IsOption order bytes code n → code ≢ 0
-      → (IsResolution code n → ⊥) → HasResolution order (drop (option_end n) bytes) resolution
-      → HasResolution order bytes resolution
-  has_later bytes code n resolution is some other (told tells) = told (later code n is some other tells)
-  has_later bytes code n resolution is some other (microseconds none e) =
-      microseconds (λ r tells. none r (tells_later bytes code n r is other tells)) e
+  tells_later : (bytes value : List ℕ) (other m : ℕ) → IsOption order bytes other m
+      → ((other ≡ code) × (m ≡ n) → ⊥) → Tells bytes value → Tells (drop (option_end m) bytes) value
+  tells_later bytes value other m is differs (here found e) =
+      absurd (differs (sym is.code_ ∙ found.code_, sym is.length_ ∙ found.length_))
+  tells_later bytes value other m is differs (later other' m' is' some differs' rest) =
+      subst (λ k. Tells (drop (option_end k) bytes) value) (sym is'.length_ ∙ is.length_) rest
 
   -- the same of the bytes behind an option as the code takes them
-  pub has_behind : (bytes : List ℕ) (code n most resolution : ℕ) → IsOption order bytes code n → code ≢ 0
-      → (IsResolution code n → ⊥) → length (drop (option_end n) bytes) ≤ most
-      → HasResolution order (take most (drop (option_end n) bytes)) resolution → HasResolution order bytes resolution
-  has_behind bytes code n most resolution is some other long has =
-      has_later bytes code n resolution is some other
-      (subst (λ l. HasResolution order l resolution) (take_all most (drop (option_end n) bytes) long) has)
+  pub tells_behind : (bytes value : List ℕ) (other m most : ℕ) → IsOption order bytes other m → other ≢ 0
+      → ((other ≡ code) × (m ≡ n) → ⊥) → length (drop (option_end m) bytes) ≤ most
+      → Tells (take most (drop (option_end m) bytes)) value ↔ Tells bytes value
+  tells_behind bytes value other m most is some differs long =
+      let all = take_all most (drop (option_end m) bytes) long in (
+        λ tells. later other m is some differs (subst (λ l. Tells l value) all tells),
+        λ tells. subst (λ l. Tells l value) (sym all) (tells_later bytes value other m is differs tells),
+      )
 
-  pub option_of : (bytes : List ℕ) (code n : ℕ) → 4 ≤ length bytes → code ≡ number_in order (field 0 2) bytes
-      → n ≡ number_in order (field 2 4) bytes → option_end n ≤ length bytes → IsOption order bytes code n
-  option_of bytes code n there c l whole = record { there = there; code_ = sym c; length_ = sym l; whole = whole }
+  pub option_of : (bytes : List ℕ) (other m : ℕ) → 4 ≤ length bytes → other ≡ number_in order (field 0 2) bytes
+      → m ≡ number_in order (field 2 4) bytes → option_end m ≤ length bytes → IsOption order bytes other m
+  option_of bytes other m there c l whole = record { there = there; code_ = sym c; length_ = sym l; whole = whole }
 
-  -- no option, or the one that ends the list
-  pub has_none : (bytes : List ℕ) → ((code n : ℕ) → IsOption order bytes code n → code ≡ 0)
-      → HasResolution order bytes 6
-  has_none bytes none = microseconds at refl
-    where
-      at : (r : ℕ) → TellsResolution order bytes r → ⊥
-      at r (here found e) = let zero = none 9 1 found in omega (arith, zero)
-      at r (later code n is some other rest) = some (none code n is)
+  -- no option, or another one that ends the list
+  tells_none : (bytes value : List ℕ)
+      → ((other m : ℕ) → IsOption order bytes other m → (other ≡ 0) × ((other ≡ code) × (m ≡ n) → ⊥))
+      → Tells bytes value → ⊥
+  tells_none bytes value none (here found e) = (none code n found).1 (refl, refl)
+  tells_none bytes value none (later other m is some differs rest) = some ((none other m is).0)
 
-  one_told : (bytes : List ℕ) (r s : ℕ) → TellsResolution order bytes r → TellsResolution order bytes s → r ≡ s
-  one_told bytes r s (here found e) (here found' e') = e ∙ sym e'
-  one_told bytes r s (here found e) (later code n is some other rest) =
-      absurd (other (sym is.code_ ∙ found.code_, sym is.length_ ∙ found.length_))
-  one_told bytes r s (later code n is some other rest) tells =
-      one_told (drop (option_end n) bytes) r s rest (tells_later bytes code n s is other tells)
+  pub short_tells_none : (bytes value : List ℕ) → length bytes < 4 → Tells bytes value → ⊥
+  short_tells_none bytes value short = tells_none bytes value (λ other m is. absurd (omega (arith, short, is.there)))
 
-  pub one_resolution : (bytes : List ℕ) (r s : ℕ) → HasResolution order bytes r → HasResolution order bytes s → r ≡ s
-  one_resolution bytes r s (told t) (told u) = one_told bytes r s t u
-  one_resolution bytes r s (told t) (microseconds none e) = absurd (none r t)
-  one_resolution bytes r s (microseconds none e) (told u) = absurd (none s u)
-  one_resolution bytes r s (microseconds none e) (microseconds none' e') = e ∙ sym e'
+  pub cut_tells_none : (bytes value : List ℕ) (m : ℕ) → m ≡ number_in order (field 2 4) bytes
+      → length bytes < option_end m → Tells bytes value → ⊥
+  cut_tells_none bytes value m l short =
+      tells_none bytes value (λ other k is. let same : m ≡ k = l ∙ is.length_ in
+      absurd (omega (arith, same, short, is.whole)))
+
+  pub end_tells_none : (bytes value : List ℕ) (other m : ℕ) → other ≡ number_in order (field 0 2) bytes
+      → m ≡ number_in order (field 2 4) bytes → other ≡ 0 → ((other ≡ code) × (m ≡ n) → ⊥)
+      → Tells bytes value → ⊥
+  end_tells_none bytes value other m c l zero differs =
+      tells_none bytes value (λ other' m' is. (
+        sym is.code_ ∙ sym c ∙ zero,
+        λ both. differs (c ∙ is.code_ ∙ both.0, l ∙ is.length_ ∙ both.1),
+      ))
+
+  one_told : (bytes v w : List ℕ) → Tells bytes v → Tells bytes w → v ≡ w
+  one_told bytes v w (here found e) (here found' e') = e ∙ sym e'
+  one_told bytes v w (here found e) (later other m is some differs rest) =
+      absurd (differs (sym is.code_ ∙ found.code_, sym is.length_ ∙ found.length_))
+  one_told bytes v w (later other m is some differs rest) tells =
+      one_told (drop (option_end m) bytes) v w rest (tells_later bytes w other m is differs tells)
 
 -- ---- interfaces
 
-pub one_interface : (order : Order) (bytes : List ℕ) (link_type snap_len resolution : ℕ)
-    → link_type ≡ number_in order link_type_field bytes → snap_len ≡ number_in order snap_len_field bytes
-    → HasResolution order (part bytes 16 (length bytes - 4)) resolution → (i : Interface) → IsInterface order bytes i
-    → ◌≡◌ {A = Interface} (record { link_type = link_type; snap_len = snap_len; resolution = resolution }) i
-one_interface order bytes link_type snap_len resolution l s r i is =
-    let same : resolution ≡ i.resolution =
-    one_resolution order (part bytes 16 (length bytes - 4)) resolution i.resolution r is.resolution_ in
-    let link : link_type ≡ i.link_type = l ∙ sym is.link_type_ in
-    let snap : snap_len ≡ i.snap_len = s ∙ sym is.snap_len_ in
-    rw (link, snap, same) refl
+module _ (order : Order) (bytes : List ℕ) where
+  one_resolution : (r s : ℕ) → HasResolution order bytes r → HasResolution order bytes s → r ≡ s
+  one_resolution r s (told v t e) (told w u e') =
+      e ∙ ap (λ l. slice_index l 0) (one_told order 9 1 bytes v w t u) ∙ sym e'
+  one_resolution r s (told v t e) (microseconds none e') = absurd (none v t)
+  one_resolution r s (microseconds none e) (told w u e') = absurd (none w u)
+  one_resolution r s (microseconds none e) (microseconds none' e') = e ∙ sym e'
+
+  one_offset : (r s : ℤ) → HasOffset order bytes r → HasOffset order bytes s → r ≡ s
+  one_offset r s (moved_by v t e) (moved_by w u e') =
+      e ∙ ap (signed_number order) (one_told order 14 8 bytes v w t u) ∙ sym e'
+  one_offset r s (moved_by v t e) (not_moved none e') = absurd (none v t)
+  one_offset r s (not_moved none e) (moved_by w u e') = absurd (none w u)
+  one_offset r s (not_moved none e) (not_moved none' e') = e ∙ sym e'
+
+pub is_interface : (order : Order) (bytes options : List ℕ) (link_type snap_len resolution : ℕ) (offset said : ℤ)
+    → 20 ≤ length bytes → link_type ≡ number_in order link_type_field bytes
+    → snap_len ≡ number_in order snap_len_field bytes → options ≡ part bytes 16 (length bytes - 4)
+    → HasResolution order options resolution → HasOffset order options said → offset ≡ said
+    → IsInterface order bytes
+    (record { link_type = link_type; snap_len = snap_len; resolution = resolution; offset = offset })
+is_interface order bytes options link_type snap_len resolution offset said whole l s e r o same = record {
+  whole = whole;
+  link_type_ = l;
+  snap_len_ = s;
+  resolution_ = subst (λ l. HasResolution order l resolution) e r;
+  offset_ = subst (λ l. HasOffset order l offset) e (subst (HasOffset order options) (sym same) o);
+}
+
+pub one_interface : (order : Order) (bytes : List ℕ) (i j : Interface) → IsInterface order bytes i
+    → IsInterface order bytes j → i ≡ j
+one_interface order bytes i j is is' =
+    let options = part bytes 16 (length bytes - 4) in
+    let link : i.link_type ≡ j.link_type = is.link_type_ ∙ sym is'.link_type_ in
+    let snap : i.snap_len ≡ j.snap_len = is.snap_len_ ∙ sym is'.snap_len_ in
+    let same : i.resolution ≡ j.resolution =
+    one_resolution order options i.resolution j.resolution is.resolution_ is'.resolution_ in
+    let moves : i.offset ≡ j.offset = one_offset order options i.offset j.offset is.offset_ is'.offset_ in
+    rw (link, snap, same, moves) refl
 
 -- ---- packets
 

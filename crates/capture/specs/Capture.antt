@@ -1,11 +1,11 @@
 -- What the bytes of a capture hold: packets one after another, and what ends them.
 use Rattle.std.specs.Prelude.{◌≡◌, ◌≢◌, ℕ, ◌+◌, ◌-◌, ◌*◌, ◌^◌, ◌<◌, ◌≤◌, min, List, [], ◌∷◌, ◌++◌, length, take}
-use Rattle.std.specs.Prelude.{Option, None, Some}
+use Rattle.std.specs.Prelude.{Option, None, Some, ⊤}
 use Rattle.wirebase.specs.Bytes.{part}
 use Rattle.capture.specs.Packet.{PacketValue}
-use Rattle.capture.specs.Pcap.{IsFileHeader, FileEnds, IsRecord, RecordEnds}
+use Rattle.capture.specs.Pcap.{IsFileHeader, FileEnds, IsRecord, ShowsRecord, RecordEnds}
 use Rattle.capture.specs.Pcapng.{IsSectionKind, section_kind, IsRead, IsHead, HeadEnds, IsClosed, IsSection}
-use Rattle.capture.specs.Pcapng.{SectionEnds, IsInterface, IsPacket}
+use Rattle.capture.specs.Pcapng.{SectionEnds, IsInterface, IsPacket, ShowsPacket}
 use Rattle.capture.specs.declared.capture.Capture.{Capture}
 use Rattle.capture.specs.declared.capture.Next.{Next}
 use Rattle.capture.specs.declared.capture.Next.TheVariants as next
@@ -101,6 +101,17 @@ pub data Ends (s : State) (bytes : List ℕ) (ending : Ending) : Type 0 where
       → Ends s bytes ending
   no_block : (section : Order) → s.stage ≡ stage.Section section → BlockEnds section s.interfaces bytes ending
       → Ends s bytes ending
+
+-- These bytes show the record or block that is read next as a whole, and it holds a packet; at the start nothing is
+-- known of what comes, and behind the end nothing is read.
+abbrev pub ShowsNext : Stage → List ℕ → Type 0
+ShowsNext stage.Start shown = ⊥
+ShowsNext (stage.File h) shown = ShowsRecord most_octets h.order shown
+ShowsNext (stage.Section section) shown = ShowsPacket section shown
+ShowsNext (stage.End ending) shown = ⊤
+
+abbrev pub ShowsUnit : State → List ℕ → Type 0
+ShowsUnit s shown = ShowsNext s.stage shown
 
 -- The definition of a capture: read as far as a state tells, it holds these packets in the bytes that are left, and
 -- then ends so.

@@ -1,5 +1,6 @@
 -- Numbers in the order of bytes of the machine that wrote a file.
-use Rattle.std.specs.Prelude.{ℕ, ◌-◌, List}
+use Rattle.std.specs.Int.{w64, cast_signed}
+use Rattle.std.specs.Prelude.{ℕ, ◌-◌, ℤ, List}
 use Rattle.byteorder.specs.Endian.{big_number, little_number}
 use Rattle.wirebase.specs.Bytes.{Field, bytes_of}
 use Rattle.capture.specs.declared.order.Order.{Order}
@@ -9,6 +10,10 @@ use Rattle.capture.specs.declared.order.Order.TheVariants.{Big, Little}
 abbrev pub number : Order → ℕ → List ℕ → ℕ
 number Big n bytes = big_number n bytes
 number Little n bytes = little_number n bytes
+
+-- the signed number in the first eight bytes, in two's complement
+abbrev pub signed_number : Order → List ℕ → ℤ
+signed_number order bytes = cast_signed w64 (number order 8 bytes)
 
 -- the number in a field
 abbrev pub number_in : Order → Field → List ℕ → ℕ

@@ -114,6 +114,12 @@ pub record IsRecord (most : ℕ) (h : FileHeader) (bytes : List ℕ) (p : Packet
   pub original_len_ : p.original_len ≡ head.original_len
   pub octets_ : p.octets ≡ part bytes 16 (16 + head.captured_len)
 
+-- the bytes begin with a whole record of at most so many bytes, by the length that its header tells
+pub record ShowsRecord (most : ℕ) (order : Order) (bytes : List ℕ) : Type 0 where
+  pub head : Reaches original_len_field bytes
+  pub few : number_in order captured_len_field bytes ≤ most
+  pub whole : 16 + number_in order captured_len_field bytes ≤ length bytes
+
 -- what ends a file that goes on with these bytes, and so with no record of at most so many bytes
 pub data RecordEnds (most : ℕ) (h : FileHeader) (bytes : List ℕ) : Ending → Type 0 where
   whole_ : bytes ≡ [] → RecordEnds most h bytes Whole

@@ -46,11 +46,11 @@
 -- |  the packet, padded to four bytes
 -- +- - - - - - - - - - - - - - - -
 use Rattle.std.specs.Prelude.{◌≡◌, ◌≢◌, ℕ, ◌+◌, ◌-◌, ◌*◌, ◌/◌, ◌%◌, ◌<◌, ◌≤◌, ◌⊎◌, ◌==◌, min, List, [], length}
-use Rattle.std.specs.Prelude.{drop, slice_index, slice_get, Some, if◌then◌else◌}
+use Rattle.std.specs.Prelude.{ℤ, pos, drop, slice_index, slice_get, Some, if◌then◌else◌}
 use Rattle.wirebase.specs.Bytes.{Field, field, part}
-use Rattle.capture.specs.Order.{number, number_in}
+use Rattle.capture.specs.Order.{number, signed_number, number_in}
 use Rattle.capture.specs.Packet.{PacketValue}
-use Rattle.capture.specs.Time.{nanoseconds_of}
+use Rattle.capture.specs.Time.{nanoseconds_of, moved}
 use Rattle.capture.specs.declared.ending.Ending.{Ending}
 use Rattle.capture.specs.declared.ending.Ending.TheVariants.{Whole, Cut, TooLarge, Malformed, Version}
 use Rattle.capture.specs.declared.order.Order.{Order}
@@ -164,23 +164,28 @@ pub record IsOption (order : Order) (bytes : List ℕ) (code n : ℕ) : Type 0 w
   pub length_ : number_in order (field 2 4) bytes ≡ n
   pub whole : option_end n ≤ length bytes
 
--- an option that is read: if_tsresol, of one byte
-abbrev pub IsResolution : ℕ → ℕ → Type 0
-IsResolution code n = (code ≡ 9) × (n ≡ 1)
+-- The first option of a code, with a value of so many bytes, has this value; option 0 ends the list, and so does one
+-- that is cut short.
+pub data TellsOption (order : Order) (code n : ℕ) : List ℕ → List ℕ → Type 0 where
+  here : {bytes value : List ℕ} → IsOption order bytes code n → value ≡ part bytes 4 (4 + n)
+      → TellsOption order code n bytes value
+  later : {bytes value : List ℕ} (other m : ℕ) → IsOption order bytes other m → other ≢ 0
+      → ((other ≡ code) × (m ≡ n) → ⊥) → TellsOption order code n (drop (option_end m) bytes) value
+      → TellsOption order code n bytes value
 
--- The first option that tells a resolution tells this one; option 0 ends the list, and so does one that is cut short.
-pub data TellsResolution (order : Order) : List ℕ → ℕ → Type 0 where
-  here : {bytes : List ℕ} {resolution : ℕ} → IsOption order bytes 9 1 → resolution ≡ slice_index bytes 4
-      → TellsResolution order bytes resolution
-  later : {bytes : List ℕ} {resolution : ℕ} (code n : ℕ) → IsOption order bytes code n → code ≢ 0
-      → (IsResolution code n → ⊥) → TellsResolution order (drop (option_end n) bytes) resolution
-      → TellsResolution order bytes resolution
-
--- the resolution that options tell, or else microseconds
+-- the resolution that options tell, by if_tsresol of one byte, or else microseconds
 pub data HasResolution (order : Order) (options : List ℕ) (resolution : ℕ) : Type 0 where
-  told : TellsResolution order options resolution → HasResolution order options resolution
-  microseconds : ((other : ℕ) → TellsResolution order options other → ⊥) → resolution ≡ 6
+  told : (value : List ℕ) → TellsOption order 9 1 options value → resolution ≡ slice_index value 0
       → HasResolution order options resolution
+  microseconds : ((value : List ℕ) → TellsOption order 9 1 options value → ⊥) → resolution ≡ 6
+      → HasResolution order options resolution
+
+-- the seconds that options add to each time, by if_tsoffset of eight bytes, or else none
+pub data HasOffset (order : Order) (options : List ℕ) (offset : ℤ) : Type 0 where
+  moved_by : (value : List ℕ) → TellsOption order 14 8 options value → offset ≡ signed_number order value
+      → HasOffset order options offset
+  not_moved : ((value : List ℕ) → TellsOption order 14 8 options value → ⊥) → offset ≡ pos 0
+      → HasOffset order options offset
 
 -- The grammar of an interface description.
 pub record IsInterface (order : Order) (bytes : List ℕ) (i : Interface) : Type 0 where
@@ -188,6 +193,7 @@ pub record IsInterface (order : Order) (bytes : List ℕ) (i : Interface) : Type
   pub link_type_ : i.link_type ≡ number_in order link_type_field bytes
   pub snap_len_ : i.snap_len ≡ number_in order snap_len_field bytes
   pub resolution_ : HasResolution order (part bytes 16 (length bytes - 4)) i.resolution
+  pub offset_ : HasOffset order (part bytes 16 (length bytes - 4)) i.offset
 
 -- ---- packets
 
@@ -210,8 +216,8 @@ pub record IsTimed (order : Order) (interfaces : List Interface) (place : ℕ) (
   pub interface : Interface
   pub described : slice_get interfaces place ≡ Some interface
   pub fits : 32 + number_in order captured_len_field bytes ≤ length bytes
-  pub time : p.nanoseconds ≡ nanoseconds_of interface.resolution
-      (number_in order ticks_high_field bytes * 4294967296 + number_in order ticks_low_field bytes)
+  pub time : p.nanoseconds ≡ moved interface.offset (nanoseconds_of interface.resolution
+      (number_in order ticks_high_field bytes * 4294967296 + number_in order ticks_low_field bytes))
   pub link_type_ : p.link_type ≡ interface.link_type
   pub original_len_ : p.original_len ≡ number_in order original_len_field bytes
   pub octets_ : p.octets ≡ part bytes 28 (28 + number_in order captured_len_field bytes)
@@ -239,3 +245,17 @@ pub data IsPacket (order : Order) (interfaces : List Interface) (bytes : List �
   simple : kind ≡ 3 → IsSimple order interfaces bytes p → IsPacket order interfaces bytes p kind
   enhanced : kind ≡ 6 → IsTimed order interfaces (number_in order (field 8 12) bytes) bytes p
       → IsPacket order interfaces bytes p kind
+
+-- the kinds of blocks that hold a packet
+pub data HoldsPacket (kind : ℕ) : Type 0 where
+  holds_obsolete : kind ≡ 2 → HoldsPacket kind
+  holds_simple : kind ≡ 3 → HoldsPacket kind
+  holds_enhanced : kind ≡ 6 → HoldsPacket kind
+
+-- the bytes begin with a whole block that holds a packet, by the kind and the length that its head tells
+pub record ShowsPacket (section : Order) (bytes : List ℕ) : Type 0 where
+  pub head : 12 ≤ length bytes
+  pub kind : HoldsPacket (number_in section kind_field bytes)
+  pub length_ : IsLength (number_in section total_len_field bytes)
+  pub few : number_in section total_len_field bytes ≤ 524288
+  pub whole : number_in section total_len_field bytes ≤ length bytes

@@ -1,5 +1,5 @@
 -- The time of a packet, as the number of nanoseconds since 1970-01-01 00:00:00 UTC.
-use Rattle.std.specs.Prelude.{◌≡◌, ℕ, ◌+◌, ◌-◌, ◌*◌, ◌/◌, ◌^◌, ◌<◌, nat_lt, if◌then◌else◌}
+use Rattle.std.specs.Prelude.{◌≡◌, ℕ, ◌+◌, ◌-◌, ◌*◌, ◌/◌, ◌%◌, ◌^◌, ◌<◌, min, ℤ, pos, negsuc, nat_lt, if◌then◌else◌}
 use Rattle.capture.specs.declared.pcap.Precision.{Precision}
 use Rattle.capture.specs.declared.pcap.Precision.TheVariants.{Micro, Nano}
 use Rattle.capture.specs.declared.time.Time.{Time}
@@ -17,6 +17,14 @@ units resolution = if nat_lt resolution 128 then 10 ^ resolution else 2 ^ (resol
 -- the whole nanoseconds in so many units of a resolution
 abbrev pub nanoseconds_of : ℕ → ℕ → ℕ
 nanoseconds_of resolution ticks = ticks * 1000000000 / units resolution
+
+-- A time that is moved by a signed number of seconds: 1970-01-01 where it would be earlier, and where its seconds would
+-- be more than 64 bits hold, the most that they hold, with the same part of a second
+-- (draft-ietf-opsawg-pcapng section 4.2, if_tsoffset).
+unfoldable pub moved : ℤ → ℕ → ℕ
+moved (pos seconds) nanoseconds =
+    min (nanoseconds + seconds * 1000000000) (18446744073709551615 * 1000000000 + nanoseconds % 1000000000)
+moved (negsuc seconds) nanoseconds = nanoseconds - (seconds + 1) * 1000000000
 
 -- the nanoseconds in a fraction of a second
 abbrev pub fraction_of : Precision → ℕ → ℕ

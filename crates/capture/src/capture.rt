@@ -1,8 +1,8 @@
 //! The records of a capture, read one after another in bounded memory.
 
-ghost use Rattle.std.specs.Prelude.{◌≡◌, ◌≤◌, ◌⊎◌, ℕ, List, [], IfOk, IfErr, IfSome, length};
+ghost use Rattle.std.specs.Prelude.{◌≡◌, ◌≤◌, ◌⊎◌, ◌↔◌, ℕ, List, [], IfOk, IfErr, IfSome, IsTrue, length};
 ghost use Rattle.capture.specs.Capture.{IfRecord, state, state_of, octets_of, count_of, packet_of, GivesNext};
-ghost use Rattle.capture.specs.Capture.{IsInOrder};
+ghost use Rattle.capture.specs.Capture.{IsInOrder, ShowsUnit};
 ghost use Rattle.capture.specs.Packet.{packet_in, IsPlace};
 ghost use Rattle.capture.specs.Reader.{Reads};
 ghost use Rattle.capture.specs.Taken.{BlockTakes, BlockGives, StepGives, SectionTakes, InterfaceTakes, PacketTakes};
@@ -122,6 +122,22 @@ impl Capture {
             }
         }
         Err(Fault::Read)
+    }
+
+    /// Whether these octets, which the input's buffer shows, have the whole record or block of the next packet, so that
+    /// `next` need not wait for more. It is false at the start of a capture, before a block without a packet, and before
+    /// one that is longer than is kept; at the end it is true. A program that prints packets as they come writes out its
+    /// output where this is false, before it reads on.
+    #[inline]
+    pub fn shows_next(&self, shown: &[u8]) -> bool
+        ensures { IsTrue result ↔ ShowsUnit (state_of self.now) shown.now }
+    {
+        match self.stage {
+            Stage::Start => false,
+            Stage::File(header) => pcap::shows_record(header.order, shown),
+            Stage::Section(section) => pcapng::shows_packet(section, shown),
+            Stage::End(_) => true,
+        }
     }
 
     /// The bytes of the packet that was read last.

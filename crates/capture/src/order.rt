@@ -2,7 +2,7 @@
 
 ghost use Rattle.std.specs.Prelude.{◌≡◌, ◌≤◌, ◌+◌, length};
 ghost use Rattle.wirebase.specs.Bytes.{part};
-ghost use Rattle.capture.specs.Order.{number};
+ghost use Rattle.capture.specs.Order.{number, signed_number};
 
 use byteorder::{BigEndian, ByteOrder, LittleEndian};
 use wirebase::{Field, Octets};
@@ -40,6 +40,17 @@ impl Order {
         match self {
             Order::Big => BigEndian::read_u32(bytes),
             Order::Little => LittleEndian::read_u32(bytes),
+        }
+    }
+
+    /// The signed number in the first eight bytes. Requires that they are there.
+    pub fn i64_of(self, octets: &[u8]) -> i64
+        requires { 8 ≤ length octets.now }
+        ensures { result ≡ signed_number self octets.now }
+    {
+        match self {
+            Order::Big => BigEndian::read_i64(octets),
+            Order::Little => LittleEndian::read_i64(octets),
         }
     }
 }

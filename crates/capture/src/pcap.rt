@@ -1,8 +1,9 @@
 //! The headers of a pcap file and of its records (draft-ietf-opsawg-pcap sections 4 and 5).
 
-ghost use Rattle.std.specs.Prelude.{◌≡◌, ◌≤◌, ◌+◌, ◌*◌, IfOk, IfErr, IfSome, IsNone, IsOkAnd, length};
+ghost use Rattle.std.specs.Prelude.{◌≡◌, ◌≤◌, ◌+◌, ◌*◌, ◌↔◌, IfOk, IfErr, IfSome, IsNone, IsOkAnd, IsTrue, length};
 ghost use Rattle.capture.specs.Time.{IsTime, fraction_of};
-ghost use Rattle.capture.specs.Pcap.{HasMagic, IsFileHeader, FileEnds, IsRecordHeader};
+ghost use Rattle.capture.specs.Capture.{most_octets};
+ghost use Rattle.capture.specs.Pcap.{HasMagic, IsFileHeader, FileEnds, IsRecordHeader, ShowsRecord};
 ghost use Rattle.capture.specs.declared.ending.Ending.{Ending};
 ghost use Rattle.capture.specs.declared.pcap.FileHeader.{FileHeader as Header};
 
@@ -129,6 +130,18 @@ impl RecordHeader {
             original_len: order.u32_at(octets, field::ORIGINAL_LEN),
         }
     }
+}
+
+/// Whether the octets begin with a whole record, of at most `MOST_OCTETS` bytes.
+#[inline]
+pub fn shows_record(order: Order, octets: &[u8]) -> bool
+    ensures { IsTrue result ↔ ShowsRecord most_octets order octets.now }
+{
+    if octets.len() < RECORD_HEADER_LEN {
+        return false;
+    }
+    let captured_len = order.u32_at(octets, field::CAPTURED_LEN);
+    captured_len <= MOST_OCTETS && captured_len as usize <= octets.len() - RECORD_HEADER_LEN
 }
 
 impl UnitHead for RecordHeader {

@@ -1,10 +1,11 @@
 //! The blocks of a pcapng file (draft-ietf-opsawg-pcapng sections 3 and 4).
 
-ghost use Rattle.std.specs.Prelude.{◌≡◌, ◌≤◌, ◌↔◌, IfOk, IfErr, IfSome, IsOk, IsOkAnd, IsSomeAnd, IsTrue, length};
+ghost use Rattle.std.specs.Prelude.{◌≡◌, ◌≤◌, ◌↔◌, ℕ, List, IfOk, IfErr, IfSome, IsNone, IsOk, IsOkAnd, IsSomeAnd, IsTrue};
+ghost use Rattle.std.specs.Prelude.{length};
 ghost use Rattle.capture.specs.Order.{number_in};
 ghost use Rattle.capture.specs.Pcapng.{kind_field, IsSectionKind, HasOrder, IsRead, IsHead, HeadEnds};
-ghost use Rattle.capture.specs.Pcapng.{IsClosed, IsSection, SectionEnds};
-ghost use Rattle.capture.specs.Pcapng.{HasResolution, IsInterface, IsTimed, IsSimple, IsPacket};
+ghost use Rattle.capture.specs.Pcapng.{HoldsPacket, ShowsPacket, IsClosed, IsSection, SectionEnds};
+ghost use Rattle.capture.specs.Pcapng.{TellsOption, HasResolution, HasOffset, IsInterface, IsTimed, IsSimple, IsPacket};
 ghost use Rattle.capture.specs.Pcapng.{kept_len};
 ghost use Rattle.capture.specs.Packet.{PacketValue, packet_in, IsPlace};
 ghost use Rattle.capture.specs.declared.order.Order.{Order as AnOrder};
@@ -104,6 +105,9 @@ pub const ENHANCED_PACKET: u32 = 6;
 const IF_TSRESOL: u16 = 9;
 
 const MICROSECONDS: u8 = 6;
+
+// The code of the option that tells what is added to each time.
+const IF_TSOFFSET: u16 = 14;
 
 /// What stands in front of a block.
 #[derive(Debug, PartialEq, Eq, Clone, Copy)]
@@ -206,6 +210,29 @@ pub fn is_read(kind: u32) -> bool
     )
 }
 
+/// Whether blocks of this kind hold a packet.
+pub fn holds_packet(kind: u32) -> bool
+    ensures { IsTrue result ↔ HoldsPacket kind }
+{
+    matches!(kind, OBSOLETE_PACKET | SIMPLE_PACKET | ENHANCED_PACKET)
+}
+
+/// Whether the octets begin with a whole block that holds a packet, of at most `MOST_BLOCK_OCTETS` bytes, in a section
+/// of this order.
+#[inline]
+pub fn shows_packet(section: Order, octets: &[u8]) -> bool
+    ensures { IsTrue result ↔ ShowsPacket section octets.now }
+{
+    if octets.len() < HEAD_LEN || !holds_packet(section.u32_at(octets, field::KIND)) {
+        return false;
+    }
+    let total_len = section.u32_at(octets, field::TOTAL_LEN);
+    total_len >= 12
+        && total_len % 4 == 0
+        && total_len <= MOST_BLOCK_OCTETS
+        && total_len as usize <= octets.len()
+}
+
 /// Whether the last four bytes of a block are its length again. Requires at least 12 bytes.
 pub fn is_closed(order: Order, block: &[u8]) -> bool
     requires { 12 ≤ length block.now }
@@ -240,6 +267,8 @@ pub struct Interface {
     pub snap_len: u32,
     /// What the times count: below 128 a number of decimal digits of a second, from 128 on of binary ones.
     pub resolution: u8,
+    /// The seconds that are added to each time.
+    pub offset: i64,
 }
 
 impl Interface {
@@ -253,10 +282,12 @@ impl Interface {
         if len < field::OPTIONS + field::TRAILER {
             return Err(Error);
         }
+        let options = block.range(field::OPTIONS, len - field::TRAILER);
         Ok(Interface {
             link_type: order.u16_at(block, field::LINK_TYPE),
             snap_len: order.u32_at(block, field::SNAP_LEN),
-            resolution: resolution(order, block.range(field::OPTIONS, len - field::TRAILER)),
+            resolution: resolution(order, options),
+            offset: offset(order, options),
         })
     }
 }
@@ -265,20 +296,45 @@ impl Interface {
 fn resolution(order: Order, options: &[u8]) -> u8
     ensures { HasResolution order options.now result }
 {
+    match first_option(order, options, IF_TSRESOL, 1) {
+        Some(value) => value[0],
+        None => MICROSECONDS,
+    }
+}
+
+// The seconds that options add to each time, or else none.
+fn offset(order: Order, options: &[u8]) -> i64
+    ensures { HasOffset order options.now result }
+{
+    match first_option(order, options, IF_TSOFFSET, 8) {
+        Some(value) => order.i64_of(value),
+        None => 0,
+    }
+}
+
+// The value of the first option of a code whose value has so many bytes.
+fn first_option(order: Order, options: &[u8], code: u16, len: u16) -> Option<&[u8]>
+    ensures tells { IfSome result (λ value. TellsOption order code len options.now value.now) }
+    ensures len { IfSome result (λ value. length value.now ≡ len) }
+    ensures none { IsNone result → (value : List ℕ) → TellsOption order code len options.now value → ⊥ }
+{
     let mut rest = options;
     'options: while rest.len() >= field::VALUE {
-        let code = order.u16_at(rest, field::CODE);
-        let len = order.u16_at(rest, field::LENGTH) as usize;
-        let end = field::VALUE + (len + 3) / 4 * 4;
-        if code == 0 || rest.len() < end {
-            return MICROSECONDS;
+        let rest_code = order.u16_at(rest, field::CODE);
+        let rest_len = order.u16_at(rest, field::LENGTH);
+        let end = field::VALUE + (rest_len as usize + 3) / 4 * 4;
+        if rest.len() < end {
+            return None;
         }
-        if code == IF_TSRESOL && len == 1 {
-            return rest[field::VALUE];
+        if rest_code == code && rest_len == len {
+            return Some(&rest[field::VALUE..field::VALUE + len as usize]);
+        }
+        if rest_code == 0 {
+            return None;
         }
         rest = &rest[end..];
     }
-    MICROSECONDS
+    None
 }
 
 /// The packet that a block of a kind holds, in a section with these interfaces. Refused where the block is too
@@ -337,11 +393,12 @@ fn timed(
     }
     let high = order.u32_at(block, field::TICKS_HIGH);
     let low = order.u32_at(block, field::TICKS_LOW);
+    let told = Time::of_ticks(
+        high as u64 * 4_294_967_296 + low as u64,
+        interface.resolution,
+    );
     Ok(Packet {
-        time: Time::of_ticks(
-            high as u64 * 4_294_967_296 + low as u64,
-            interface.resolution,
-        ),
+        time: told.moved(interface.offset),
         link_type: interface.link_type,
         original_len: order.u32_at(block, field::ORIGINAL_LEN),
         start: field::PACKET,

@@ -1,7 +1,7 @@
 //! The times of packets.
 
-ghost use Rattle.std.specs.Prelude.{◌≡◌, ◌+◌, ◌*◌, ◌/◌, ◌^◌, ◌<◌};
-ghost use Rattle.capture.specs.Time.{IsTime, nanoseconds_of, fraction_of};
+ghost use Rattle.std.specs.Prelude.{◌≡◌, ◌+◌, ◌-◌, ◌*◌, ◌/◌, ◌%◌, ◌^◌, ◌<◌, min};
+ghost use Rattle.capture.specs.Time.{IsTime, nanoseconds_of, fraction_of, moved};
 
 use crate::pcap::Precision;
 
@@ -49,6 +49,47 @@ impl Time {
             6 => Time::of_micros(ticks),
             9 => Time::of_nanos(ticks),
             _ => Time::of_nanoseconds(nanoseconds(ticks, resolution)),
+        }
+    }
+
+    // The time so many seconds later, or earlier where they are negative. One before 1970 is 1970-01-01, and the seconds
+    // are at most what 64 bits hold.
+    #[inline]
+    pub(crate) fn moved(self, seconds: i64) -> Time
+        requires { self.nanoseconds < 1000000000 }
+        ensures { IsTime result (moved seconds (self.seconds * 1000000000 + self.nanoseconds)) }
+    {
+        if seconds < 0 {
+            return self.earlier(seconds.unsigned_abs());
+        }
+        self.later(seconds as u64)
+    }
+
+    // The time so many seconds later, whose seconds are at most what 64 bits hold.
+    #[inline]
+    fn later(self, seconds: u64) -> Time
+        requires { self.nanoseconds < 1000000000 }
+        ensures { IsTime result (min (self.seconds * 1000000000 + self.nanoseconds + seconds * 1000000000)
+            (18446744073709551615 * 1000000000
+            + (self.seconds * 1000000000 + self.nanoseconds) % 1000000000)) }
+    {
+        Time {
+            seconds: self.seconds.saturating_add(seconds),
+            nanoseconds: self.nanoseconds,
+        }
+    }
+
+    // The time so many seconds earlier, or 1970-01-01 where that is before it.
+    fn earlier(self, seconds: u64) -> Time
+        requires { self.nanoseconds < 1000000000 }
+        ensures { IsTime result (self.seconds * 1000000000 + self.nanoseconds - seconds * 1000000000) }
+    {
+        match self.seconds.checked_sub(seconds) {
+            Some(seconds) => Time {
+                seconds,
+                nanoseconds: self.nanoseconds,
+            },
+            None => Time::ZERO,
         }
     }
 

@@ -1,4 +1,6 @@
 mod faults;
+mod offsets;
+mod shown;
 
 use super::{Capture, Next, Record};
 use crate::ending::Ending;

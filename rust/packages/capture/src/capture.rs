@@ -108,6 +108,20 @@ impl Capture {
         Err(Fault::Read)
     }
 
+    /// Whether these octets, which the input's buffer shows, have the whole record or block of the next packet, so that
+    /// `next` need not wait for more. It is false at the start of a capture, before a block without a packet, and before
+    /// one that is longer than is kept; at the end it is true. A program that prints packets as they come writes out its
+    /// output where this is false, before it reads on.
+    #[inline]
+    pub fn shows_next(&self, shown: &[u8]) -> bool {
+        match self.stage {
+            Stage::Start => false,
+            Stage::File(header) => pcap::shows_record(header.order, shown),
+            Stage::Section(section) => pcapng::shows_packet(section, shown),
+            Stage::End(_) => true,
+        }
+    }
+
     /// The bytes of the packet that was read last.
     pub fn octets(&self) -> &[u8] {
         let octets = self.octets.as_slice();

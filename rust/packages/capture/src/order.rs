@@ -31,4 +31,12 @@ impl Order {
             Order::Little => LittleEndian::read_u32(bytes),
         }
     }
+
+    /// The signed number in the first eight bytes. Requires that they are there.
+    pub fn i64_of(self, octets: &[u8]) -> i64 {
+        match self {
+            Order::Big => BigEndian::read_i64(octets),
+            Order::Little => LittleEndian::read_i64(octets),
+        }
+    }
 }

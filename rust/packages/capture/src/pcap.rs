@@ -115,6 +115,16 @@ impl RecordHeader {
     }
 }
 
+/// Whether the octets begin with a whole record, of at most `MOST_OCTETS` bytes.
+#[inline]
+pub fn shows_record(order: Order, octets: &[u8]) -> bool {
+    if octets.len() < RECORD_HEADER_LEN {
+        return false;
+    }
+    let captured_len = order.u32_at(octets, field::CAPTURED_LEN);
+    captured_len <= MOST_OCTETS && captured_len as usize <= octets.len() - RECORD_HEADER_LEN
+}
+
 impl UnitHead for RecordHeader {
     const LEN: usize = RECORD_HEADER_LEN;
 

@@ -95,6 +95,9 @@ const IF_TSRESOL: u16 = 9;
 
 const MICROSECONDS: u8 = 6;
 
+// The code of the option that tells what is added to each time.
+const IF_TSOFFSET: u16 = 14;
+
 /// What stands in front of a block.
 #[derive(Debug, PartialEq, Eq, Clone, Copy)]
 pub struct Head {
@@ -177,6 +180,25 @@ pub fn is_read(kind: u32) -> bool {
     )
 }
 
+/// Whether blocks of this kind hold a packet.
+pub fn holds_packet(kind: u32) -> bool {
+    matches!(kind, OBSOLETE_PACKET | SIMPLE_PACKET | ENHANCED_PACKET)
+}
+
+/// Whether the octets begin with a whole block that holds a packet, of at most `MOST_BLOCK_OCTETS` bytes, in a section
+/// of this order.
+#[inline]
+pub fn shows_packet(section: Order, octets: &[u8]) -> bool {
+    if octets.len() < HEAD_LEN || !holds_packet(section.u32_at(octets, field::KIND)) {
+        return false;
+    }
+    let total_len = section.u32_at(octets, field::TOTAL_LEN);
+    total_len >= 12
+        && total_len % 4 == 0
+        && total_len <= MOST_BLOCK_OCTETS
+        && total_len as usize <= octets.len()
+}
+
 /// Whether the last four bytes of a block are its length again. Requires at least 12 bytes.
 pub fn is_closed(order: Order, block: &[u8]) -> bool {
     let len = block.len();
@@ -205,6 +227,8 @@ pub struct Interface {
     pub snap_len: u32,
     /// What the times count: below 128 a number of decimal digits of a second, from 128 on of binary ones.
     pub resolution: u8,
+    /// The seconds that are added to each time.
+    pub offset: i64,
 }
 
 impl Interface {
@@ -214,30 +238,51 @@ impl Interface {
         if len < field::OPTIONS + field::TRAILER {
             return Err(Error);
         }
+        let options = block.range(field::OPTIONS, len - field::TRAILER);
         Ok(Interface {
             link_type: order.u16_at(block, field::LINK_TYPE),
             snap_len: order.u32_at(block, field::SNAP_LEN),
-            resolution: resolution(order, block.range(field::OPTIONS, len - field::TRAILER)),
+            resolution: resolution(order, options),
+            offset: offset(order, options),
         })
     }
 }
 
 // The resolution that options tell, or else microseconds.
 fn resolution(order: Order, options: &[u8]) -> u8 {
+    match first_option(order, options, IF_TSRESOL, 1) {
+        Some(value) => value[0],
+        None => MICROSECONDS,
+    }
+}
+
+// The seconds that options add to each time, or else none.
+fn offset(order: Order, options: &[u8]) -> i64 {
+    match first_option(order, options, IF_TSOFFSET, 8) {
+        Some(value) => order.i64_of(value),
+        None => 0,
+    }
+}
+
+// The value of the first option of a code whose value has so many bytes.
+fn first_option(order: Order, options: &[u8], code: u16, len: u16) -> Option<&[u8]> {
     let mut rest = options;
     while rest.len() >= field::VALUE {
-        let code = order.u16_at(rest, field::CODE);
-        let len = order.u16_at(rest, field::LENGTH) as usize;
-        let end = field::VALUE + (len + 3) / 4 * 4;
-        if code == 0 || rest.len() < end {
-            return MICROSECONDS;
+        let rest_code = order.u16_at(rest, field::CODE);
+        let rest_len = order.u16_at(rest, field::LENGTH);
+        let end = field::VALUE + (rest_len as usize + 3) / 4 * 4;
+        if rest.len() < end {
+            return None;
         }
-        if code == IF_TSRESOL && len == 1 {
-            return rest[field::VALUE];
+        if rest_code == code && rest_len == len {
+            return Some(&rest[field::VALUE..field::VALUE + len as usize]);
+        }
+        if rest_code == 0 {
+            return None;
         }
         rest = &rest[end..];
     }
-    MICROSECONDS
+    None
 }
 
 /// The packet that a block of a kind holds, in a section with these interfaces. Refused where the block is too
@@ -286,11 +331,12 @@ fn timed(
     }
     let high = order.u32_at(block, field::TICKS_HIGH);
     let low = order.u32_at(block, field::TICKS_LOW);
+    let told = Time::of_ticks(
+        high as u64 * 4_294_967_296 + low as u64,
+        interface.resolution,
+    );
     Ok(Packet {
-        time: Time::of_ticks(
-            high as u64 * 4_294_967_296 + low as u64,
-            interface.resolution,
-        ),
+        time: told.moved(interface.offset),
         link_type: interface.link_type,
         original_len: order.u32_at(block, field::ORIGINAL_LEN),
         start: field::PACKET,

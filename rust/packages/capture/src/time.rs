@@ -46,6 +46,36 @@ impl Time {
         }
     }
 
+    // The time so many seconds later, or earlier where they are negative. One before 1970 is 1970-01-01, and the seconds
+    // are at most what 64 bits hold.
+    #[inline]
+    pub(crate) fn moved(self, seconds: i64) -> Time {
+        if seconds < 0 {
+            return self.earlier(seconds.unsigned_abs());
+        }
+        self.later(seconds as u64)
+    }
+
+    // The time so many seconds later, whose seconds are at most what 64 bits hold.
+    #[inline]
+    fn later(self, seconds: u64) -> Time {
+        Time {
+            seconds: self.seconds.saturating_add(seconds),
+            nanoseconds: self.nanoseconds,
+        }
+    }
+
+    // The time so many seconds earlier, or 1970-01-01 where that is before it.
+    fn earlier(self, seconds: u64) -> Time {
+        match self.seconds.checked_sub(seconds) {
+            Some(seconds) => Time {
+                seconds,
+                nanoseconds: self.nanoseconds,
+            },
+            None => Time::ZERO,
+        }
+    }
+
     // The time of so many microseconds.
     fn of_micros(micros: u64) -> Time {
         Time {

@@ -2,6 +2,8 @@
 #[allow(unused_imports)]
 use rattle_std::prelude::*;
 mod faults;
+mod offsets;
+mod shown;
 
 use super::{Capture, Next, Record};
 use crate::ending::Ending;
