@@ -369,6 +369,7 @@ pub fn parse_packet(
 }
 
 // An enhanced or an obsolete packet, of the interface at a place.
+#[inline]
 fn timed(
     order: Order,
     interfaces: &[Interface],

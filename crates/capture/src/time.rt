@@ -59,6 +59,18 @@ impl Time {
         requires { self.nanoseconds < 1000000000 }
         ensures { IsTime result (moved seconds (self.seconds * 1000000000 + self.nanoseconds)) }
     {
+        if seconds == 0 {
+            return self;
+        }
+        self.shifted(seconds)
+    }
+
+    // The same of any seconds, out of the way of nearly all captures, whose times are not moved.
+    #[inline(never)]
+    fn shifted(self, seconds: i64) -> Time
+        requires { self.nanoseconds < 1000000000 }
+        ensures { IsTime result (moved seconds (self.seconds * 1000000000 + self.nanoseconds)) }
+    {
         if seconds < 0 {
             return self.earlier(seconds.unsigned_abs());
         }
@@ -66,7 +78,6 @@ impl Time {
     }
 
     // The time so many seconds later, whose seconds are at most what 64 bits hold.
-    #[inline]
     fn later(self, seconds: u64) -> Time
         requires { self.nanoseconds < 1000000000 }
         ensures { IsTime result (min (self.seconds * 1000000000 + self.nanoseconds + seconds * 1000000000)

@@ -50,6 +50,15 @@ impl Time {
     // are at most what 64 bits hold.
     #[inline]
     pub(crate) fn moved(self, seconds: i64) -> Time {
+        if seconds == 0 {
+            return self;
+        }
+        self.shifted(seconds)
+    }
+
+    // The same of any seconds, out of the way of nearly all captures, whose times are not moved.
+    #[inline(never)]
+    fn shifted(self, seconds: i64) -> Time {
         if seconds < 0 {
             return self.earlier(seconds.unsigned_abs());
         }
@@ -57,7 +66,6 @@ impl Time {
     }
 
     // The time so many seconds later, whose seconds are at most what 64 bits hold.
-    #[inline]
     fn later(self, seconds: u64) -> Time {
         Time {
             seconds: self.seconds.saturating_add(seconds),
