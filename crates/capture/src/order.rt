@@ -31,6 +31,7 @@ impl Order {
     }
 
     /// The number in a field of four bytes. Requires that they are there.
+    #[inline]
     pub fn u32_at(self, octets: &[u8], field: Field) -> u32
         requires four { field.end ≡ field.start + 4 }
         requires room { field.end ≤ length octets.now }

@@ -24,6 +24,7 @@ impl Order {
     }
 
     /// The number in a field of four bytes. Requires that they are there.
+    #[inline]
     pub fn u32_at(self, octets: &[u8], field: Field) -> u32 {
         let bytes = octets.range(field.start, field.end);
         match self {

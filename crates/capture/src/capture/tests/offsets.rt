@@ -45,10 +45,17 @@ const BIG: Around = (
 // A file of a description with these options, whose length is that of so many bytes in this order.
 fn file(rt: &impl Abort, alloc: Global, around: &Around, len: &[u8], options: &[u8]) -> Vec<u8> {
     let mut octets = Vec::new(alloc);
-    for part in [around.0, len, around.1, options, len, around.2] {
-        same_of(rt, (), octets.extend_from_slice(part).is_ok(), true);
-    }
+    add(rt, &mut octets, around.0);
+    add(rt, &mut octets, len);
+    add(rt, &mut octets, around.1);
+    add(rt, &mut octets, options);
+    add(rt, &mut octets, len);
+    add(rt, &mut octets, around.2);
     octets
+}
+
+fn add(rt: &impl Abort, octets: &mut Vec<u8>, part: &[u8]) {
+    same_of(rt, (), octets.extend_from_slice(part).is_ok(), true);
 }
 
 // The packets of a file have this time, and the simple one has none.

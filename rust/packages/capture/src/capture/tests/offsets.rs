@@ -46,10 +46,17 @@ const BIG: Around = (
 // A file of a description with these options, whose length is that of so many bytes in this order.
 fn file(around: &Around, len: &[u8], options: &[u8]) -> Vec<u8> {
     let mut octets = Vec::new();
-    for part in [around.0, len, around.1, options, len, around.2] {
-        same_of((), octets.extend_from_slice(part).is_ok(), true);
-    }
+    add(&mut octets, around.0);
+    add(&mut octets, len);
+    add(&mut octets, around.1);
+    add(&mut octets, options);
+    add(&mut octets, len);
+    add(&mut octets, around.2);
     octets
+}
+
+fn add(octets: &mut Vec<u8>, part: &[u8]) {
+    same_of((), octets.extend_from_slice(part).is_ok(), true);
 }
 
 // The packets of a file have this time, and the simple one has none.
