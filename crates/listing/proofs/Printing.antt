@@ -1,13 +1,11 @@
 -- What an output gains in several writes.
 use Rattle.std.proofs.Common.{◌≡◌, ℕ, ◌+◌, ◌<◌, List, [], ◌++◌, length, get_or, take, Option, Result, Ok, Err, OnOk}
-use Rattle.std.proofs.Common.{codes, decimal, refl, ap, inl, inr}
+use Rattle.std.proofs.Common.{codes, refl, ap, inl, inr}
 use Rattle.std.proofs.lemmas.List.{append-nil, map-append, take_more}
 use Rattle.std.proofs.lemmas.Grind.{flat_map-append}
 use Rattle.std.specs.Prelude.{map, flat_map}
 use Rattle.std.proofs.KnownBytes.{Appends-nil, Appends-trans}
 use Rattle.std.specs.Io.KnownBytes.{Appends}
-use Rattle.wirebase.specs.Ipv4.{address_text, octets_of}
-use Rattle.wirebase.specs.declared.ipv4.Ipv4Address.{Ipv4Address}
 use Rattle.listing.specs.Layout.{line, IsListingOrRefused}
 use Rattle.listing.specs.Output.{Gains, GainsSome}
 
@@ -42,14 +40,6 @@ pub gained_on_ok : {E : Type 0} (a b : Option (List ℕ)) (text : List ℕ) (r :
     → OnOk r (Appends a b text) → OnOk r (Gains a b text)
 gained_on_ok a b text (Ok x) appends = gained _ _ _ appends
 gained_on_ok a b text (Err e) appends = tt
-
--- an address is gained by its octets and the dots between them
-pub gained_address : {E : Type 0} (address : Ipv4Address) (octets : List ℕ) (a b : Option (List ℕ))
-    (r : Result (Unit {0}) E) → octets ≡ octets_of address
-    → OnOk r (Gains a b (decimal (get_or octets 0 0) ++ codes "." ++ decimal (get_or octets 1 0) ++ codes "."
-    ++ decimal (get_or octets 2 0) ++ codes "." ++ decimal (get_or octets 3 0)))
-    → OnOk r (Gains a b (address_text address))
-gained_address address octets a b r are gains = rw are at gains
 
 -- a text of a kind that is gained where the last write does not fail, and one that is of another kind too
 pub gained_text : {E : Type 0} (IsText : List ℕ → Type 0) (text : List ℕ) (a b : Option (List ℕ))

@@ -29,7 +29,8 @@ pub fn show_dhcp<W: Write>(output: &mut W, packet: &[u8]) -> io::Result<()>
     show_packet(output, &packet)
 }
 
-fn show_packet<W: Write>(output: &mut W, packet: &Repr<'_>) -> io::Result<()>
+/// Prints a packet that was read.
+pub fn show_packet<W: Write>(output: &mut W, packet: &Repr<'_>) -> io::Result<()>
     ensures { OnOk result (Gains (W.contents output.old) (W.contents output.new)
         (dhcp_listing (value_of packet.now))) }
 {

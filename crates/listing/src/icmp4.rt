@@ -26,7 +26,8 @@ pub fn show_icmp4<W: Write>(output: &mut W, packet: &[u8]) -> io::Result<()>
     show_message(output, &message)
 }
 
-fn show_message<W: Write>(output: &mut W, message: &Repr<'_>) -> io::Result<()>
+/// Prints a message that was read.
+pub fn show_message<W: Write>(output: &mut W, message: &Repr<'_>) -> io::Result<()>
     ensures { OnOk result (Gains (W.contents output.old) (W.contents output.new)
         (icmp4_listing (value_of message.now))) }
 {

@@ -53,7 +53,8 @@ fn show_packet<W: Write>(
     show_message(output, &message)
 }
 
-fn show_message<W: Write>(output: &mut W, message: &Repr<'_>) -> io::Result<()>
+/// Prints a message that was read.
+pub fn show_message<W: Write>(output: &mut W, message: &Repr<'_>) -> io::Result<()>
     ensures { OnOk result (Gains (W.contents output.old) (W.contents output.new)
         (icmp6_listing (value_of message.now))) }
 {

@@ -9,6 +9,7 @@ ghost use Rattle.listing.specs.Layout.{line as line_text, field as field_text, p
 ghost use Rattle.listing.specs.Layout.{octets_text, millis_text, truth_text, text_or_none};
 ghost use Rattle.listing.specs.Output.{Gains};
 
+use crate::endpoint::write_v4;
 use crate::number::write_number;
 use crate::pairs::encode;
 use std::io;
@@ -86,14 +87,7 @@ impl Value for Ipv4Address {
     ghost text = { address_text };
 
     fn write_to<W: Write>(self, output: &mut W) -> io::Result<()> {
-        let [a, b, c, d] = self.octets();
-        a.write_to(output)?;
-        output.write_all(b".")?;
-        b.write_to(output)?;
-        output.write_all(b".")?;
-        c.write_to(output)?;
-        output.write_all(b".")?;
-        d.write_to(output)
+        write_v4(output, self, None)
     }
 }
 

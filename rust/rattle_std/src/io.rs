@@ -58,6 +58,11 @@ impl<W: Write> BufWriter<W> {
         Ok(BufWriter(std::io::BufWriter::new(onto)))
     }
 
+    /// The same, with a buffer of so many bytes.
+    pub fn with_capacity(count: usize, onto: W) -> std::result::Result<BufWriter<W>, AllocError> {
+        Ok(BufWriter(std::io::BufWriter::with_capacity(count, onto)))
+    }
+
     /// The writer under it, with all written out.
     pub fn into_inner(self) -> std::result::Result<W, Error> {
         self.0.into_inner().map_err(|error| error.into_error())
@@ -65,10 +70,12 @@ impl<W: Write> BufWriter<W> {
 }
 
 impl<W: Write> Write for BufWriter<W> {
+    #[inline]
     fn write(&mut self, bytes: &[u8]) -> Result<usize> {
         self.0.write(bytes)
     }
 
+    #[inline]
     fn write_all(&mut self, bytes: &[u8]) -> Result<()> {
         self.0.write_all(bytes)
     }

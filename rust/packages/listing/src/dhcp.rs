@@ -16,7 +16,8 @@ pub fn show_dhcp<W: Write>(output: &mut W, packet: &[u8]) -> io::Result<()> {
     show_packet(output, &packet)
 }
 
-fn show_packet<W: Write>(output: &mut W, packet: &Repr<'_>) -> io::Result<()> {
+/// Prints a packet that was read.
+pub fn show_packet<W: Write>(output: &mut W, packet: &Repr<'_>) -> io::Result<()> {
     show_sender(output, packet)?;
     show_addresses(output, packet)?;
     show_request(output, packet)?;

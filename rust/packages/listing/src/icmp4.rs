@@ -16,7 +16,8 @@ pub fn show_icmp4<W: Write>(output: &mut W, packet: &[u8]) -> io::Result<()> {
     show_message(output, &message)
 }
 
-fn show_message<W: Write>(output: &mut W, message: &Repr<'_>) -> io::Result<()> {
+/// Prints a message that was read.
+pub fn show_message<W: Write>(output: &mut W, message: &Repr<'_>) -> io::Result<()> {
     match *message {
         Repr::EchoRequest {
             ident,

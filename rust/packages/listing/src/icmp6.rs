@@ -36,7 +36,8 @@ fn show_packet<W: Write>(
     show_message(output, &message)
 }
 
-fn show_message<W: Write>(output: &mut W, message: &Repr<'_>) -> io::Result<()> {
+/// Prints a message that was read.
+pub fn show_message<W: Write>(output: &mut W, message: &Repr<'_>) -> io::Result<()> {
     match message {
         Repr::DstUnreachable {
             reason,

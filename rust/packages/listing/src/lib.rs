@@ -4,20 +4,29 @@
 //! Each `show_` prints what the grammar reads in some octets, or `refused` where it reads nothing.
 
 pub mod dhcp;
+pub mod endpoint;
 pub mod hbh;
 pub mod icmp4;
+pub mod icmp4_error;
 pub mod icmp6;
+pub mod icmp6_error;
 pub mod igmp;
 pub mod ipv6;
+pub mod message;
 pub mod mld;
 pub mod name;
 pub mod ndisc;
 pub mod ndopt;
 mod number;
+pub mod page;
 mod pairs;
+pub mod ports;
 pub mod printer;
 pub mod question;
+pub mod quote;
 #[cfg(test)]
 mod testing;
 #[cfg(test)]
 mod tests;
+pub mod time;
+mod zone;

@@ -1,6 +1,7 @@
 // Made from crates/listing/src/printer.rt by rust/erase.
 //! What each value is printed with: names and fields, one a line.
 
+use crate::endpoint::write_v4;
 use crate::number::write_number;
 use crate::pairs::encode;
 use control_wire::{Duration, Ipv4Address};
@@ -58,14 +59,7 @@ impl Value for &str {
 // An address with dots.
 impl Value for Ipv4Address {
     fn write_to<W: Write>(self, output: &mut W) -> io::Result<()> {
-        let [a, b, c, d] = self.octets();
-        a.write_to(output)?;
-        output.write_all(b".")?;
-        b.write_to(output)?;
-        output.write_all(b".")?;
-        c.write_to(output)?;
-        output.write_all(b".")?;
-        d.write_to(output)
+        write_v4(output, self, None)
     }
 }
 

@@ -1,0 +1,59 @@
+-- The names of flags, with commas between them and behind them.
+use Rattle.std.proofs.Common.{◌≡◌, ℕ, ◌+◌, ◌-◌, ◌≤◌, Bool, true, false, cond, List, [], ◌∷◌, ◌++◌, length, take, codes}
+use Rattle.std.proofs.Common.{refl, sym, ap, ◌∙◌, arith, length-append, append_assoc, flat_map}
+use Rattle.std.proofs.lemmas.List.{length-take-le, take-take}
+use Rattle.std.proofs.Math.Seq.{take-append_seam}
+use Rattle.std.specs.Prelude.{if◌then◌else◌}
+use Rattle.listing.specs.ListingMessage.{flag_names, has_bit, names_set, with_commas, flags_text}
+use Rattle.listing.specs.ListingParts.{each_behind}
+
+-- the first row's name where its bit is set, and then the others
+at_bit : (b : Bool) (name : List ℕ) (names : List (List ℕ))
+    → each_behind (cond b (name ∷ names) names) ≡ cond b (name ++ codes ",") [] ++ each_behind names
+at_bit true name names = refl
+at_bit false name names = refl
+
+pub names_first : (name : List ℕ) (place word : ℕ) (rows : List (List ℕ × ℕ))
+    → each_behind (names_set ((name, place) ∷ rows) word)
+    ≡ (if has_bit word place then name ++ codes "," else []) ++ each_behind (names_set rows word)
+names_first name place word rows = at_bit (has_bit word place) name (names_set rows word)
+
+-- the comma of each name stands in front of the next one
+commas : (names : List (List ℕ))
+    → codes "," ++ each_behind names ≡ flat_map (λ (next : List ℕ). codes "," ++ next) names ++ codes ","
+commas [] = refl
+commas (name ∷ names) = grind (arith, append_assoc, commas names)
+
+pub with_last_comma : (names : List (List ℕ)) → 1 ≤ length (each_behind names)
+    → each_behind names ≡ with_commas names ++ codes ","
+with_last_comma [] some = absurd (omega (arith, some))
+with_last_comma (name ∷ names) some = grind (arith, append_assoc, commas names)
+
+pub no_names : (names : List (List ℕ)) → length (each_behind names) ≡ 0 → with_commas names ≡ codes "-"
+no_names [] none = refl
+no_names (name ∷ names) none =
+    absurd (omega (arith, none, length-append (name ++ codes ",") (each_behind names), length-append name (codes ",")))
+
+-- the text of the flags, by what was put
+pub no_flags : (word : ℕ) (room : List ℕ) → take 0 room ≡ each_behind (names_set flag_names word)
+    → flags_text word ≡ codes "-"
+unfolding flags_text
+no_flags word room puts = no_names (names_set flag_names word) (sym (ap length puts))
+
+before_comma : (text : List ℕ) (len : ℕ) → length text + 1 ≡ len → take (len - 1) (text ++ codes ",") ≡ text
+before_comma text len e =
+    let same : len - 1 ≡ length text = omega (arith, e) in
+    rw same (take-append_seam text (codes ","))
+
+pub some_flags : (word len : ℕ) (room : List ℕ) → 1 ≤ len → len ≤ length room
+    → take len room ≡ each_behind (names_set flag_names word) → take (len - 1) room ≡ flags_text word
+unfolding flags_text
+some_flags word len room some fits puts =
+    let names = names_set flag_names word in
+    let long : length (take len room) ≡ len = length-take-le len room fits in
+    let all : take len room ≡ with_commas names ++ codes "," =
+    puts ∙ with_last_comma names (omega (arith, some, long, ap length puts)) in
+    let count : length (with_commas names) + 1 ≡ len =
+    omega (arith, long, ap length all, length-append (with_commas names) (codes ",")) in
+    sym (take-take (len - 1) len room (omega arith))
+    ∙ (ap (λ (front : List ℕ). take (len - 1) front) all ∙ before_comma (with_commas names) len count)

@@ -1,0 +1,38 @@
+-- The options of OPT.
+use Rattle.std.proofs.Common.{ℕ, ◌<◌, ◌≤◌, List, [], ◌∷◌, ◌++◌, length, drop, refl, sym, ap, ◌∙◌, subst, arith, length-drop}
+use Rattle.listing.specs.ListingEdns.{OptionValue, IsOption, AreOptions, option_len, option_line}
+use Rattle.listing.specs.ListingParts.{OptionsShown}
+
+-- an option is followed by fewer octets
+pub fewer_behind : (octets rest : List ℕ) (option : OptionValue) → IsOption octets option rest
+    → length rest < length octets
+fewer_behind octets rest option is =
+    omega (arith, is.reaches, ap length is.rest_, length-drop (option_len octets) (drop 4 octets), length-drop 4 octets)
+
+-- octets are options where those behind the first one are, and the other way round
+pub options_before : (octets rest : List ℕ) (option : OptionValue) → IsOption octets option rest
+    → (options : List OptionValue) × AreOptions rest options → (options : List OptionValue) × AreOptions octets options
+options_before octets rest option is (options, are) = (option ∷ options, (rest, is, are))
+
+pub options_behind : (octets rest : List ℕ) (option : OptionValue) → IsOption octets option rest
+    → (options : List OptionValue) × AreOptions octets options → (options : List OptionValue) × AreOptions rest options
+options_behind octets rest option is ([], none) = absurd (omega (arith, is.reaches, ap length none))
+options_behind octets rest option is (first ∷ options, (others, one, are)) =
+    (options, subst (λ (bytes : List ℕ). AreOptions bytes options) (one.rest_ ∙ sym is.rest_) are)
+
+pub options_more : (margin octets rest : List ℕ) (option : OptionValue) → IsOption octets option rest
+    → (text : List ℕ) → OptionsShown margin rest text → OptionsShown margin octets (option_line margin option ++ text)
+options_more margin octets rest option is text (options, are, shown) =
+    (option ∷ options, (rest, is, are), ap (λ t. option_line margin option ++ t) shown)
+
+-- where no option begins there is none
+pub no_options : (margin octets : List ℕ) → ((option : OptionValue) (rest : List ℕ) → IsOption octets option rest → ⊥)
+    → (options : List OptionValue) × AreOptions octets options → OptionsShown margin octets []
+no_options margin octets none ([], is) = ([], is, refl)
+no_options margin octets none (option ∷ options, (rest, is, are)) = absurd (none option rest is)
+
+-- options of some octets begin with one
+pub option_begins : (octets : List ℕ) → 1 ≤ length octets → (options : List OptionValue) × AreOptions octets options
+    → (option : OptionValue) × (rest : List ℕ) × IsOption octets option rest
+option_begins octets some ([], none) = absurd (omega (arith, some, ap length none))
+option_begins octets some (option ∷ options, (rest, is, are)) = (option, rest, is)

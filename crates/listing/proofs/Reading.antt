@@ -1,0 +1,70 @@
+-- What reads of a record, and what does not.
+use Rattle.std.proofs.Common.{◌≡◌, ℕ, Bool, true, false, List, [], ◌++◌, Option, None, Some, codes, refl, sym, subst}
+use Rattle.std.specs.Option.{is_some}
+use Rattle.dns_wire.specs.DnsName.{IsName}
+use Rattle.record_wire.specs.Labels.{AreOfName}
+use Rattle.record_wire.specs.RData.{RDataValue, IsRData, IsLaidOut}
+use Rattle.record_wire.specs.Record.{RecordValue}
+use Rattle.record_wire.specs.declared.entries.Section.{Section}
+use Rattle.record_wire.specs.declared.rdata.Layout.{Layout}
+use Rattle.record_wire.specs.declared.rdata.Layout.TheVariants as layout
+use Rattle.listing.specs.ListingParts.{LineShown, HasStrings}
+use Rattle.listing.specs.ListingRecord.{NameReads, class_in, has_top_bit, line_end, record_front, record_line}
+use Rattle.listing.specs.ListingRecord.{RecordPrints, has, has_no_name_in_data}
+use Rattle.listing.specs.ListingZone.{whole_name}
+use Rattle.listing.specs.Output.{Gains, GainsSome}
+use Rattle.listing.specs.declared.message.Unread.{Unread}
+use Rattle.listing.proofs.Printing.{gains_both}
+
+-- a name that was read
+pub reads : (message bytes : List ℕ) (labels : List (List ℕ)) → IsName bytes message labels → AreOfName labels
+    → NameReads message bytes (whole_name labels)
+reads message bytes labels name fits = record { labels = labels; name_ = name; fits = fits; is = refl }
+
+-- one that was not
+pub reads_none : (message bytes : List ℕ) → ((labels : List (List ℕ)) → IsName bytes message labels → AreOfName labels → ⊥)
+    → (text : List ℕ) → NameReads message bytes text → ⊥
+reads_none message bytes none text is = none is.labels is.name_ is.fits
+
+-- ---- records
+
+module _ (margin : List ℕ) (is_multicast : Bool) (message : List ℕ) (section : Section) (r : RecordValue)
+    (owner : List ℕ) (value : RDataValue) (name : NameReads message r.name owner)
+    (is : IsRData r.kind (class_in is_multicast r.class) r.data_ value) where
+  -- a record with a name in its data that does not read
+  pub record_unread : (a b : Option (List ℕ)) (unread : Option Unread) → is_some unread ≡ true
+      → GainsSome a b (λ text. LineShown (record_front margin is_multicast section r owner) message value text unread)
+      → GainsSome a b (λ text. RecordPrints margin is_multicast message section r text unread)
+  record_unread a b None e shown = cc e
+  record_unread a b (Some why) e (text, (is_name, none, empty), gains) = (
+    text,
+    subst (λ (t : List ℕ). RecordPrints margin is_multicast message section r t (Some why)) (sym empty)
+        (subst (λ (w : Unread). RecordPrints margin is_multicast message section r [] (Some w)) (sym is_name)
+        (has_no_name_in_data owner value name is none)),
+    gains,
+  )
+
+  -- one that reads, and the end of its line
+  pub record_listed : (a b c : Option (List ℕ)) (unread : Option Unread) → is_some unread ≡ false
+      → GainsSome a b (λ text. LineShown (record_front margin is_multicast section r owner) message value text unread)
+      → Gains b c (line_end (has_top_bit is_multicast r.class) (codes "cache-flush"))
+      → GainsSome a c (λ text. RecordPrints margin is_multicast message section r text None)
+  record_listed a b c None e (text, (data_, reads, whole), gains) end = (
+    record_line margin is_multicast section r owner data_,
+    has owner data_ value name is reads,
+    gains_both a b c (record_front margin is_multicast section r owner ++ data_) _ (subst (λ t. Gains a b t) whole gains)
+        end,
+  )
+  record_listed a b c (Some why) e shown end = cc e
+
+-- data that are strings are whole ones
+pub has_strings : (layout : Layout) (bytes : List ℕ) (value : RDataValue) → IsLaidOut layout bytes value
+    → HasStrings value
+has_strings layout.Ipv4 bytes value is = subst HasStrings (sym is.is) tt
+has_strings layout.Ipv6 bytes value is = subst HasStrings (sym is.is) tt
+has_strings layout.Name bytes value is = subst HasStrings (sym is.is) tt
+has_strings layout.Mail bytes value is = subst HasStrings (sym is.is) tt
+has_strings layout.Service bytes value is = subst HasStrings (sym is.is) tt
+has_strings layout.Authority bytes value is = subst HasStrings (sym is.is) tt
+has_strings layout.Strings bytes value is = subst HasStrings (sym is.is) is.are
+has_strings layout.Opaque bytes value is = subst HasStrings (sym is) tt

@@ -1,0 +1,18 @@
+use Rattle.std.proofs.Common.{[]}
+use Rattle.listing.specs.ListingRecord.{asks, asks_of_no_name}
+use Rattle.listing.proofs.Printing.{gains_none, ◌then◌}
+use Rattle.listing.proofs.Reading.{reads, reads_none}
+use Rattle.listing.proofs.message.record.show_question.Goals as goal
+
+pub returns-in_default : goal.returns-in_default
+returns-in_default g c = ([], asks_of_no_name (reads_none _ _ c.in_default.ensures.complete), gains_none _)
+
+pub returns : goal.returns
+returns g c =
+    let class = rw c.class_in.ensures at c.in_ok-class_word.ensures in
+    let kind = rw c.from.ensures.value at c.in_ok-type_word.ensures in
+    let end = rw c.has_top_bit.ensures at c.in_ok-end_line.ensures in (
+      _,
+      asks _ (reads _ _ _ c.in-Ok.ensures.sound c.is_name.ensures),
+      c.in_ok-write_front.ensures then class then kind then end,
+    )

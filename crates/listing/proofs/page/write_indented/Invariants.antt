@@ -1,0 +1,13 @@
+-- The lines so far are written.
+use Rattle.std.proofs.Common.{◌≡◌, ℕ, List, ◌++◌, length}
+use Rattle.listing.specs.Indented.{indented}
+use Rattle.listing.specs.Output.{Gains}
+use Rattle.listing.proofs.page.write_indented.Given as goal
+
+abbrev pub invariant-loop-rest : goal.invariant-loop-rest
+invariant-loop-rest g l =
+    (done : List ℕ) × (done ++ indented l.rest ≡ indented l.text)
+    × Gains (g.W.Write.contents l.initial.output) (g.W.Write.contents l.output) done
+
+abbrev pub decreases-loop-rest : goal.decreases-loop-rest
+decreases-loop-rest g l = length l.rest

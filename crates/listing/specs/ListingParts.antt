@@ -1,0 +1,67 @@
+-- The parts of a message's listing, as they are written: what private functions answer.
+use Rattle.std.specs.Prelude.{◌≡◌, ℕ, Bool, not, ◌&&◌, ◌||◌, ◌==◌, nat_le, if◌then◌else◌, List, [], ◌∷◌}
+use Rattle.std.specs.Prelude.{◌++◌, length, take, drop, flat_map, Option, None, Some, codes, decimal}
+use Rattle.std.specs.Borrow.{Bor}
+use Rattle.record_wire.specs.Name.{labels_of}
+use Rattle.record_wire.specs.RData.{RDataValue, strings, AreStrings}
+use Rattle.listing.specs.ListingEdns.{OptionValue, AreOptions, options_listing}
+use Rattle.listing.specs.ListingRecord.{line_front, DataReads}
+use Rattle.listing.specs.ListingZone.{word, whole_name, type_text, class_text}
+use Rattle.listing.specs.declared.message.Unread.{Unread}
+use Rattle.listing.specs.declared.message.Unread.TheVariants as unread
+use Rattle.listing.specs.declared.message.edns.EdnsOption.{EdnsOption}
+use Rattle.listing.specs.declared.message.record.Line.{Line}
+
+-- ---- records
+
+-- the line of a record up to its data
+abbrev pub line_text : Line → List ℕ
+line_text line =
+    line_front line.margin.now line.section (whole_name (labels_of line.owner.now))
+    ++ word (decimal line.ttl)
+    ++ word (class_text line.class)
+    ++ word (type_text line.kind)
+
+-- a line was written up to its end, or nothing for a name in its data that does not read
+abbrev pub LineShown : List ℕ → List ℕ → RDataValue → List ℕ → Option Unread → Type 0
+LineShown front message value text None = (data_ : List ℕ) × DataReads message value data_ × (text ≡ front ++ data_)
+LineShown front message value text (Some why) =
+    (why ≡ unread.Name) × ((data_ : List ℕ) → DataReads message value data_ → ⊥) × (text ≡ [])
+
+-- ---- strings
+
+-- where data are strings, they are whole
+abbrev pub HasStrings : RDataValue → Type 0
+HasStrings (strings bytes) = AreStrings bytes
+HasStrings _ = Unit {0}
+
+-- the string at the front of octets, and what stands behind it
+abbrev pub first_string : List ℕ → Option (List ℕ × List ℕ)
+first_string [] = None
+first_string (n ∷ rest) = if nat_le n (length rest) then Some (take n rest, drop n rest) else None
+
+abbrev pub seen_string : Option (Bor (List ℕ) × Bor (List ℕ)) → Option (List ℕ × List ℕ)
+seen_string None = None
+seen_string (Some (string, rest)) = Some (string.now, rest.now)
+
+abbrev pub has_meaning : ℕ → Bool
+has_meaning byte = byte == 34 || byte == 92
+
+-- a byte that is written as itself
+abbrev pub is_itself : ℕ → Bool
+is_itself byte = nat_le 32 byte && nat_le byte 126 && not (has_meaning byte)
+
+-- ---- options
+
+abbrev pub option_of : EdnsOption → OptionValue
+option_of option = record { code = option.code; data_ = option.«data».now }
+
+abbrev pub OptionsShown : List ℕ → List ℕ → List ℕ → Type 0
+OptionsShown margin bytes text =
+    (options : List OptionValue) × AreOptions bytes options × (text ≡ options_listing margin options)
+
+-- ---- flags
+
+-- names, each with a comma behind it
+abbrev pub each_behind : List (List ℕ) → List ℕ
+each_behind names = flat_map (λ name. name ++ codes ",") names

@@ -1,0 +1,127 @@
+-- What a question and a record of a message print: a line of a zone file each (RFC 1035 section 5.1).
+use Rattle.std.specs.Prelude.{◌≡◌, ℕ, ◌%◌, nat_le, ◌&&◌, Bool, if◌then◌else◌, List, [], ◌++◌, codes, decimal}
+use Rattle.std.specs.Prelude.{flat_map, Option, None, Some}
+use Rattle.wirebase.specs.Ipv4 as ipv4
+use Rattle.wirebase.specs.Ipv6Address as ipv6
+use Rattle.dns_wire.specs.DnsName.{IsName, written}
+use Rattle.dns_wire.specs.DnsTables.{type_number}
+use Rattle.record_wire.specs.Labels.{AreOfName}
+use Rattle.record_wire.specs.RData.{RDataValue, address4, address6, name, mail, service, authority, strings, other}
+use Rattle.record_wire.specs.RData.{AuthorityValue, IsRData}
+use Rattle.record_wire.specs.Record.{QuestionValue, RecordValue}
+use Rattle.record_wire.specs.declared.entries.Section.{Section}
+use Rattle.record_wire.specs.declared.entries.Section.TheVariants.{Question, Answer, Authority, Additional}
+use Rattle.listing.specs.ListingZone.{word, whole_name, type_text, class_text, strings_text, generic_text}
+use Rattle.listing.specs.declared.message.Unread.{Unread}
+use Rattle.listing.specs.declared.message.Unread.TheVariants as unread
+
+-- ---- classes
+
+-- In multicast DNS the top bit of a class is no part of it (RFC 6762 sections 5.4 and 10.2).
+abbrev pub class_in : Bool → ℕ → ℕ
+class_in is_multicast class = if is_multicast then class % 0x8000 else class
+
+abbrev pub has_top_bit : Bool → ℕ → Bool
+has_top_bit is_multicast class = is_multicast && nat_le 0x8000 class
+
+-- ---- names
+
+-- The name that begins in these bytes, and goes on where its pointers lead in the message, reads, and has this text.
+pub record NameReads (message bytes text : List ℕ) : Type 0 where
+  pub labels : List (List ℕ)
+  pub name_ : IsName bytes message labels
+  pub fits : AreOfName labels
+  pub is : text ≡ whole_name labels
+
+-- ---- data
+
+-- two names, and five numbers
+pub record AuthorityReads (message : List ℕ) (soa : AuthorityValue) (text : List ℕ) : Type 0 where
+  pub primary : List ℕ
+  pub mailbox : List ℕ
+  pub primary_ : NameReads message soa.primary primary
+  pub mailbox_ : NameReads message soa.mailbox mailbox
+  pub is : text ≡
+      word primary ++ word mailbox ++ word (decimal soa.serial) ++ word (decimal soa.refresh)
+      ++ word (decimal soa.retry) ++ word (decimal soa.expire) ++ word (decimal soa.minimum)
+
+-- strings of up to 255 bytes, each behind its length
+abbrev pub StringsRead : List ℕ → List ℕ → Type 0
+StringsRead bytes text = (each : List (List ℕ)) × (bytes ≡ flat_map written each) × (text ≡ strings_text each)
+
+-- the names in data read, and this is the text of the data, each word behind a space
+abbrev pub DataReads : List ℕ → RDataValue → List ℕ → Type 0
+DataReads message (address4 address) text = text ≡ word (ipv4.address_text address)
+DataReads message (address6 address) text = text ≡ word (ipv6.address_text address)
+DataReads message (name bytes) text = (target : List ℕ) × NameReads message bytes target × (text ≡ word target)
+DataReads message (mail preference bytes) text =
+    (host : List ℕ) × NameReads message bytes host × (text ≡ word (decimal preference) ++ word host)
+DataReads message (service priority weight port bytes) text =
+    (host : List ℕ) × NameReads message bytes host
+    × (text ≡ word (decimal priority) ++ word (decimal weight) ++ word (decimal port) ++ word host)
+DataReads message (authority soa) text = AuthorityReads message soa text
+DataReads message (strings bytes) text = StringsRead bytes text
+DataReads message (other bytes) text = text ≡ generic_text bytes
+
+-- ---- lines
+
+abbrev pub section_text : Section → List ℕ
+section_text Question = codes "question"
+section_text Answer = codes "answer"
+section_text Authority = codes "authority"
+section_text Additional = codes "additional"
+
+-- the front of a line, and its end
+unfoldable pub line_front : List ℕ → Section → List ℕ → List ℕ
+line_front margin section owner = margin ++ section_text section ++ codes "=" ++ owner
+
+unfoldable pub line_end : Bool → List ℕ → List ℕ
+line_end is_marked mark = if is_marked then codes " ; " ++ mark ++ codes "\n" else codes "\n"
+
+abbrev pub question_line : List ℕ → Bool → QuestionValue → List ℕ → List ℕ
+question_line margin is_multicast q owner =
+    line_front margin Question owner
+    ++ word (class_text (class_in is_multicast q.class))
+    ++ word (type_text (type_number q.kind))
+    ++ line_end (has_top_bit is_multicast q.class) (codes "unicast-response")
+
+-- the line of a record up to its data
+abbrev pub record_front : List ℕ → Bool → Section → RecordValue → List ℕ → List ℕ
+record_front margin is_multicast section r owner =
+    line_front margin section owner
+    ++ word (decimal r.ttl)
+    ++ word (class_text (class_in is_multicast r.class))
+    ++ word (type_text (type_number r.kind))
+
+abbrev pub record_line : List ℕ → Bool → Section → RecordValue → List ℕ → List ℕ → List ℕ
+record_line margin is_multicast section r owner data_ =
+    record_front margin is_multicast section r owner
+    ++ data_
+    ++ line_end (has_top_bit is_multicast r.class) (codes "cache-flush")
+
+-- ---- what is printed
+
+-- A question prints its line where its name reads, and else nothing.
+pub data QuestionPrints (margin : List ℕ) (is_multicast : Bool) (message : List ℕ) (q : QuestionValue) : List ℕ
+    → Option Unread → Type 0 where
+  asks : (owner : List ℕ) → NameReads message q.name owner
+      → QuestionPrints margin is_multicast message q (question_line margin is_multicast q owner) None
+  asks_of_no_name : ((owner : List ℕ) → NameReads message q.name owner → ⊥)
+      → QuestionPrints margin is_multicast message q [] (Some unread.Name)
+
+-- A record prints its line where all of it reads, and else nothing. First its name is read, then its data are, and
+-- then the names in these.
+pub data RecordPrints (margin : List ℕ) (is_multicast : Bool) (message : List ℕ) (section : Section) (r : RecordValue)
+    : List ℕ → Option Unread → Type 0 where
+  has : (owner data_ : List ℕ) (value : RDataValue) → NameReads message r.name owner
+      → IsRData r.kind (class_in is_multicast r.class) r.data_ value → DataReads message value data_
+      → RecordPrints margin is_multicast message section r (record_line margin is_multicast section r owner data_) None
+  has_no_name : ((owner : List ℕ) → NameReads message r.name owner → ⊥)
+      → RecordPrints margin is_multicast message section r [] (Some unread.Name)
+  has_no_data : (owner : List ℕ) → NameReads message r.name owner
+      → ((value : RDataValue) → IsRData r.kind (class_in is_multicast r.class) r.data_ value → ⊥)
+      → RecordPrints margin is_multicast message section r [] (Some unread.Data)
+  has_no_name_in_data : (owner : List ℕ) (value : RDataValue) → NameReads message r.name owner
+      → IsRData r.kind (class_in is_multicast r.class) r.data_ value
+      → ((data_ : List ℕ) → DataReads message value data_ → ⊥)
+      → RecordPrints margin is_multicast message section r [] (Some unread.Name)

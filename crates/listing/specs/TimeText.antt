@@ -1,0 +1,30 @@
+-- Times as RFC 3339 writes them (section 5.6), in UTC and with nine digits of a second.
+use Rattle.std.specs.Prelude.{ℕ, zero, suc, ◌+◌, ◌/◌, ◌%◌, List, [], ◌∷◌, ◌++◌, codes, decimal}
+use Rattle.listing.specs.Calendar.{date_of}
+use Rattle.listing.specs.declared.time.date.Date.{Date}
+
+-- the last digits of a number, so many of them: those of its tenth, and then its last
+abbrev pub last_digits : ℕ → ℕ → List ℕ
+last_digits zero number = []
+last_digits (suc count) number = last_digits count (number / 10) ++ (48 + number % 10) ∷ []
+
+abbrev pub month_and_day_text : Date → List ℕ
+month_and_day_text d = codes "-" ++ last_digits 2 d.month ++ codes "-" ++ last_digits 2 d.day
+
+-- a date; since the years begin with 1970, each has four digits at least
+abbrev pub date_text : Date → List ℕ
+date_text d = decimal d.year ++ month_and_day_text d
+
+-- hour, minute and second of a number of seconds, and the digits of nanoseconds
+unfoldable pub time_of_day_text : ℕ → ℕ → List ℕ
+time_of_day_text seconds nanoseconds =
+    codes "T" ++ last_digits 2 (seconds / 3600 % 24) ++ codes ":" ++ last_digits 2 (seconds / 60 % 60) ++ codes ":"
+    ++ last_digits 2 (seconds % 60) ++ codes "." ++ last_digits 9 nanoseconds ++ codes "Z"
+
+-- the time so many seconds and nanoseconds after 1970-01-01T00:00:00Z
+unfoldable pub time_text : ℕ → ℕ → List ℕ
+time_text seconds nanoseconds = date_text (date_of (seconds / 86400)) ++ time_of_day_text seconds nanoseconds
+
+-- what is kept of a date: all of it but the digits of its year in front of the last four
+unfoldable pub kept_text : Date → List ℕ
+kept_text d = last_digits 4 d.year ++ month_and_day_text d

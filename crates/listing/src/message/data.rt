@@ -1,0 +1,159 @@
+//! The data of records.
+
+#![tactic(auto, using(crate::proofs::Printing::gains_both))]
+
+ghost use Rattle.std.specs.Prelude.{IfOk, slice_index};
+ghost use Rattle.dns_wire.specs.DnsPacket.{view_octets};
+ghost use Rattle.record_wire.specs.RData.{rdata_of, name, mail, service, authority, authority_of};
+ghost use Rattle.listing.specs.ListingParts.{line_text, LineShown, HasStrings};
+ghost use Rattle.listing.specs.Output.{GainsSome};
+
+use crate::message::Unread;
+use crate::message::record::{Line, write_line};
+use crate::zone::{generic, ipv6_word, is_name, name_word, strings, word};
+use dns_wire::dns::Packet;
+use record_wire::Name;
+use record_wire::rdata::{Authority, RData};
+use std::io;
+use std::io::Write;
+
+/// Writes the line of a record up to its end, where the names in its data read.
+pub fn show_data<'a, W: Write>(
+    output: &mut W,
+    packet: &Packet<&'a [u8]>,
+    line: &Line<'_>,
+    data: &RData<'a>,
+) -> io::Result<Option<Unread>>
+    requires { HasStrings (rdata_of «data».now) }
+    ensures { IfOk result (λ unread. GainsSome (W.contents output.old) (W.contents output.new)
+        (λ text. LineShown (line_text line.now) (view_octets packet.now) (rdata_of «data».now)
+        text unread)) }
+{
+    match *data {
+        RData::Name(octets) => show_name(output, packet, line, octets),
+        RData::Mx {
+            preference,
+            exchange,
+        } => show_mail(output, packet, line, preference, exchange),
+        RData::Srv {
+            priority,
+            weight,
+            port,
+            target,
+        } => show_service(output, packet, line, [priority, weight, port], target),
+        RData::Soa(soa) => show_authority(output, packet, line, &soa),
+        RData::A(address) => {
+            write_line(output, line)?;
+            word(output, address)?;
+            Ok(None)
+        }
+        RData::Aaaa(address) => {
+            write_line(output, line)?;
+            ipv6_word(output, address)?;
+            Ok(None)
+        }
+        RData::Txt(octets) => {
+            write_line(output, line)?;
+            strings(output, octets)?;
+            Ok(None)
+        }
+        RData::Other(octets) => {
+            write_line(output, line)?;
+            generic(output, octets)?;
+            Ok(None)
+        }
+    }
+}
+
+fn show_name<'a, W: Write>(
+    output: &mut W,
+    packet: &Packet<&'a [u8]>,
+    line: &Line<'_>,
+    octets: &'a [u8],
+) -> io::Result<Option<Unread>>
+    ensures { IfOk result (λ unread. GainsSome (W.contents output.old) (W.contents output.new)
+        (λ text. LineShown (line_text line.now) (view_octets packet.now) (name octets.now)
+        text unread)) }
+{
+    let Ok(target) = Name::read(packet, octets) else {
+        return Ok(Some(Unread::Name));
+    };
+    is_name(&target);
+    write_line(output, line)?;
+    name_word(output, &target)?;
+    Ok(None)
+}
+
+fn show_mail<'a, W: Write>(
+    output: &mut W,
+    packet: &Packet<&'a [u8]>,
+    line: &Line<'_>,
+    preference: u16,
+    exchange: &'a [u8],
+) -> io::Result<Option<Unread>>
+    ensures { IfOk result (λ unread. GainsSome (W.contents output.old) (W.contents output.new)
+        (λ text. LineShown (line_text line.now) (view_octets packet.now) (mail preference exchange.now)
+        text unread)) }
+{
+    let Ok(host) = Name::read(packet, exchange) else {
+        return Ok(Some(Unread::Name));
+    };
+    is_name(&host);
+    write_line(output, line)?;
+    word(output, preference)?;
+    name_word(output, &host)?;
+    Ok(None)
+}
+
+fn show_service<'a, W: Write>(
+    output: &mut W,
+    packet: &Packet<&'a [u8]>,
+    line: &Line<'_>,
+    numbers: [u16; 3],
+    target: &'a [u8],
+) -> io::Result<Option<Unread>>
+    ensures { IfOk result (λ unread. GainsSome (W.contents output.old) (W.contents output.new)
+        (λ text. LineShown (line_text line.now) (view_octets packet.now) (service (slice_index numbers 0) (slice_index numbers 1) (slice_index numbers 2) target.now)
+        text unread)) }
+{
+    let Ok(host) = Name::read(packet, target) else {
+        return Ok(Some(Unread::Name));
+    };
+    is_name(&host);
+    write_line(output, line)?;
+    let [priority, weight, port] = numbers;
+    word(output, priority)?;
+    word(output, weight)?;
+    word(output, port)?;
+    name_word(output, &host)?;
+    Ok(None)
+}
+
+fn show_authority<'a, W: Write>(
+    output: &mut W,
+    packet: &Packet<&'a [u8]>,
+    line: &Line<'_>,
+    soa: &Authority<'a>,
+) -> io::Result<Option<Unread>>
+    ensures { IfOk result (λ unread. GainsSome (W.contents output.old) (W.contents output.new)
+        (λ text. LineShown (line_text line.now) (view_octets packet.now) (authority (authority_of soa.now))
+        text unread)) }
+{
+    let Ok(primary) = Name::read(packet, soa.primary) else {
+        return Ok(Some(Unread::Name));
+    };
+    let Ok(mailbox) = Name::read(packet, soa.mailbox) else {
+        return Ok(Some(Unread::Name));
+    };
+    is_name(&primary);
+    is_name(&mailbox);
+    write_line(output, line)?;
+    name_word(output, &primary)?;
+    name_word(output, &mailbox)?;
+    word(output, soa.serial)?;
+    word(output, soa.refresh)?;
+    word(output, soa.retry)?;
+    word(output, soa.expire)?;
+    word(output, soa.minimum)?;
+    Ok(None)
+}

@@ -1,0 +1,56 @@
+// Names in octets, and their texts.
+
+use crate::testing::same_of;
+use crate::zone::dotted::{ROOM_LEN, put_dotted};
+use std::process::Abort;
+
+// The text that is put for these octets, or nothing.
+fn check_text(rt: &impl Abort, octets: &[u8], want: Option<&[u8]>) {
+    let mut room = [b'*'; ROOM_LEN];
+    let len = put_dotted(&mut room, octets);
+    same_of(rt, octets, len, want.map(|text| text.len()));
+    if let Some(text) = want {
+        same_of(rt, octets, room.starts_with(text), true);
+    }
+}
+
+#[test]
+fn texts_of_names(rt: HostRuntime) {
+    check_text(&rt, b"\0", Some(b""));
+    check_text(&rt, b"\x01a\0", Some(b"a."));
+    check_text(
+        &rt,
+        b"\x03www\x07example\x03com\0",
+        Some(b"www.example.com."),
+    );
+    check_text(&rt, b"\x07AZ-az_9\x0209\0", Some(b"AZ-az_9.09."));
+    check_text(&rt, b"\x03a.b\x03com\0", None);
+    check_text(&rt, b"\x03com\x03a b\0", None);
+    check_text(&rt, b"\x02\xc3\xa9\0", None);
+    check_text(&rt, b"", None);
+}
+
+// Names of three labels of 63 letters and one of 61 or 62: the longest has 255 octets.
+const LONGEST: &[u8] = b"\
+    \x3faaaaaaaaaabbbbbbbbbbccccccccccddddddddddeeeeeeeeeeffffffffffggg\
+    \x3faaaaaaaaaabbbbbbbbbbccccccccccddddddddddeeeeeeeeeeffffffffffggg\
+    \x3faaaaaaaaaabbbbbbbbbbccccccccccddddddddddeeeeeeeeeeffffffffffggg\
+    \x3daaaaaaaaaabbbbbbbbbbccccccccccddddddddddeeeeeeeeeeffffffffffg\0";
+
+const LONGEST_TEXT: &[u8] = b"\
+    aaaaaaaaaabbbbbbbbbbccccccccccddddddddddeeeeeeeeeeffffffffffggg.\
+    aaaaaaaaaabbbbbbbbbbccccccccccddddddddddeeeeeeeeeeffffffffffggg.\
+    aaaaaaaaaabbbbbbbbbbccccccccccddddddddddeeeeeeeeeeffffffffffggg.\
+    aaaaaaaaaabbbbbbbbbbccccccccccddddddddddeeeeeeeeeeffffffffffg.";
+
+const TOO_LONG: &[u8] = b"\
+    \x3faaaaaaaaaabbbbbbbbbbccccccccccddddddddddeeeeeeeeeeffffffffffggg\
+    \x3faaaaaaaaaabbbbbbbbbbccccccccccddddddddddeeeeeeeeeeffffffffffggg\
+    \x3faaaaaaaaaabbbbbbbbbbccccccccccddddddddddeeeeeeeeeeffffffffffggg\
+    \x3eaaaaaaaaaabbbbbbbbbbccccccccccddddddddddeeeeeeeeeeffffffffffgg\0";
+
+#[test]
+fn texts_of_the_longest_names(rt: HostRuntime) {
+    check_text(&rt, LONGEST, Some(LONGEST_TEXT));
+    check_text(&rt, TOO_LONG, None);
+}

@@ -1,0 +1,63 @@
+// Made from crates/listing/src/endpoint.rt by rust/erase.
+//! Where packets come from and go to: addresses, and ports where there are any.
+
+mod digits;
+mod groups;
+mod room;
+
+use crate::endpoint::digits::{put_octet, put_port};
+use crate::endpoint::groups::{groups_of, put_address};
+use crate::endpoint::room::{ROOM, put};
+use control_wire::{Ipv4Address, Ipv6Address};
+use rattle_std::io;
+use rattle_std::io::Write;
+
+/// Writes an address of IPv4, and its port where there is one, as `192.0.2.1:53`.
+pub fn write_v4<W: Write>(
+    output: &mut W,
+    address: Ipv4Address,
+    port: Option<u16>,
+) -> io::Result<()> {
+    let mut room = [0; ROOM];
+    let end = put_v4(&mut room, address, port);
+    output.write_all(&room[..end])
+}
+
+fn put_v4(room: &mut [u8; ROOM], address: Ipv4Address, port: Option<u16>) -> usize {
+    let [a, b, c, d] = address.octets();
+    let end_a = put_octet(room, 0, a, b'.');
+    let end_b = put_octet(room, end_a, b, b'.');
+    let end_c = put_octet(room, end_b, c, b'.');
+    let end_d = put_octet(room, end_c, d, b':');
+    match port {
+        Some(port) => put_port(room, end_d, port),
+        // There is nothing behind the colon.
+        None => end_d - 1,
+    }
+}
+
+/// Writes an address of IPv6, as `2001:db8::1`, and in brackets where a port stands behind it, as `[2001:db8::1]:53`
+/// (RFC 5952 sections 4 and 6).
+pub fn write_v6<W: Write>(
+    output: &mut W,
+    address: Ipv6Address,
+    port: Option<u16>,
+) -> io::Result<()> {
+    let mut room = [0; ROOM];
+    let end = put_v6(&mut room, address, port);
+    output.write_all(&room[..end])
+}
+
+fn put_v6(room: &mut [u8; ROOM], address: Ipv6Address, port: Option<u16>) -> usize {
+    let groups = groups_of(&address.octets());
+    let Some(port) = port else {
+        return put_address(room, 0, &groups);
+    };
+    let start = put(room, 0, b"[\0\0\0\0\0\0\0\0\0\0\0\0\0\0\0", 0, 1);
+    let end = put_address(room, start, &groups);
+    let behind = put(room, end, b"]:\0\0\0\0\0\0\0\0\0\0\0\0\0\0", 0, 2);
+    put_port(room, behind, port)
+}
+
+#[cfg(test)]
+mod tests;

@@ -1,0 +1,95 @@
+// Made from crates/listing/src/message.rt by rust/erase.
+//! Whole messages of DNS (RFC 1035 section 4.1).
+
+mod data;
+mod edns;
+mod header;
+mod record;
+
+use crate::message::edns::{OPT, show_opt};
+use crate::message::header::show_header;
+use crate::message::record::{show_question, show_record};
+use control_wire::dns::Packet;
+use control_wire::record::{Entries, Entry, Record, Section};
+use rattle_std::io;
+use rattle_std::io::Write;
+
+/// Why a message is not listed to its end.
+#[derive(Debug, PartialEq, Eq, Clone, Copy)]
+pub enum Unread {
+    /// There are fewer than 12 bytes, or no question or record of its section begins where one should.
+    Entry,
+    /// A name does not read, of a question or record or in its data.
+    Name,
+    /// The data of a record are not what its type and class have.
+    Data,
+}
+
+/// Prints a message, each line behind the margin: the fields of its header, and then each question and record, up to
+/// the last, or to one that does not read; then it answers why. In multicast DNS the top bit of a class is no part of
+/// it (RFC 6762 sections 5.4 and 10.2).
+pub fn show_message<W: Write>(
+    output: &mut W,
+    margin: &str,
+    octets: &[u8],
+    is_multicast: bool,
+) -> io::Result<Option<Unread>> {
+    let Ok(packet) = Packet::new_checked(octets) else {
+        return Ok(Some(Unread::Entry));
+    };
+    show_header(output, margin, octets)?;
+    show_entries(output, margin, is_multicast, &packet)
+}
+
+// Prints the questions and records.
+fn show_entries<W: Write>(
+    output: &mut W,
+    margin: &str,
+    is_multicast: bool,
+    packet: &Packet<&[u8]>,
+) -> io::Result<Option<Unread>> {
+    let mut entries = Entries::new(packet);
+    loop {
+        let entry = match entries.next() {
+            Some(Ok(entry)) => entry,
+            Some(Err(_)) => return Ok(Some(Unread::Entry)),
+            None => return Ok(None),
+        };
+        let unread = show_entry(output, margin, is_multicast, packet, &entry)?;
+        if unread.is_some() {
+            return Ok(unread);
+        }
+    }
+}
+
+fn show_entry<'a, W: Write>(
+    output: &mut W,
+    margin: &str,
+    is_multicast: bool,
+    packet: &Packet<&'a [u8]>,
+    entry: &Entry<'a>,
+) -> io::Result<Option<Unread>> {
+    match entry {
+        Entry::Question(question) => show_question(output, margin, is_multicast, packet, question),
+        Entry::Record(section, record) => {
+            show_any_record(output, margin, is_multicast, packet, *section, record)
+        }
+    }
+}
+
+fn show_any_record<'a, W: Write>(
+    output: &mut W,
+    margin: &str,
+    is_multicast: bool,
+    packet: &Packet<&'a [u8]>,
+    section: Section,
+    record: &Record<'a>,
+) -> io::Result<Option<Unread>> {
+    if u16::from(record.type_) == OPT {
+        return show_opt(output, margin, packet, record);
+    }
+    show_record(output, margin, is_multicast, packet, section, record)
+}
+
+#[cfg(test)]
+mod tests;

@@ -1,0 +1,83 @@
+// Made from crates/listing/src/time/date.rt by rust/erase.
+//! Days as dates of the calendar.
+
+// The calendar begins anew after so many years, of so many days.
+const CYCLE_YEARS: u64 = 400;
+
+const CYCLE_DAYS: u64 = 146_097;
+
+/// A day of the calendar.
+#[derive(Clone, Copy)]
+pub struct Date {
+    /// The year, 1970 or later.
+    pub year: u64,
+    /// The month, from 1 on.
+    pub month: u64,
+    /// The day of the month, from 1 on.
+    pub day: u64,
+}
+
+/// The date so many days after 1970-01-01.
+pub fn date_of(days: u64) -> Date {
+    let day = days % CYCLE_DAYS;
+    let years = years_in(day);
+    let year = 1970 + CYCLE_YEARS * (days / CYCLE_DAYS) + years;
+    date_in_year(year, day - days_in_years(years))
+}
+
+// How many years from 1970 on pass whole in so many days. A year has 365 days at least, and fewer than a year's are
+// those of the leap days.
+fn years_in(days: u64) -> u64 {
+    let years = days / 365;
+    if days_in_years(years) > days {
+        years - 1
+    } else {
+        years
+    }
+}
+
+// How many days so many years from 1970 on have.
+fn days_in_years(years: u64) -> u64 {
+    let last = 1969 + years;
+    365 * years + last / 4 - last / 100 + last / 400 - 477
+}
+
+// The date so many days after a year's first.
+fn date_in_year(year: u64, days: u64) -> Date {
+    let mut left = days;
+    for months in 0..11 {
+        let in_month = month_days(year, months + 1);
+        if left < in_month {
+            return Date {
+                year,
+                month: months + 1,
+                day: left + 1,
+            };
+        }
+        left -= in_month;
+    }
+    Date {
+        year,
+        month: 12,
+        day: left + 1,
+    }
+}
+
+// How many days a month has.
+fn month_days(year: u64, month: u64) -> u64 {
+    match month {
+        2 => {
+            if is_leap(year) {
+                29
+            } else {
+                28
+            }
+        }
+        4 | 6 | 9 | 11 => 30,
+        _ => 31,
+    }
+}
+
+fn is_leap(year: u64) -> bool {
+    year % 4 == 0 && (year % 100 != 0 || year % 400 == 0)
+}
