@@ -1,12 +1,17 @@
 //! The program's arguments.
 
+use crate::text::String;
 use std::ffi::OsString;
 use std::io;
 
+/// The arguments.
+pub type Args = std::vec::IntoIter<String>;
+
 /// The arguments, the program's name first. Fails where one is no text.
-pub fn args() -> io::Result<std::vec::IntoIter<String>> {
-    let texts: Result<Vec<String>, OsString> =
-        std::env::args_os().map(OsString::into_string).collect();
+pub fn args() -> io::Result<Args> {
+    let texts: Result<Vec<String>, OsString> = std::env::args_os()
+        .map(|text| text.into_string().map(String::from))
+        .collect();
     match texts {
         Ok(texts) => Ok(texts.into_iter()),
         Err(_) => Err(io::ErrorKind::InvalidData.into()),

@@ -12,6 +12,7 @@ pub mod test;
 mod text;
 mod vec;
 
+pub use std::fs;
 pub use vec::filled;
 
 /// The names that Rattle's prelude has otherwise than Rust's.

@@ -21,6 +21,12 @@ impl String {
     }
 }
 
+impl From<std::string::String> for String {
+    fn from(text: std::string::String) -> String {
+        String(text)
+    }
+}
+
 impl Write for String {
     fn write_str(&mut self, text: &str) -> std::fmt::Result {
         self.0.write_str(text)

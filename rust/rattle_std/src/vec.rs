@@ -49,8 +49,14 @@ impl<T> DerefMut for Vec<T> {
 }
 
 impl std::io::Write for Vec<u8> {
+    #[inline]
     fn write(&mut self, bytes: &[u8]) -> std::io::Result<usize> {
         self.0.write(bytes)
+    }
+
+    #[inline]
+    fn write_all(&mut self, bytes: &[u8]) -> std::io::Result<()> {
+        self.0.write_all(bytes)
     }
 
     fn flush(&mut self) -> std::io::Result<()> {

@@ -1,0 +1,19 @@
+-- The payload prints what it holds, or there is none.
+use Rattle.std.proofs.Common.{Some, refl}
+use Rattle.pcapdump.specs.Messages.{UdpPrints, opens, unopened, DhcpPrints, refusal_text}
+use Rattle.pcapdump.proofs.Printing.{gained_one, gained_other}
+use Rattle.pcapdump.proofs.messages.udp.show_dhcp.Goals as goal
+
+pub returns-in-Ok : goal.returns-in-Ok
+returns-in-Ok g c =
+    let (is, datagram) = c.in-Ok.ensures.opens in
+    gained_other _ _ _ (DhcpPrints c.in-Ok.payload.now)
+    (UdpPrints c.args.addresses.now c.args.octets.now DhcpPrints)
+    (λ text why prints. opens datagram.0 datagram.1 (rw is at prints)) c.show_dhcp_packet.ensures
+
+pub returns-in-Err : goal.returns-in-Err
+returns-in-Err g c =
+    let (first, none) = c.in-Err.ensures.refuses in
+    gained_one _ _ _ (UdpPrints c.args.addresses.now c.args.octets.now DhcpPrints)
+    (refusal_text c.in-Err.reason) (Some c.in-Err.reason) (unopened c.in-Err.reason none first refl refl)
+    c.refuse.ensures

@@ -1,0 +1,40 @@
+-- What the message prints, and behind it why it is not listed to its end, if it is not.
+use Rattle.std.proofs.Common.{None, Some, refl, ap, sym, ◌∙◌}
+use Rattle.std.proofs.lemmas.List.{append-nil}
+use Rattle.listing.specs.ListingMessage.{MessagePrints}
+use Rattle.pcapdump.specs.Messages.{IsRefusal, DnsPrints, margin, refusal_text}
+use Rattle.pcapdump.proofs.Printing.{gained_one, gained_behind}
+use Rattle.pcapdump.proofs.messages.udp.show_dns_message.Goals as goal
+
+pub returns-in-Some : goal.returns-in-Some
+returns-in-Some g c =
+    let octets = c.args.octets.now in
+    let is_multicast = c.args.is_multicast in
+    let unread = c.in-Some.unread in
+    let reason = c.reason_of.result in
+    gained_behind _ _ c.refuse.result _ (λ text. MessagePrints margin is_multicast octets text (Some unread))
+    (IsRefusal reason) (DnsPrints is_multicast octets)
+    (λ first text why prints refusal. record {
+      listed = first;
+      unread_ = Some unread;
+      prints = prints;
+      why_ = refusal.1 ∙ ap Some c.reason_of.ensures;
+      text_ = rw (refusal.0, refusal.1) refl;
+    })
+    (rw c.in-Some.is at c.in_ok-unread.ensures)
+    (gained_one _ _ c.refuse.result (IsRefusal reason) (refusal_text reason) (Some reason) (refl, refl)
+    c.refuse.ensures)
+
+pub returns-in-None : goal.returns-in-None
+returns-in-None g c =
+    let printed = rw c.in-None.is at c.in_ok-unread.ensures in (
+      printed.0,
+      record {
+        listed = printed.0;
+        unread_ = None;
+        prints = printed.1;
+        why_ = refl;
+        text_ = sym (append-nil printed.0);
+      },
+      printed.2,
+    )

@@ -1,0 +1,9 @@
+pub mod Arguments
+pub mod Dump
+pub mod Heading
+pub mod Kinds
+pub mod Messages
+pub mod Sight
+pub mod Summary
+pub mod Table
+pub mod Tally

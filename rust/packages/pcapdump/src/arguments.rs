@@ -1,0 +1,168 @@
+// Made from crates/pcapdump/src/arguments.rt by rust/erase.
+//! The arguments of the program.
+
+use crate::Fault;
+use crate::kind::Kind;
+use crate::options::{Only, Options};
+use rattle_std::env::Args;
+#[allow(unused_imports)]
+use rattle_std::prelude::*;
+
+/// What the program is asked to do.
+pub enum Task {
+    /// To say what it does.
+    Help,
+    /// To print the captures of these files, or of standard input where there are none.
+    Dump(Options, Vec<String>),
+    /// Nothing that it knows.
+    Unknown,
+}
+
+// The arguments so far.
+struct Reading {
+    // What they choose.
+    options: Options,
+    files: Vec<String>,
+    // Whether the next argument is a list of names.
+    wants_kinds: bool,
+    // Whether all further ones are files.
+    wants_files: bool,
+}
+
+// What an argument tells.
+#[derive(Clone, Copy)]
+enum Step {
+    // That more of them are read.
+    More,
+    // The task.
+    Help,
+    Unknown,
+}
+
+/// The task of these arguments, of which the first is the program's name.
+pub fn read_task(arguments: Args) -> Result<Task, Fault> {
+    let mut reading = Reading::new();
+    for argument in arguments.skip(1) {
+        match reading.read(argument)? {
+            Step::More => (),
+            Step::Help => return Ok(Task::Help),
+            Step::Unknown => return Ok(Task::Unknown),
+        }
+    }
+    Ok(reading.task())
+}
+
+impl Reading {
+    // None.
+    fn new() -> Reading {
+        Reading {
+            options: Options {
+                only: Only::ALL,
+                prints: true,
+            },
+            files: Vec::new(),
+            wants_kinds: false,
+            wants_files: false,
+        }
+    }
+
+    // The task where no further argument comes.
+    fn task(self) -> Task {
+        if self.wants_kinds {
+            return Task::Unknown;
+        }
+        Task::Dump(self.options, self.files)
+    }
+
+    // Reads an argument.
+    fn read(&mut self, argument: String) -> Result<Step, Fault> {
+        if self.wants_kinds {
+            return Ok(self.read_kinds(argument.as_str()));
+        }
+        if self.wants_files || !is_option(argument.as_str()) {
+            let Ok(()) = self.files.push(argument) else {
+                return Err(Fault::Memory);
+            };
+            return Ok(Step::More);
+        }
+        Ok(self.read_option(argument.as_str()))
+    }
+
+    // Reads the list of names behind `--only`.
+    fn read_kinds(&mut self, list: &str) -> Step {
+        let Some(only) = read_only(list) else {
+            return Step::Unknown;
+        };
+        self.options.only = only;
+        self.wants_kinds = false;
+        Step::More
+    }
+
+    fn read_option(&mut self, word: &str) -> Step {
+        if word == "--only" {
+            self.wants_kinds = true;
+            return Step::More;
+        }
+        if word == "--count" {
+            self.options.prints = false;
+            return Step::More;
+        }
+        if word == "--" {
+            self.wants_files = true;
+            return Step::More;
+        }
+        if word == "--help" {
+            return Step::Help;
+        }
+        Step::Unknown
+    }
+}
+
+// Whether an argument begins with a hyphen, and is not that alone.
+fn is_option(word: &str) -> bool {
+    let octets = word.as_bytes();
+    octets.len() > 1 && octets[0] == b'-'
+}
+
+// The packets that a list of names chooses, with commas between them; None where one is no name.
+fn read_only(list: &str) -> Option<Only> {
+    let mut only = Only::NONE;
+    for name in list.split(',') {
+        only = with_name(only, name)?;
+    }
+    Some(only)
+}
+
+// These packets and those of a name: of a kind, or with hop-by-hop options.
+fn with_name(only: Only, name: &str) -> Option<Only> {
+    let mut kinds = only.kinds;
+    if name == "hbh" {
+        return Some(Only {
+            kinds,
+            hop_by_hop: true,
+        });
+    }
+    let kind = kind_of(name)?;
+    kinds[kind.place()] = true;
+    Some(Only {
+        kinds,
+        hop_by_hop: only.hop_by_hop,
+    })
+}
+
+// The kind of a name.
+fn kind_of(name: &str) -> Option<Kind> {
+    match name {
+        "icmp4" => Some(Kind::Icmp4),
+        "igmp" => Some(Kind::Igmp),
+        "icmp6" => Some(Kind::Icmp6),
+        "dns" => Some(Kind::Dns),
+        "mdns" => Some(Kind::Mdns),
+        "dhcp" => Some(Kind::Dhcp),
+        "frame" => Some(Kind::Frame),
+        _ => None,
+    }
+}
+
+#[cfg(test)]
+mod tests;

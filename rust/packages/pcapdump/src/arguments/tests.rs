@@ -1,0 +1,59 @@
+// Made from crates/pcapdump/src/arguments/tests.rt by rust/erase.
+//! Lists of kinds.
+
+use super::read_only;
+use crate::options::Only;
+use crate::testing::same_of;
+
+#[test]
+fn lists_of_kinds() {
+    const T: bool = true;
+    const F: bool = false;
+    // Whether each kind is chosen, and whether those with hop-by-hop options are.
+    const ROWS: &[(&str, [bool; 7], bool)] = &[
+        ("icmp4", [T, F, F, F, F, F, F], F),
+        ("igmp", [F, T, F, F, F, F, F], F),
+        ("icmp6", [F, F, T, F, F, F, F], F),
+        ("dns", [F, F, F, T, F, F, F], F),
+        ("mdns", [F, F, F, F, T, F, F], F),
+        ("dhcp", [F, F, F, F, F, T, F], F),
+        ("frame", [F, F, F, F, F, F, T], F),
+        ("hbh", [F, F, F, F, F, F, F], T),
+        ("dns,mdns", [F, F, F, T, T, F, F], F),
+        ("mdns,hbh,dns,mdns", [F, F, F, T, T, F, F], T),
+        (
+            "frame,dhcp,mdns,dns,icmp6,igmp,icmp4",
+            [T, T, T, T, T, T, T],
+            F,
+        ),
+    ];
+    for (list, kinds, hop_by_hop) in ROWS {
+        let only = Only {
+            kinds: *kinds,
+            hop_by_hop: *hop_by_hop,
+        };
+        same_of(list, read_only(list), Some(only));
+    }
+}
+
+#[test]
+fn lists_with_what_is_no_kind() {
+    const LISTS: &[&str] = &[
+        "",
+        ",",
+        "dns,",
+        ",dns",
+        "dns,,mdns",
+        "tcp",
+        "DNS",
+        "dns mdns",
+        "dns, mdns",
+        "icmp",
+        "dns;",
+        "icmp44",
+        "-",
+    ];
+    for list in LISTS {
+        same_of(list, read_only(list), None);
+    }
+}

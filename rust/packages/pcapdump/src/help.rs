@@ -1,0 +1,5 @@
+// Made from crates/pcapdump/src/help.rt by rust/erase.
+//! What the program says of itself.
+
+/// The usage, for a wrong argument.
+pub const USAGE: &str = "usage: pcapdump [--only KIND,..] [--count] [FILE..]";

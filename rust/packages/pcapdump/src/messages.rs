@@ -1,0 +1,96 @@
+// Made from crates/pcapdump/src/messages.rt by rust/erase.
+//! What a control packet prints below its heading, each line behind two spaces.
+
+#[allow(unused_imports)]
+use rattle_std::prelude::*;
+mod icmp;
+mod udp;
+
+use crate::Fault;
+use crate::kind::{Kind, Reason};
+use crate::messages::icmp::{show_icmp4, show_icmp6, show_igmp};
+use crate::messages::udp::{show_dhcp, show_dns};
+use crate::sight::{Content, Headers};
+use control_wire::frames::Addresses;
+use listing::hbh::show_hbh;
+use listing::page::write_indented;
+use listing::printer::part_field;
+use rattle_std::io;
+use rattle_std::io::Write;
+
+// What stands before each line.
+const MARGIN: &str = "  ";
+
+/// Prints what a control packet holds, and answers why it is refused, or None where it is listed. What is to be
+/// indented stands in the page meanwhile.
+pub fn show_listing<W: Write>(
+    output: &mut W,
+    page: &mut Vec<u8>,
+    headers: &Headers<'_>,
+) -> Result<Option<Reason>, Fault> {
+    show_options(output, page, headers.hop_by_hop)?;
+    show_content(output, page, headers.kind, headers.content)
+}
+
+// Prints hop-by-hop options, where there are any.
+fn show_options<W: Write>(
+    output: &mut W,
+    page: &mut Vec<u8>,
+    options: Option<&[u8]>,
+) -> Result<(), Fault> {
+    let Some(octets) = options else {
+        return Ok(());
+    };
+    page.clear();
+    show_hbh(page, octets)?;
+    write_indented(output, page.as_slice())?;
+    Ok(())
+}
+
+fn show_content<W: Write>(
+    output: &mut W,
+    page: &mut Vec<u8>,
+    kind: Kind,
+    content: Content<'_>,
+) -> Result<Option<Reason>, Fault> {
+    match content {
+        Content::Whole(addresses, octets) => show_payload(output, page, kind, addresses, octets),
+        Content::Refused(reason) => refuse(output, reason),
+    }
+}
+
+// Prints a payload by its kind.
+fn show_payload<W: Write>(
+    output: &mut W,
+    page: &mut Vec<u8>,
+    kind: Kind,
+    addresses: Addresses,
+    octets: &[u8],
+) -> Result<Option<Reason>, Fault> {
+    match kind {
+        Kind::Icmp4 => show_icmp4(output, page, octets),
+        Kind::Igmp => show_igmp(output, page, octets),
+        Kind::Icmp6 => match addresses {
+            Addresses::V6(src_addr, dst_addr) => {
+                show_icmp6(output, page, &src_addr, &dst_addr, octets)
+            }
+            Addresses::V4(_, _) => refuse(output, Reason::Malformed),
+        },
+        Kind::Dns => show_dns(output, &addresses, octets, false),
+        Kind::Mdns => show_dns(output, &addresses, octets, true),
+        Kind::Dhcp => show_dhcp(output, page, &addresses, octets),
+        Kind::Frame => refuse(output, Reason::Malformed),
+    }
+}
+
+/// Prints why a packet is refused.
+fn refuse<W: Write>(output: &mut W, reason: Reason) -> Result<Option<Reason>, Fault> {
+    part_field(output, MARGIN, "refused", reason.name())?;
+    Ok(Some(reason))
+}
+
+// Prints the page, indented.
+fn write_page<W: Write>(output: &mut W, page: &[u8]) -> Result<Option<Reason>, Fault> {
+    write_indented(output, page)?;
+    Ok(None)
+}
