@@ -1,0 +1,317 @@
+"""Listings of ICMP of both families, IGMP, DHCP and hop-by-hop options. Each function gives the lines of a listing, or
+raises the reason why there is none."""
+from frames import ICMP6, UDP, Refused, ports
+from text import be, dotted, field, hexadecimal, is_good, pseudo_sum, truth
+
+TCP = 6
+
+
+def need(octets, length):
+    """A message has fewer octets than its header takes."""
+    if len(octets) < length:
+        raise Refused("short")
+
+
+def accept(is_so):
+    if not is_so:
+        raise Refused("malformed")
+
+
+def number(name, octets, at, length):
+    return field(name, be(octets[at:at + length]))
+
+
+# ---- hop-by-hop options (RFC 8200 section 4.2)
+
+# As many are printed, and one more is looked at.
+MOST_OPTIONS = 8
+
+
+def hop_by_hop(octets):
+    lines, count = [], 0
+    accept(octets)
+    while octets and count <= MOST_OPTIONS:
+        # Pad1 is one octet alone.
+        accept(octets[0] == 0 or len(octets) >= 2)
+        length = 1 if octets[0] == 0 else 2 + octets[1]
+        accept(length <= len(octets) and (octets[0] != 5 or length == 4))
+        if count < MOST_OPTIONS:
+            lines += option(octets[:length])
+        octets = octets[length:]
+        count += 1
+    return lines
+
+
+def option(octets):
+    if octets[0] == 0:
+        return ["Pad1"]
+    if octets[0] == 1:
+        return [number("PadN", octets, 1, 1)]
+    if octets[0] == 5:
+        return [number("RouterAlert", octets, 2, 2)]
+    return ["Unknown", number("type_", octets, 0, 1), number("length", octets, 1, 1),
+            field("data", hexadecimal(octets[2:]))]
+
+
+# ---- ICMPv4 (RFC 792)
+
+ERRORS4 = {3: "DstUnreachable", 4: "SourceQuench", 5: "Redirect", 11: "TimeExceeded", 12: "ParamProblem"}
+
+
+def icmp4(of):
+    octets = of.payload
+    need(octets, 8)
+    if not is_good(octets):
+        raise Refused("checksum")
+    kind = octets[0]
+    if kind in (0, 8):
+        return echo("EchoRequest" if kind == 8 else "EchoReply", octets)
+    if kind not in ERRORS4:
+        raise Refused("type")
+    return error4(kind, octets)
+
+
+def echo(name, octets):
+    accept(octets[1] == 0)
+    return [name, number("ident", octets, 4, 2), number("seq_no", octets, 6, 2),
+            field("data", hexadecimal(octets[8:]))]
+
+
+def error4(kind, octets):
+    quote = octets[8:]
+    header_len = quote[0] % 16 * 4 if quote else 0
+    if not quote or quote[0] >> 4 != 4 or header_len < 20 or len(quote) < header_len + 8:
+        raise Refused("quote")
+    lines = [ERRORS4[kind], number("code", octets, 1, 1)]
+    if kind == 3:
+        mtu = be(octets[6:8]) if octets[1] == 4 else 0
+        lines.append(field("next_hop_mtu", mtu or "none"))
+    elif kind == 5:
+        lines.append(field("gateway", dotted(octets[4:8])))
+    elif kind == 12:
+        lines.append(number("pointer", octets, 4, 1))
+    return lines + ["quoted." + line for line in quote4(quote, header_len)]
+
+
+def quote4(quote, header_len):
+    flags = be(quote[6:8])
+    offset = flags % 0x2000 * 8
+    payload = quote[header_len:]
+    return [
+        number("type_of_service", quote, 1, 1), number("total_len", quote, 2, 2), number("ident", quote, 4, 2),
+        field("dont_frag", truth(flags & 0x4000)), field("more_frags", truth(flags & 0x2000)),
+        field("frag_offset", offset), number("hop_limit", quote, 8, 1), number("next_header", quote, 9, 1),
+        field("src_addr", dotted(quote[12:16])), field("dst_addr", dotted(quote[16:20])),
+        field("options", hexadecimal(quote[20:header_len])),
+    ] + quoted_ports(quote[9], b"" if offset else payload) + [field("payload", hexadecimal(payload))]
+
+
+def quoted_ports(protocol, payload):
+    found = ports(payload) if protocol in (TCP, UDP) else None
+    source, destination = found if found else ("none", "none")
+    return [field("src_port", source), field("dst_port", destination)]
+
+
+# ---- IGMP (RFC 2236), whose checksum is not looked at
+
+def igmp(of):
+    octets = of.payload
+    need(octets, 8)
+    if octets[0] not in (0x11, 0x12, 0x16, 0x17):
+        raise Refused("type")
+    group = octets[4:8]
+    accept(group == b"\0\0\0\0" or 224 <= group[0] <= 239)
+    address = field("group_addr", dotted(group))
+    if octets[0] == 0x11:
+        code = octets[1]
+        return ["MembershipQuery", field("max_resp_time", response_time(code)), address,
+                field("version", 1 if code == 0 else 2)]
+    if octets[0] == 0x17:
+        return ["LeaveGroup", address]
+    return ["MembershipReport", address, field("version", 1 if octets[0] == 0x12 else 2)]
+
+
+def response_time(code):
+    """Milliseconds: the code counts tenths of a second, and from 128 on has an exponent (RFC 3376 section 4.1.1)."""
+    if code < 128:
+        return 100 * code
+    return 100 * ((code % 16 + 16) << (code // 16 % 8 + 3))
+
+
+# ---- ICMPv6 (RFC 4443)
+
+ERRORS6 = {1: "DstUnreachable", 2: "PktTooBig", 3: "TimeExceeded", 4: "ParamProblem"}
+HEADERS6 = {1: 8, 2: 8, 3: 8, 4: 8, 128: 8, 129: 8, 130: 28, 133: 8, 134: 16, 135: 24, 136: 24, 137: 40, 143: 8}
+
+
+def icmp6(of):
+    octets = of.payload
+    need(octets, 4)
+    kind = octets[0]
+    # What all messages have in common are four octets (RFC 4443 section 2.1).
+    need(octets, HEADERS6.get(kind, 4))
+    if not is_good(octets, pseudo_sum(of.source, of.destination, ICMP6, len(octets))):
+        raise Refused("checksum")
+    if kind not in HEADERS6:
+        raise Refused("type")
+    if kind in ERRORS6:
+        return error6(kind, octets)
+    if kind in (128, 129):
+        return echo("EchoRequest" if kind == 128 else "EchoReply", octets)
+    accept(octets[1] == 0)
+    return {130: query, 143: report}[kind](octets) if kind in (130, 143) else neighbor(kind, octets)
+
+
+def error6(kind, octets):
+    quote = octets[8:]
+    if len(quote) < 40 or quote[0] >> 4 != 6:
+        raise Refused("quote")
+    lines = [ERRORS6[kind], number("code", octets, 1, 1)]
+    if kind == 2:
+        lines.append(number("mtu", octets, 4, 4))
+    elif kind == 4:
+        lines.append(number("pointer", octets, 4, 4))
+    return lines + ["quoted." + line for line in quote6(quote)]
+
+
+def quote6(quote):
+    payload = quote[40:]
+    return [
+        field("traffic_class", be(quote[0:2]) >> 4 & 0xFF), field("flow_label", be(quote[0:4]) % 2 ** 20),
+        number("payload_len", quote, 4, 2), number("hop_limit", quote, 7, 1), number("next_header", quote, 6, 1),
+        field("src_addr", quote[8:24].hex()), field("dst_addr", quote[24:40].hex()),
+    ] + quoted_ports(quote[6], payload) + [field("payload", hexadecimal(payload))]
+
+
+# ---- multicast listener discovery (RFC 3810 section 5)
+
+def query(octets):
+    return ["Query", number("max_resp_code", octets, 4, 2), field("mcast_addr", octets[8:24].hex()),
+            field("s_flag", truth(octets[24] & 8)), field("qrv", octets[24] & 7), number("qqic", octets, 25, 1),
+            number("num_srcs", octets, 26, 2), field("data", hexadecimal(octets[28:]))]
+
+
+def report(octets):
+    return ["Report", number("nr_mcast_addr_rcrds", octets, 6, 2), field("data", hexadecimal(octets[8:]))]
+
+
+# ---- neighbor discovery (RFC 4861 section 4)
+
+def neighbor(kind, octets):
+    found = neighbor_options(octets[HEADERS6[kind]:])
+    source = field("lladdr", hexadecimal(found[1][2:10]) if 1 in found else "none")
+    target = field("lladdr", hexadecimal(found[2][2:10]) if 2 in found else "none")
+    addr = field("target_addr", octets[8:24].hex())
+    if kind == 133:
+        return ["RouterSolicit", source]
+    if kind == 134:
+        return router(octets) + [source] + router_options(found)
+    if kind == 135:
+        return ["NeighborSolicit", addr, source]
+    if kind == 136:
+        return ["NeighborAdvert", field("flags", octets[4] & 0xE0), addr, target]
+    return ["Redirect", addr, field("dest_addr", octets[24:40].hex()), target] + redirected(found)
+
+
+def router(octets):
+    return ["RouterAdvert", number("hop_limit", octets, 4, 1), field("flags", octets[5] & 0xC0),
+            field("router_lifetime", 1000 * be(octets[6:8])), number("reachable_time", octets, 8, 4),
+            number("retrans_time", octets, 12, 4)]
+
+
+def neighbor_options(octets):
+    """The last option of each type that reads. A prefix or an MTU of other units, and a redirected packet that is not
+    whole, are passed over; where the options don't fill the message, it does not read."""
+    found = {}
+    while octets:
+        accept(len(octets) >= 8)
+        length = 8 * octets[1]
+        accept(length and length <= len(octets))
+        block, octets = octets[:length], octets[length:]
+        kind = block[0]
+        # The fixed fields of a prefix and of a redirected packet.
+        accept(length >= {3: 32, 4: 48}.get(kind, 8))
+        quote = block[8:]
+        if kind == 3 and length != 32 or kind == 5 and length != 8:
+            continue
+        if kind == 4 and (quote[0] >> 4 != 6 or len(quote) < 40 + be(quote[4:6])):
+            continue
+        found[kind] = block
+    return found
+
+
+def router_options(found):
+    lines = [number("mtu", found[5], 4, 4) if 5 in found else field("mtu", "none")]
+    if 3 not in found:
+        return lines + [field("prefix_info", "none")]
+    block = found[3]
+    return lines + ["prefix_info." + line for line in (
+        number("prefix_len", block, 2, 1), field("flags", block[3] & 0xC0),
+        field("valid_lifetime", 1000 * be(block[4:8])), field("preferred_lifetime", 1000 * be(block[8:12])),
+        field("prefix", block[16:32].hex()))]
+
+
+def redirected(found):
+    if 4 not in found:
+        return [field("redirected_hdr", "none")]
+    quote = found[4][8:]
+    payload = quote[40:40 + be(quote[4:6])]
+    return ["redirected_hdr." + line for line in (
+        field("header.src_addr", quote[8:24].hex()), field("header.dst_addr", quote[24:40].hex()),
+        number("header.next_header", quote, 6, 1), number("header.payload_len", quote, 4, 2),
+        number("header.hop_limit", quote, 7, 1), field("data", hexadecimal(payload)))]
+
+
+# ---- DHCP (RFC 2131, RFC 2132)
+
+# Which operation sends a type of message.
+SENT_BY = {1: 1, 2: 2, 3: 1, 4: 1, 5: 2, 6: 2, 7: 1, 8: 1}
+
+
+def dhcp(octets):
+    need(octets, 240)
+    found = dhcp_options(octets[240:])
+    accept(octets[1:3] == b"\x01\x06" and octets[236:240] == bytes.fromhex("63825363"))
+    # A client identifier of seven octets is an address of Ethernet.
+    accept(all(data[0] == 1 for code, data in found if code == 61 and len(data) == 7))
+    kinds = [data[0] for code, data in found if code == 53 and len(data) == 1]
+    kinds = [kind for kind in kinds if SENT_BY.get(kind, 0) == octets[0]]
+    accept(kinds)
+
+    def last(code, length=None):
+        of = [data for c, data in found if c == code and length in (None, len(data))]
+        return of[-1] if of else None
+
+    def said(name, code, length, text):
+        data = last(code, length)
+        return field(name, "none" if data is None else text(data))
+
+    def addresses(data):
+        return ",".join(dotted(data[at:at + 4]) for at in range(0, min(len(data), 20) // 4 * 4, 4)) or "-"
+
+    return [
+        field("message_type", kinds[-1]), number("transaction_id", octets, 4, 4), number("secs", octets, 8, 2),
+        field("client_hardware_address", octets[28:34].hex()), field("client_ip", dotted(octets[12:16])),
+        field("your_ip", dotted(octets[16:20])), field("server_ip", dotted(octets[20:24])),
+        said("router", 3, 4, dotted), said("subnet_mask", 1, 4, dotted),
+        field("relay_agent_ip", dotted(octets[24:28])), field("broadcast", truth(octets[10] & 0x80)),
+        said("requested_ip", 50, 4, dotted), said("client_identifier", 61, 7, lambda data: data[1:].hex()),
+        said("server_identifier", 54, 4, dotted), said("parameter_request_list", 55, None, hexadecimal),
+        said("dns_servers", 6, None, addresses), said("max_size", 57, 2, be), said("lease_duration", 51, 4, be),
+        said("renew_duration", 58, 4, be), said("rebind_duration", 59, 4, be),
+    ]
+
+
+def dhcp_options(octets):
+    """Options by code and data. Padding is skipped; the end mark ends them, and so does the end of the octets, also
+    where it comes within an option."""
+    found, at = [], 0
+    while at < len(octets) and octets[at] != 255:
+        if octets[at] == 0:
+            at += 1
+            continue
+        if at + 2 > len(octets) or at + 2 + octets[at + 1] > len(octets):
+            break
+        found.append((octets[at], octets[at + 2:at + 2 + octets[at + 1]]))
+        at += 2 + octets[at + 1]
+    return found

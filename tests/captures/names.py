@@ -1,0 +1,175 @@
+"""What pcapdump is to print of a message of DNS, told by the fields that tshark has of it; see expected.py."""
+
+import re
+
+TYPES = {1: "A", 2: "NS", 5: "CNAME", 6: "SOA", 12: "PTR", 13: "HINFO", 15: "MX", 16: "TXT", 28: "AAAA", 33: "SRV",
+         35: "NAPTR", 39: "DNAME", 43: "DS", 44: "SSHFP", 46: "RRSIG", 47: "NSEC", 48: "DNSKEY", 50: "NSEC3",
+         52: "TLSA", 64: "SVCB", 65: "HTTPS", 99: "SPF", 251: "IXFR", 252: "AXFR", 255: "ANY", 257: "CAA"}
+CLASSES = {1: "IN", 3: "CH", 4: "HS", 254: "NONE", 255: "ANY"}
+FLAGS = ((0x8000, "qr"), (0x0400, "aa"), (0x0200, "tc"), (0x0100, "rd"), (0x0080, "ra"), (0x0020, "ad"), (0x0010, "cd"))
+OPT = 41
+
+# The types whose data pcapdump tells, and OPT, which is no record of the zone.
+TOLD = (1, 2, 5, 6, 12, 15, 16, 28, 33, OPT)
+
+# The sections of records, and what tshark calls the numbers of their records, in updates as well (RFC 2136).
+SECTIONS = (("answer", "answers", "prerequisites"), ("authority", "auth_rr", "updates"), ("additional", "add_rr"))
+
+
+def name(text):
+    """A name as it stands behind `unescaped`: tshark writes a label's characters as they are, and no last dot."""
+    return "." if text == "<Root>" else text + "."
+
+
+def type_name(number):
+    return TYPES.get(number, f"TYPE{number}")
+
+
+def class_name(number):
+    return CLASSES.get(number, f"CLASS{number}")
+
+
+def unescaped(line):
+    """A line of pcapdump with the characters of its names as they are, so that it can be compared. Strings of TXT stay
+    as they are written."""
+    words = line.split(" ")
+    is_text = len(words) > 4 and words[3] == "TXT"
+    return " ".join(word if word == "\\#" or is_text and at > 0 else re.sub(r"\\(\d{3}|.)", character, word)
+                    for at, word in enumerate(words))
+
+
+def character(escape):
+    return chr(int(escape[1])) if escape[1].isdigit() else escape[1]
+
+
+def string(text):
+    return '"' + text.replace("\\", "\\\\").replace('"', '\\"') + '"'
+
+
+class Records:
+    """The records of a message: tshark has a list for each field, which has those that have it, in their order."""
+
+    def __init__(self, packet):
+        self.packet = packet
+        self.lists = {key: list(values) for key, values in packet.fields.items() if key.startswith("dns.")}
+
+    def next(self, key):
+        return self.lists["dns." + key].pop(0)
+
+    def next_text(self):
+        """The next string of TXT; tshark may leave out one that is empty."""
+        count, texts = int(self.next("txt.length")), self.lists.get("dns.txt", [])
+        return texts.pop(0) if texts and (count > 0 or texts[0] == "") else ""
+
+    def owner(self, number):
+        """The name of a record. That of SRV stands in three parts, where it has them."""
+        if number == 33 and self.lists.get("dns.srv.name"):
+            parts = [self.next(key) for key in ("srv.service", "srv.proto", "srv.name") if self.lists.get("dns." + key)]
+            return name(".".join(parts))
+        return name(self.next("resp.name"))
+
+    def type(self):
+        return int(self.next("resp.type"))
+
+    def skip_types(self, count):
+        """Takes off the types that a record of NSEC has in its data, so that so many records are left."""
+        types = self.lists["dns.resp.type"]
+        names_left = len(self.lists.get("dns.resp.name", [])) + min(types.count("33"), len(
+            self.lists.get("dns.srv.name", [])))
+        while len(types) > names_left and count >= 0:
+            types.pop(0)
+
+    def data(self, number, its_class, length):
+        """A pattern of a record's data."""
+        forms = {1: ("a",), 28: ("aaaa",), 2: ("ns",), 5: ("cname",), 12: ("ptr.domain_name",),
+                 15: ("mx.preference", "mx.mail_exchange"),
+                 33: ("srv.priority", "srv.weight", "srv.port", "srv.target"),
+                 6: ("soa.mname", "soa.rname", "soa.serial_number", "soa.refresh_interval", "soa.retry_interval",
+                     "soa.expire_limit", "soa.minimum_ttl")}
+        are_names = ("ns", "cname", "ptr.domain_name", "mx.mail_exchange", "srv.target", "soa.mname", "soa.rname")
+        if number == 16:
+            words = []
+            while length > 0:
+                length -= 1 + int(self.lists["dns.txt.length"][0])
+                words.append(string(self.next_text()))
+            return re.escape(" ".join(words))
+        if number in forms and (number not in (1, 28) or its_class == 1):
+            return re.escape(" ".join(name(self.next(key)) if key in are_names else self.next(key)
+                                      for key in forms[number]))
+        return re.escape(f"\\# {length}") + (" [0-9a-f]{%d}" % (2 * length) if length else "")
+
+    def options(self, length):
+        """The lines of a record of type OPT."""
+        flags = int(self.next("resp.z"), 0)
+        lines = [f'opt.udp_size={int(self.next("rr.udp_payload_size"), 0)}',
+                 f'opt.extended_rcode={int(self.next("resp.ext_rcode"), 0)}',
+                 f'opt.version={self.next("resp.edns0_version")}', f"opt.flags={flags}"]
+        while length > 0:
+            code, count, data = self.next("opt.code"), int(self.next("opt.len")), self.next("opt.data")
+            lines.append(f'opt.option={code} {data if count else "-"}')
+            length -= 4 + count
+        return [re.escape(line) for line in lines]
+
+    def lines(self, section):
+        """The lines of the next record."""
+        number, length = self.type(), int(self.next("resp.len"))
+        owner = self.owner(number)
+        if number == 47:
+            self.skip_types(0)
+        if number == OPT:
+            return self.options(length)
+        is_flushed = "dns.resp.cache_flush" in self.lists and self.next("resp.cache_flush") == "1"
+        its_class, ttl = int(self.next("resp.class"), 0), self.next("resp.ttl")
+        front = f"{section}={owner} {ttl} {class_name(its_class)} {type_name(number)} "
+        return [re.escape(front) + self.data(number, its_class, length) + (" ; cache-flush" if is_flushed else "")]
+
+
+def is_empty(number, length):
+    """Whether a record without data is of a type that has some. An update has such (RFC 2136 section 2.5)."""
+    return number in (2, 5, 6, 12, 15, 16, 33) and length == 0
+
+
+def has_empty(packet):
+    types, lengths = packet.numbers("dns.resp.type"), packet.numbers("dns.resp.len")
+    return 47 not in types and any(is_empty(number, length) for number, length in zip(types, lengths))
+
+
+def questions(packet):
+    bits = packet.all("dns.qry.qu") or ["0"] * len(packet.all("dns.qry.name"))
+    for text, number, its_class, bit in zip(packet.all("dns.qry.name"), packet.numbers("dns.qry.type"),
+                                            packet.numbers("dns.qry.class"), bits):
+        yield re.escape(f"question={name(text)} {class_name(its_class)} {type_name(number)}") + (
+            " ; unicast-response" if bit == "1" else "")
+
+
+def header(packet):
+    flags = packet.number("dns.flags")
+    told = ",".join(text for bit, text in FLAGS if flags & bit) or "-"
+    return [re.escape(line) for line in (f"transaction_id={packet.number('dns.id')}", f"flags={told}",
+                                         f"opcode={flags >> 11 & 15}", f"rcode={flags & 15}")]
+
+
+def message(packet):
+    """The patterns of the lines of a message."""
+    lines, records = header(packet) + list(questions(packet)), Records(packet)
+    for section, *names_of in SECTIONS:
+        for _ in range(sum(number for count in names_of for number in packet.numbers("dns.count." + count))):
+            lines += records.lines(section)
+    return lines
+
+
+def front(packet):
+    """The patterns of the lines of a message that ends too early, or within whose records one does not read: tshark has
+    no lengths of the data behind the end, and tells those of data without any."""
+    lines, records = header(packet) + list(questions(packet)), Records(packet)
+    counts = [(section, number) for section, *names_of in SECTIONS for count in names_of
+              for number in packet.numbers("dns.count." + count)]
+    for section in (section for section, number in counts for _ in range(number)):
+        kinds, lengths = records.lists.get("dns.resp.type"), records.lists.get("dns.resp.len")
+        if not kinds or not lengths or is_empty(int(kinds[0]), int(lengths[0])):
+            break
+        try:
+            lines += records.lines(section)
+        except LookupError:
+            break
+    return lines

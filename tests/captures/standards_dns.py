@@ -1,0 +1,125 @@
+"""Captures of messages of DNS and of multicast DNS, of raw IP."""
+import struct
+
+from building import (HOST4, HOST6, SERVER4, SERVER6, hexed, message, name, pcap, pointer, question, record, udp4, udp6,
+                      v4, v6)
+
+QUERY, ANSWER, MULTICAST = 0x0100, 0x8180, 0x8400
+A, NS, CNAME, SOA, PTR, HINFO, MX, TXT, AAAA, SRV, OPT, ANY = 1, 2, 5, 6, 12, 13, 15, 16, 28, 33, 41, 255
+EXAMPLE, WWW = name("example.com"), name("www.example.com")
+# The first name of a message.
+OWNER = pointer(12)
+
+
+def asks(octets):
+    return pcap([udp4(octets, 40000, 53)], 101)
+
+
+def answers(octets):
+    return pcap([udp4(octets, 53, 40000, SERVER4, HOST4)], 101)
+
+
+def multicast(octets):
+    return pcap([udp4(octets, 5353, 5353, HOST4, v4("224.0.0.251"))], 101)
+
+
+def answer(kind, data, owner=OWNER, asked=None, **more):
+    """An answer of one record, to a question of its type for example.com."""
+    return answers(message(ANSWER, [question(EXAMPLE, kind if asked is None else asked)],
+                           [record(owner, kind, data, **more)]))
+
+
+def address(octets):
+    return record(OWNER, A, octets)
+
+
+def opt(data, size=1232, ttl=0x8000, owner=b"\0"):
+    return record(owner, OPT, data, ttl, size)
+
+
+RECORDS = {
+    "dns_query": asks(message(QUERY, [question(EXAMPLE, A)])),
+    "dns_query_over_ipv6": pcap([udp6(message(QUERY, [question(EXAMPLE, AAAA)]), 40000, 53)], 101),
+    "dns_header_alone": asks(message(0x2C95, ident=65535)),
+    "dns_flags_all": asks(message(0xFFFF, ident=0)),
+    "dns_a": answer(A, v4("192.0.2.1")),
+    "dns_a_of_chaos": answer(A, hexed("c00c 0001"), of_class=3),
+    "dns_a_of_three_octets": answer(A, hexed("c00002")),
+    "dns_aaaa": answer(AAAA, v6("2001:db8:0:1:0:0:0:1")),
+    "dns_aaaa_of_15_octets": answer(AAAA, b"\0" * 15),
+    "dns_ns": answer(NS, b"\3ns1" + OWNER),
+    "dns_cname_and_a": answers(message(ANSWER, [question(WWW, A)], [
+        record(OWNER, CNAME, pointer(16)), record(pointer(16), A, v4("192.0.2.1"))])),
+    "dns_ptr": answers(message(ANSWER, [question(name("1.2.0.192.in-addr.arpa"), PTR)],
+                               [record(OWNER, PTR, EXAMPLE)])),
+    "dns_mx": answer(MX, hexed("000a") + b"\4mail" + OWNER),
+    "dns_mx_of_one_octet": answer(MX, b"\0"),
+    "dns_srv": answer(SRV, hexed("0000 0005 13c4") + name("sip.example.com")),
+    "dns_soa": answer(SOA, b"\3ns1" + OWNER + b"\x0ahostmaster" + OWNER
+                      + struct.pack(">IIIII", 1, 7200, 3600, 1209600, 300)),
+    "dns_soa_with_an_octet_behind": answer(SOA, OWNER + OWNER + b"\0" * 21),
+    "dns_txt": answer(TXT, b"\x0bv=spf1 -all" + b"\0" + b'\x09a"b\\c\0\x7f\xff;'),
+    "dns_txt_of_nothing": answer(TXT, b""),
+    "dns_txt_past_the_end": answer(TXT, b"\5abcd"),
+    "dns_hinfo": answer(HINFO, b"\3CPU\2OS"),
+    "dns_of_type_65280": answer(65280, b""),
+    "dns_name_with_an_octet_behind": answer(CNAME, OWNER + b"\0"),
+    "dns_of_no_data": answer(NS, b""),
+    "dns_sections": answers(message(
+        ANSWER, [question(EXAMPLE, NS)], [record(OWNER, NS, b"\2ns" + OWNER, 2 ** 32 - 1)],
+        [record(OWNER, NS, pointer(41), 0)],
+        [record(pointer(41), A, v4("192.0.2.53")), record(b"\0", TXT, b"\1x", of_class=4)])),
+    "dns_of_every_class": asks(message(QUERY, [question(b"\0", 0, of_class) for of_class in (3, 4, 254, 255, 0, 2)])),
+    "dns_octets_behind": asks(message(QUERY, [question(EXAMPLE, ANY)]) + b"\1\2\3"),
+    "dns_of_named_types": asks(message(QUERY, [question(b"\0", kind) for kind in (
+        35, 39, 41, 43, 44, 46, 47, 48, 50, 52, 64, 65, 99, 251, 252, 255, 257, 3)])),
+    "dns_of_eleven_octets": asks(message(QUERY)[:11]),
+    "dns_question_past_the_end": asks(message(QUERY, [question(EXAMPLE, A)])[:-1]),
+    "dns_record_past_the_end": answers(message(ANSWER, [question(EXAMPLE, A)], [address(v4("192.0.2.1"))])[:-1]),
+    "dns_record_missing": answers(message(ANSWER, [question(EXAMPLE, A)], [address(v4("192.0.2.1")), b""])),
+}
+
+EXTENSIONS = {
+    "dns_opt": asks(message(QUERY, [question(EXAMPLE, A)], (), (), [
+        opt(hexed("000a 0008 0123456789abcdef 0003 0000"))])),
+    "dns_opt_of_no_options": answers(message(ANSWER, [question(EXAMPLE, A)], (), (), [opt(b"", 4096, 0x01000000)])),
+    "dns_opt_of_every_bit": answers(message(ANSWER, (), [opt(b"", 65535, 0xFFFFFFFF)])),
+    "dns_opt_with_an_option_past_the_end": asks(message(QUERY, (), (), (), [opt(hexed("000a 0008 01"))])),
+    "dns_opt_of_three_octets": asks(message(QUERY, (), (), (), [opt(b"\0\x0a\0")])),
+}
+
+LONG = b"\x3f" + b"x" * 63
+NAMES = {
+    "name_with_special_characters": asks(message(QUERY, [question(b'\x0b"$().;@\\ \x7f\0\1A\0', A)])),
+    "name_of_255_octets": asks(message(QUERY, [question(LONG * 3 + b"\x3d" + b"y" * 61 + b"\0", A)])),
+    "name_of_256_octets": asks(message(QUERY, [question(LONG * 3 + b"\x3e" + b"y" * 62 + b"\0", A)])),
+    "name_too_long_behind_a_pointer": answers(message(ANSWER, [question(LONG * 3 + b"\0", A)], [
+        record(LONG + OWNER, A, v4("192.0.2.1"))])),
+    "name_that_leads_to_itself": asks(message(QUERY, [question(pointer(12), A)])),
+    "name_that_leads_round": asks(message(QUERY, [question(pointer(14), A), question(pointer(12), A)])),
+    "name_that_leads_past_the_end": asks(message(QUERY, [question(pointer(18), A)])),
+    "name_that_leads_forward": asks(message(QUERY, [question(pointer(18), A)]) + EXAMPLE),
+    "name_that_leads_to_a_header": asks(message(QUERY, [question(b"\1a" + pointer(4), A)])),
+    "name_of_an_old_label": asks(message(QUERY, [question(b"\x40a\0", A)])),
+    "name_of_data_that_leads_to_itself": answer(CNAME, pointer(41)),
+    "name_of_three_pointers": answers(message(ANSWER, [question(WWW, A)], [
+        record(OWNER, CNAME, b"\1a" + pointer(16)), record(pointer(45), A, v4("192.0.2.1"))])),
+}
+
+LOCAL = name("printer.local")
+FLUSH = 0x8001
+MULTICAST_NAMES = {
+    "mdns_query": multicast(message(0, [question(name("_ipp._tcp.local"), PTR), question(LOCAL, A, FLUSH)], ident=0)),
+    "mdns_answer": multicast(message(MULTICAST, (), [
+        record(LOCAL, A, v4("192.0.2.7"), 120, FLUSH), record(OWNER, AAAA, v6("fe80::7"), 120, FLUSH),
+        record(OWNER, TXT, b"\4a=b ", 4500)], ident=0)),
+    "mdns_of_every_class": multicast(message(0, [question(b"\0", A, 0xFFFF)], [record(b"\0", A, b"\1", 1, 0x80FF)])),
+    "mdns_opt": multicast(message(0, (), (), (), [opt(hexed("0004 0002 0001"), 0x85A0, 0x00008000)])),
+    "mdns_over_ipv6": pcap([udp6(message(0, [question(LOCAL, ANY, FLUSH)]), 5353, 5353, HOST6, v6("ff02::fb"))], 101),
+    "mdns_to_the_port_of_dns": pcap([udp4(message(0, [question(LOCAL, A, FLUSH)]), 5353, 53)], 101),
+    "mdns_refused": multicast(message(0, [question(LOCAL, A)], [record(OWNER, A, b"\1", 1, FLUSH)])),
+}
+
+DNS = {}
+for _table in (RECORDS, EXTENSIONS, NAMES, MULTICAST_NAMES):
+    DNS.update(_table)

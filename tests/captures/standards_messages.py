@@ -1,0 +1,236 @@
+"""Captures of datagrams and of the messages in them, of raw IP, with the reasons for which they are refused."""
+from building import (GROUP4, HOST4, HOST6, ICMP4, ICMP6, IGMP, LINK_A, LINK_B, MAC_A, SERVER4, SERVER6, TCP, UDP, dhcp,
+                      hexed, icmp, icmp4, icmp6, igmp, ip4, ip6, ip6_icmp6, pcap, udp, udp4, udp6, v4, v6)
+
+ECHO = hexed("1234 0001")
+ZERO = b"\0" * 4
+UNSPECIFIED = b"\0" * 16
+ROUTERS = v6("ff02::16")
+
+
+def raw(*datagrams):
+    return pcap(list(datagrams), 101)
+
+
+def broken(datagram, at=-1):
+    """A datagram with one octet changed."""
+    octets = bytearray(datagram)
+    octets[at] ^= 1
+    return bytes(octets)
+
+
+# ---- datagrams
+
+TCP_SEGMENT = hexed("9c40 0050 00000001 00000000 5002 2000 0000 0000")
+ECHO_MESSAGE = icmp(8, 0, ECHO, b"abcd")
+
+DATAGRAMS4 = {
+    "ipv4_with_options": raw(icmp4(8, 0, ECHO, b"abcd", options=hexed("94040000"))),
+    "ipv4_of_version_5": raw(b"\x55" + ip4(ECHO_MESSAGE, ICMP4)[1:]),
+    "ipv4_with_a_header_of_16_octets": raw(b"\x44" + ip4(ECHO_MESSAGE, ICMP4)[1:]),
+    "ipv4_shorter_than_its_header": raw(ip4(ECHO_MESSAGE, ICMP4, total=19)),
+    "ipv4_longer_than_the_frame": raw(ip4(ECHO_MESSAGE, ICMP4, total=33)),
+    "ipv4_first_fragment": raw(udp4(b"\0" * 16, 40000, 53, fragment=0x2000)),
+    "ipv4_later_fragment": raw(udp4(b"\0" * 16, 40000, 53, fragment=2)),
+    "ipv4_fragment_of_icmp": raw(icmp4(8, 0, ECHO, fragment=0x2001)),
+    "ipv4_fragment_of_tcp": raw(ip4(TCP_SEGMENT, TCP, fragment=0x2000)),
+    "ipv4_of_tcp": raw(ip4(TCP_SEGMENT, TCP)),
+    "ipv4_of_icmpv6": raw(ip4(ECHO_MESSAGE, ICMP6)),
+    "udp_of_other_ports": raw(udp4(b"data", 40000, 123)),
+    "udp_of_seven_octets": raw(ip4(udp(b"", 40000, 53)[:7], UDP)),
+    "udp_of_three_octets": raw(ip4(udp(b"", 40000, 53)[:3], UDP)),
+    "udp_with_a_length_of_seven": raw(ip4(udp(b"\0" * 12, 40000, 53, length=7), UDP)),
+    "udp_longer_than_its_datagram": raw(ip4(udp(b"\0" * 12, 40000, 53, length=21), UDP)),
+    "udp_shorter_than_its_datagram": raw(ip4(udp(b"\0" * 12, 40000, 5353, SERVER4, HOST4, length=20) + b"\0" * 4, UDP)),
+    "udp_with_a_wrong_checksum": raw(broken(udp4(b"\0" * 12, 40000, 53))),
+    "udp_with_no_checksum": raw(ip4(udp(b"\0" * 12, 40000, 53, seal=False), UDP)),
+}
+
+
+def extension(following, content, length=0):
+    return bytes([following, length]) + content
+
+
+HOP = extension(ICMP6, hexed("05020000 0100"))
+MESSAGE6 = icmp6(128, 0, ECHO, b"abcd", HOST6, SERVER6)
+LAST = v6("2001:db8::99")
+ROUTED = icmp6(128, 0, ECHO, b"abcd", HOST6, LAST)
+
+
+def route(kind, left, following=ICMP6):
+    return bytes([following, 2, kind, left]) + ZERO + LAST
+
+
+DATAGRAMS6 = {
+    "ipv6_longer_than_the_frame": raw(ip6(MESSAGE6, ICMP6, length=len(MESSAGE6) + 1)),
+    "ipv6_with_a_flow_label": raw(ip6(MESSAGE6, ICMP6, word=0x6ABCDEF1)),
+    "hop_by_hop_options": raw(ip6(HOP + MESSAGE6, 0)),
+    "hop_by_hop_of_each_option": raw(ip6(extension(ICMP6, hexed("00 0100 05020001 1e03a1b2c3 0000"), 1) + MESSAGE6, 0)),
+    "hop_by_hop_with_a_long_alert": raw(ip6(extension(ICMP6, hexed("0503000000 00")) + MESSAGE6, 0)),
+    "hop_by_hop_option_past_the_end": raw(ip6(extension(ICMP6, hexed("010500000000")) + MESSAGE6, 0)),
+    "hop_by_hop_of_ten_options": raw(ip6(extension(ICMP6, hexed("00" * 9 + "0103000000"), 1) + MESSAGE6, 0)),
+    "hop_by_hop_whose_ninth_option_ends": raw(ip6(extension(ICMP6, hexed("00" * 8 + "01ff") + ZERO, 1) + MESSAGE6, 0)),
+    "hop_by_hop_whose_tenth_option_ends": raw(ip6(extension(ICMP6, hexed("00" * 9 + "01ff000000"), 1) + MESSAGE6, 0)),
+    "hop_by_hop_of_tcp": raw(ip6(extension(TCP, hexed("010400000000")) + TCP_SEGMENT, 0)),
+    "hop_by_hop_header_past_the_end": raw(ip6(extension(ICMP6, hexed("010400000000"), 9) + MESSAGE6, 0)),
+    "destination_options": raw(ip6(extension(ICMP6, hexed("010400000000")) + MESSAGE6, 60)),
+    "hop_by_hop_behind_destination_options": raw(ip6(extension(0, hexed("010400000000")) + HOP + MESSAGE6, 60)),
+    "route_of_type_0": raw(ip6(route(0, 1) + ROUTED, 43)),
+    "route_of_type_2": raw(ip6(route(2, 1) + ROUTED, 43)),
+    "route_of_type_4": raw(ip6(route(4, 1) + ROUTED, 43)),
+    "route_of_type_3": raw(ip6(route(3, 1) + MESSAGE6, 43)),
+    "route_with_no_segments_left": raw(ip6(route(0, 0) + MESSAGE6, 43)),
+    "ipv6_fragment": raw(ip6(extension(ICMP6, hexed("0001 00000001")) + MESSAGE6, 44)),
+    "ipv6_fragment_behind_options": raw(ip6(extension(44, hexed("010400000000")) + extension(UDP, hexed("000100000001"))
+                                            + MESSAGE6, 0)),
+    "ipv6_of_no_next_header": raw(ip6(b"", 59)),
+    "udp_over_ipv6_with_no_checksum": raw(ip6(udp(b"\0" * 12, 40000, 53, seal=False), UDP)),
+    "udp_over_ipv6_of_three_octets": raw(ip6(b"\x9c\x40\0", UDP)),
+    "udp_over_ipv6_of_dhcp_ports": raw(udp6(b"\0" * 12, 68, 67)),
+}
+
+# ---- ICMPv4
+
+UDP_QUOTE = ip4(hexed("9c40 0035 05c8 0000"), UDP, v4("192.0.2.1"), v4("192.0.2.2"), ttl=63, total=1500)
+LATER_QUOTE = ip4(b"\1\2\3\4\5\6\7\x08", UDP, fragment=0x00B9, total=1500)
+OPTION_QUOTE = ip4(TCP_SEGMENT[:8], TCP, options=hexed("94040000"), total=1500, fragment=0x2000)
+
+ICMP = {
+    "icmp4_echo_request": raw(icmp4(8, 0, ECHO, b"abcd")),
+    "icmp4_echo_reply_of_no_data": raw(icmp4(0, 0, ECHO)),
+    "icmp4_echo_of_code_1": raw(icmp4(8, 1, ECHO)),
+    "icmp4_needs_fragmenting": raw(icmp4(3, 4, hexed("0000 0578"), UDP_QUOTE)),
+    "icmp4_needs_fragmenting_of_an_old_router": raw(icmp4(3, 4, ZERO, UDP_QUOTE)),
+    "icmp4_port_unreachable": raw(icmp4(3, 3, hexed("0000 0578"), UDP_QUOTE)),
+    "icmp4_source_quench": raw(icmp4(4, 0, ZERO, UDP_QUOTE)),
+    "icmp4_redirect": raw(icmp4(5, 1, v4("192.0.2.254"), OPTION_QUOTE)),
+    "icmp4_time_exceeded_of_a_later_fragment": raw(icmp4(11, 1, ZERO, LATER_QUOTE)),
+    "icmp4_parameter_problem": raw(icmp4(12, 0, hexed("14 000000"), ip4(b"\0" * 8, ICMP4))),
+    "icmp4_quote_of_seven_octets_of_payload": raw(icmp4(3, 1, ZERO, UDP_QUOTE[:27])),
+    "icmp4_quote_of_version_6": raw(icmp4(3, 1, ZERO, b"\x65" + UDP_QUOTE[1:])),
+    "icmp4_quote_of_nothing": raw(icmp4(11, 0, ZERO)),
+    "icmp4_timestamp": raw(icmp4(13, 0, ECHO, b"\0" * 12)),
+    "icmp4_of_seven_octets": raw(ip4(icmp(8, 0, ECHO)[:7], ICMP4)),
+    "icmp4_with_a_wrong_checksum": raw(broken(icmp4(8, 0, ECHO, b"abcd"))),
+    "icmp4_of_zeros": raw(ip4(b"\0" * 8, ICMP4)),
+}
+
+# ---- IGMP
+
+IGMP_CAPTURES = {
+    "igmp_query_of_version_1": raw(igmp(0x11, 0, ZERO, destination=v4("224.0.0.1"))),
+    "igmp_query_of_ten_seconds": raw(igmp(0x11, 100, GROUP4)),
+    "igmp_query_with_an_exponent": raw(igmp(0x11, 0x9F, GROUP4)),
+    "igmp_report_of_version_1": raw(igmp(0x12, 0, GROUP4)),
+    "igmp_report_of_version_2": raw(igmp(0x16, 7, GROUP4)),
+    "igmp_leave": raw(igmp(0x17, 0, GROUP4, destination=v4("224.0.0.2"))),
+    "igmp_report_of_version_3": raw(igmp(0x22, 0, ZERO, destination=v4("224.0.0.22"))),
+    "igmp_of_a_host": raw(igmp(0x16, 0, HOST4)),
+    "igmp_with_a_wrong_checksum": raw(broken(igmp(0x16, 0, GROUP4), 22)),
+    "igmp_of_seven_octets": raw(ip4(b"\x16" + b"\0" * 6, IGMP)),
+}
+
+# ---- ICMPv6
+
+QUOTE6 = ip6(hexed("9c40 0035 05b0 0000 01"), UDP, word=0x6B800123, length=1456)
+
+ERRORS6 = {
+    "icmp6_echo_request": raw(ip6_icmp6(128, 0, ECHO, b"abcd")),
+    "icmp6_echo_reply_of_no_data": raw(ip6_icmp6(129, 0, ECHO)),
+    "icmp6_echo_of_code_1": raw(ip6_icmp6(128, 1, ECHO)),
+    "icmp6_unreachable": raw(ip6_icmp6(1, 4, ZERO, QUOTE6)),
+    "icmp6_too_big": raw(ip6_icmp6(2, 0, hexed("00000500"), QUOTE6)),
+    "icmp6_too_big_of_code_1": raw(ip6_icmp6(2, 1, hexed("00000500"), QUOTE6)),
+    "icmp6_time_exceeded_of_a_bare_header": raw(ip6_icmp6(3, 0, ZERO, QUOTE6[:40])),
+    "icmp6_parameter_problem_of_tcp": raw(ip6_icmp6(4, 1, hexed("00000028"), ip6(TCP_SEGMENT[:4], TCP))),
+    "icmp6_quote_of_three_octets_of_payload": raw(ip6_icmp6(1, 0, ZERO, QUOTE6[:43])),
+    "icmp6_quote_of_a_cut_header": raw(ip6_icmp6(1, 0, ZERO, QUOTE6[:39])),
+    "icmp6_quote_of_version_4": raw(ip6_icmp6(1, 0, ZERO, b"\x40" + QUOTE6[1:])),
+    "icmp6_of_rpl": raw(ip6_icmp6(155, 1, ZERO)),
+    "icmp6_of_seven_octets": raw(ip6(icmp6(128, 0, ECHO)[:7], ICMP6)),
+    "icmp6_with_a_wrong_checksum": raw(broken(ip6_icmp6(128, 0, ECHO, b"abcd"))),
+}
+
+GROUP6 = v6("ff02::1:ff00:1")
+QUERY = hexed("0400 0000") + GROUP6 + hexed("0a12 0001") + SERVER6
+REPORT = hexed("0000 0001"), hexed("0400 0000") + GROUP6
+
+
+def listener(kind, rest, data=b"", code=0):
+    """A message of multicast listener discovery, with the router alert (RFC 3810 section 5)."""
+    octets = icmp6(kind, code, rest, data, LINK_A, ROUTERS)
+    return ip6(HOP + octets, 0, LINK_A, ROUTERS, 1)
+
+
+LISTENERS = {
+    "mld_query": raw(listener(130, QUERY[:4], QUERY[4:])),
+    "mld_query_of_version_1": raw(listener(130, QUERY[:4], GROUP6)),
+    "mld_query_of_code_1": raw(listener(130, QUERY[:4], QUERY[4:], 1)),
+    "mld_report": raw(listener(143, *REPORT)),
+    "mld_report_of_version_1": raw(listener(131, ZERO, GROUP6)),
+}
+
+# ---- neighbor discovery
+
+TARGET = v6("fe80::2")
+SOURCE_LINK, TARGET_LINK = b"\1\1" + MAC_A, b"\2\1" + MAC_A
+MTU = hexed("0501 0000 000005dc")
+PREFIX = hexed("0304 40c0 00000384 000003e8 00000000") + v6("2001:db8::")
+REDIRECTED = hexed("0407 0000 00000000") + ip6(b"\1\2\3\4\5\6\7\x08", UDP)
+ADVERT = hexed("40c0 0708 000003e8 00000064")
+
+NEIGHBORS = {
+    "router_solicitation": raw(ip6_icmp6(133, 0, ZERO, SOURCE_LINK, LINK_A, v6("ff02::2"))),
+    "router_solicitation_of_no_address": raw(ip6_icmp6(133, 0, ZERO, b"", UNSPECIFIED, v6("ff02::2"))),
+    "router_advertisement": raw(ip6_icmp6(134, 0, ADVERT[:4], ADVERT[4:] + SOURCE_LINK + MTU + PREFIX)),
+    "router_advertisement_of_no_options": raw(ip6_icmp6(134, 0, ADVERT[:4], ADVERT[4:])),
+    "router_advertisement_of_odd_options": raw(ip6_icmp6(
+        134, 0, ADVERT[:4],
+        ADVERT[4:] + b"\5\2" + b"\0" * 14 + b"\3\5" + b"\0" * 38 + b"\1\2" + b"\1" * 14 + b"\x19\1" + b"\0" * 6)),
+    "router_advertisement_with_a_short_prefix": raw(ip6_icmp6(134, 0, ADVERT[:4], ADVERT[4:] + b"\3\1" + b"\0" * 6)),
+    "neighbor_solicitation": raw(ip6_icmp6(135, 0, ZERO, TARGET + SOURCE_LINK)),
+    "neighbor_solicitation_of_no_address": raw(ip6_icmp6(135, 0, ZERO, TARGET, UNSPECIFIED)),
+    "neighbor_advertisement": raw(ip6_icmp6(136, 0, hexed("e0000000"), TARGET + TARGET_LINK)),
+    "neighbor_advertisement_of_two_addresses": raw(ip6_icmp6(136, 0, hexed("ff000000"), TARGET + TARGET_LINK
+                                                             + b"\2\1" + b"\7" * 6)),
+    "redirect": raw(ip6_icmp6(137, 0, ZERO, TARGET + HOST6 + TARGET_LINK + REDIRECTED)),
+    "redirect_of_a_cut_packet": raw(ip6_icmp6(137, 0, ZERO, TARGET + HOST6 + REDIRECTED[:13] + b"\x09"
+                                              + REDIRECTED[14:])),
+    "neighbor_solicitation_of_23_octets": raw(ip6_icmp6(135, 0, ZERO, TARGET[:15])),
+    "neighbor_solicitation_of_code_1": raw(ip6_icmp6(135, 1, ZERO, TARGET)),
+    "neighbor_option_of_no_units": raw(ip6_icmp6(135, 0, ZERO, TARGET + b"\1\0" + MAC_A)),
+    "neighbor_option_past_the_end": raw(ip6_icmp6(135, 0, ZERO, TARGET + b"\1\2" + MAC_A)),
+    "neighbor_options_with_an_octet_behind": raw(ip6_icmp6(135, 0, ZERO, TARGET + SOURCE_LINK + b"\0")),
+}
+
+# ---- DHCP
+
+DISCOVER = hexed("350101 3d0701020000000001 3204c0000264 390205dc 370401030633 ff")
+OFFER = hexed("350102 3604c0000201 33040000003c 3a040000001e 3b0400000034 0104ffffff00 0304c00002fe"
+              "0608c0000235c0000236 ff")
+ADDRESSES = v4("0.0.0.0") + v4("192.0.2.100") + v4("192.0.2.1") + v4("192.0.2.9")
+EVERYONE = v4("255.255.255.255")
+
+
+def asks(data):
+    return raw(udp4(data, 68, 67, ZERO, EVERYONE))
+
+
+DHCP = {
+    "dhcp_discover": asks(dhcp(1, DISCOVER)),
+    "dhcp_offer": raw(udp4(dhcp(2, OFFER, flags=0, addresses=ADDRESSES), 67, 68, v4("192.0.2.1"), EVERYONE)),
+    "dhcp_of_other_ports": raw(udp4(dhcp(1, hexed("350103ff")), 1067, 67, ZERO, EVERYONE)),
+    "dhcp_offer_of_a_client": asks(dhcp(1, hexed("350102ff"))),
+    "dhcp_of_no_type": asks(dhcp(1, hexed("ff"))),
+    "dhcp_of_an_unknown_type": asks(dhcp(0, hexed("350109 0603c00002 3700 ff"))),
+    "dhcp_of_two_types": asks(dhcp(1, hexed("350101 00 350103 0604c0000201 0600 ff 350108"))),
+    "dhcp_with_an_option_past_the_end": asks(dhcp(1, hexed("350101 3304 0000"))),
+    "dhcp_with_an_identifier_of_no_ethernet": asks(dhcp(1, hexed("350101 3d07ff020000000001 3d07010200000000 01 ff"))),
+    "dhcp_of_token_ring": asks(dhcp(1, hexed("350101ff"), hardware=b"\6\6\0")),
+    "dhcp_with_no_cookie": asks(dhcp(1, hexed("350101ff"))[:236] + b"\x63\x82\x53\x64" + hexed("350101ff")),
+    "dhcp_of_239_octets": asks(dhcp(1, b"")[:239]),
+}
+
+MESSAGES = {}
+for _table in (DATAGRAMS4, DATAGRAMS6, ICMP, IGMP_CAPTURES, ERRORS6, LISTENERS, NEIGHBORS, DHCP):
+    MESSAGES.update(_table)
