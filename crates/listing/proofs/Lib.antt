@@ -8,6 +8,7 @@ pub mod FlagNames
 pub mod Gateways
 pub mod Lines
 pub mod Numbers
+pub mod OneLine
 pub mod Options
 pub mod Printing
 pub mod Reading

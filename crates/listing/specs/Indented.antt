@@ -1,5 +1,6 @@
 -- Indented texts.
-use Rattle.std.specs.Prelude.{ℕ, ◌==◌, if◌then◌else◌, List, [], ◌∷◌, ◌++◌, codes, flat_map}
+use Rattle.std.specs.Prelude.{ℕ, ◌==◌, not, Bool, if◌then◌else◌, List, [], ◌∷◌, ◌++◌, codes, flat_map}
+use Rattle.std.specs.List.{list_all}
 
 -- an octet in front of the first of some lines
 abbrev pub before_first : ℕ → List (List ℕ) → List (List ℕ)
@@ -14,3 +15,7 @@ lines_in (octet ∷ rest) = if octet == 10 then (octet ∷ []) ∷ lines_in rest
 -- each line behind two spaces
 abbrev pub indented : List ℕ → List ℕ
 indented text = flat_map (λ line. codes "  " ++ line) (lines_in text)
+
+-- a text that has no LF
+abbrev pub is_of_one_line : List ℕ → Bool
+is_of_one_line text = list_all (λ octet. not (octet == 10)) text

@@ -22,5 +22,6 @@ pub mod ListingQuote
 pub mod ListingRecord
 pub mod ListingZone
 pub mod Output
+pub mod Page
 pub mod Ports
 pub mod TimeText

@@ -1,14 +1,71 @@
-//! Indented texts.
+//! Texts that are put together before they are written, and indented texts.
 
 #![tactic(auto, using(crate::proofs::Printing::gained, crate::proofs::Printing::gains_both))]
 
-ghost use Rattle.std.specs.Prelude.{◌≡◌, ◌<◌, ◌≤◌, ◌∷◌, OnOk, length, take, drop};
+ghost use Rattle.std.specs.Prelude.{◌≡◌, ◌<◌, ◌≤◌, [], ◌∷◌, OnOk, Some, length, take, drop};
 ghost use Rattle.listing.specs.Indented.{indented, lines_in};
 ghost use Rattle.listing.specs.Output.{Gains};
 
 use memchr::memchr;
+use std::alloc::Global;
 use std::io;
 use std::io::Write;
+
+/// What stands before each line of an indented text.
+pub const MARGIN: &str = "  ";
+
+/// A text that is put together before it is written. It takes each write as one: a `Vec` takes it in a loop.
+#[derive(Drop)]
+pub struct Page {
+    octets: Vec<u8>,
+}
+
+impl Page {
+    ghost use Rattle.listing.specs.Page.{text_of};
+
+    /// A page without a text.
+    pub fn new(alloc: Global) -> Page
+        ensures { text_of result ≡ [] }
+    {
+        Page {
+            octets: Vec::new(alloc),
+        }
+    }
+
+    /// Takes the text away; the room that it had stays.
+    pub fn clear(&mut self)
+        ensures text { text_of self.new ≡ [] }
+    {
+        self.octets.clear();
+    }
+
+    /// The text.
+    pub fn as_slice(&self) -> &[u8]
+        ensures value { result.now ≡ text_of self.now }
+    {
+        self.octets.as_slice()
+    }
+}
+
+impl Write for Page {
+    ghost use Rattle.listing.specs.Page.{text_of};
+
+    ghost contents = { λ page. Some (text_of page) };
+
+    fn write(&mut self, octets: &[u8]) -> io::Result<usize> {
+        self.octets.extend_from_slice(octets)?;
+        Ok(octets.len())
+    }
+
+    fn flush(&mut self) -> io::Result<()> {
+        Ok(())
+    }
+
+    fn write_all(&mut self, octets: &[u8]) -> io::Result<()> {
+        self.octets.extend_from_slice(octets)?;
+        Ok(())
+    }
+}
 
 /// Writes each line of a text behind two spaces. The text's last line may have no LF.
 pub fn write_indented<W: Write>(output: &mut W, text: &[u8]) -> io::Result<()>
@@ -18,7 +75,7 @@ pub fn write_indented<W: Write>(output: &mut W, text: &[u8]) -> io::Result<()>
     let mut rest = text;
     while !rest.is_empty() {
         let (line, behind) = rest.split_at(line_len(rest));
-        output.write_all(b"  ")?;
+        output.write_all(MARGIN.as_bytes())?;
         output.write_all(line)?;
         rest = behind;
     }

@@ -152,7 +152,9 @@ pub fn line<V: Value, W: Write>(output: &mut W, value: V) -> io::Result<()>
     output.write_all(b"\n")
 }
 
-/// Prints a field, or a variant with one unnamed value, as `name=value`.
+/// Prints a field, or a variant with one unnamed value, as `name=value`. Most callers know the name, so that inlined it
+/// is copied without a call.
+#[inline(always)]
 pub fn field<V: Value, W: Write>(output: &mut W, name: &str, value: V) -> io::Result<()>
     ensures { OnOk result (Gains (W.contents output.old) (W.contents output.new)
         (field_text name.now (V.text value))) }
@@ -163,6 +165,7 @@ pub fn field<V: Value, W: Write>(output: &mut W, name: &str, value: V) -> io::Re
 }
 
 /// Prints a field of a part, whose name and a dot, `part`, stand before the field's name.
+#[inline(always)]
 pub fn part_field<V: Value, W: Write>(
     output: &mut W,
     part: &str,

@@ -18,6 +18,7 @@ use crate::options::Options;
 use crate::sight::{Headers, Sight, look};
 use crate::tally::{Outcome, Tally};
 use capture::{Capture, Ending, Next, Record};
+use listing::page::Page;
 use listing::time::Clock;
 use std::alloc::Global;
 use std::io;
@@ -100,7 +101,7 @@ fn show_packets<R: Read, W: Write>(
         CapturePrints options.now bytes (tally_of tally.old) text (tally_of tally.new) ending))) }
 {
     let mut capture = Capture::new(alloc);
-    let mut page = Vec::new(alloc);
+    let mut page = Page::new(alloc);
     let mut clock = Clock::new();
     'packets: for _ in 0..u64::MAX {
         write_out_before_wait(&capture, input, output)?;
@@ -134,7 +135,7 @@ fn write_out_before_wait<R: Read, W: Write>(
 pub fn show_packet<W: Write>(
     options: &Options,
     output: &mut W,
-    page: &mut Vec<u8>,
+    page: &mut Page,
     clock: &mut Clock,
     captured: &Record,
     octets: &[u8],
@@ -156,7 +157,7 @@ pub fn show_packet<W: Write>(
 fn show_control<W: Write>(
     options: &Options,
     output: &mut W,
-    page: &mut Vec<u8>,
+    page: &mut Page,
     clock: &mut Clock,
     captured: &Record,
     octets: &[u8],
@@ -179,7 +180,7 @@ fn show_control<W: Write>(
 }
 
 // Reads a control packet that is only counted.
-fn count_alone(page: &mut Vec<u8>, headers: &Headers<'_>) -> Result<Outcome, Fault>
+fn count_alone(page: &mut Page, headers: &Headers<'_>) -> Result<Outcome, Fault>
     ensures { IfOk result (λ outcome. (listing : List ℕ) × (why : Option AnyReason)
         × ListingPrints (headers_of headers.now) listing why × (outcome ≡ outcome_of headers.now.kind why)) }
 {

@@ -19,19 +19,16 @@ use crate::messages::udp::{show_dhcp, show_dns};
 use crate::sight::{Content, Headers};
 use frame_wire::Addresses;
 use listing::hbh::show_hbh;
-use listing::page::write_indented;
+use listing::page::{MARGIN, Page, write_indented};
 use listing::printer::part_field;
 use std::io;
 use std::io::Write;
-
-// What stands before each line.
-const MARGIN: &str = "  ";
 
 /// Prints what a control packet holds, and answers why it is refused, or None where it is listed. What is to be
 /// indented stands in the page meanwhile.
 pub fn show_listing<W: Write>(
     output: &mut W,
-    page: &mut Vec<u8>,
+    page: &mut Page,
     headers: &Headers<'_>,
 ) -> Result<Option<Reason>, Fault>
     ensures { IfOk result (λ why. GainsSome (W.contents output.old) (W.contents output.new)
@@ -44,7 +41,7 @@ pub fn show_listing<W: Write>(
 // Prints hop-by-hop options, where there are any.
 fn show_options<W: Write>(
     output: &mut W,
-    page: &mut Vec<u8>,
+    page: &mut Page,
     options: Option<&[u8]>,
 ) -> Result<(), Fault>
     ensures { OnOk result (GainsSome (W.contents output.old) (W.contents output.new)
@@ -61,7 +58,7 @@ fn show_options<W: Write>(
 
 fn show_content<W: Write>(
     output: &mut W,
-    page: &mut Vec<u8>,
+    page: &mut Page,
     kind: Kind,
     content: Content<'_>,
 ) -> Result<Option<Reason>, Fault>
@@ -77,7 +74,7 @@ fn show_content<W: Write>(
 // Prints a payload by its kind.
 fn show_payload<W: Write>(
     output: &mut W,
-    page: &mut Vec<u8>,
+    page: &mut Page,
     kind: Kind,
     addresses: Addresses,
     octets: &[u8],

@@ -13,9 +13,10 @@ ghost use Rattle.pcapdump.specs.declared.kind.Reason.TheVariants as reasons;
 
 use crate::Fault;
 use crate::kind::Reason;
-use crate::messages::{MARGIN, refuse, write_page};
+use crate::messages::{refuse, write_page};
 use icmp4_wire::{icmpv4, igmp};
 use icmp6_wire::icmpv6;
+use listing::page::{MARGIN, Page};
 use listing::{icmp4, icmp4_error, icmp6, icmp6_error};
 use quote_wire::{icmpv4_error, icmpv6_error};
 use std::io::Write;
@@ -43,7 +44,7 @@ fn is_error4(number: u8) -> bool
 /// Prints a message of ICMPv4.
 pub fn show_icmp4<W: Write>(
     output: &mut W,
-    page: &mut Vec<u8>,
+    page: &mut Page,
     octets: &[u8],
 ) -> Result<Option<Reason>, Fault>
     ensures { IfOk result (λ why. GainsSome (W.contents output.old) (W.contents output.new)
@@ -57,7 +58,7 @@ pub fn show_icmp4<W: Write>(
 
 fn show_message4<W: Write>(
     output: &mut W,
-    page: &mut Vec<u8>,
+    page: &mut Page,
     octets: &[u8],
 ) -> Result<Option<Reason>, Fault>
     requires { is_error4 (type_in octets.now) ≡ false }
@@ -67,9 +68,8 @@ fn show_message4<W: Write>(
     let packet = icmpv4::Packet::new_unchecked(octets);
     match icmpv4::Repr::parse(&packet, &ChecksumCapabilities::default()) {
         Ok(message) => {
-            page.clear();
-            icmp4::show_message(page, &message)?;
-            write_page(output, page.as_slice())
+            icmp4::show_indented(output, page, &message)?;
+            Ok(None)
         }
         Err(_) => refuse(output, why_no_message4(octets)),
     }
@@ -125,7 +125,7 @@ fn why_no_message4(octets: &[u8]) -> Reason
 /// Prints a message of IGMP.
 pub fn show_igmp<W: Write>(
     output: &mut W,
-    page: &mut Vec<u8>,
+    page: &mut Page,
     octets: &[u8],
 ) -> Result<Option<Reason>, Fault>
     ensures { IfOk result (λ why. GainsSome (W.contents output.old) (W.contents output.new)
@@ -167,7 +167,7 @@ fn is_error6(number: u8) -> bool
 /// Prints a message of ICMPv6 from one address to another.
 pub fn show_icmp6<W: Write>(
     output: &mut W,
-    page: &mut Vec<u8>,
+    page: &mut Page,
     src_addr: &Ipv6Address,
     dst_addr: &Ipv6Address,
     octets: &[u8],
@@ -183,7 +183,7 @@ pub fn show_icmp6<W: Write>(
 
 fn show_message6<W: Write>(
     output: &mut W,
-    page: &mut Vec<u8>,
+    page: &mut Page,
     src_addr: &Ipv6Address,
     dst_addr: &Ipv6Address,
     octets: &[u8],
@@ -200,9 +200,8 @@ fn show_message6<W: Write>(
         &ChecksumCapabilities::default(),
     ) {
         Ok(message) => {
-            page.clear();
-            icmp6::show_message(page, &message)?;
-            write_page(output, page.as_slice())
+            icmp6::show_indented(output, page, &message)?;
+            Ok(None)
         }
         Err(_) => refuse(output, why_no_message6(src_addr, dst_addr, octets)),
     }

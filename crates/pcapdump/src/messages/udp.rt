@@ -16,11 +16,12 @@ ghost use Rattle.pcapdump.specs.declared.kind.Reason.TheVariants as reasons;
 
 use crate::Fault;
 use crate::kind::Reason;
-use crate::messages::{MARGIN, refuse, write_page};
+use crate::messages::{refuse, write_page};
 use dhcp_wire::dhcpv4;
 use frame_wire::{Addresses, UdpPacket, UdpRepr};
 use listing::dhcp::show_packet;
 use listing::message::{Unread, show_message};
+use listing::page::{MARGIN, Page};
 use std::io::Write;
 use wirebase::ChecksumCapabilities;
 
@@ -43,7 +44,7 @@ pub fn show_dns<W: Write>(
 /// Prints a packet of DHCP that a datagram of UDP holds.
 pub fn show_dhcp<W: Write>(
     output: &mut W,
-    page: &mut Vec<u8>,
+    page: &mut Page,
     addresses: &Addresses,
     octets: &[u8],
 ) -> Result<Option<Reason>, Fault>
@@ -121,7 +122,7 @@ fn reason_of(octets: &[u8], unread: Unread) -> Reason
 
 fn show_dhcp_packet<W: Write>(
     output: &mut W,
-    page: &mut Vec<u8>,
+    page: &mut Page,
     octets: &[u8],
 ) -> Result<Option<Reason>, Fault>
     ensures { IfOk result (λ why. GainsSome (W.contents output.old) (W.contents output.new)

@@ -1,6 +1,7 @@
 // Made from crates/listing/src/icmp4.rt by rust/erase.
 //! Messages of ICMPv4.
 
+use crate::page::{MARGIN, Page, write_indented};
 use crate::printer::{field, line, part_field};
 use control_wire::icmpv4::{Packet, Repr};
 use control_wire::{ChecksumCapabilities, Ipv4Repr};
@@ -40,6 +41,53 @@ pub fn show_message<W: Write>(output: &mut W, message: &Repr<'_>) -> io::Result<
             data,
         } => show_error(output, "TimeExceeded", reason.into(), &header, data),
     }
+}
+
+/// Prints a message that was read, each line behind two spaces. The page has room for what is indented; of an echo most
+/// is data, which is written at once.
+pub fn show_indented<W: Write>(
+    output: &mut W,
+    page: &mut Page,
+    message: &Repr<'_>,
+) -> io::Result<()> {
+    match *message {
+        Repr::EchoRequest {
+            ident,
+            seq_no,
+            data,
+        } => show_indented_echo(output, "EchoRequest", ident, seq_no, data),
+        Repr::EchoReply {
+            ident,
+            seq_no,
+            data,
+        } => show_indented_echo(output, "EchoReply", ident, seq_no, data),
+        _ => show_indented_other(output, page, message),
+    }
+}
+
+fn show_indented_other<W: Write>(
+    output: &mut W,
+    page: &mut Page,
+    message: &Repr<'_>,
+) -> io::Result<()> {
+    page.clear();
+    show_message(page, message)?;
+    write_indented(output, page.as_slice())
+}
+
+/// Prints an echo of either ICMP behind its name, each line behind two spaces. Requires that the name is of one line.
+pub fn show_indented_echo<W: Write>(
+    output: &mut W,
+    name: &str,
+    ident: u16,
+    seq_no: u16,
+    data: &[u8],
+) -> io::Result<()> {
+    output.write_all(MARGIN.as_bytes())?;
+    line(output, name)?;
+    part_field(output, MARGIN, "ident", ident)?;
+    part_field(output, MARGIN, "seq_no", seq_no)?;
+    part_field(output, MARGIN, "data", data)
 }
 
 /// Prints an echo of either ICMP behind its name.

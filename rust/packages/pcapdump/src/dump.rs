@@ -9,11 +9,10 @@ use crate::options::Options;
 use crate::sight::{Headers, Sight, look};
 use crate::tally::{Outcome, Tally};
 use capture::{Capture, Ending, Next, Record};
+use listing::page::Page;
 use listing::time::Clock;
 use rattle_std::io;
 use rattle_std::io::{BufReader, BufWriter, Read, Write};
-#[allow(unused_imports)]
-use rattle_std::prelude::*;
 
 // The bytes of the buffers of input and output.
 const BUFFER_LEN: usize = 65_536;
@@ -76,7 +75,7 @@ fn show_packets<R: Read, W: Write>(
     tally: &mut Tally,
 ) -> Result<Ending, Fault> {
     let mut capture = Capture::new();
-    let mut page = Vec::new();
+    let mut page = Page::new();
     let mut clock = Clock::new();
     for _ in 0..u64::MAX {
         write_out_before_wait(&capture, input, output)?;
@@ -108,7 +107,7 @@ fn write_out_before_wait<R: Read, W: Write>(
 pub fn show_packet<W: Write>(
     options: &Options,
     output: &mut W,
-    page: &mut Vec<u8>,
+    page: &mut Page,
     clock: &mut Clock,
     captured: &Record,
     octets: &[u8],
@@ -126,7 +125,7 @@ pub fn show_packet<W: Write>(
 fn show_control<W: Write>(
     options: &Options,
     output: &mut W,
-    page: &mut Vec<u8>,
+    page: &mut Page,
     clock: &mut Clock,
     captured: &Record,
     octets: &[u8],
@@ -144,7 +143,7 @@ fn show_control<W: Write>(
 }
 
 // Reads a control packet that is only counted.
-fn count_alone(page: &mut Vec<u8>, headers: &Headers<'_>) -> Result<Outcome, Fault> {
+fn count_alone(page: &mut Page, headers: &Headers<'_>) -> Result<Outcome, Fault> {
     let why = show_listing(&mut io::sink(), page, headers)?;
     Ok(outcome(headers.kind, why))
 }

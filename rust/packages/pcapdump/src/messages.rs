@@ -1,8 +1,6 @@
 // Made from crates/pcapdump/src/messages.rt by rust/erase.
 //! What a control packet prints below its heading, each line behind two spaces.
 
-#[allow(unused_imports)]
-use rattle_std::prelude::*;
 mod icmp;
 mod udp;
 
@@ -13,19 +11,16 @@ use crate::messages::udp::{show_dhcp, show_dns};
 use crate::sight::{Content, Headers};
 use control_wire::frames::Addresses;
 use listing::hbh::show_hbh;
-use listing::page::write_indented;
+use listing::page::{MARGIN, Page, write_indented};
 use listing::printer::part_field;
 use rattle_std::io;
 use rattle_std::io::Write;
-
-// What stands before each line.
-const MARGIN: &str = "  ";
 
 /// Prints what a control packet holds, and answers why it is refused, or None where it is listed. What is to be
 /// indented stands in the page meanwhile.
 pub fn show_listing<W: Write>(
     output: &mut W,
-    page: &mut Vec<u8>,
+    page: &mut Page,
     headers: &Headers<'_>,
 ) -> Result<Option<Reason>, Fault> {
     show_options(output, page, headers.hop_by_hop)?;
@@ -35,7 +30,7 @@ pub fn show_listing<W: Write>(
 // Prints hop-by-hop options, where there are any.
 fn show_options<W: Write>(
     output: &mut W,
-    page: &mut Vec<u8>,
+    page: &mut Page,
     options: Option<&[u8]>,
 ) -> Result<(), Fault> {
     let Some(octets) = options else {
@@ -49,7 +44,7 @@ fn show_options<W: Write>(
 
 fn show_content<W: Write>(
     output: &mut W,
-    page: &mut Vec<u8>,
+    page: &mut Page,
     kind: Kind,
     content: Content<'_>,
 ) -> Result<Option<Reason>, Fault> {
@@ -62,7 +57,7 @@ fn show_content<W: Write>(
 // Prints a payload by its kind.
 fn show_payload<W: Write>(
     output: &mut W,
-    page: &mut Vec<u8>,
+    page: &mut Page,
     kind: Kind,
     addresses: Addresses,
     octets: &[u8],

@@ -3,15 +3,14 @@
 
 use crate::Fault;
 use crate::kind::Reason;
-use crate::messages::{MARGIN, refuse, write_page};
+use crate::messages::{refuse, write_page};
 use control_wire::icmpv6;
 use control_wire::quotes::{icmpv4_error, icmpv6_error};
 use control_wire::{ChecksumCapabilities, Ipv6Address, checksum};
 use control_wire::{icmpv4, igmp};
+use listing::page::{MARGIN, Page};
 use listing::{icmp4, icmp4_error, icmp6, icmp6_error};
 use rattle_std::io::Write;
-#[allow(unused_imports)]
-use rattle_std::prelude::*;
 
 // The type of a message, and 0 where there is none.
 fn type_of(octets: &[u8]) -> u8 {
@@ -31,7 +30,7 @@ fn is_error4(number: u8) -> bool {
 /// Prints a message of ICMPv4.
 pub fn show_icmp4<W: Write>(
     output: &mut W,
-    page: &mut Vec<u8>,
+    page: &mut Page,
     octets: &[u8],
 ) -> Result<Option<Reason>, Fault> {
     if is_error4(type_of(octets)) {
@@ -42,15 +41,14 @@ pub fn show_icmp4<W: Write>(
 
 fn show_message4<W: Write>(
     output: &mut W,
-    page: &mut Vec<u8>,
+    page: &mut Page,
     octets: &[u8],
 ) -> Result<Option<Reason>, Fault> {
     let packet = icmpv4::Packet::new_unchecked(octets);
     match icmpv4::Repr::parse(&packet, &ChecksumCapabilities::default()) {
         Ok(message) => {
-            page.clear();
-            icmp4::show_message(page, &message)?;
-            write_page(output, page.as_slice())
+            icmp4::show_indented(output, page, &message)?;
+            Ok(None)
         }
         Err(_) => refuse(output, why_no_message4(octets)),
     }
@@ -97,7 +95,7 @@ fn why_no_message4(octets: &[u8]) -> Reason {
 /// Prints a message of IGMP.
 pub fn show_igmp<W: Write>(
     output: &mut W,
-    page: &mut Vec<u8>,
+    page: &mut Page,
     octets: &[u8],
 ) -> Result<Option<Reason>, Fault> {
     match igmp::Repr::parse(&igmp::Packet::new_unchecked(octets)) {
@@ -131,7 +129,7 @@ fn is_error6(number: u8) -> bool {
 /// Prints a message of ICMPv6 from one address to another.
 pub fn show_icmp6<W: Write>(
     output: &mut W,
-    page: &mut Vec<u8>,
+    page: &mut Page,
     src_addr: &Ipv6Address,
     dst_addr: &Ipv6Address,
     octets: &[u8],
@@ -144,7 +142,7 @@ pub fn show_icmp6<W: Write>(
 
 fn show_message6<W: Write>(
     output: &mut W,
-    page: &mut Vec<u8>,
+    page: &mut Page,
     src_addr: &Ipv6Address,
     dst_addr: &Ipv6Address,
     octets: &[u8],
@@ -157,9 +155,8 @@ fn show_message6<W: Write>(
         &ChecksumCapabilities::default(),
     ) {
         Ok(message) => {
-            page.clear();
-            icmp6::show_message(page, &message)?;
-            write_page(output, page.as_slice())
+            icmp6::show_indented(output, page, &message)?;
+            Ok(None)
         }
         Err(_) => refuse(output, why_no_message6(src_addr, dst_addr, octets)),
     }

@@ -3,15 +3,14 @@
 
 use crate::Fault;
 use crate::kind::Reason;
-use crate::messages::{MARGIN, refuse, write_page};
+use crate::messages::{refuse, write_page};
 use control_wire::ChecksumCapabilities;
 use control_wire::dhcpv4;
 use control_wire::frames::{Addresses, UdpPacket, UdpRepr};
 use listing::dhcp::show_packet;
 use listing::message::{Unread, show_message};
+use listing::page::{MARGIN, Page};
 use rattle_std::io::Write;
-#[allow(unused_imports)]
-use rattle_std::prelude::*;
 
 /// Prints a message of DNS, multicast or not, that a datagram of UDP holds.
 pub fn show_dns<W: Write>(
@@ -29,7 +28,7 @@ pub fn show_dns<W: Write>(
 /// Prints a packet of DHCP that a datagram of UDP holds.
 pub fn show_dhcp<W: Write>(
     output: &mut W,
-    page: &mut Vec<u8>,
+    page: &mut Page,
     addresses: &Addresses,
     octets: &[u8],
 ) -> Result<Option<Reason>, Fault> {
@@ -87,7 +86,7 @@ fn reason_of(octets: &[u8], unread: Unread) -> Reason {
 
 fn show_dhcp_packet<W: Write>(
     output: &mut W,
-    page: &mut Vec<u8>,
+    page: &mut Page,
     octets: &[u8],
 ) -> Result<Option<Reason>, Fault> {
     match dhcpv4::Repr::parse(&dhcpv4::Packet::new_unchecked(octets)) {

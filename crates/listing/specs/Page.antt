@@ -1,0 +1,6 @@
+-- The text in a page.
+use Rattle.std.specs.Prelude.{ℕ, List}
+use Rattle.listing.specs.declared.page.Page.{Page}
+
+abbrev pub text_of : Page → List ℕ
+text_of page = page.octets.items
