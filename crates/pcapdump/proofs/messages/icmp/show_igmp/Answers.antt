@@ -14,7 +14,7 @@ returns-in_ok-show_message-in-Ok g c =
     lists_page _ _ _ (igmp.IsMessage octets) igmp_listing
     (IsFirst (8 ≤ length octets) (Unit {0}) (IsGroupType (type_in octets)) reason.Malformed)
     c.in-Ok.message _ (rw c.new_unchecked.ensures at c.in-Ok.ensures.sound)
-    (c.as_slice.ensures.value ∙ page_text _ _ _ c.clear.ensures c.in_ok-show_message-in-Ok.ensures)
+    (c.as_slice.ensures.value ∙ page_text _ _ _ c.clear.ensures.text c.in_ok-show_message-in-Ok.ensures)
     c.write_page.ensures
 
 pub returns-in-Err : goal.returns-in-Err

@@ -21,7 +21,7 @@ returns-in_ok-show_indented-in-Ok g c =
     let v = value_of c.in-Ok.message in (
       indented (icmp4_listing v),
       message c.requires
-      (lists v (rw (c.new_unchecked-packet.ensures, c.default.ensures) at c.in-Ok.ensures.sound) refl refl),
+          (lists v (rw (c.new_unchecked-packet.ensures, c.default.ensures) at c.in-Ok.ensures.sound) refl refl),
       c.in_ok-show_indented-in-Ok.ensures,
     )
 

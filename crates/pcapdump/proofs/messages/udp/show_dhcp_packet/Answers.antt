@@ -14,7 +14,7 @@ returns-in_ok-show_packet-in-Ok g c =
     lists_page _ _ _ (IsPacket octets) dhcp_listing
     (IsFirst (240 ≤ length octets) (Unit {0}) (Unit {0}) reason.Malformed)
     (value_of c.in-Ok.packet) _ (rw c.new_unchecked.ensures at c.in-Ok.ensures.sound)
-    (c.as_slice.ensures.value ∙ page_text _ _ _ c.clear.ensures c.in_ok-show_packet-in-Ok.ensures)
+    (c.as_slice.ensures.value ∙ page_text _ _ _ c.clear.ensures.text c.in_ok-show_packet-in-Ok.ensures)
     c.write_page.ensures
 
 pub returns-in-Err : goal.returns-in-Err
