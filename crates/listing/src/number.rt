@@ -2,14 +2,22 @@
 
 #![tactic(auto, using(crate::proofs::Printing::gained))]
 
-ghost use Rattle.std.specs.Prelude.{◌≡◌, ◌≤◌, OnOk, decimal, drop};
+ghost use Rattle.std.specs.Prelude.{◌≡◌, ◌+◌, ◌≤◌, ◌++◌, OnOk, decimal, drop};
 ghost use Rattle.listing.specs.Output.{Gains};
+ghost use Rattle.listing.specs.TimeText.{last_digits};
 
 use std::io;
 use std::io::Write;
 
 // How many digits the greatest number has.
 const DIGITS: usize = 20;
+
+// The numbers from 0 to 99 in two digits each.
+const TWO_DIGITS: &[u8; 200] = b"\
+    00010203040506070809101112131415161718192021222324\
+    25262728293031323334353637383940414243444546474849\
+    50515253545556575859606162636465666768697071727374\
+    75767778798081828384858687888990919293949596979899";
 
 /// Writes a number in decimal digits.
 pub fn write_number<W: Write>(output: &mut W, number: u64) -> io::Result<()>
@@ -27,12 +35,34 @@ fn put_digits(number: u64, room: &mut [u8; DIGITS]) -> usize
 {
     let mut start = DIGITS;
     let mut left = number;
-    while left >= 10 {
-        start -= 1;
-        room[start] = b'0' + (left % 10) as u8;
-        left /= 10;
+    while left >= 100 {
+        start = put_two(left, room, start);
+        left /= 100;
+    }
+    if left >= 10 {
+        return put_two(left, room, start);
     }
     start -= 1;
     room[start] = b'0' + left as u8;
     start
+}
+
+// Puts the last two digits of a number in front of what a room holds from `start` on, and answers where they begin.
+#[inline(always)]
+fn put_two(number: u64, room: &mut [u8; DIGITS], start: usize) -> usize
+    requires least { 2 ≤ start }
+    requires bound { start ≤ 20 }
+    ensures digits { drop result room.new ≡ last_digits 2 number ++ drop start room.old }
+    ensures place { result + 2 ≡ start }
+{
+    room[start - 2..start].copy_from_slice(&two_digits(number));
+    start - 2
+}
+
+/// The last two digits of a number: a table costs less than a division for each.
+pub fn two_digits(number: u64) -> [u8; 2]
+    ensures { result ≡ last_digits 2 number }
+{
+    let at = 2 * (number % 100) as usize;
+    [TWO_DIGITS[at], TWO_DIGITS[at + 1]]
 }

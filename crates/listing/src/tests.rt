@@ -17,8 +17,13 @@ fn fields_of_values(rt: HostRuntime) {
     let alloc = rt.alloc();
     check_field(&rt, alloc, 0u8, "delay=0\n");
     check_field(&rt, alloc, 10u8, "delay=10\n");
+    check_field(&rt, alloc, 99u8, "delay=99\n");
+    check_field(&rt, alloc, 100u8, "delay=100\n");
+    check_field(&rt, alloc, 101u8, "delay=101\n");
     check_field(&rt, alloc, u8::MAX, "delay=255\n");
     check_field(&rt, alloc, 1_280u16, "delay=1280\n");
+    check_field(&rt, alloc, 9_999u16, "delay=9999\n");
+    check_field(&rt, alloc, 10_000u16, "delay=10000\n");
     check_field(&rt, alloc, u32::MAX, "delay=4294967295\n");
     check_field(&rt, alloc, u64::MAX, "delay=18446744073709551615\n");
     check_field(&rt, alloc, 4_294_967_295usize, "delay=4294967295\n");

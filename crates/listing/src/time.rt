@@ -7,9 +7,9 @@ mod date;
 ghost use Rattle.std.specs.Prelude.{◌≡◌, ◌+◌, ◌/◌, ◌%◌, ◌++◌, OnOk, length};
 ghost use Rattle.listing.specs.Calendar.{date_of as date_after};
 ghost use Rattle.listing.specs.Output.{Gains};
-ghost use Rattle.listing.specs.TimeText.{kept_text, last_digits, time_of_day_text, time_text};
+ghost use Rattle.listing.specs.TimeText.{kept_text, time_of_day_text, time_text};
 
-use crate::number::write_number;
+use crate::number::{two_digits, write_number};
 use crate::time::date::{Date, date_of};
 use std::io;
 use std::io::Write;
@@ -20,13 +20,6 @@ const DAY_SECONDS: u64 = 86_400;
 const DATE_LEN: usize = 10;
 
 const TIME_LEN: usize = 20;
-
-// The numbers from 0 to 99 in two digits each.
-const TWO_DIGITS: &[u8; 200] = b"\
-    00010203040506070809101112131415161718192021222324\
-    25262728293031323334353637383940414243444546474849\
-    50515253545556575859606162636465666768697071727374\
-    75767778798081828384858687888990919293949596979899";
 
 /// Writes times, most of which are of one day with the one before.
 #[derive(Drop)]
@@ -124,14 +117,6 @@ fn time_octets(seconds: u64, nanoseconds: u32) -> [u8; TIME_LEN]
     [
         b'T', h1, h0, b':', m1, m0, b':', s1, s0, b'.', n8, n7, n6, n5, n4, n3, n2, n1, n0, b'Z',
     ]
-}
-
-// The last two digits of a number: a table costs less than a division for each.
-fn two_digits(number: u64) -> [u8; 2]
-    ensures { result ≡ last_digits 2 number }
-{
-    let at = 2 * (number % 100) as usize;
-    [TWO_DIGITS[at], TWO_DIGITS[at + 1]]
 }
 
 // The last digit of a number.

@@ -17,8 +17,13 @@ fn check_field<V: Value>(value: V, want: &str) {
 fn fields_of_values() {
     check_field(0u8, "delay=0\n");
     check_field(10u8, "delay=10\n");
+    check_field(99u8, "delay=99\n");
+    check_field(100u8, "delay=100\n");
+    check_field(101u8, "delay=101\n");
     check_field(u8::MAX, "delay=255\n");
     check_field(1_280u16, "delay=1280\n");
+    check_field(9_999u16, "delay=9999\n");
+    check_field(10_000u16, "delay=10000\n");
     check_field(u32::MAX, "delay=4294967295\n");
     check_field(u64::MAX, "delay=18446744073709551615\n");
     check_field(4_294_967_295usize, "delay=4294967295\n");

@@ -1,8 +1,8 @@
--- Each turn puts the last digit of what is left in front of the others.
-use Rattle.std.proofs.Common.{◌≡◌, ◌+◌, ◌-◌, ◌%◌, refl, arith, append-nil, append_assoc}
-use Rattle.std.proofs.lemmas.Fmt.{decimal_digit, decimal_step}
-use Rattle.std.proofs.lemmas.List.{drop-set, drop_all, length-set}
-use Rattle.listing.proofs.Numbers.{digits_few, digits_more, digits_one}
+-- Each turn puts the last two digits of what is left in front of the others.
+use Rattle.std.proofs.Common.{◌≡◌, ◌+◌, ◌-◌, refl, arith, append-nil, append_assoc}
+use Rattle.std.proofs.lemmas.Fmt.{decimal_digit}
+use Rattle.std.proofs.lemmas.List.{drop-set, drop_all}
+use Rattle.listing.proofs.Numbers.{digits_few, digits_one, digits_two, digits_more_two, two_alone, two_behind}
 use Rattle.listing.proofs.number.put_digits.Goals as goal
 
 pub loop-left-init : goal.loop-left-init
@@ -13,32 +13,45 @@ loop-left-init c = record {
   digits = rw (drop_all 20 c.args.room.now (omega arith), append-nil) refl;
 }
 
-pub overflow_sub-start : goal.overflow_sub-start
-overflow_sub-start c =
+pub put_two-start-requires-clause-least : goal.put_two-start-requires-clause-least
+put_two-start-requires-clause-least c =
     omega (
       arith,
       digits_few c.args.number c.ranges.number.fits,
       c.loop-left.invariant.lengths,
-      digits_more c.loop-left.left (omega arith) c.loop-left.auto.left-fits.fits,
+      digits_more_two c.loop-left.left (omega arith) c.loop-left.auto.left-fits.fits,
     )
 
 pub loop-left-preserved : goal.loop-left-preserved
 loop-left-preserved c =
     let l = c.loop-left in
-    let few = digits_few c.args.number c.ranges.number.fits in
-    let more = digits_more l.left (omega arith) l.auto.left-fits.fits in
-    let next : l.start - 1 + 1 ≡ l.start = omega (arith, few, more, l.invariant.lengths) in
+    let put = c.put_two-start in
+    let more = digits_more_two l.left (omega arith) l.auto.left-fits.fits in
     record {
-      bound = omega (arith, l.invariant.bound);
-      room = omega (arith, l.invariant.room, length-set l.room (l.start - 1) (48 + l.left % 10));
-      lengths = omega (arith, few, more, l.invariant.lengths);
+      bound = omega (arith, l.invariant.bound, put.ensures.place);
+      room = put.array_long;
+      lengths = omega (arith, more, l.invariant.lengths, put.ensures.place);
       digits =
-          rw (drop-set l.room (l.start - 1) _ (omega (arith, few, more, l.invariant.lengths, l.invariant.room)), next)
-          (rw (decimal_step l.left (omega arith) l.auto.left-fits.fits, append_assoc) at l.invariant.digits);
+          rw put.ensures.digits
+          (rw (two_behind l.left (omega arith) l.auto.left-fits.fits, append_assoc) at l.invariant.digits);
     }
 
-pub overflow_sub-start-2 : goal.overflow_sub-start-2
-overflow_sub-start-2 c =
+pub put_two-requires-clause-least : goal.put_two-requires-clause-least
+put_two-requires-clause-least c =
+    omega (
+      arith,
+      digits_few c.args.number c.ranges.number.fits,
+      c.loop-left.invariant.lengths,
+      digits_two c.loop-left.left (omega arith) (omega arith),
+    )
+
+pub returns-then-left-ge10-clause-digits : goal.returns-then-left-ge10-clause-digits
+returns-then-left-ge10-clause-digits c =
+    let l = c.loop-left in
+    rw c.put_two.ensures.digits (rw (two_alone l.left (omega arith) (omega arith)) at l.invariant.digits)
+
+pub overflow_sub-start : goal.overflow_sub-start
+overflow_sub-start c =
     omega (
       arith,
       digits_few c.args.number c.ranges.number.fits,

@@ -2,8 +2,8 @@
 use Rattle.std.proofs.Common.{◌≡◌, ℕ, ◌+◌, ◌*◌, ◌/◌, ◌%◌, ◌<◌, true, [], ◌∷◌, get_or, refl, ap, ◌∙◌, arith}
 use Rattle.std.proofs.lemmas.Bool.{agree_below_at, eqb-true}
 use Rattle.std.specs.Prelude.{◌==◌}
-use Rattle.listing.specs.declared.time.TheConstants.{TWO_DIGITS}
-use Rattle.listing.proofs.time.two_digits.Goals as goal
+use Rattle.listing.specs.declared.number.TheConstants.{TWO_DIGITS}
+use Rattle.listing.proofs.number.two_digits.Goals as goal
 
 tens : (n : ℕ) → n < 100 → get_or TWO_DIGITS.now (2 * n) 0 ≡ 48 + n / 10
 tens n within =
