@@ -1,80 +1,71 @@
 -- Texts that are put together piece by piece.
-use Rattle.std.proofs.Common.{◌≡◌, ℕ, zero, suc, ◌+◌, ◌-◌, ◌/◌, ◌%◌, ◌^◌, ◌<◌, ◌≤◌, true, List, [], ◌∷◌, ◌++◌, length}
-use Rattle.std.proofs.Common.{take, drop, decimal, get_or, refl, sym, ap, ◌∙◌, arith, append_assoc, length-append}
-use Rattle.std.proofs.Common.{length-drop, length-take-le, lt-ltb, false, ◌*◌, add-one, drop-cons}
-use Rattle.std.proofs.lemmas.Bool.{agree_below_at, eqb-true, le-ltb}
-use Rattle.std.proofs.lemmas.Fmt.{decimal_digit, decimal_step}
-use Rattle.std.proofs.lemmas.List.{drop-append-le, take-take, take_all, drop_all}
-use Rattle.std.proofs.Math.Seq.{take-append-add, take-append_seam, drop-append_seam}
+use Rattle.std.proofs.Common.{◌≡◌, ℕ, suc, ◌+◌, ◌-◌, ◌*◌, ◌/◌, ◌%◌, ◌<◌, ◌≤◌, true, false, List, [], ◌∷◌, ◌++◌}
+use Rattle.std.proofs.Common.{length, take, drop, set, get_or, refl, sym, ap, ◌∙◌, arith, append_assoc, length-append}
+use Rattle.std.proofs.Common.{length-take-le, length-drop, lt-ltb, add-one, drop-cons, ⊎_elim}
+use Rattle.std.proofs.lemmas.Bool.{agree_below_at, cases_lt, eqb-true, le-ltb, lt-leb, le-leb}
+use Rattle.std.proofs.lemmas.Grind.{take-set_at}
+use Rattle.std.proofs.lemmas.List.{take-take, take_all, drop_all, take_more_set, length-set}
 use Rattle.std.proofs.lemmas.Slice.{take-put_mid}
+use Rattle.std.proofs.Math.Seq.{take-append-add, take-append_seam}
 use borrow.Rule.Slice.PartMut.{put_mid}
 use Rattle.std.specs.Prelude.{◌==◌, codes}
 use Rattle.std.specs.List.{flat_map}
 use Rattle.std.specs.Char.{digit_char}
 use Rattle.std.specs.Net.Addr.{segments_of}
-use Rattle.std.specs.Net.Text.{hex, groups_text, hex_groups_text, leading_zero_digits, longest_zero_run}
-use Rattle.listing.specs.TimeText.{last_digits}
+use Rattle.std.specs.Net.Text.{hex, groups_text, hex_groups_text, longest_zero_run}
 
--- ---- a piece in its place
+-- ---- octets in their place
 
--- what is put in front of a place reaches up to it
-pub put_there : (room part : List ℕ) (at len : ℕ) → at + 8 ≤ length room → length part ≡ 8 → len ≤ 8
-    → take (at + len) (put_mid at 8 room part) ≡ take at room ++ take len part
-put_there room part at len fits eight within =
+-- the text without the octet at its end
+pub cut_last : (room text : List ℕ) (end octet : ℕ) → end ≤ length room → take end room ≡ text ++ octet ∷ []
+    → take (end - 1) room ≡ text
+cut_last room text end octet within is =
+    let front = length-take-le end room within in
+    let long : end ≡ length text + 1 = sym front ∙ ap length is ∙ length-append text (octet ∷ []) in
+    let last : end - 1 ≡ length text = omega arith in
+    sym (take-take (end - 1) end room (omega arith)) ∙ ap (take (end - 1)) is
+    ∙ ap (λ n. take n (text ++ octet ∷ [])) last ∙ take-append_seam text (octet ∷ [])
+
+-- two octets that are set one behind the other
+pub two_set : (room : List ℕ) (at x y : ℕ) → at + 1 < length room
+    → take (at + 2) (set (set room at x) (at + 1) y) ≡ take at room ++ x ∷ y ∷ []
+two_set room at x y within =
+    take-set_at (set room at x) (at + 1) (at + 2) y (omega arith) (omega (arith, length-set room at x))
+    ∙ rw (take_more_set room at x (omega arith)) (simp append_assoc)
+
+-- four octets of which some count
+pub four_put : (room four text : List ℕ) (at len end : ℕ) → at + 4 ≤ length room → length four ≡ 4 → len ≤ 4
+    → end ≡ at + len → take len four ≡ text → take end (put_mid at 4 room four) ≡ take at room ++ text
+four_put room four text at len end fits long within ends is =
     let front = length-take-le at room (omega arith) in
-    let all = take-put_mid at 8 room part (at + 8) (omega arith) (omega arith) in
-    sym (take-take (at + len) (at + 8) (put_mid at 8 room part) (omega arith))
-    ∙ ap (take (at + len)) all ∙ rw front at (take-append-add (take at room) part len)
+    let all = take-put_mid at 4 room four (at + 4) (omega arith) (omega arith) in
+    ap (λ n. take n (put_mid at 4 room four)) ends
+    ∙ sym (take-take (at + len) (at + 4) (put_mid at 4 room four) (omega arith))
+    ∙ ap (take (at + len)) all ∙ rw front at (take-append-add (take at room) four len)
+    ∙ ap (λ t. take at room ++ t) is
 
-pub put_piece : (room piece part : List ℕ) (at skip len : ℕ) → at + 8 ≤ length room → skip + 8 ≤ length piece → len ≤ 8
-    → part ≡ take 8 (drop skip piece)
-    → take (at + len) (put_mid at 8 room part) ≡ take at room ++ take len (drop skip piece)
-put_piece room piece part at skip len fits holds within is =
-    let eight : length part ≡ 8
-    = ap length is ∙ length-take-le 8 (drop skip piece) (omega (arith, length-drop skip piece)) in
-    put_there room part at len fits eight within
-    ∙ ap (λ text. take at room ++ take len text) is
-    ∙ ap (λ text. take at room ++ text) (take-take len 8 (drop skip piece) within)
+-- a digit behind those before it
+pub behind_others : (room before others whole : List ℕ) (at place digit : ℕ) → place ≡ at + 1 → place < length room
+    → whole ≡ others ++ digit ∷ [] → take (at + 1) room ≡ before ++ others
+    → take (place + 1) (set room place digit) ≡ before ++ whole
+behind_others room before others whole at place digit here within is front =
+    let kept : take place room ≡ before ++ others = rw here front in
+    take_more_set room place digit within ∙ rw (kept, is) (simp append_assoc)
 
--- the text in a piece, from its first digit that counts, and the octet behind it
-pub in_piece : (front zeros : List ℕ) (skip : ℕ) → skip ≤ length front
-    → take (length front - skip) (drop skip (front ++ zeros)) ≡ drop skip front
-in_piece front zeros skip within =
-    let rest : length (drop skip front) ≡ length front - skip = length-drop skip front in
-    rw (drop-append-le skip front zeros within, ← rest) (take-append_seam (drop skip front) zeros)
+-- and one over a lone zero
+pub over_zero : (room before others whole : List ℕ) (at place none digit : ℕ) → place ≡ at → place < length room
+    → others ≡ none ∷ [] → whole ≡ digit ∷ [] → take (at + 1) room ≡ before ++ others
+    → take (place + 1) (set room place digit) ≡ before ++ whole
+over_zero room before others whole at place none digit here within lone is front =
+    let same : at + 1 - 1 ≡ place = omega (arith, here) in
+    let kept = cut_last room before (at + 1) none (omega (arith, here, within)) (rw lone at front) in
+    let before_it : take place room ≡ before = rw same at kept in
+    take_more_set room place digit within ∙ rw (before_it, is) refl
 
 -- three texts one behind another
 pub three_parts : (kept x y z whole first second third : List ℕ) → first ≡ kept ++ x → second ≡ first ++ y
     → third ≡ second ++ z → x ++ y ++ z ≡ whole → third ≡ kept ++ whole
 three_parts kept x y z whole first second third a b c is = rw (c, b, a, ← is) (simp append_assoc)
-
--- ---- digits
-
-length-last_digits : (count n : ℕ) → length (last_digits count n) ≡ count
-length-last_digits zero n = refl
-length-last_digits (suc count) n =
-    omega (
-      arith,
-      length-append (last_digits count (n / 10)) ((48 + n % 10) ∷ []),
-      length-last_digits count (n / 10),
-    )
-
-pub one_digit : (zeros n : ℕ) → n < 10 → drop zeros (last_digits (suc zeros) n) ≡ decimal n
-one_digit zeros n small =
-    let last : n % 10 ≡ n = omega arith in
-    let front = length-last_digits zeros (n / 10) in
-    let seam = rw front at (drop-append_seam (last_digits zeros (n / 10)) ((48 + n % 10) ∷ [])) in
-    rw (decimal_digit n small) (seam ∙ ap (λ d. (48 + d) ∷ []) last)
-
-pub more_digits : (zeros count n : ℕ) → zeros ≤ count → 10 ≤ n → n < 2 ^ 64
-    → drop zeros (last_digits count (n / 10)) ≡ decimal (n / 10) → drop zeros (last_digits (suc count) n) ≡ decimal n
-more_digits zeros count n within more fits front =
-    rw (
-      decimal_step n more fits,
-      drop-append-le zeros (last_digits count (n / 10)) ((48 + n % 10) ∷ [])
-          (omega (arith, length-last_digits count (n / 10))),
-      front,
-    ) refl
 
 -- ---- groups
 
@@ -99,16 +90,6 @@ pub groups_colon : (group : ℕ) (groups : List ℕ)
     → flat_map colon_text (group ∷ groups) ≡ groups_text (group ∷ groups) ++ codes ":"
 groups_colon group groups =
     simp append_assoc (ap (λ more. hex group ++ more) (sym (colons groups)))
-
--- the text without the octet at its end
-pub cut_last : (room text : List ℕ) (end octet : ℕ) → end ≤ length room → take end room ≡ text ++ octet ∷ []
-    → take (end - 1) room ≡ text
-cut_last room text end octet within is =
-    let front = length-take-le end room within in
-    let long : end ≡ length text + 1 = sym front ∙ ap length is ∙ length-append text (octet ∷ []) in
-    let last : end - 1 ≡ length text = omega arith in
-    sym (take-take (end - 1) end room (omega arith)) ∙ ap (take (end - 1)) is
-    ∙ ap (λ n. take n (text ++ octet ∷ [])) last ∙ take-append_seam text (octet ∷ [])
 
 -- the groups and their colons, but for the last
 pub groups_end : (room front groups : List ℕ) (end index : ℕ) → length groups ≤ index
@@ -137,47 +118,75 @@ unfolding hex_groups_text
 long_run groups start len begins is many =
     rw (begins, is, lt-ltb 1 (longest_zero_run groups).1 (omega (arith, is))) refl
 
--- ---- what the pieces hold
-
-pub group_piece : (group skip : ℕ) (zeros : List ℕ) → skip ≤ 3 → skip ≡ leading_zero_digits group
-    → take (5 - skip) (drop skip (digit_char (group / 0x1000) ∷ digit_char (group / 0x100 % 16)
-    ∷ digit_char (group / 0x10 % 16) ∷ digit_char (group % 16) ∷ 58 ∷ zeros)) ≡ hex group ++ codes ":"
+-- a group of one digit
+pub hex_digit : (n : ℕ) → n < 16 → hex n ≡ digit_char n ∷ []
 unfolding hex
-group_piece group skip zeros few is =
-    let digits : List ℕ = digit_char (group / 0x1000) ∷ digit_char (group / 0x100 % 16)
-    ∷ digit_char (group / 0x10 % 16) ∷ digit_char (group % 16) ∷ [] in
-    in_piece (digits ++ codes ":") zeros skip (omega arith)
-    ∙ drop-append-le skip digits (codes ":") (omega arith)
-    ∙ ap (λ n. drop n digits ++ codes ":") is
+hex_digit n small =
+    let last : n % 16 ≡ n = omega arith in
+    rw (lt-leb 0x1000 n (omega arith), lt-leb 0x100 n (omega arith), lt-leb 0x10 n small, last) refl
 
-pub octet_piece : (n after skip : ℕ) (zeros : List ℕ) → skip ≤ 2 → n < 256 → drop skip (last_digits 3 n) ≡ decimal n
-    → take (4 - skip) (drop skip ((48 + n / 100) ∷ (48 + n / 10 % 10) ∷ (48 + n % 10) ∷ after ∷ zeros))
-    ≡ decimal n ++ after ∷ []
-octet_piece n after skip zeros few fits is =
-    let digits : List ℕ = (48 + n / 100) ∷ (48 + n / 10 % 10) ∷ (48 + n % 10) ∷ [] in
-    let first : n / 10 / 10 % 10 ≡ n / 100 = omega arith in
-    in_piece (digits ++ after ∷ []) zeros skip (omega arith)
-    ∙ drop-append-le skip digits (after ∷ []) (omega arith)
-    ∙ ap (λ text. text ++ after ∷ []) (rw first at is)
+-- its last digit stands behind those of its sixteenth: where it has two digits, three or four
+hex_two : (n : ℕ) → 0x10 ≤ n → n < 0x100 → hex n ≡ hex (n / 16) ++ digit_char (n % 16) ∷ []
+unfolding hex
+hex_two n more few =
+    let third : n / 16 % 16 ≡ n / 0x10 % 16 = omega arith in
+    rw (
+      lt-leb 0x1000 n (omega arith),
+      lt-leb 0x100 n few,
+      le-leb 0x10 n more,
+      lt-leb 0x1000 (n / 16) (omega arith),
+      lt-leb 0x100 (n / 16) (omega arith),
+      lt-leb 0x10 (n / 16) (omega arith),
+      third,
+    ) refl
 
-pub port_piece : (n skip : ℕ) (zeros : List ℕ) → skip ≤ 4 → n < 65536 → drop skip (last_digits 5 n) ≡ decimal n
-    → take (5 - skip) (drop skip ((48 + n / 10000) ∷ (48 + n / 1000 % 10) ∷ (48 + n / 100 % 10) ∷ (48 + n / 10 % 10)
-    ∷ (48 + n % 10) ∷ zeros)) ≡ decimal n
-port_piece n skip zeros few fits is =
-    let digits : List ℕ = (48 + n / 10000) ∷ (48 + n / 1000 % 10) ∷ (48 + n / 100 % 10) ∷ (48 + n / 10 % 10)
-    ∷ (48 + n % 10) ∷ [] in
-    let first : n / 10 / 10 / 10 / 10 % 10 ≡ n / 10000 = omega arith in
-    let second : n / 10 / 10 / 10 ≡ n / 1000 = omega arith in
-    let third : n / 10 / 10 ≡ n / 100 = omega arith in
-    in_piece digits zeros skip (omega arith) ∙ rw (first, second, third) at is
+hex_three : (n : ℕ) → 0x100 ≤ n → n < 0x1000 → hex n ≡ hex (n / 16) ++ digit_char (n % 16) ∷ []
+unfolding hex
+hex_three n more few =
+    let second : n / 16 / 0x10 % 16 ≡ n / 0x100 % 16 = omega arith in
+    let third : n / 16 % 16 ≡ n / 0x10 % 16 = omega arith in
+    rw (
+      lt-leb 0x1000 n few,
+      le-leb 0x100 n more,
+      lt-leb 0x1000 (n / 16) (omega arith),
+      lt-leb 0x100 (n / 16) (omega arith),
+      le-leb 0x10 (n / 16) (omega arith),
+      second,
+      third,
+    ) refl
+
+hex_four : (n : ℕ) → 0x1000 ≤ n → n < 0x10000 → hex n ≡ hex (n / 16) ++ digit_char (n % 16) ∷ []
+unfolding hex
+hex_four n more few =
+    let first : n / 16 / 0x100 % 16 ≡ n / 0x1000 = omega arith in
+    let second : n / 16 / 0x10 % 16 ≡ n / 0x100 % 16 = omega arith in
+    let third : n / 16 % 16 ≡ n / 0x10 % 16 = omega arith in
+    rw (
+      le-leb 0x1000 n more,
+      lt-leb 0x1000 (n / 16) (omega arith),
+      le-leb 0x100 (n / 16) (omega arith),
+      first,
+      second,
+      third,
+    ) refl
+
+pub hex_step : (n : ℕ) → 0x10 ≤ n → n < 0x10000 → hex n ≡ hex (n / 16) ++ digit_char (n % 16) ∷ []
+hex_step n more fits =
+    ⊎_elim (hex_two n more)
+    (λ above. ⊎_elim (hex_three n above) (λ large. hex_four n large fits) (cases_lt n 0x1000)) (cases_lt n 0x100)
 
 -- ---- endpoints
 
--- four numbers with dots between them, and a colon
+-- four numbers with a dot behind each
 pub four_numbers : (a b c d first second third last : List ℕ) → first ≡ a ++ codes "."
-    → second ≡ first ++ (b ++ codes ".") → third ≡ second ++ (c ++ codes ".") → last ≡ third ++ (d ++ codes ":")
-    → last ≡ (a ++ codes "." ++ b ++ codes "." ++ c ++ codes "." ++ d) ++ codes ":"
+    → second ≡ first ++ (b ++ codes ".") → third ≡ second ++ (c ++ codes ".") → last ≡ third ++ (d ++ codes ".")
+    → last ≡ (a ++ codes "." ++ b ++ codes "." ++ c ++ codes "." ++ d) ++ codes "."
 four_numbers a b c d first second third last e f g h = rw (h, g, f, e) (simp append_assoc)
+
+-- an address in brackets, a colon and a port
+pub in_brackets : (address port first second third last : List ℕ) → first ≡ codes "[" → second ≡ first ++ address
+    → third ≡ second ++ codes "]:" → last ≡ third ++ port → last ≡ codes "[" ++ address ++ codes "]:" ++ port
+in_brackets address port first second third last e f g h = rw (h, g, f, e) refl
 
 -- the groups of octets, from one of them on
 groups_from : (octets : List ℕ) (i : ℕ) → i + 1 < length octets

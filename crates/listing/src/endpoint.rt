@@ -4,7 +4,6 @@
 
 mod digits;
 mod groups;
-mod room;
 
 ghost use Rattle.std.specs.Prelude.{◌≡◌, ◌≤◌, OnOk, take};
 ghost use Rattle.listing.specs.EndpointText.{v4_text, v6_text};
@@ -12,10 +11,12 @@ ghost use Rattle.listing.specs.Output.{Gains};
 
 use crate::endpoint::digits::{put_octet, put_port};
 use crate::endpoint::groups::{groups_of, put_address};
-use crate::endpoint::room::{ROOM, put};
 use std::io;
 use std::io::Write;
 use wirebase::{Ipv4Address, Ipv6Address};
+
+// How many octets the text of an endpoint takes at the most, and some beyond.
+const ROOM: usize = 64;
 
 /// Writes an address of IPv4, and its port where there is one, as `192.0.2.1:53`.
 pub fn write_v4<W: Write>(output: &mut W, address: Ipv4Address, port: Option<u16>) -> io::Result<()>
@@ -32,13 +33,16 @@ fn put_v4(room: &mut [u8; ROOM], address: Ipv4Address, port: Option<u16>) -> usi
     ensures bound { result ≤ 64 }
 {
     let [a, b, c, d] = address.octets();
-    let end_a = put_octet(room, 0, a, b'.');
-    let end_b = put_octet(room, end_a, b, b'.');
-    let end_c = put_octet(room, end_b, c, b'.');
-    let end_d = put_octet(room, end_c, d, b':');
+    let end_a = put_octet(room, 0, a);
+    let end_b = put_octet(room, end_a, b);
+    let end_c = put_octet(room, end_b, c);
+    let end_d = put_octet(room, end_c, d);
     match port {
-        Some(port) => put_port(room, end_d, port),
-        // There is nothing behind the colon.
+        Some(port) => {
+            // It stands over the last dot.
+            room[end_d - 1] = b':';
+            put_port(room, end_d, port)
+        }
         None => end_d - 1,
     }
 }
@@ -62,10 +66,11 @@ fn put_v6(room: &mut [u8; ROOM], address: Ipv6Address, port: Option<u16>) -> usi
     let Some(port) = port else {
         return put_address(room, 0, &groups);
     };
-    let start = put(room, 0, b"[\0\0\0\0\0\0\0\0\0\0\0\0\0\0\0", 0, 1);
-    let end = put_address(room, start, &groups);
-    let behind = put(room, end, b"]:\0\0\0\0\0\0\0\0\0\0\0\0\0\0", 0, 2);
-    put_port(room, behind, port)
+    room[0] = b'[';
+    let end = put_address(room, 1, &groups);
+    room[end] = b']';
+    room[end + 1] = b':';
+    put_port(room, end + 2, port)
 }
 
 #[cfg(test)]

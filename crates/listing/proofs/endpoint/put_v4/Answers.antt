@@ -1,21 +1,28 @@
--- The numbers and what stands behind each.
-use Rattle.std.proofs.Common.{◌++◌, decimal, ap, ◌∙◌, arith}
+-- The numbers and a dot behind each, of which the last is left out or gives way to a colon.
+use Rattle.std.proofs.Common.{◌-◌, ◌∷◌, [], ◌++◌, ap, ◌∙◌, arith, append_assoc}
+use Rattle.std.proofs.lemmas.Grind.{take-set_at}
 use Rattle.wirebase.specs.Ipv4.{address_text}
 use Rattle.listing.proofs.Rooms.{four_numbers, cut_last}
 use Rattle.listing.proofs.endpoint.put_v4.Goals as goal
 
 pub returns-in-Some-clause-text : goal.returns-in-Some-clause-text
 returns-in-Some-clause-text c =
+    let end = c.put_octet-end_d in
     let numbers = four_numbers _ _ _ _ _ _ _ _ c.put_octet-end_a.ensures.text c.put_octet-end_b.ensures.text
-    c.put_octet-end_c.ensures.text c.put_octet-end_d.ensures.text in
+    c.put_octet-end_c.ensures.text end.ensures.text in
     let address = rw c.octets.ensures at numbers in
-    rw c.in-Some.is (c.put_port.ensures.text ∙ ap (λ front. front ++ decimal c.in-Some.port) address)
+    let kept =
+    cut_last end.new.room (address_text c.args.address) end.result 46 (omega (arith, end.array_long)) address in
+    let colon =
+    take-set_at end.new.room (end.result - 1) end.result 58 (omega arith) (omega (arith, end.array_long))
+    ∙ ap (λ front. front ++ 58 ∷ []) kept in
+    rw c.in-Some.is (c.put_port.ensures.text ∙ rw colon (simp append_assoc))
 
 pub returns-in-None-clause-text : goal.returns-in-None-clause-text
 returns-in-None-clause-text c =
+    let end = c.put_octet-end_d in
     let numbers = four_numbers _ _ _ _ _ _ _ _ c.put_octet-end_a.ensures.text c.put_octet-end_b.ensures.text
-    c.put_octet-end_c.ensures.text c.put_octet-end_d.ensures.text in
+    c.put_octet-end_c.ensures.text end.ensures.text in
     let address = rw c.octets.ensures at numbers in
     rw c.in-None.is
-    (cut_last c.put_octet-end_d.new.room (address_text c.args.address) c.put_octet-end_d.result 58
-    (omega (arith, c.put_octet-end_d.array_long)) address)
+    (cut_last end.new.room (address_text c.args.address) end.result 46 (omega (arith, end.array_long)) address)

@@ -1,7 +1,7 @@
 // Made from crates/listing/src/endpoint/groups.rt by rust/erase.
 //! The groups of IPv6 addresses as text (RFC 5952 section 4).
 
-use crate::endpoint::room::{PIECE, ROOM, put};
+use crate::endpoint::ROOM;
 
 /// The groups of an address, two octets each.
 pub fn groups_of(octets: &[u8; 16]) -> [u16; 8] {
@@ -61,32 +61,29 @@ fn put_groups(room: &mut [u8; ROOM], at: usize, groups: &[u16]) -> usize {
 }
 
 // Puts a group without its leading zeros, and a colon.
+#[inline(always)]
 fn put_group(room: &mut [u8; ROOM], at: usize, group: u16) -> usize {
-    let skip = zero_digits(group);
-    let mut piece = [0; PIECE];
-    piece[0] = digit(group / 0x1000);
-    piece[1] = digit(group / 0x100 % 16);
-    piece[2] = digit(group / 0x10 % 16);
-    piece[3] = digit(group % 16);
-    piece[4] = b':';
-    put(room, at, &piece, skip, 5 - skip)
+    room[at] = digit(group / 0x1000);
+    let second = next_digit(room, at, group / 0x100);
+    let third = next_digit(room, second, group / 0x10);
+    let last = next_digit(room, third, group);
+    room[last + 1] = b':';
+    last + 2
+}
+
+// Puts the last digit of a number behind that of its sixteenth, which stands at `at`, or over it where the sixteenth
+// is 0. Answers where the digit stands.
+#[inline(always)]
+fn next_digit(room: &mut [u8; ROOM], at: usize, number: u16) -> usize {
+    let place = at + (number >= 16) as usize;
+    room[place] = digit(number % 16);
+    place
 }
 
 fn put_colons(room: &mut [u8; ROOM], at: usize) -> usize {
-    put(room, at, b"::\0\0\0\0\0\0\0\0\0\0\0\0\0\0", 0, 2)
-}
-
-// How many of a group's four digits are zeros in front of others.
-fn zero_digits(group: u16) -> usize {
-    if group >= 0x1000 {
-        0
-    } else if group >= 0x100 {
-        1
-    } else if group >= 0x10 {
-        2
-    } else {
-        3
-    }
+    room[at] = b':';
+    room[at + 1] = b':';
+    at + 2
 }
 
 fn digit(number: u16) -> u8 {

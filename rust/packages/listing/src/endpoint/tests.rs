@@ -30,6 +30,27 @@ fn addresses_with_dots() {
     check_v4(host, Some(53), "192.0.2.1:53");
     check_v4(none, Some(0), "0.0.0.0:0");
     check_v4(all, Some(65_535), "255.255.255.255:65535");
+    let steps = Ipv4Address::new(9, 10, 99, 100);
+    check_v4(steps, None, "9.10.99.100");
+}
+
+// The least and the greatest port of each count of digits.
+const PORTS: &[(u16, &str)] = &[
+    (9, "0.0.0.0:9"),
+    (10, "0.0.0.0:10"),
+    (99, "0.0.0.0:99"),
+    (100, "0.0.0.0:100"),
+    (999, "0.0.0.0:999"),
+    (1_000, "0.0.0.0:1000"),
+    (9_999, "0.0.0.0:9999"),
+    (10_000, "0.0.0.0:10000"),
+];
+
+#[test]
+fn ports_by_their_digits() {
+    for (port, want) in PORTS {
+        check_v4(Ipv4Address::new(0, 0, 0, 0), Some(*port), want);
+    }
 }
 
 // The addresses of RFC 5952 sections 4.1 to 4.3, and the endpoint of section 6.
@@ -50,11 +71,15 @@ const GROUPS: &[([u16; 8], &str)] = &[
     ([0xff02, 0, 0, 0, 0, 0, 0, 0], "ff02::"),
 ];
 
+// Groups of each count of digits, the least and the greatest, and zeros within.
+const DIGITS: [u16; 8] = [0xf, 0x10, 0xff, 0x100, 0xfff, 0x1000, 0xffff, 0x100f];
+
 #[test]
 fn addresses_with_colons() {
     for (groups, want) in GROUPS {
         check_v6(*groups, None, want);
     }
+    check_v6(DIGITS, None, "f:10:ff:100:fff:1000:ffff:100f");
     let host = [0x2001, 0xdb8, 0, 0, 0, 0, 0, 1];
     check_v6(host, Some(80), "[2001:db8::1]:80");
     check_v6([0; 8], Some(65_535), "[::]:65535");

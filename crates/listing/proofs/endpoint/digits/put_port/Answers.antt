@@ -1,11 +1,19 @@
--- The piece holds the digits.
-use Rattle.std.proofs.Common.{◌++◌, take, ap, ◌∙◌}
-use Rattle.listing.proofs.Rooms.{port_piece}
+-- The first digit, and each further one behind it or over it.
+use Rattle.std.proofs.Common.{◌≡◌, ◌+◌, ◌/◌, take, arith}
+use Rattle.std.proofs.lemmas.Fmt.{decimal_digit}
+use Rattle.std.proofs.lemmas.List.{take_more_set}
 use Rattle.listing.proofs.endpoint.digits.put_port.Goals as goal
 
 pub returns-clause-text : goal.returns-clause-text
 returns-clause-text c =
-    let skip = c.zeros_of_port-skip in
-    c.put.ensures.text
-    ∙ ap (λ text. take c.args.at c.args.room.now ++ text)
-    (port_piece c.args.port skip.result _ skip.ensures.bound c.ranges.port.fits skip.ensures.text)
+    let n = c.args.port in
+    let before = take c.args.at c.args.room.now in
+    let one = decimal_digit (n / 10000) (omega (arith, c.ranges.port.fits)) in
+    let first = take_more_set c.args.room.now c.args.at (48 + n / 10000) (omega (arith, c.told-room, c.requires)) in
+    let tenth : n / 1000 / 10 ≡ n / 10000 = omega arith in
+    let thousands = c.next_digit-thousands.ensures.text before (rw (tenth, one) first) in
+    let tenth : n / 100 / 10 ≡ n / 1000 = omega arith in
+    let hundreds = c.next_digit-hundreds.ensures.text before (rw tenth thousands) in
+    let tenth : n / 10 / 10 ≡ n / 100 = omega arith in
+    let tens = c.next_digit-tens.ensures.text before (rw tenth hundreds) in
+    c.next_digit-ones.ensures.text before tens

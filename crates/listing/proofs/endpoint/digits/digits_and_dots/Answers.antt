@@ -1,0 +1,29 @@
+-- The table, looked at in all its places.
+use Rattle.std.proofs.Common.{◌≡◌, ℕ, zero, suc, ◌+◌, ◌*◌, Bool, true, ◌&&◌, List, [], ◌∷◌, ◌++◌, take}
+use Rattle.std.proofs.Common.{get_or, decimal, codes, refl}
+use Rattle.std.proofs.lemmas.Bool.Decides.{Decides-below_and}
+use Rattle.std.proofs.lemmas.Slice.Eq.{bytes_eq-Decides}
+use Rattle.std.specs.Str.{bytes_eq}
+use Rattle.std.specs.Fmt.{digits}
+use Rattle.listing.specs.declared.endpoint.digits.TheConstants.{OCTETS}
+use Rattle.listing.proofs.endpoint.digits.digits_and_dots.Goals as goal
+
+-- what the table has for a number, and what it is to have
+abbrev found : ℕ → List ℕ
+found n =
+    get_or OCTETS.now (4 * n) 0 ∷ get_or OCTETS.now (4 * n + 1) 0 ∷ get_or OCTETS.now (4 * n + 2) 0
+    ∷ get_or OCTETS.now (4 * n + 3) 0 ∷ []
+
+abbrev wanted : ℕ → List ℕ
+wanted n = take 4 (decimal n ++ codes "...")
+
+-- they agree at each number below this
+abbrev agree : ℕ → Bool
+agree zero = true
+agree (suc n) = bytes_eq (found n) (wanted n) && agree n
+
+pub returns : goal.returns
+unfolding digits
+returns c =
+    (Decides-below_and (λ n. bytes_eq (found n) (wanted n)) (λ n. found n ≡ wanted n) agree
+    (λ n. bytes_eq-Decides (found n) (wanted n)) refl (λ _. refl) 256).0 refl c.args.number c.ranges.number.fits

@@ -1,0 +1,24 @@
+-- Behind the digits of the sixteenth, or over the digit of a sixteenth that is 0.
+use Rattle.std.proofs.Common.{◌≡◌, ◌/◌, ◌%◌, ◌<◌, ◌≤◌, arith, refl, ⊎_elim}
+use Rattle.std.proofs.lemmas.Bool.{cases_lt, le-leb, lt-leb}
+use Rattle.std.specs.Char.{digit_char}
+use Rattle.std.specs.Net.Text.{hex}
+use Rattle.listing.proofs.Rooms.{behind_others, over_zero, hex_digit, hex_step}
+use Rattle.listing.proofs.endpoint.groups.next_digit.Goals as goal
+
+pub returns-clause-text : goal.returns-clause-text
+returns-clause-text c before front =
+    let n = c.args.number in
+    rw c.digit.ensures
+    (⊎_elim
+    (λ (one : n < 16).
+    let none : n / 16 ≡ 0 = omega arith in
+    let last : n % 16 ≡ n = omega arith in
+    over_zero c.args.room.now before (hex (n / 16)) (hex n) c.args.at _ (digit_char 0) (digit_char (n % 16))
+    (rw (lt-leb 16 n one) (omega arith)) (rw (lt-leb 16 n one) (omega (arith, c.told-room, c.requires)))
+    (rw none (hex_digit 0 (omega arith))) (rw last (hex_digit n one)) front)
+    (λ (more : 16 ≤ n).
+    behind_others c.args.room.now before (hex (n / 16)) (hex n) c.args.at _ (digit_char (n % 16))
+    (rw (le-leb 16 n more) refl) (rw (le-leb 16 n more) (omega (arith, c.told-room, c.requires)))
+    (hex_step n more c.ranges.number.fits) front)
+    (cases_lt n 16))
