@@ -3,6 +3,8 @@ pub mod Spelling
 pub mod LabelLists
 pub mod NameLabels
 pub mod NameParts
+pub mod NameDotted
+pub mod NameDottedTurns
 pub mod NameTexts
 pub mod NamePieces
 pub mod Outcomes

@@ -167,6 +167,18 @@ labels_read text message octets next left reach len so front pushed =
           );
     }
 
+-- one label
+pub label_read : (text message octets left reach bytes rest : List ℕ) → IsReadTo text message octets left reach
+    → whole bytes rest ≡ front_of left → IsReadTo text message (octets ++ written bytes) rest reach
+unfolding one_more_in_front none_in_front
+label_read text message octets left reach bytes rest so e =
+    let n = 0 + (1 + length bytes) in
+    let front = one_more_in_front left bytes rest 0 (none_in_front left) e in
+    let one : written bytes ≡ take n left = sym (append-nil (written bytes)) ∙ sym (in_front left n front) in
+    subst (λ l. IsReadTo text message (octets ++ written bytes) l reach) (behind_one_more left bytes rest 0 e)
+    (labels_read text message octets (octets ++ written bytes) left reach n so front
+    (ap (λ (o : List ℕ). octets ++ o) one))
+
 pub all_read : (text message octets left reach : List ℕ) → IsReadTo text message octets left reach
     → stop ≡ front_of left → AreNamed text message octets
 all_read text message octets left reach so e =

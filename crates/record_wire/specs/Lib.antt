@@ -4,6 +4,7 @@ pub mod NamePieces
 pub mod NameReading
 pub mod NameParts
 pub mod Name
+pub mod NameDotted
 pub mod Record
 pub mod Entries
 pub mod RData

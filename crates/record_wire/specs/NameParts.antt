@@ -27,3 +27,8 @@ pub record AreNamed (text message octets : List ℕ) : Type 0 where
   pub each : AllByRecursion IsLabel labels
   pub name : IsName text message labels
   pub written : octets ≡ written_all labels
+
+-- these bytes stand at the front of a text
+pub record StandInFront (bytes text : List ℕ) : Type 0 where
+  pub rest : List ℕ
+  pub is : text ≡ bytes ++ rest

@@ -1,5 +1,6 @@
 //! Whole names: read from a message or from text, and written as text (RFC 1035 sections 2.3.4, 3.1 and 5.1).
 
+pub mod dotted;
 mod label;
 mod part;
 mod text;
@@ -39,6 +40,7 @@ impl Name {
     pub fn read<'a>(packet: &Packet<&'a [u8]>, bytes: &'a [u8]) -> Result<Name>
         ensures sound { IfOk result (λ name.
             IsName bytes.entry.now (view_octets packet.entry.now) (labels_of name)) }
+        ensures fits { IfOk result (λ name. AreOfName (labels_of name)) }
         ensures complete { (labels : List (List ℕ))
             → IsName bytes.entry.now (view_octets packet.entry.now) labels → AreOfName labels
             → IsOkAnd result (λ name. labels_of name ≡ labels) }

@@ -1,6 +1,7 @@
 // Made from crates/record_wire/src/name.rt by rust/erase.
 //! Whole names: read from a message or from text, and written as text (RFC 1035 sections 2.3.4, 3.1 and 5.1).
 
+pub mod dotted;
 mod label;
 mod part;
 mod text;

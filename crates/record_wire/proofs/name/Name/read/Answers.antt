@@ -1,8 +1,8 @@
-use Rattle.std.proofs.Common.{◌≡◌, [], ◌∷◌, ◌++◌, sym, ap, ◌∙◌, subst}
+use Rattle.std.proofs.Common.{◌≡◌, [], ◌∷◌, ◌++◌, refl, sym, ap, ◌∙◌, subst}
 use Rattle.dns_wire.specs.DnsName.{IsName}
 use Rattle.dns_wire.specs.DnsPacket.{view_octets}
-use Rattle.record_wire.specs.Labels.{wire, labels_in}
-use Rattle.record_wire.proofs.LabelLists.{written_in, whole_wire, ended, in_written, room_for_end}
+use Rattle.record_wire.specs.Labels.{wire, labels_in, AreOfName}
+use Rattle.record_wire.proofs.LabelLists.{written_in, whole_wire, ended, in_written, room_for_end, name_of}
 use Rattle.record_wire.proofs.name.Name.read.Goals as goal
 
 pub invariant_of-result : goal.invariant_of-result
@@ -24,6 +24,18 @@ returns-clause-sound c =
     ∙ in_written octets named.labels named.each named.written) in
     subst (λ labels. IsName c.args.bytes.now (view_octets c.args.packet.now) labels) (sym same)
     (subst (λ m. IsName c.args.bytes.now m named.labels) c.octets_of.ensures named.name)
+
+pub returns-clause-fits : goal.returns-clause-fits
+returns-clause-fits c =
+    let named = c.in_ok-put_name.ensures.sound in
+    let octets = c.put_name.new.octets.items in
+    let pushed : c.push_end.new.octets.items ≡ octets ++ 0 ∷ [] = c.in_ok-push_end.ensures.pushes in
+    subst (λ o. AreOfName (labels_in o)) (sym pushed)
+    (rw (
+      ended octets (written_in octets named.labels named.each named.written),
+      in_written octets named.labels named.each named.written,
+    )
+    (name_of octets named.labels named.each named.written (c.in_ok-push_end.ensures.room.0 refl)))
 
 pub returns-clause-complete : goal.returns-clause-complete
 returns-clause-complete c = λ labels is name.

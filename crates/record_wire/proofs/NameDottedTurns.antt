@@ -1,0 +1,202 @@
+-- The text of a name that is put label by label.
+use Rattle.std.proofs.Common.{◌≡◌, ◌↔◌, ℕ, ◌+◌, ◌-◌, ◌<◌, ◌≤◌, List, [], ◌∷◌, ◌++◌, length, take, drop, codes}
+use Rattle.std.proofs.Common.{None, IsSome, refl, sym, ap, ◌∙◌, arith, append_assoc, length-append}
+use Rattle.std.proofs.lemmas.List.{append-nil, length-take-le, take-take}
+use Rattle.std.proofs.lemmas.Grind.{flat_map-append}
+use Rattle.std.proofs.lemmas.Slice.{take-put_mid}
+use Rattle.std.proofs.Math.Seq.{take-append-add, take-append_seam}
+use Rattle.std.specs.List.{AllByRecursion, count_by}
+use borrow.Rule.Slice.PartMut.{put_mid}
+use Rattle.dns_wire.specs.DnsName.{IsLabel, written}
+use Rattle.dns_wire.specs.DnsNameAhead.{whole, pointer, stop, torn, front_of}
+use Rattle.dns_wire.proofs.DnsNameTurns.{Whole-front}
+use Rattle.record_wire.specs.Labels.{labels_in, written_all}
+use Rattle.record_wire.specs.NameDotted.{is_usual, are_usual, dotted, AreUsual}
+use Rattle.record_wire.specs.NameParts.{StandInFront}
+use Rattle.record_wire.proofs.LabelLists.{in_written, in_nothing, written_more, each_more, name_of}
+use Rattle.record_wire.proofs.NameDotted.{front_usual}
+use Rattle.record_wire.proofs.NameParts.{IsReadTo, nothing_read, pointer_read, label_read, all_read, all_same}
+use Rattle.record_wire.proofs.NameParts.{no_name_far, no_name_torn, room_read, drop_whole}
+
+-- ---- a label in its place
+
+-- what is put in front of a place reaches up to it
+copied : (room part : List ℕ) (at n len : ℕ) → at + n ≤ length room → length part ≡ n → len ≤ n
+    → take (at + len) (put_mid at n room part) ≡ take at room ++ take len part
+copied room part at n len fits long within =
+    let front = length-take-le at room (omega arith) in
+    let all = take-put_mid at n room part (at + n) (omega arith) (omega arith) in
+    sym (take-take (at + len) (at + n) (put_mid at n room part) (omega arith))
+    ∙ ap (take (at + len)) all ∙ rw front at (take-append-add (take at room) part len)
+
+-- a label of which a piece of the text was copied that it stands in front of
+pub piece_copied : (room label ahead part : List ℕ) (at n : ℕ) → at + n ≤ length room → n ≤ length ahead
+    → length label ≤ n → StandInFront label ahead → part ≡ take n ahead
+    → take (at + length label) (put_mid at n room part) ≡ take at room ++ label
+piece_copied room label ahead part at n fits long within front is =
+    let count : length part ≡ n = ap length is ∙ length-take-le n ahead long in
+    let seam : take (length label) ahead ≡ label =
+    ap (λ t. take (length label) t) front.is ∙ take-append_seam label front.rest in
+    copied room part at n (length label) fits count within
+    ∙ ap (λ t. take at room ++ t)
+    (ap (λ t. take (length label) t) is ∙ (take-take (length label) n ahead within ∙ seam))
+
+-- ---- the text so far
+
+-- The room's front has the labels that were read, each before a dot.
+pub record IsPutTo (text message left reach room : List ℕ) (at dots : ℕ) : Type 0 where
+  pub whole_ : length room ≡ 256
+  pub octets : List ℕ
+  pub read : IsReadTo text message octets left reach
+  pub long : length octets ≡ at
+  pub few : at ≤ 254
+  pub less : dots ≤ at
+  pub put : take at room ≡ dotted (labels_in octets)
+  pub counted : dots ≡ length (labels_in octets)
+
+pub nothing_put : (text message room : List ℕ) → length room ≡ 256 → IsPutTo text message text message room 0 0
+nothing_put text message room long = record {
+  whole_ = long;
+  octets = [];
+  read = nothing_read text message [] refl;
+  long = refl;
+  few = omega arith;
+  less = omega arith;
+  put = ap dotted (sym in_nothing);
+  counted = ap length (sym in_nothing);
+}
+
+pub pointer_put : (text message left reach room : List ℕ) (at dots target : ℕ) (rest front : List ℕ)
+    → IsPutTo text message left reach room at dots → pointer target ≡ front_of left → target < length reach
+    → rest ≡ drop target reach → front ≡ take target reach → IsPutTo text message rest front room at dots
+pointer_put text message left reach room at dots target rest front p e inside rest_ front_ = record {
+  whole_ = p.whole_;
+  octets = p.octets;
+  read = rw (rest_, front_) (pointer_read text message p.octets left reach target p.read e inside);
+  long = p.long;
+  few = p.few;
+  less = p.less;
+  put = p.put;
+  counted = p.counted;
+}
+
+one_label : (left bytes rest : List ℕ) → whole bytes rest ≡ front_of left → IsLabel bytes
+one_label left bytes rest e =
+    let w = Whole-front left bytes rest (sym e) in
+    (w.some, w.few)
+
+-- a label stands in front of what its length is cut off of
+pub behind_length : (left label rest : List ℕ) → whole label rest ≡ front_of left
+    → StandInFront label (take (length left - 1) (drop 1 left))
+behind_length left label rest e =
+    let w = Whole-front left label rest (sym e) in
+    record { rest = rest; is = drop_whole 1 left ∙ ap (λ (t : List ℕ). drop 1 t) w.is }
+
+-- the labels in octets, and one that is written behind them
+one_more : (octets label : List ℕ) (done : List (List ℕ)) → AllByRecursion IsLabel done
+    → octets ≡ written_all done → IsLabel label
+    → labels_in (octets ++ written label) ≡ labels_in octets ++ label ∷ []
+one_more octets label done each is one =
+    in_written (octets ++ written label) (done ++ label ∷ []) (each_more done label each one)
+    (ap (λ (o : List ℕ). o ++ written label) is ∙ sym (written_more done label))
+    ∙ ap (λ (ls : List (List ℕ)). ls ++ label ∷ []) (sym (in_written octets done each is))
+
+dotted_more : (labels : List (List ℕ)) (label : List ℕ)
+    → dotted (labels ++ label ∷ []) ≡ dotted labels ++ label ++ codes "."
+dotted_more labels label =
+    flat_map-append (λ (l : List ℕ). l ++ codes ".") labels (label ∷ [])
+    ∙ (ap (λ (t : List ℕ). dotted labels ++ t) (append-nil (label ++ codes "."))
+    ∙ sym (append_assoc (dotted labels) label (codes ".")))
+
+pub label_put : (text message left reach room next label rest : List ℕ) (at dots end : ℕ)
+    → IsPutTo text message left reach room at dots → whole label rest ≡ front_of left
+    → length next ≡ 256 → at + length label < 254 → end ≡ at + length label + 1
+    → take end next ≡ take at room ++ label ++ codes "."
+    → IsPutTo text message rest reach next end (dots + 1)
+label_put text message left reach room next label rest at dots end p e whole_ fits ends is =
+    let more = one_more p.octets label p.read.done p.read.each p.read.written_ (one_label left label rest e) in
+    record {
+      whole_ = whole_;
+      octets = p.octets ++ written label;
+      read = label_read text message p.octets left reach label rest p.read e;
+      long = omega (arith, length-append p.octets (written label), p.long, ends);
+      few = omega (arith, ends, fits);
+      less = omega (arith, p.less, ends);
+      put = is
+          ∙ (ap (λ (t : List ℕ). t ++ label ++ codes ".") p.put
+          ∙ (sym (dotted_more (labels_in p.octets) label) ∙ ap dotted (sym more)));
+      counted = omega (arith, p.counted, ap length more, length-append (labels_in p.octets) (label ∷ []));
+    }
+
+-- ---- what has no such text
+
+pub none_of : (text message : List ℕ) → ((labels : List (List ℕ)) → AreUsual text message labels → ⊥)
+    → IsSome {T = ℕ} None ↔ ((labels : List (List ℕ)) × AreUsual text message labels)
+none_of text message none = (λ e. cc e, λ are. absurd (none are.0 are.1))
+
+pub no_room : (text message left reach room label rest : List ℕ) (at dots : ℕ)
+    → IsPutTo text message left reach room at dots → whole label rest ≡ front_of left → (at + length label < 254 → ⊥)
+    → (labels : List (List ℕ)) → AreUsual text message labels → ⊥
+no_room text message left reach room label rest at dots p e far labels usual =
+    let next = label_read text message p.octets left reach label rest p.read e in
+    let few = room_read text message (p.octets ++ written label) rest reach next labels usual.name_ usual.fits in
+    omega (arith, few, far, p.long, length-append p.octets (written label))
+
+pub leads_nowhere : (text message left reach room : List ℕ) (at dots target : ℕ)
+    → IsPutTo text message left reach room at dots → pointer target ≡ front_of left → length reach ≤ target
+    → (labels : List (List ℕ)) → AreUsual text message labels → ⊥
+leads_nowhere text message left reach room at dots target p e far labels usual =
+    no_name_far text message p.octets left reach target p.read e far labels usual.name_
+
+pub is_torn : (text message left reach room : List ℕ) (at dots : ℕ)
+    → IsPutTo text message left reach room at dots → torn ≡ front_of left
+    → (labels : List (List ℕ)) → AreUsual text message labels → ⊥
+is_torn text message left reach room at dots p e labels usual =
+    no_name_torn text message p.octets left reach p.read e labels usual.name_
+
+-- the labels of the name are those that were put
+all_put : (text message left reach room : List ℕ) (at dots : ℕ) (p : IsPutTo text message left reach room at dots)
+    → stop ≡ front_of left → (labels : List (List ℕ)) → AreUsual text message labels
+    → labels_in p.octets ≡ labels
+all_put text message left reach room at dots p e labels usual =
+    in_written p.octets labels usual.fits.each
+    (all_same text message p.octets left reach p.read e labels usual.name_)
+
+pub is_root : (text message left reach room : List ℕ) (at dots : ℕ)
+    → IsPutTo text message left reach room at dots → stop ≡ front_of left → at ≡ 0
+    → (labels : List (List ℕ)) → AreUsual text message labels → ⊥
+is_root text message left reach room at dots p e zero labels usual =
+    let all = all_put text message left reach room at dots p e labels usual in
+    omega (arith, usual.some, ap length all, p.counted, p.less, zero)
+
+some_labels : (labels : List (List ℕ)) → 1 ≤ length (written_all labels) → 1 ≤ length labels
+some_labels [] h = absurd (omega (arith, h))
+some_labels (label ∷ labels) h = omega arith
+
+module _ (text message left reach room : List ℕ) (at dots count : ℕ)
+    (p : IsPutTo text message left reach room at dots) (e : stop ≡ front_of left)
+    (is : count ≡ count_by is_usual (take at room)) where
+  pub is_unusual : (count + dots ≡ at → ⊥) → (labels : List (List ℕ)) → AreUsual text message labels → ⊥
+  is_unusual other labels usual =
+      let all = all_put text message left reach room at dots p e labels usual in
+      let few : at ≤ 255 = omega (arith, p.few) in
+      let front = front_usual (labels_in p.octets) room at count dots p.whole_ few p.put is p.counted in
+      other (front.1 (ap are_usual all ∙ usual.usual))
+
+  -- the text of a name that was read to its end
+  pub is_text : 1 ≤ at → count + dots ≡ at
+      → (labels : List (List ℕ)) × AreUsual text message labels × (take at room ≡ dotted labels)
+  is_text some sum =
+      let named = all_read text message p.octets left reach p.read e in
+      let same : labels_in p.octets ≡ named.labels = in_written p.octets named.labels named.each named.written in
+      let few : at ≤ 255 = omega (arith, p.few) in
+      let front = front_usual (labels_in p.octets) room at count dots p.whole_ few p.put is p.counted in (
+        named.labels,
+        record {
+          name_ = named.name;
+          fits = name_of p.octets named.labels named.each named.written (omega (arith, p.long, p.few));
+          some = some_labels named.labels (omega (arith, some, p.long, ap length named.written));
+          usual = ap are_usual (sym same) ∙ front.0 sum;
+        },
+        p.put ∙ ap dotted same,
+      )

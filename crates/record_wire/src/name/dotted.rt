@@ -1,0 +1,152 @@
+//! The text of a name whose bytes all stand for themselves, straight from the message.
+
+ghost use Rattle.std.specs.Prelude.{◌≡◌, ◌↔◌, ◌+◌, ◌<◌, ◌≤◌, ◌++◌, ℕ, List, codes, length, take, IsSome, IfSome};
+ghost use Rattle.std.specs.List.{count_by};
+ghost use Rattle.dns_wire.specs.DnsPacket.{view_octets};
+ghost use Rattle.record_wire.specs.NameDotted.{is_usual, dotted, AreUsual};
+ghost use Rattle.record_wire.specs.NameParts.{StandInFront};
+
+use dns_wire::dns::Packet;
+use dns_wire::message::{Front, follow, octets_of, read_front};
+
+/// The room that the text of any name of such bytes has.
+pub const ROOM_LEN: usize = 256;
+
+// The most octets of labels and dots (RFC 1035 section 2.3.4): dots stand for lengths, and byte 0 has no text.
+const MOST: usize = 254;
+
+// Of a label of no more bytes, so many are copied.
+const PIECE: usize = 16;
+
+/// Puts the text of the name that begins in `bytes`, and goes on where its pointers lead in the message, into the
+/// room's front, each label before a dot, and answers its length. The root has no labels, and another text. None where
+/// there is no name, where it has more than 255 octets, and where a byte of a label is not a letter, a digit, `-` or
+/// `_`, since its text may need a backslash then.
+pub fn put_dotted<'a>(
+    room: &mut [u8; ROOM_LEN],
+    packet: &Packet<&'a [u8]>,
+    bytes: &'a [u8],
+) -> Option<usize>
+    ensures some { IsSome result
+        ↔ ((labels : List (List ℕ)) × AreUsual bytes.now (view_octets packet.now) labels) }
+    ensures fits { IfSome result (λ len. len ≤ 256) }
+    ensures text { IfSome result (λ len. (labels : List (List ℕ))
+        × AreUsual bytes.now (view_octets packet.now) labels × (take len room.new ≡ dotted labels)) }
+{
+    put_text(room, octets_of(packet), bytes)
+}
+
+// The same of the octets of a message. A pointer leads to one of the bytes that are open, and leaves those below that
+// place open, so this ends.
+fn put_text(room: &mut [u8; ROOM_LEN], message: &[u8], bytes: &[u8]) -> Option<usize>
+    ensures some { IsSome result ↔ ((labels : List (List ℕ)) × AreUsual bytes.now message.now labels) }
+    ensures fits { IfSome result (λ len. len ≤ 256) }
+    ensures text { IfSome result (λ len. (labels : List (List ℕ)) × AreUsual bytes.now message.now labels
+        × (take len room.new ≡ dotted labels)) }
+{
+    let mut at = 0;
+    let mut dots = 0;
+    let mut left = bytes;
+    // The bytes of the message that are open.
+    let mut reach = message;
+    loop {
+        match read_front(left) {
+            Front::Label(label, rest) => {
+                let Some(end) = put_label(room, at, label, &left[1..]) else {
+                    return None;
+                };
+                at = end;
+                dots += 1;
+                left = rest;
+            }
+            Front::Pointer(target) => {
+                let Some((next, open)) = follow(reach, target) else {
+                    return None;
+                };
+                left = next;
+                reach = open;
+            }
+            Front::End => {
+                // No dot is usual, and none but these may stand there.
+                if at == 0 || count_usual(&room[..at]) + dots != at {
+                    return None;
+                }
+                return Some(at);
+            }
+            Front::Torn => return None,
+        }
+    }
+}
+
+// Puts a label and a dot behind the first octets of a room, `at` of them, and answers how many there are then. The
+// label stands at the front of `ahead`. None where a name has no room for them.
+#[inline(always)]
+fn put_label(room: &mut [u8; ROOM_LEN], at: usize, label: &[u8], ahead: &[u8]) -> Option<usize>
+    requires place { at ≤ 254 }
+    requires ahead { StandInFront label.now ahead.now }
+    ensures some { IsSome result ↔ (at + length label.now < 254) }
+    ensures end { IfSome result (λ end. end ≡ at + length label.now + 1) }
+    ensures text { IfSome result (λ end. take end room.new ≡ take at room.old ++ label.now ++ codes ".") }
+{
+    let end = at + label.len();
+    if end >= MOST {
+        return None;
+    }
+    copy_label(room, at, label, ahead);
+    room[end] = b'.';
+    Some(end + 1)
+}
+
+// Puts a label behind the first octets of a room, `at` of them. Of most labels sixteen bytes are copied, since a length
+// that the compiler knows costs less: what stands behind the label has no meaning.
+#[inline(always)]
+fn copy_label(room: &mut [u8; ROOM_LEN], at: usize, label: &[u8], ahead: &[u8])
+    requires place { at + length label.now ≤ 254 }
+    requires ahead { StandInFront label.now ahead.now }
+    ensures { take (at + length label.now) room.new ≡ take at room.old ++ label.now }
+{
+    let end = at + label.len();
+    if label.len() <= PIECE && ahead.len() >= PIECE && at <= ROOM_LEN - PIECE {
+        room[at..at + PIECE].copy_from_slice(&ahead[..PIECE]);
+    } else {
+        room[at..end].copy_from_slice(label);
+    }
+}
+
+// How many bytes of a text are usual. It looks at each, since a branch at a byte would cost more.
+fn count_usual(text: &[u8]) -> usize
+    ensures few { result ≤ length text.now }
+    ensures count { result ≡ count_by is_usual text.now }
+{
+    let mut count = 0;
+    for byte in text {
+        count += is_usual(*byte) as usize;
+    }
+    count
+}
+
+// Whether a byte is a letter, a digit, `-` or `_`.
+fn is_usual(byte: u8) -> bool
+    ensures { result ≡ is_usual byte }
+{
+    USUAL[byte as usize]
+}
+
+const T: bool = true;
+
+const F: bool = false;
+
+// Whether each byte is usual, thirty-two bytes a line.
+static USUAL: [bool; 256] = [
+    F, F, F, F, F, F, F, F, F, F, F, F, F, F, F, F, F, F, F, F, F, F, F, F, F, F, F, F, F, F, F, F,
+    F, F, F, F, F, F, F, F, F, F, F, F, F, T, F, F, T, T, T, T, T, T, T, T, T, T, F, F, F, F, F, F,
+    F, T, T, T, T, T, T, T, T, T, T, T, T, T, T, T, T, T, T, T, T, T, T, T, T, T, T, F, F, F, F, T,
+    F, T, T, T, T, T, T, T, T, T, T, T, T, T, T, T, T, T, T, T, T, T, T, T, T, T, T, F, F, F, F, F,
+    F, F, F, F, F, F, F, F, F, F, F, F, F, F, F, F, F, F, F, F, F, F, F, F, F, F, F, F, F, F, F, F,
+    F, F, F, F, F, F, F, F, F, F, F, F, F, F, F, F, F, F, F, F, F, F, F, F, F, F, F, F, F, F, F, F,
+    F, F, F, F, F, F, F, F, F, F, F, F, F, F, F, F, F, F, F, F, F, F, F, F, F, F, F, F, F, F, F, F,
+    F, F, F, F, F, F, F, F, F, F, F, F, F, F, F, F, F, F, F, F, F, F, F, F, F, F, F, F, F, F, F, F,
+];
+
+#[cfg(test)]
+mod tests;
