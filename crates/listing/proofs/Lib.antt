@@ -1,8 +1,6 @@
 pub mod Addresses
 pub mod Calendars
 pub mod Digits
-pub mod Dotted
-pub mod DottedTurns
 pub mod Entries
 pub mod FlagNames
 pub mod Gateways

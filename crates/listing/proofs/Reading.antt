@@ -1,13 +1,16 @@
 -- What reads of a record, and what does not.
-use Rattle.std.proofs.Common.{◌≡◌, ℕ, Bool, true, false, List, [], ◌++◌, Option, None, Some, codes, refl, sym, subst}
+use Rattle.std.proofs.Common.{◌≡◌, ℕ, Bool, true, false, List, [], ◌∷◌, ◌++◌, Option, None, Some, codes}
+use Rattle.std.proofs.Common.{refl, sym, ◌∙◌, subst, arith}
 use Rattle.std.specs.Option.{is_some}
 use Rattle.dns_wire.specs.DnsName.{IsName}
 use Rattle.record_wire.specs.Labels.{AreOfName}
+use Rattle.record_wire.specs.NameDotted.{dotted, AreUsual}
 use Rattle.record_wire.specs.RData.{RDataValue, IsRData, IsLaidOut}
 use Rattle.record_wire.specs.Record.{RecordValue}
 use Rattle.record_wire.specs.declared.entries.Section.{Section}
 use Rattle.record_wire.specs.declared.rdata.Layout.{Layout}
 use Rattle.record_wire.specs.declared.rdata.Layout.TheVariants as layout
+use Rattle.record_wire.proofs.NameDotted.{usual_name}
 use Rattle.listing.specs.ListingParts.{LineShown, HasStrings}
 use Rattle.listing.specs.ListingRecord.{NameReads, class_in, has_top_bit, line_end, record_front, record_line}
 use Rattle.listing.specs.ListingRecord.{RecordPrints, has, has_no_name_in_data}
@@ -25,6 +28,18 @@ reads message bytes labels name fits = record { labels = labels; name_ = name; f
 pub reads_none : (message bytes : List ℕ) → ((labels : List (List ℕ)) → IsName bytes message labels → AreOfName labels → ⊥)
     → (text : List ℕ) → NameReads message bytes text → ⊥
 reads_none message bytes none text is = none is.labels is.name_ is.fits
+
+-- one whose text was put
+pub reads_usual : (message bytes text : List ℕ) (labels : List (List ℕ)) → AreUsual bytes message labels
+    → text ≡ dotted labels → NameReads message bytes text
+unfolding whole_name
+reads_usual message bytes text [] usual is = absurd (omega (arith, usual.some))
+reads_usual message bytes text (label ∷ labels) usual is = record {
+  labels = label ∷ labels;
+  name_ = usual.name_;
+  fits = usual.fits;
+  is = is ∙ usual_name label labels usual.usual;
+}
 
 -- ---- records
 

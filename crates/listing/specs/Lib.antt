@@ -4,7 +4,6 @@ pub mod Indented
 pub mod Layout
 pub mod ListingDhcp
 pub mod ListingDns
-pub mod ListingDotted
 pub mod ListingEdns
 pub mod ListingHbh
 pub mod ListingIcmp4

@@ -4,6 +4,7 @@ use Rattle.std.specs.Prelude.{◌++◌, length, take, drop, flat_map, Option, No
 use Rattle.std.specs.Borrow.{Bor}
 use Rattle.record_wire.specs.Name.{labels_of}
 use Rattle.record_wire.specs.RData.{RDataValue, strings, AreStrings}
+use Rattle.record_wire.specs.declared.name.Name.{Name}
 use Rattle.listing.specs.ListingEdns.{OptionValue, AreOptions, options_listing}
 use Rattle.listing.specs.ListingRecord.{line_front, DataReads}
 use Rattle.listing.specs.ListingZone.{word, whole_name, type_text, class_text}
@@ -11,13 +12,24 @@ use Rattle.listing.specs.declared.message.Unread.{Unread}
 use Rattle.listing.specs.declared.message.Unread.TheVariants as unread
 use Rattle.listing.specs.declared.message.edns.EdnsOption.{EdnsOption}
 use Rattle.listing.specs.declared.message.record.Line.{Line}
+use Rattle.listing.specs.declared.zone.name_text.NameText.{NameText}
+
+-- ---- names
+
+-- the text that was put, or that of a name
+abbrev pub text_or : List ℕ → Option Name → List ℕ
+text_or put None = put
+text_or put (Some name) = whole_name (labels_of name)
+
+abbrev pub text_of : NameText → List ℕ
+text_of name = text_or (take name.len name.room) name.other
 
 -- ---- records
 
 -- the line of a record up to its data
 abbrev pub line_text : Line → List ℕ
 line_text line =
-    line_front line.margin.now line.section (whole_name (labels_of line.owner.now))
+    line_front line.margin.now line.section (text_of line.owner.now)
     ++ word (decimal line.ttl)
     ++ word (class_text line.class)
     ++ word (type_text line.kind)

@@ -10,9 +10,8 @@ ghost use Rattle.listing.specs.Output.{GainsSome};
 
 use crate::message::Unread;
 use crate::message::record::{Line, write_line};
-use crate::zone::{generic, ipv6_word, is_name, name_word, strings, word};
+use crate::zone::{NameText, generic, ipv6_word, name_word, strings, word};
 use dns_wire::dns::Packet;
-use record_wire::Name;
 use record_wire::rdata::{Authority, RData};
 use std::io;
 use std::io::Write;
@@ -75,10 +74,10 @@ fn show_name<'a, W: Write>(
         (λ text. LineShown (line_text line.now) (view_octets packet.now) (name octets.now)
         text unread)) }
 {
-    let Ok(target) = Name::read(packet, octets) else {
+    let mut target = NameText::new();
+    if !target.read(packet, octets) {
         return Ok(Some(Unread::Name));
-    };
-    is_name(&target);
+    }
     write_line(output, line)?;
     name_word(output, &target)?;
     Ok(None)
@@ -95,10 +94,10 @@ fn show_mail<'a, W: Write>(
         (λ text. LineShown (line_text line.now) (view_octets packet.now) (mail preference exchange.now)
         text unread)) }
 {
-    let Ok(host) = Name::read(packet, exchange) else {
+    let mut host = NameText::new();
+    if !host.read(packet, exchange) {
         return Ok(Some(Unread::Name));
-    };
-    is_name(&host);
+    }
     write_line(output, line)?;
     word(output, preference)?;
     name_word(output, &host)?;
@@ -116,10 +115,10 @@ fn show_service<'a, W: Write>(
         (λ text. LineShown (line_text line.now) (view_octets packet.now) (service (slice_index numbers 0) (slice_index numbers 1) (slice_index numbers 2) target.now)
         text unread)) }
 {
-    let Ok(host) = Name::read(packet, target) else {
+    let mut host = NameText::new();
+    if !host.read(packet, target) {
         return Ok(Some(Unread::Name));
-    };
-    is_name(&host);
+    }
     write_line(output, line)?;
     let [priority, weight, port] = numbers;
     word(output, priority)?;
@@ -139,14 +138,14 @@ fn show_authority<'a, W: Write>(
         (λ text. LineShown (line_text line.now) (view_octets packet.now) (authority (authority_of soa.now))
         text unread)) }
 {
-    let Ok(primary) = Name::read(packet, soa.primary) else {
+    let mut primary = NameText::new();
+    if !primary.read(packet, soa.primary) {
         return Ok(Some(Unread::Name));
-    };
-    let Ok(mailbox) = Name::read(packet, soa.mailbox) else {
+    }
+    let mut mailbox = NameText::new();
+    if !mailbox.read(packet, soa.mailbox) {
         return Ok(Some(Unread::Name));
-    };
-    is_name(&primary);
-    is_name(&mailbox);
+    }
     write_line(output, line)?;
     name_word(output, &primary)?;
     name_word(output, &mailbox)?;

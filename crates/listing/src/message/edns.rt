@@ -12,9 +12,9 @@ ghost use Rattle.listing.specs.Output.{Gains, GainsSome};
 
 use crate::message::Unread;
 use crate::printer::{Value, part_field};
-use crate::zone::{is_name, word};
+use crate::zone::{NameText, word};
 use dns_wire::dns::Packet;
-use record_wire::{Name, Record};
+use record_wire::Record;
 use std::io;
 use std::io::Write;
 use wirebase::Octets;
@@ -44,10 +44,10 @@ pub fn show_opt<'a, W: Write>(
         (λ text. OptPrints margin.now (view_octets packet.now) (record_of «record».now) text
         unread)) }
 {
-    let Ok(owner) = Name::read(packet, record.name) else {
+    let mut owner = NameText::new();
+    if !owner.read(packet, record.name) {
         return Ok(Some(Unread::Name));
-    };
-    is_name(&owner);
+    }
     if !are_options(record.data) {
         return Ok(Some(Unread::Data));
     }

@@ -5,19 +5,17 @@
 ghost use Rattle.std.specs.Prelude.{◌≡◌, OnOk, IfOk};
 ghost use Rattle.dns_wire.specs.DnsPacket.{view_octets};
 ghost use Rattle.dns_wire.specs.DnsTables.{type_number};
-ghost use Rattle.record_wire.specs.Name.{labels_of};
 ghost use Rattle.record_wire.specs.Record.{question_of, record_of};
 ghost use Rattle.listing.specs.ListingRecord.{QuestionPrints, RecordPrints, class_in, has_top_bit, line_front, line_end};
-ghost use Rattle.listing.specs.ListingParts.{line_text};
-ghost use Rattle.listing.specs.ListingZone.{whole_name};
+ghost use Rattle.listing.specs.ListingParts.{line_text, text_of};
 ghost use Rattle.listing.specs.Output.{Gains, GainsSome};
 
 use crate::message::Unread;
 use crate::message::data::show_data;
-use crate::zone::{class_word, is_name, type_word, word, write_name};
+use crate::zone::{NameText, class_word, type_word, word};
 use dns_wire::dns::Packet;
 use record_wire::rdata::RData;
-use record_wire::{Name, Question, Record, Section};
+use record_wire::{Question, Record, Section};
 use std::io;
 use std::io::Write;
 
@@ -36,10 +34,10 @@ pub fn show_question<'a, W: Write>(
         (λ text. QuestionPrints margin.now is_multicast (view_octets packet.now)
         (question_of question.now) text unread)) }
 {
-    let Ok(owner) = Name::read(packet, question.name) else {
+    let mut owner = NameText::new();
+    if !owner.read(packet, question.name) {
         return Ok(Some(Unread::Name));
-    };
-    is_name(&owner);
+    }
     write_front(output, margin, Section::Question, &owner)?;
     class_word(output, class_in(is_multicast, question.class))?;
     type_word(output, u16::from(question.type_))?;
@@ -64,10 +62,10 @@ pub fn show_record<'a, W: Write>(
         (λ text. RecordPrints margin.now is_multicast (view_octets packet.now) section
         (record_of «record».now) text unread)) }
 {
-    let Ok(owner) = Name::read(packet, record.name) else {
+    let mut owner = NameText::new();
+    if !owner.read(packet, record.name) {
         return Ok(Some(Unread::Name));
-    };
-    is_name(&owner);
+    }
     let line = Line {
         margin,
         section,
@@ -96,7 +94,7 @@ pub fn show_record<'a, W: Write>(
 pub struct Line<'a> {
     margin: &'a str,
     section: Section,
-    owner: &'a Name,
+    owner: &'a NameText,
     ttl: u32,
     class: u16,
     kind: u16,
@@ -119,10 +117,10 @@ fn write_front<W: Write>(
     output: &mut W,
     margin: &str,
     section: Section,
-    owner: &Name,
+    owner: &NameText,
 ) -> io::Result<()>
     ensures { OnOk result (Gains (W.contents output.old) (W.contents output.new)
-        (line_front margin.now section (whole_name (labels_of owner.now)))) }
+        (line_front margin.now section (text_of owner.now))) }
 {
     output.write_all(margin.as_bytes())?;
     output.write_all(match section {
@@ -131,7 +129,7 @@ fn write_front<W: Write>(
         Section::Authority => b"authority=",
         Section::Additional => b"additional=",
     })?;
-    write_name(output, owner)
+    owner.write_to(output)
 }
 
 // The end of a line.

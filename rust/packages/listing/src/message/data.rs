@@ -3,9 +3,8 @@
 
 use crate::message::Unread;
 use crate::message::record::{Line, write_line};
-use crate::zone::{generic, ipv6_word, is_name, name_word, strings, word};
+use crate::zone::{NameText, generic, ipv6_word, name_word, strings, word};
 use control_wire::dns::Packet;
-use control_wire::record::Name;
 use control_wire::record::rdata::{Authority, RData};
 use rattle_std::io;
 use rattle_std::io::Write;
@@ -59,10 +58,10 @@ fn show_name<'a, W: Write>(
     line: &Line<'_>,
     octets: &'a [u8],
 ) -> io::Result<Option<Unread>> {
-    let Ok(target) = Name::read(packet, octets) else {
+    let mut target = NameText::new();
+    if !target.read(packet, octets) {
         return Ok(Some(Unread::Name));
-    };
-    is_name(&target);
+    }
     write_line(output, line)?;
     name_word(output, &target)?;
     Ok(None)
@@ -75,10 +74,10 @@ fn show_mail<'a, W: Write>(
     preference: u16,
     exchange: &'a [u8],
 ) -> io::Result<Option<Unread>> {
-    let Ok(host) = Name::read(packet, exchange) else {
+    let mut host = NameText::new();
+    if !host.read(packet, exchange) {
         return Ok(Some(Unread::Name));
-    };
-    is_name(&host);
+    }
     write_line(output, line)?;
     word(output, preference)?;
     name_word(output, &host)?;
@@ -92,10 +91,10 @@ fn show_service<'a, W: Write>(
     numbers: [u16; 3],
     target: &'a [u8],
 ) -> io::Result<Option<Unread>> {
-    let Ok(host) = Name::read(packet, target) else {
+    let mut host = NameText::new();
+    if !host.read(packet, target) {
         return Ok(Some(Unread::Name));
-    };
-    is_name(&host);
+    }
     write_line(output, line)?;
     let [priority, weight, port] = numbers;
     word(output, priority)?;
@@ -111,14 +110,14 @@ fn show_authority<'a, W: Write>(
     line: &Line<'_>,
     soa: &Authority<'a>,
 ) -> io::Result<Option<Unread>> {
-    let Ok(primary) = Name::read(packet, soa.primary) else {
+    let mut primary = NameText::new();
+    if !primary.read(packet, soa.primary) {
         return Ok(Some(Unread::Name));
-    };
-    let Ok(mailbox) = Name::read(packet, soa.mailbox) else {
+    }
+    let mut mailbox = NameText::new();
+    if !mailbox.read(packet, soa.mailbox) {
         return Ok(Some(Unread::Name));
-    };
-    is_name(&primary);
-    is_name(&mailbox);
+    }
     write_line(output, line)?;
     name_word(output, &primary)?;
     name_word(output, &mailbox)?;

@@ -3,10 +3,10 @@
 
 use crate::message::Unread;
 use crate::printer::{Value, part_field};
-use crate::zone::{is_name, word};
+use crate::zone::{NameText, word};
 use control_wire::Octets;
 use control_wire::dns::Packet;
-use control_wire::record::{Name, Record};
+use control_wire::record::Record;
 use rattle_std::io;
 use rattle_std::io::Write;
 
@@ -31,10 +31,10 @@ pub fn show_opt<'a, W: Write>(
     packet: &Packet<&'a [u8]>,
     record: &Record<'a>,
 ) -> io::Result<Option<Unread>> {
-    let Ok(owner) = Name::read(packet, record.name) else {
+    let mut owner = NameText::new();
+    if !owner.read(packet, record.name) {
         return Ok(Some(Unread::Name));
-    };
-    is_name(&owner);
+    }
     if !are_options(record.data) {
         return Ok(Some(Unread::Data));
     }

@@ -3,10 +3,10 @@
 
 use crate::message::Unread;
 use crate::message::data::show_data;
-use crate::zone::{class_word, is_name, type_word, word, write_name};
+use crate::zone::{NameText, class_word, type_word, word};
 use control_wire::dns::Packet;
 use control_wire::record::rdata::RData;
-use control_wire::record::{Name, Question, Record, Section};
+use control_wire::record::{Question, Record, Section};
 use rattle_std::io;
 use rattle_std::io::Write;
 
@@ -21,10 +21,10 @@ pub fn show_question<'a, W: Write>(
     packet: &Packet<&'a [u8]>,
     question: &Question<'a>,
 ) -> io::Result<Option<Unread>> {
-    let Ok(owner) = Name::read(packet, question.name) else {
+    let mut owner = NameText::new();
+    if !owner.read(packet, question.name) {
         return Ok(Some(Unread::Name));
-    };
-    is_name(&owner);
+    }
     write_front(output, margin, Section::Question, &owner)?;
     class_word(output, class_in(is_multicast, question.class))?;
     type_word(output, u16::from(question.type_))?;
@@ -45,10 +45,10 @@ pub fn show_record<'a, W: Write>(
     section: Section,
     record: &Record<'a>,
 ) -> io::Result<Option<Unread>> {
-    let Ok(owner) = Name::read(packet, record.name) else {
+    let mut owner = NameText::new();
+    if !owner.read(packet, record.name) {
         return Ok(Some(Unread::Name));
-    };
-    is_name(&owner);
+    }
     let line = Line {
         margin,
         section,
@@ -77,7 +77,7 @@ pub fn show_record<'a, W: Write>(
 pub struct Line<'a> {
     margin: &'a str,
     section: Section,
-    owner: &'a Name,
+    owner: &'a NameText,
     ttl: u32,
     class: u16,
     kind: u16,
@@ -96,7 +96,7 @@ fn write_front<W: Write>(
     output: &mut W,
     margin: &str,
     section: Section,
-    owner: &Name,
+    owner: &NameText,
 ) -> io::Result<()> {
     output.write_all(margin.as_bytes())?;
     output.write_all(match section {
@@ -105,7 +105,7 @@ fn write_front<W: Write>(
         Section::Authority => b"authority=",
         Section::Additional => b"additional=",
     })?;
-    write_name(output, owner)
+    owner.write_to(output)
 }
 
 // The end of a line.

@@ -1,11 +1,10 @@
 use Rattle.std.proofs.Common.{refl}
 use Rattle.listing.proofs.Printing.{◌then◌}
-use Rattle.listing.proofs.Reading.{reads}
 use Rattle.listing.proofs.message.data.show_name.Goals as goal
 
 pub returns : goal.returns
 returns g c = (
   _,
-  (_, (_, reads _ _ _ c.in-Ok.ensures.sound c.is_name.ensures, refl), refl),
+  (_, (_, c.read.ensures.reads c.if-not-read.false, refl), refl),
   c.in_ok-write_line.ensures then c.in_ok-name_word.ensures,
 )

@@ -1,11 +1,10 @@
 use Rattle.std.proofs.Common.{[]}
 use Rattle.listing.specs.ListingRecord.{asks, asks_of_no_name}
 use Rattle.listing.proofs.Printing.{gains_none, ◌then◌}
-use Rattle.listing.proofs.Reading.{reads, reads_none}
 use Rattle.listing.proofs.message.record.show_question.Goals as goal
 
-pub returns-in_default : goal.returns-in_default
-returns-in_default g c = ([], asks_of_no_name (reads_none _ _ c.in_default.ensures.complete), gains_none _)
+pub returns-then-not-read : goal.returns-then-not-read
+returns-then-not-read g c = ([], asks_of_no_name (c.read.ensures.reads_not c.if-not-read.true), gains_none _)
 
 pub returns : goal.returns
 returns g c =
@@ -13,6 +12,6 @@ returns g c =
     let kind = rw c.from.ensures.value at c.in_ok-type_word.ensures in
     let end = rw c.has_top_bit.ensures at c.in_ok-end_line.ensures in (
       _,
-      asks _ (reads _ _ _ c.in-Ok.ensures.sound c.is_name.ensures),
+      asks _ (c.read.ensures.reads c.if-not-read.false),
       c.in_ok-write_front.ensures then class then kind then end,
     )

@@ -1,11 +1,10 @@
--- The root, a name whose text was put, or a name and its last dot.
-use Rattle.std.proofs.Common.{◌≡◌, length, sym, ap, refl, ◌∙◌}
+-- The root, or a name and its last dot.
+use Rattle.std.proofs.Common.{◌≡◌, length, sym, ap, ◌∙◌}
 use Rattle.record_wire.specs.Labels.{wire}
 use Rattle.record_wire.specs.Name.{labels_of}
-use Rattle.listing.proofs.Dotted.{name_front}
 use Rattle.listing.proofs.Printing.{gained_on_ok}
 use Rattle.listing.proofs.ZoneTexts.{root_name, longer_name}
-use Rattle.listing.proofs.zone.write_name.Goals as goal
+use Rattle.listing.proofs.zone.name_text.write_other.Goals as goal
 
 pub returns-then-octets-eq1 : goal.returns-then-octets-eq1
 returns-then-octets-eq1 g c =
@@ -18,12 +17,3 @@ returns g c =
     in
     rw (longer_name (labels_of c.args.name.now) (λ e. c.if-octets-eq1.false (len ∙ e)))
     (gained_on_ok _ _ _ _ c.write.ensures.bytes)
-
-pub returns-in-Some : goal.returns-in-Some
-returns-in-Some g c =
-    let are_usual = c.in-Some.ensures.some in
-    let text = c.in-Some.ensures.text
-    ∙ name_front (labels_of c.args.name.now) c.octets-2.result.now c.octets-2.ensures.value c.octets-2.ensures.name
-    (λ e. c.if-octets-eq1.false (ap length (c.octets.ensures.value ∙ sym c.octets-2.ensures.value) ∙ e))
-    (are_usual.0 refl) in
-    rw (sym text) (gained_on_ok _ _ _ _ c.write_all-in-Some.ensures.bytes)

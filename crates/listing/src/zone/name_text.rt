@@ -1,0 +1,100 @@
+//! The texts of the names in a message.
+
+#![tactic(auto, using(crate::proofs::Printing::gained))]
+
+ghost use Rattle.std.specs.Prelude.{◌≡◌, ◌≤◌, ℕ, List, IsTrue, IsFalse, OnOk};
+ghost use Rattle.dns_wire.specs.DnsPacket.{view_octets};
+ghost use Rattle.record_wire.specs.Name.{labels_of};
+ghost use Rattle.listing.specs.ListingZone.{whole_name};
+ghost use Rattle.listing.specs.Output.{Gains};
+
+use dns_wire::dns::Packet;
+use record_wire::Name;
+use record_wire::name::dotted::{ROOM_LEN, put_dotted};
+use std::io;
+use std::io::Write;
+
+/// The text of a name, with its last dot; the root is a dot. It is large, so it is made first and then filled where it
+/// stays.
+#[derive(Drop)]
+pub struct NameText {
+    // Most names have no byte that needs a backslash, and their text stands at the front of this.
+    room: [u8; ROOM_LEN],
+    len: usize,
+    // A name of another text.
+    other: Option<Name>,
+    ghost fits: { len ≤ 256 },
+}
+
+impl NameText {
+    ghost use Rattle.listing.specs.ListingRecord.{NameReads};
+    ghost use Rattle.listing.specs.ListingParts.{text_of};
+
+    /// The text of no name.
+    #[inline(always)]
+    pub fn new() -> NameText {
+        NameText {
+            room: [0; ROOM_LEN],
+            len: 0,
+            other: None,
+        }
+    }
+
+    /// Reads the name that begins in `bytes`, a part of the message or not, and goes on where its pointers lead in the
+    /// message, and keeps its text. Answers whether there is one, of 255 octets at most.
+    #[inline(always)]
+    pub fn read<'a>(&mut self, packet: &Packet<&'a [u8]>, bytes: &'a [u8]) -> bool
+        ensures reads { IsTrue result
+            → NameReads (view_octets packet.entry.now) bytes.entry.now (text_of self.new) }
+        ensures reads_not { IsFalse result → (text : List ℕ)
+            → NameReads (view_octets packet.entry.now) bytes.entry.now text → ⊥ }
+    {
+        match put_dotted(&mut self.room, packet, bytes) {
+            Some(len) => {
+                self.len = len;
+                self.other = None;
+                true
+            }
+            None => self.read_other(packet, bytes),
+        }
+    }
+
+    // The same by the name's octets.
+    #[inline(never)]
+    fn read_other<'a>(&mut self, packet: &Packet<&'a [u8]>, bytes: &'a [u8]) -> bool
+        ensures reads { IsTrue result
+            → NameReads (view_octets packet.entry.now) bytes.entry.now (text_of self.new) }
+        ensures reads_not { IsFalse result → (text : List ℕ)
+            → NameReads (view_octets packet.entry.now) bytes.entry.now text → ⊥ }
+    {
+        let Ok(name) = Name::read(packet, bytes) else {
+            return false;
+        };
+        self.other = Some(name);
+        true
+    }
+
+    /// Writes the text.
+    pub fn write_to<W: Write>(&self, output: &mut W) -> io::Result<()>
+        ensures { OnOk result (Gains (W.contents output.old) (W.contents output.new)
+            (text_of self.now)) }
+    {
+        match &self.other {
+            None => output.write_all(&self.room[..self.len]),
+            Some(name) => write_other(output, name),
+        }
+    }
+}
+
+// Writes a name with its last dot; the root is a dot.
+#[inline(never)]
+fn write_other<W: Write>(output: &mut W, name: &Name) -> io::Result<()>
+    ensures { OnOk result (Gains (W.contents output.old) (W.contents output.new)
+        (whole_name (labels_of name.now))) }
+{
+    // Byte 0 alone is the root.
+    if name.octets().len() == 1 {
+        return output.write_all(b".");
+    }
+    write!(output, "{name}.")
+}
