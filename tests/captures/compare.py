@@ -95,8 +95,6 @@ def known_refusals(packet, kind, reason):
         yield f"{kind} with a wrong checksum: refused as checksum, where tshark shows it"
     elif kind == "dhcp":
         yield "dhcp without a message type (BOOTP): refused as malformed"
-    elif kind == "dns" and not packet.has("_ws.malformed"):
-        yield "dns: a record without data in an update: refused as malformed"
 
 
 def known_of_messages(packet, kind):

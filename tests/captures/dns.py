@@ -11,6 +11,8 @@ TYPES = {
 }
 A, NS, CNAME, SOA, PTR, MX, TXT, AAAA, SRV, OPT = 1, 2, 5, 6, 12, 15, 16, 28, 33, 41
 INTERNET = 1
+# The classes of records without data in an update (RFC 2136 section 2.5).
+UPDATED = (254, 255)
 # The bit of a class that multicast DNS takes for itself.
 TOP = 0x8000
 
@@ -154,6 +156,8 @@ def record_data(octets, of, of_class):
     """The data of a record in a zone file (RFC 1035 section 5.1)."""
     start, end = of.start, of.end
     data = octets[start:end]
+    if not data and of_class in UPDATED:
+        return "\\# 0"
     if of.kind == A and of_class == INTERNET:
         accept(len(data) == 4)
         return dotted(data)

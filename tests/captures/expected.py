@@ -191,7 +191,7 @@ def refusal(packet, its_kind):
         return "short"
     if its_kind == "dhcp":
         return None if packet.has("dhcp.option.dhcp") else "malformed"
-    return "malformed" if packet.has("_ws.malformed") or names.has_empty(packet) else None
+    return "malformed" if packet.has("_ws.malformed") else None
 
 
 # ---- listings

@@ -9,6 +9,9 @@ CLASSES = {1: "IN", 3: "CH", 4: "HS", 254: "NONE", 255: "ANY"}
 FLAGS = ((0x8000, "qr"), (0x0400, "aa"), (0x0200, "tc"), (0x0100, "rd"), (0x0080, "ra"), (0x0020, "ad"), (0x0010, "cd"))
 OPT = 41
 
+# The classes of records without data in an update (RFC 2136 section 2.5).
+UPDATED = (254, 255)
+
 # The types whose data pcapdump tells, and OPT, which is no record of the zone.
 TOLD = (1, 2, 5, 6, 12, 15, 16, 28, 33, OPT)
 
@@ -87,6 +90,8 @@ class Records:
                  6: ("soa.mname", "soa.rname", "soa.serial_number", "soa.refresh_interval", "soa.retry_interval",
                      "soa.expire_limit", "soa.minimum_ttl")}
         are_names = ("ns", "cname", "ptr.domain_name", "mx.mail_exchange", "srv.target", "soa.mname", "soa.rname")
+        if length == 0 and its_class in UPDATED:
+            return re.escape("\\# 0")
         if number == 16:
             words = []
             while length > 0:
@@ -124,16 +129,6 @@ class Records:
         return [re.escape(front) + self.data(number, its_class, length) + (" ; cache-flush" if is_flushed else "")]
 
 
-def is_empty(number, length):
-    """Whether a record without data is of a type that has some. An update has such (RFC 2136 section 2.5)."""
-    return number in (2, 5, 6, 12, 15, 16, 33) and length == 0
-
-
-def has_empty(packet):
-    types, lengths = packet.numbers("dns.resp.type"), packet.numbers("dns.resp.len")
-    return 47 not in types and any(is_empty(number, length) for number, length in zip(types, lengths))
-
-
 def questions(packet):
     bits = packet.all("dns.qry.qu") or ["0"] * len(packet.all("dns.qry.name"))
     for text, number, its_class, bit in zip(packet.all("dns.qry.name"), packet.numbers("dns.qry.type"),
@@ -159,14 +154,12 @@ def message(packet):
 
 
 def front(packet):
-    """The patterns of the lines of a message that ends too early, or within whose records one does not read: tshark has
-    no lengths of the data behind the end, and tells those of data without any."""
+    """The patterns of the lines of a message that ends too early: tshark has no lengths of the data behind the end."""
     lines, records = header(packet) + list(questions(packet)), Records(packet)
     counts = [(section, number) for section, *names_of in SECTIONS for count in names_of
               for number in packet.numbers("dns.count." + count)]
     for section in (section for section, number in counts for _ in range(number)):
-        kinds, lengths = records.lists.get("dns.resp.type"), records.lists.get("dns.resp.len")
-        if not kinds or not lengths or is_empty(int(kinds[0]), int(lengths[0])):
+        if not records.lists.get("dns.resp.type") or not records.lists.get("dns.resp.len"):
             break
         try:
             lines += records.lines(section)

@@ -4,7 +4,7 @@ import struct
 from building import (HOST4, HOST6, SERVER4, SERVER6, hexed, message, name, pcap, pointer, question, record, udp4, udp6,
                       v4, v6)
 
-QUERY, ANSWER, MULTICAST = 0x0100, 0x8180, 0x8400
+QUERY, ANSWER, MULTICAST, UPDATE = 0x0100, 0x8180, 0x8400, 0x2800
 A, NS, CNAME, SOA, PTR, HINFO, MX, TXT, AAAA, SRV, OPT, ANY = 1, 2, 5, 6, 12, 13, 15, 16, 28, 33, 41, 255
 EXAMPLE, WWW = name("example.com"), name("www.example.com")
 # The first name of a message.
@@ -79,6 +79,23 @@ RECORDS = {
     "dns_record_missing": answers(message(ANSWER, [question(EXAMPLE, A)], [address(v4("192.0.2.1")), b""])),
 }
 
+# The classes of an update (RFC 2136 section 2): records of both may have no data.
+NONE, EVERY = 254, 255
+UPDATES = {
+    "dns_update": asks(message(UPDATE, [question(EXAMPLE, SOA)], [
+        record(b"\3www" + OWNER, ANY, b"", 0, EVERY), record(b"\3new" + OWNER, MX, b"", 0, NONE)], [
+        record(b"\3www" + OWNER, A, b"", 0, EVERY), record(b"\3www" + OWNER, A, v4("192.0.2.1"), 0, NONE),
+        record(b"\3www" + OWNER, A, v4("192.0.2.2"))])),
+    "dns_update_of_no_data": asks(message(UPDATE, [question(EXAMPLE, SOA)], (), [
+        record(OWNER, kind, b"", 0, of_class) for kind in (A, NS, SOA, MX, TXT, AAAA, SRV, 65280)
+        for of_class in (NONE, EVERY)] + [record(OWNER, A, b"", 0)])),
+    "dns_update_of_one_octet": asks(message(UPDATE, [question(EXAMPLE, SOA)], (), [
+        record(OWNER, A, b"\0", 0, EVERY), record(OWNER, MX, b"\0", 0, EVERY)])),
+    "dns_update_of_a_class_with_the_top_bit": asks(message(UPDATE, (), (), [record(EXAMPLE, NS, b"", 0, 0x80FF)])),
+    "mdns_of_no_data": multicast(message(MULTICAST, (), [
+        record(EXAMPLE, NS, b"", 0, 0x80FF), record(EXAMPLE, TXT, b"", 0, NONE), record(EXAMPLE, TXT, b"")])),
+}
+
 EXTENSIONS = {
     "dns_opt": asks(message(QUERY, [question(EXAMPLE, A)], (), (), [
         opt(hexed("000a 0008 0123456789abcdef 0003 0000"))])),
@@ -121,5 +138,5 @@ MULTICAST_NAMES = {
 }
 
 DNS = {}
-for _table in (RECORDS, EXTENSIONS, NAMES, MULTICAST_NAMES):
+for _table in (RECORDS, UPDATES, EXTENSIONS, NAMES, MULTICAST_NAMES):
     DNS.update(_table)

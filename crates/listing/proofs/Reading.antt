@@ -5,14 +5,14 @@ use Rattle.std.specs.Option.{is_some}
 use Rattle.dns_wire.specs.DnsName.{IsName}
 use Rattle.record_wire.specs.Labels.{AreOfName}
 use Rattle.record_wire.specs.NameDotted.{dotted, AreUsual}
-use Rattle.record_wire.specs.RData.{RDataValue, IsRData, IsLaidOut}
+use Rattle.record_wire.specs.RData.{RDataValue, IsLaidOut}
 use Rattle.record_wire.specs.Record.{RecordValue}
 use Rattle.record_wire.specs.declared.entries.Section.{Section}
 use Rattle.record_wire.specs.declared.rdata.Layout.{Layout}
 use Rattle.record_wire.specs.declared.rdata.Layout.TheVariants as layout
 use Rattle.record_wire.proofs.NameDotted.{usual_name}
 use Rattle.listing.specs.ListingParts.{LineShown, HasStrings}
-use Rattle.listing.specs.ListingRecord.{NameReads, class_in, has_top_bit, line_end, record_front, record_line}
+use Rattle.listing.specs.ListingRecord.{NameReads, IsDataOf, class_in, has_top_bit, line_end, record_front, record_line}
 use Rattle.listing.specs.ListingRecord.{RecordPrints, has, has_no_name_in_data}
 use Rattle.listing.specs.ListingZone.{whole_name}
 use Rattle.listing.specs.Output.{Gains, GainsSome}
@@ -45,7 +45,7 @@ reads_usual message bytes text (label ∷ labels) usual is = record {
 
 module _ (margin : List ℕ) (is_multicast : Bool) (message : List ℕ) (section : Section) (r : RecordValue)
     (owner : List ℕ) (value : RDataValue) (name : NameReads message r.name owner)
-    (is : IsRData r.kind (class_in is_multicast r.class) r.data_ value) where
+    (is : IsDataOf r.kind (class_in is_multicast r.class) r.data_ value) where
   -- a record with a name in its data that does not read
   pub record_unread : (a b : Option (List ℕ)) (unread : Option Unread) → is_some unread ≡ true
       → GainsSome a b (λ text. LineShown (record_front margin is_multicast section r owner) message value text unread)

@@ -1,16 +1,19 @@
 -- What a question and a record of a message print: a line of a zone file each (RFC 1035 section 5.1).
-use Rattle.std.specs.Prelude.{◌≡◌, ℕ, ◌%◌, nat_le, ◌&&◌, Bool, if◌then◌else◌, List, [], ◌++◌, codes, decimal}
-use Rattle.std.specs.Prelude.{flat_map, Option, None, Some}
+use Rattle.std.specs.Prelude.{◌≡◌, ℕ, ◌%◌, ◌==◌, nat_le, ◌&&◌, ◌||◌, Bool, if◌then◌else◌, List, [], ◌++◌, length}
+use Rattle.std.specs.Prelude.{codes, decimal, flat_map, Option, None, Some}
 use Rattle.wirebase.specs.Ipv4 as ipv4
 use Rattle.wirebase.specs.Ipv6Address as ipv6
 use Rattle.dns_wire.specs.DnsName.{IsName, written}
 use Rattle.dns_wire.specs.DnsTables.{type_number}
 use Rattle.record_wire.specs.Labels.{AreOfName}
 use Rattle.record_wire.specs.RData.{RDataValue, address4, address6, name, mail, service, authority, strings, other}
-use Rattle.record_wire.specs.RData.{AuthorityValue, IsRData}
+use Rattle.record_wire.specs.RData.{AuthorityValue, layout_of, IsLaidOut}
 use Rattle.record_wire.specs.Record.{QuestionValue, RecordValue}
+use Rattle.dns_wire.specs.declared.dns.tables.Type.{«Type» as RecordType}
 use Rattle.record_wire.specs.declared.entries.Section.{Section}
 use Rattle.record_wire.specs.declared.entries.Section.TheVariants.{Question, Answer, Authority, Additional}
+use Rattle.record_wire.specs.declared.rdata.Layout.{Layout}
+use Rattle.record_wire.specs.declared.rdata.Layout.TheVariants as layout
 use Rattle.listing.specs.ListingZone.{word, whole_name, type_text, class_text, strings_text, generic_text}
 use Rattle.listing.specs.declared.message.Unread.{Unread}
 use Rattle.listing.specs.declared.message.Unread.TheVariants as unread
@@ -34,6 +37,18 @@ pub record NameReads (message bytes text : List ℕ) : Type 0 where
   pub is : text ≡ whole_name labels
 
 -- ---- data
+
+-- An update has records of class NONE or ANY without data, whatever their type (RFC 2136 section 2.5).
+abbrev pub is_without_data : ℕ → List ℕ → Bool
+is_without_data class bytes = length bytes == 0 && (class == 254 || class == 255)
+
+-- how the data of a record of this type and class are laid out
+abbrev pub data_layout : RecordType → ℕ → List ℕ → Layout
+data_layout kind class bytes = if is_without_data class bytes then layout.Opaque else layout_of kind class
+
+-- these bytes are the data of a record of this type and class
+abbrev pub IsDataOf : RecordType → ℕ → List ℕ → RDataValue → Type 0
+IsDataOf kind class bytes value = IsLaidOut (data_layout kind class bytes) bytes value
 
 -- two names, and five numbers
 pub record AuthorityReads (message : List ℕ) (soa : AuthorityValue) (text : List ℕ) : Type 0 where
@@ -114,14 +129,14 @@ pub data QuestionPrints (margin : List ℕ) (is_multicast : Bool) (message : Lis
 pub data RecordPrints (margin : List ℕ) (is_multicast : Bool) (message : List ℕ) (section : Section) (r : RecordValue)
     : List ℕ → Option Unread → Type 0 where
   has : (owner data_ : List ℕ) (value : RDataValue) → NameReads message r.name owner
-      → IsRData r.kind (class_in is_multicast r.class) r.data_ value → DataReads message value data_
+      → IsDataOf r.kind (class_in is_multicast r.class) r.data_ value → DataReads message value data_
       → RecordPrints margin is_multicast message section r (record_line margin is_multicast section r owner data_) None
   has_no_name : ((owner : List ℕ) → NameReads message r.name owner → ⊥)
       → RecordPrints margin is_multicast message section r [] (Some unread.Name)
   has_no_data : (owner : List ℕ) → NameReads message r.name owner
-      → ((value : RDataValue) → IsRData r.kind (class_in is_multicast r.class) r.data_ value → ⊥)
+      → ((value : RDataValue) → IsDataOf r.kind (class_in is_multicast r.class) r.data_ value → ⊥)
       → RecordPrints margin is_multicast message section r [] (Some unread.Data)
   has_no_name_in_data : (owner : List ℕ) (value : RDataValue) → NameReads message r.name owner
-      → IsRData r.kind (class_in is_multicast r.class) r.data_ value
+      → IsDataOf r.kind (class_in is_multicast r.class) r.data_ value
       → ((data_ : List ℕ) → DataReads message value data_ → ⊥)
       → RecordPrints margin is_multicast message section r [] (Some unread.Name)

@@ -2,25 +2,33 @@
 
 #![tactic(auto, using(crate::proofs::Printing::gains_both))]
 
-ghost use Rattle.std.specs.Prelude.{◌≡◌, OnOk, IfOk};
+ghost use Rattle.std.specs.Prelude.{◌≡◌, OnOk, IfOk, IsOkAnd};
 ghost use Rattle.dns_wire.specs.DnsPacket.{view_octets};
 ghost use Rattle.dns_wire.specs.DnsTables.{type_number};
+ghost use Rattle.record_wire.specs.RData.{RDataValue, rdata_of};
 ghost use Rattle.record_wire.specs.Record.{question_of, record_of};
-ghost use Rattle.listing.specs.ListingRecord.{QuestionPrints, RecordPrints, class_in, has_top_bit, line_front, line_end};
+ghost use Rattle.listing.specs.ListingRecord.{QuestionPrints, RecordPrints, IsDataOf, class_in, has_top_bit};
+ghost use Rattle.listing.specs.ListingRecord.{line_front, line_end};
 ghost use Rattle.listing.specs.ListingParts.{line_text, text_of};
 ghost use Rattle.listing.specs.Output.{Gains, GainsSome};
 
 use crate::message::Unread;
 use crate::message::data::show_data;
 use crate::zone::{NameText, class_word, type_word, word};
-use dns_wire::dns::Packet;
+use dns_wire::dns::{Packet, Type};
 use record_wire::rdata::RData;
 use record_wire::{Question, Record, Section};
 use std::io;
 use std::io::Write;
+use wirebase::Result;
 
 // The bit of a class that is no part of it in multicast DNS.
 const TOP_BIT: u16 = 0x8000;
+
+// The classes of an update's records without data.
+const CLASS_NONE: u16 = 254;
+
+const CLASS_ANY: u16 = 255;
 
 /// Prints a question.
 pub fn show_question<'a, W: Write>(
@@ -74,7 +82,7 @@ pub fn show_record<'a, W: Write>(
         class: class_in(is_multicast, record.class),
         kind: u16::from(record.type_),
     };
-    let Ok(data) = RData::parse(record.type_, line.class, record.data) else {
+    let Ok(data) = read_data(record.type_, line.class, record.data) else {
         return Ok(Some(Unread::Data));
     };
     let unread = show_data(output, packet, &line, &data)?;
@@ -87,6 +95,19 @@ pub fn show_record<'a, W: Write>(
         "cache-flush",
     )?;
     Ok(None)
+}
+
+// The data of a record. An update has records of class NONE or ANY without data, whatever their type (RFC 2136 section
+// 2.5).
+fn read_data(type_: Type, class: u16, octets: &[u8]) -> Result<RData<'_>>
+    ensures sound { IfOk result (λ read. IsDataOf type_ class octets.now (rdata_of read)) }
+    ensures complete { (value : RDataValue) → IsDataOf type_ class octets.now value
+        → IsOkAnd result (λ read. rdata_of read ≡ value) }
+{
+    if octets.is_empty() && (class == CLASS_NONE || class == CLASS_ANY) {
+        return Ok(RData::Other(octets));
+    }
+    RData::parse(type_, class, octets)
 }
 
 /// The line of a record up to its data.

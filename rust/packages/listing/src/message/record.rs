@@ -4,7 +4,8 @@
 use crate::message::Unread;
 use crate::message::data::show_data;
 use crate::zone::{NameText, class_word, type_word, word};
-use control_wire::dns::Packet;
+use control_wire::Result;
+use control_wire::dns::{Packet, Type};
 use control_wire::record::rdata::RData;
 use control_wire::record::{Question, Record, Section};
 use rattle_std::io;
@@ -12,6 +13,11 @@ use rattle_std::io::Write;
 
 // The bit of a class that is no part of it in multicast DNS.
 const TOP_BIT: u16 = 0x8000;
+
+// The classes of an update's records without data.
+const CLASS_NONE: u16 = 254;
+
+const CLASS_ANY: u16 = 255;
 
 /// Prints a question.
 pub fn show_question<'a, W: Write>(
@@ -57,7 +63,7 @@ pub fn show_record<'a, W: Write>(
         class: class_in(is_multicast, record.class),
         kind: u16::from(record.type_),
     };
-    let Ok(data) = RData::parse(record.type_, line.class, record.data) else {
+    let Ok(data) = read_data(record.type_, line.class, record.data) else {
         return Ok(Some(Unread::Data));
     };
     let unread = show_data(output, packet, &line, &data)?;
@@ -70,6 +76,15 @@ pub fn show_record<'a, W: Write>(
         "cache-flush",
     )?;
     Ok(None)
+}
+
+// The data of a record. An update has records of class NONE or ANY without data, whatever their type (RFC 2136 section
+// 2.5).
+fn read_data(type_: Type, class: u16, octets: &[u8]) -> Result<RData<'_>> {
+    if octets.is_empty() && (class == CLASS_NONE || class == CLASS_ANY) {
+        return Ok(RData::Other(octets));
+    }
+    RData::parse(type_, class, octets)
 }
 
 /// The line of a record up to its data.

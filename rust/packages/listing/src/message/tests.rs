@@ -122,6 +122,63 @@ fn data_with_names() {
 }
 
 #[test]
+fn updates() {
+    const ROWS: &[Row] = &[
+        // Prerequisites, and deletions of RFC 2136 section 2.5: records without data, and one with data.
+        (
+            b"\0\x01\x28\0\0\x01\0\x02\0\x03\0\0\
+            \x07example\x03com\0\0\x06\0\x01\
+            \x03www\xc0\x0c\0\xff\0\xff\0\0\0\0\0\0\
+            \xc0\x1d\0\x0f\0\xfe\0\0\0\0\0\0\
+            \xc0\x1d\0\x01\0\xff\0\0\0\0\0\0\
+            \xc0\x1d\0\x01\0\xfe\0\0\0\0\0\x04\xc0\0\x02\x01\
+            \xc0\x1d\0\x01\0\x01\0\0\0\x3c\0\x04\xc0\0\x02\x02",
+            false,
+            "  transaction_id=1\n  flags=-\n  opcode=5\n  rcode=0\n\
+             \x20 question=example.com. IN SOA\n\
+             \x20 answer=www.example.com. 0 ANY ANY \\# 0\n\
+             \x20 answer=www.example.com. 0 NONE MX \\# 0\n\
+             \x20 authority=www.example.com. 0 ANY A \\# 0\n\
+             \x20 authority=www.example.com. 0 NONE A \\# 4 c0000201\n\
+             \x20 authority=www.example.com. 60 IN A 192.0.2.2\n",
+            None,
+        ),
+        // One of another class, and one of two bytes that are no name.
+        (
+            b"\0\x01\x28\0\0\0\0\0\0\x01\0\0\
+            \0\0\x02\0\x03\0\0\0\0\0\0",
+            false,
+            "  transaction_id=1\n  flags=-\n  opcode=5\n  rcode=0\n",
+            Some(Unread::Data),
+        ),
+        (
+            b"\0\x01\x28\0\0\0\0\0\0\x01\0\0\
+            \0\0\x02\0\xff\0\0\0\0\0\x02\0\0",
+            false,
+            "  transaction_id=1\n  flags=-\n  opcode=5\n  rcode=0\n",
+            Some(Unread::Data),
+        ),
+        // The top bit is part of the class but in multicast DNS.
+        (
+            b"\0\x01\x84\0\0\0\0\x01\0\0\0\0\
+            \0\0\x02\x80\xff\0\0\0\0\0\0",
+            false,
+            "  transaction_id=1\n  flags=qr,aa\n  opcode=0\n  rcode=0\n",
+            Some(Unread::Data),
+        ),
+        (
+            b"\0\x01\x84\0\0\0\0\x01\0\0\0\0\
+            \0\0\x02\x80\xff\0\0\0\0\0\0",
+            true,
+            "  transaction_id=1\n  flags=qr,aa\n  opcode=0\n  rcode=0\n\
+             \x20 answer=. 0 ANY NS \\# 0 ; cache-flush\n",
+            None,
+        ),
+    ];
+    check(ROWS);
+}
+
+#[test]
 fn strings_and_other_data() {
     const ROWS: &[Row] = &[
         (
