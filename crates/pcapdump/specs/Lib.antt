@@ -1,5 +1,6 @@
 pub mod Arguments
 pub mod Dump
+pub mod Fault
 pub mod Heading
 pub mod Kinds
 pub mod Messages

@@ -1,5 +1,9 @@
 //! What ends the printing of a capture before the capture ends.
 
+ghost use Rattle.std.specs.IoError.{error_kind};
+ghost use Rattle.std.specs.Prelude.{◌≡◌};
+ghost use Rattle.pcapdump.specs.Fault.{fault_of, fault_of_capture};
+
 use std::io;
 use std::io::ErrorKind;
 
@@ -18,7 +22,11 @@ pub enum Fault {
 
 /// What could not be written, or kept before it is written.
 impl From<io::Error> for Fault {
-    fn from(error: io::Error) -> Fault {
+    ghost from_gives = { λ error fault. fault ≡ fault_of (error_kind error) };
+
+    fn from(error: io::Error) -> Fault
+        ensures { result ≡ fault_of (error_kind error) }
+    {
         match error.kind() {
             ErrorKind::BrokenPipe => Fault::Closed,
             ErrorKind::OutOfMemory => Fault::Memory,
@@ -29,7 +37,11 @@ impl From<io::Error> for Fault {
 
 /// What could not be read.
 impl From<capture::Fault> for Fault {
-    fn from(fault: capture::Fault) -> Fault {
+    ghost from_gives = { λ cause fault. fault ≡ fault_of_capture cause };
+
+    fn from(fault: capture::Fault) -> Fault
+        ensures { result ≡ fault_of_capture fault }
+    {
         match fault {
             capture::Fault::Read => Fault::Read,
             capture::Fault::Memory => Fault::Memory,
