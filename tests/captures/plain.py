@@ -183,7 +183,7 @@ class Counts:
 
 
 class Dumped:
-    """What a capture prints, its status, what was counted of all its packets, and how it ended."""
+    """What a capture prints, its status, what was counted of its packets, and how it ended."""
 
     def __init__(self, text, ending, counts):
         self.text = text
@@ -194,24 +194,24 @@ class Dumped:
         """The lines on standard error, of which the first is left out where packets are counted alone."""
         lines = [] if count else [self.counts.summary()]
         if self.ending:
-            lines.append("%s, behind packet %d" % (self.ending, self.counts.packets))
+            behind = ", after packet %d" % self.counts.packets if self.counts.packets else ""
+            lines.append(self.ending + behind)
         return "".join("pcapdump: %s: %s\n" % (name, line) for line in lines)
 
 
-def dump(octets, only=None, passed=None):
-    """What the octets of a capture print. `only` has the kinds that are let through, or is None for all; the packets
-    that are let through count in `passed`."""
+def dump(octets, only=None, total=None):
+    """What the octets of a capture print. `only` has the kinds that are let through, or is None for all; `total` counts
+    the packets of several captures."""
     counts = Counts()
     capture = reading.Capture(octets)
     texts = []
     for number, packet in enumerate(capture, 1):
         shown = show(packet)
         counts.add(shown, packet.octets, only)
-        if shown.kind is None or not passes(shown, only):
-            continue
-        texts.append(shown.text(number, packet))
-        if passed is not None:
-            passed.add(shown, packet.octets)
+        if total is not None:
+            total.add(shown, packet.octets, only)
+        if shown.kind is not None and passes(shown, only):
+            texts.append(shown.text(number, packet))
     return Dumped("".join(texts), capture.ending, counts)
 
 
@@ -252,7 +252,7 @@ def main(words):
         print("usage: plain.py [--only KIND,..] [--count] [FILE..]", file=sys.stderr)
         return 2
     only, count, files = asked
-    status, passed = 0, Counts()
+    status, total = 0, Counts()
     for name in files:
         try:
             octets = read(name)
@@ -260,7 +260,7 @@ def main(words):
             print("pcapdump: %s: %s" % (name, error.strerror), file=sys.stderr)
             status = max(status, 2)
             continue
-        dumped = dump(octets, only, passed)
+        dumped = dump(octets, only, total)
         status = max(status, dumped.status)
         if not count:
             if len(files) > 1:
@@ -269,7 +269,10 @@ def main(words):
         sys.stdout.flush()
         sys.stderr.write(dumped.said(name, count))
     if count:
-        sys.stdout.write(passed.table(only))
+        sys.stdout.write(total.table(only))
+        sys.stdout.flush()
+        name = "%s: " % files[0] if len(files) == 1 else ""
+        print("pcapdump: %s%s" % (name, total.summary()), file=sys.stderr)
     return status
 
 

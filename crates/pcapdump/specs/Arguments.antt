@@ -1,8 +1,8 @@
 -- What the arguments of the program ask for.
 use Rattle.std.specs.Prelude.{ℕ, ◌==◌, ◌||◌, ◌&&◌, not, nat_lt, Bool, true, false, if◌then◌else◌, List, [], ◌∷◌, ◌++◌}
-use Rattle.std.specs.Prelude.{length, get_or, map, codes, bytes_eq, string_bytes, Option, None, Some}
+use Rattle.std.specs.Prelude.{length, get_or, map, codes, bytes_eq, string_bytes, Option, None, Some, Result, Ok, Err}
 use Rattle.std.specs.List.{fold, slice_split}
-use Rattle.std.specs.Option.{option_and_then}
+use Rattle.std.specs.Option.{ok_or, option_and_then}
 use Rattle.pcapdump.specs.Kinds.{kind_place, kind_text}
 use Rattle.pcapdump.specs.Tally.{changed_at}
 use Rattle.pcapdump.specs.declared.arguments.Reading.{Reading}
@@ -10,6 +10,8 @@ use Rattle.pcapdump.specs.declared.arguments.Step.{Step}
 use Rattle.pcapdump.specs.declared.arguments.Step.TheVariants as step
 use Rattle.pcapdump.specs.declared.arguments.Task.{Task}
 use Rattle.pcapdump.specs.declared.arguments.Task.TheVariants as task
+use Rattle.pcapdump.specs.declared.arguments.Wrong.{Wrong}
+use Rattle.pcapdump.specs.declared.arguments.Wrong.TheVariants.{UnknownOption, UnknownKind, MissingList, NotText}
 use Rattle.pcapdump.specs.declared.kind.Kind.{Kind}
 use Rattle.pcapdump.specs.declared.kind.Kind.TheVariants.{Icmp4, Igmp, Icmp6, Dns, Mdns, Dhcp, Frame}
 use Rattle.pcapdump.specs.declared.options.Only.{Only}
@@ -49,26 +51,45 @@ with_name name only =
     if bytes_eq name (codes "hbh") then Some (record only { hop_by_hop = true })
     else option_and_then (λ kind. Some (with_kind only kind)) (kind_named name)
 
--- those of all the names, none where one of them is no name
-abbrev pub with_names : List (List ℕ) → Option Only
-with_names names = fold (λ only name. option_and_then (with_name name) only) (Some chooses_none) names
+-- one after another, up to one that is no name
+abbrev pub then_name : Result Only (List ℕ) → List ℕ → Result Only (List ℕ)
+then_name (Ok only) name = ok_or (with_name name only) name
+then_name (Err wrong) name = Err wrong
+
+-- those of all the names, or the first that is none
+abbrev pub with_names : List (List ℕ) → Result Only (List ℕ)
+with_names names = fold then_name (Ok chooses_none) names
 
 -- the names stand between commas
-unfoldable pub only_of : List ℕ → Option Only
+unfoldable pub only_of : List ℕ → Result Only (List ℕ)
 only_of list = with_names (slice_split (λ octet. octet == 44) list)
 
 -- ---- the task
+
+-- What is wrong: a word that is no option, a name in a list that is no kind's, or that there is no list behind
+-- `--only`. The last is told of arguments that are no words.
+pub data WrongValue : Type 0 where
+  unknown_option : List ℕ → WrongValue
+  unknown_kind : List ℕ → WrongValue
+  missing_list : WrongValue
+  not_text : WrongValue
+
+abbrev pub wrong_value : Wrong → WrongValue
+wrong_value (UnknownOption word) = unknown_option (string_bytes word)
+wrong_value (UnknownKind name) = unknown_kind (string_bytes name)
+wrong_value MissingList = missing_list
+wrong_value NotText = not_text
 
 -- what the program is asked to do, with files by their names
 pub data TaskValue : Type 0 where
   help : TaskValue
   dump : Options → List (List ℕ) → TaskValue
-  unknown : TaskValue
+  unknown : WrongValue → TaskValue
 
 abbrev pub task_value : Task → TaskValue
 task_value task.Help = help
 task_value (task.Dump options files) = dump options (map string_bytes files.items)
-task_value task.Unknown = unknown
+task_value (task.Unknown wrong) = unknown (wrong_value wrong)
 
 -- the arguments so far: what they choose, the files, and what the next ones are
 pub record ReadingValue : Type 0 where
@@ -115,12 +136,12 @@ with_option word r =
     else if bytes_eq word (codes "--count") then more (record r { options = record r.options { prints = false } })
     else if bytes_eq word (codes "--") then more (record r { wants_files = true })
     else if bytes_eq word (codes "--help") then ends help
-    else ends unknown
+    else ends (unknown (unknown_option word))
 
 -- the list of names behind `--only`, of which the last list decides
-abbrev pub with_only : Option Only → ReadingValue → Reads
-with_only None r = ends unknown
-with_only (Some only) r = more (record r { options = record r.options { only = only }; wants_kinds = false })
+abbrev pub with_only : Result Only (List ℕ) → ReadingValue → Reads
+with_only (Err name) r = ends (unknown (unknown_kind name))
+with_only (Ok only) r = more (record r { options = record r.options { only = only }; wants_kinds = false })
 
 -- Behind `--only` stands a list of names, and behind `--` are files alone.
 abbrev pub with_word : List ℕ → ReadingValue → Reads
@@ -136,7 +157,7 @@ then_word (ends task) word = ends task
 
 -- at the end no list of names may be missing
 abbrev pub at_end : Reads → TaskValue
-at_end (more r) = if r.wants_kinds then unknown else dump r.options r.files
+at_end (more r) = if r.wants_kinds then unknown missing_list else dump r.options r.files
 at_end (ends task) = task
 
 unfoldable pub task_of : List (List ℕ) → TaskValue
@@ -146,4 +167,4 @@ task_of words = at_end (fold then_word (more nothing_read) words)
 abbrev pub reads_of : Step → ReadingValue → Reads
 reads_of step.More r = more r
 reads_of step.Help r = ends help
-reads_of step.Unknown r = ends unknown
+reads_of (step.Unknown wrong) r = ends (unknown (wrong_value wrong))

@@ -20,7 +20,20 @@ pub enum Task {
     /// To print the captures of these files, or of standard input where there are none.
     Dump(Options, Vec<String>),
     /// Nothing that it knows.
-    Unknown,
+    Unknown(Wrong),
+}
+
+/// What is wrong about the arguments.
+#[derive(Drop)]
+pub enum Wrong {
+    /// This is no option.
+    UnknownOption(String),
+    /// This stands in a list behind `--only`, and is no kind.
+    UnknownKind(String),
+    /// No list stands behind `--only`.
+    MissingList,
+    /// One of them is no text, and so none was read.
+    NotText,
 }
 
 // The arguments so far.
@@ -36,13 +49,13 @@ struct Reading {
 }
 
 // What an argument tells.
-#[derive(Clone, Copy)]
+#[derive(Drop)]
 enum Step {
     // That more of them are read.
     More,
     // The task.
     Help,
-    Unknown,
+    Unknown(Wrong),
 }
 
 /// The task of these arguments, of which the first is the program's name.
@@ -53,10 +66,10 @@ pub fn read_task(alloc: Global, arguments: Args) -> Result<Task, Fault>
 {
     let mut reading = Reading::new(alloc);
     for argument in arguments.skip(1) {
-        match reading.read(argument)? {
+        match reading.read(alloc, argument)? {
             Step::More => (),
             Step::Help => return Ok(Task::Help),
-            Step::Unknown => return Ok(Task::Unknown),
+            Step::Unknown(wrong) => return Ok(Task::Unknown(wrong)),
         }
     }
     Ok(reading.task())
@@ -83,19 +96,19 @@ impl Reading {
         ensures { task_value result ≡ at_end (more (reading_of self)) }
     {
         if self.wants_kinds {
-            return Task::Unknown;
+            return Task::Unknown(Wrong::MissingList);
         }
         Task::Dump(self.options, self.files)
     }
 
     // Reads an argument.
-    fn read(&mut self, argument: String) -> Result<Step, Fault>
+    fn read(&mut self, alloc: Global, argument: String) -> Result<Step, Fault>
         ensures step { IfOk result (λ step. reads_of step (reading_of self.new)
             ≡ with_word (string_bytes argument) (reading_of self.old)) }
         ensures fault { IfErr result (λ fault. fault ≡ Fault.Memory) }
     {
         if self.wants_kinds {
-            return Ok(self.read_kinds(argument.as_str()));
+            return self.read_kinds(alloc, argument.as_str());
         }
         if self.wants_files || !is_option(argument.as_str()) {
             let Ok(()) = self.files.push(argument) else {
@@ -103,41 +116,57 @@ impl Reading {
             };
             return Ok(Step::More);
         }
-        Ok(self.read_option(argument.as_str()))
+        Ok(self.read_option(argument))
     }
 
     // Reads the list of names behind `--only`.
-    fn read_kinds(&mut self, list: &str) -> Step
-        ensures { reads_of result (reading_of self.new) ≡ with_only (only_of list.now) (reading_of self.old) }
+    fn read_kinds(&mut self, alloc: Global, list: &str) -> Result<Step, Fault>
+        ensures step { IfOk result (λ step. reads_of step (reading_of self.new)
+            ≡ with_only (only_of list.now) (reading_of self.old)) }
+        ensures fault { IfErr result (λ fault. fault ≡ Fault.Memory) }
     {
-        let Some(only) = read_only(list) else {
-            return Step::Unknown;
-        };
-        self.options.only = only;
-        self.wants_kinds = false;
-        Step::More
+        match read_only(list) {
+            Ok(only) => {
+                self.options.only = only;
+                self.wants_kinds = false;
+                Ok(Step::More)
+            }
+            Err(name) => Ok(Step::Unknown(Wrong::UnknownKind(copy_of(alloc, name)?))),
+        }
     }
 
-    fn read_option(&mut self, word: &str) -> Step
-        ensures { reads_of result (reading_of self.new) ≡ with_option word.now (reading_of self.old) }
+    fn read_option(&mut self, word: String) -> Step
+        ensures { reads_of result (reading_of self.new) ≡ with_option (string_bytes word) (reading_of self.old) }
     {
-        if word == "--only" {
+        let text = word.as_str();
+        if text == "--only" {
             self.wants_kinds = true;
             return Step::More;
         }
-        if word == "--count" {
+        if text == "--count" {
             self.options.prints = false;
             return Step::More;
         }
-        if word == "--" {
+        if text == "--" {
             self.wants_files = true;
             return Step::More;
         }
-        if word == "--help" {
+        if text == "--help" {
             return Step::Help;
         }
-        Step::Unknown
+        Step::Unknown(Wrong::UnknownOption(word))
     }
+}
+
+fn copy_of(alloc: Global, text: &str) -> Result<String, Fault>
+    ensures copy { IfOk result (λ copy. string_bytes copy ≡ text.now) }
+    ensures fault { IfErr result (λ fault. fault ≡ Fault.Memory) }
+{
+    let mut copy = String::new(alloc);
+    let Ok(()) = copy.push_str(text) else {
+        return Err(Fault::Memory);
+    };
+    Ok(copy)
 }
 
 // Whether an argument begins with a hyphen, and is not that alone.
@@ -148,15 +177,19 @@ fn is_option(word: &str) -> bool
     octets.len() > 1 && octets[0] == b'-'
 }
 
-// The packets that a list of names chooses, with commas between them; None where one is no name.
-fn read_only(list: &str) -> Option<Only>
-    ensures { result ≡ only_of list.now }
+// The packets that a list of names chooses, with commas between them; or else the first that is no name.
+fn read_only(list: &str) -> Result<Only, &str>
+    ensures only { IfOk result (λ only. only_of list.now ≡ Ok only) }
+    ensures wrong { IfErr result (λ name. only_of list.now ≡ Err name.now) }
 {
     let mut only = Only::NONE;
     for name in list.split(',') {
-        only = with_name(only, name)?;
+        let Some(more) = with_name(only, name) else {
+            return Err(name);
+        };
+        only = more;
     }
-    Some(only)
+    Ok(only)
 }
 
 // These packets and those of a name: of a kind, or with hop-by-hop options.

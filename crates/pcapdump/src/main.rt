@@ -18,7 +18,7 @@ mod testing;
 #[cfg(test)]
 mod tests;
 
-use crate::arguments::{Task, read_task};
+use crate::arguments::{Task, Wrong, read_task};
 use crate::options::Options;
 use crate::summary::write_summary;
 use crate::table::show_table;
@@ -48,20 +48,18 @@ const BUFFER_LEN: usize = 65_536;
 fn main(rt: HostRuntime) -> ExitCode {
     let task = match env::args(&rt) {
         Ok(arguments) => read_task(rt.alloc(), arguments),
-        // An argument that is no text names no file that could be told.
-        Err(error) if error.kind() == io::ErrorKind::InvalidData => Ok(Task::Unknown),
+        Err(error) if error.kind() == io::ErrorKind::InvalidData => {
+            Ok(Task::Unknown(Wrong::NotText))
+        }
         Err(_) => return ExitCode::from(report_fault(&rt, Fault::Memory)),
     };
     match task {
         Ok(Task::Dump(options, files)) => ExitCode::from(dump_all(&rt, &options, files.as_slice())),
         Ok(Task::Help) => {
-            let _ = println!(rt; "{}", help::USAGE);
+            let _ = println!(rt; "{}\n\n{}", help::USAGE, help::HELP);
             ExitCode::from(WHOLE)
         }
-        Ok(Task::Unknown) => {
-            let _ = eprintln!(rt; "{}", help::USAGE);
-            ExitCode::from(WRONG)
-        }
+        Ok(Task::Unknown(wrong)) => ExitCode::from(report_wrong(&rt, &wrong)),
         Err(fault) => ExitCode::from(report_fault(&rt, fault)),
     }
 }
@@ -81,7 +79,8 @@ fn dump_all(rt: &HostRuntime, options: &Options, files: &[String]) -> u8 {
     }
 }
 
-// Prints the captures of these files, and where packets are only counted the table behind them.
+// Prints the captures of these files, and where packets are only counted their table at the end, with one line for all
+// of them.
 fn dump_each<W: Write>(
     rt: &HostRuntime,
     options: &Options,
@@ -102,6 +101,8 @@ fn dump_each<W: Write>(
     }
     if !options.prints {
         show_table(output, &options.only, &total)?;
+        output.flush()?;
+        report_counts(rt, name_of_all(files), &total)?;
     }
     Ok(status)
 }
@@ -131,7 +132,7 @@ fn dump_file<W: Write>(
     match answer {
         Ok(ending) => {
             if options.prints {
-                report_counts(rt, file, tally)?;
+                report_counts(rt, Some(file), tally)?;
             }
             Ok(report_ending(rt, file, ending, tally.packets.saturating_sub(before)))
         }
@@ -151,12 +152,24 @@ fn open(rt: &HostRuntime, file: &str) -> io::Result<File> {
     File::open(rt, file)
 }
 
-// Says how many packets a capture had.
-fn report_counts(rt: &HostRuntime, file: &str, tally: &Tally) -> Result<(), Fault> {
+// The name of all these captures together, which one alone has.
+fn name_of_all(files: &[String]) -> Option<&str> {
+    match files {
+        [] => Some("-"),
+        [file] => Some(file.as_str()),
+        _ => None,
+    }
+}
+
+// Says how many packets a capture had, or all of them where they have no name.
+fn report_counts(rt: &HostRuntime, name: Option<&str>, tally: &Tally) -> Result<(), Fault> {
     let mut summary = Vec::new(rt.alloc());
     write_summary(&mut summary, tally)?;
     if let Ok(summary) = from_utf8(summary.as_slice()) {
-        let _ = eprintln!(rt; "pcapdump: {file}: {summary}");
+        let _ = match name {
+            Some(name) => eprintln!(rt; "pcapdump: {name}: {summary}"),
+            None => eprintln!(rt; "pcapdump: {summary}"),
+        };
     }
     Ok(())
 }
@@ -171,8 +184,28 @@ fn report_ending(rt: &HostRuntime, file: &str, ending: Ending, packets: u64) -> 
         Ending::Version => ("its version is not read", WRONG),
         Ending::NotACapture => ("it is no capture", WRONG),
     };
-    let _ = eprintln!(rt; "pcapdump: {file}: {what}, behind packet {packets}");
+    let _ = match packets {
+        0 => eprintln!(rt; "pcapdump: {file}: {what}"),
+        last => eprintln!(rt; "pcapdump: {file}: {what}, after packet {last}"),
+    };
     status
+}
+
+// Says what is wrong about the arguments, and how the program is called, and answers the status.
+fn report_wrong(rt: &HostRuntime, wrong: &Wrong) -> u8 {
+    let _ = match wrong {
+        Wrong::UnknownOption(word) => {
+            eprintln!(rt; "pcapdump: there is no option '{}'", word.as_str())
+        }
+        Wrong::UnknownKind(name) => {
+            let (name, kinds) = (name.as_str(), help::KINDS);
+            eprintln!(rt; "pcapdump: there is no kind '{name}'; the kinds are {kinds}")
+        }
+        Wrong::MissingList => eprintln!(rt; "pcapdump: no list of kinds stands behind --only"),
+        Wrong::NotText => eprintln!(rt; "pcapdump: an argument is not UTF-8"),
+    };
+    let _ = eprintln!(rt; "{}", help::USAGE);
+    WRONG
 }
 
 // Says what ended the program, and answers the status. Where nobody reads on, that is no fault.

@@ -15,7 +15,19 @@ pub enum Task {
     /// To print the captures of these files, or of standard input where there are none.
     Dump(Options, Vec<String>),
     /// Nothing that it knows.
-    Unknown,
+    Unknown(Wrong),
+}
+
+/// What is wrong about the arguments.
+pub enum Wrong {
+    /// This is no option.
+    UnknownOption(String),
+    /// This stands in a list behind `--only`, and is no kind.
+    UnknownKind(String),
+    /// No list stands behind `--only`.
+    MissingList,
+    /// One of them is no text, and so none was read.
+    NotText,
 }
 
 // The arguments so far.
@@ -30,13 +42,12 @@ struct Reading {
 }
 
 // What an argument tells.
-#[derive(Clone, Copy)]
 enum Step {
     // That more of them are read.
     More,
     // The task.
     Help,
-    Unknown,
+    Unknown(Wrong),
 }
 
 /// The task of these arguments, of which the first is the program's name.
@@ -46,7 +57,7 @@ pub fn read_task(arguments: Args) -> Result<Task, Fault> {
         match reading.read(argument)? {
             Step::More => (),
             Step::Help => return Ok(Task::Help),
-            Step::Unknown => return Ok(Task::Unknown),
+            Step::Unknown(wrong) => return Ok(Task::Unknown(wrong)),
         }
     }
     Ok(reading.task())
@@ -69,7 +80,7 @@ impl Reading {
     // The task where no further argument comes.
     fn task(self) -> Task {
         if self.wants_kinds {
-            return Task::Unknown;
+            return Task::Unknown(Wrong::MissingList);
         }
         Task::Dump(self.options, self.files)
     }
@@ -77,7 +88,7 @@ impl Reading {
     // Reads an argument.
     fn read(&mut self, argument: String) -> Result<Step, Fault> {
         if self.wants_kinds {
-            return Ok(self.read_kinds(argument.as_str()));
+            return self.read_kinds(argument.as_str());
         }
         if self.wants_files || !is_option(argument.as_str()) {
             let Ok(()) = self.files.push(argument) else {
@@ -85,37 +96,48 @@ impl Reading {
             };
             return Ok(Step::More);
         }
-        Ok(self.read_option(argument.as_str()))
+        Ok(self.read_option(argument))
     }
 
     // Reads the list of names behind `--only`.
-    fn read_kinds(&mut self, list: &str) -> Step {
-        let Some(only) = read_only(list) else {
-            return Step::Unknown;
-        };
-        self.options.only = only;
-        self.wants_kinds = false;
-        Step::More
+    fn read_kinds(&mut self, list: &str) -> Result<Step, Fault> {
+        match read_only(list) {
+            Ok(only) => {
+                self.options.only = only;
+                self.wants_kinds = false;
+                Ok(Step::More)
+            }
+            Err(name) => Ok(Step::Unknown(Wrong::UnknownKind(copy_of(name)?))),
+        }
     }
 
-    fn read_option(&mut self, word: &str) -> Step {
-        if word == "--only" {
+    fn read_option(&mut self, word: String) -> Step {
+        let text = word.as_str();
+        if text == "--only" {
             self.wants_kinds = true;
             return Step::More;
         }
-        if word == "--count" {
+        if text == "--count" {
             self.options.prints = false;
             return Step::More;
         }
-        if word == "--" {
+        if text == "--" {
             self.wants_files = true;
             return Step::More;
         }
-        if word == "--help" {
+        if text == "--help" {
             return Step::Help;
         }
-        Step::Unknown
+        Step::Unknown(Wrong::UnknownOption(word))
     }
+}
+
+fn copy_of(text: &str) -> Result<String, Fault> {
+    let mut copy = String::new();
+    let Ok(()) = copy.push_str(text) else {
+        return Err(Fault::Memory);
+    };
+    Ok(copy)
 }
 
 // Whether an argument begins with a hyphen, and is not that alone.
@@ -124,13 +146,16 @@ fn is_option(word: &str) -> bool {
     octets.len() > 1 && octets[0] == b'-'
 }
 
-// The packets that a list of names chooses, with commas between them; None where one is no name.
-fn read_only(list: &str) -> Option<Only> {
+// The packets that a list of names chooses, with commas between them; or else the first that is no name.
+fn read_only(list: &str) -> Result<Only, &str> {
     let mut only = Only::NONE;
     for name in list.split(',') {
-        only = with_name(only, name)?;
+        let Some(more) = with_name(only, name) else {
+            return Err(name);
+        };
+        only = more;
     }
-    Some(only)
+    Ok(only)
 }
 
 // These packets and those of a name: of a kind, or with hop-by-hop options.

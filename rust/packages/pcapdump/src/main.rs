@@ -20,7 +20,7 @@ mod testing;
 #[cfg(test)]
 mod tests;
 
-use crate::arguments::{Task, read_task};
+use crate::arguments::{Task, Wrong, read_task};
 use crate::options::Options;
 use crate::summary::write_summary;
 use crate::table::show_table;
@@ -50,20 +50,18 @@ const BUFFER_LEN: usize = 65_536;
 fn main() -> ExitCode {
     let task = match env::args() {
         Ok(arguments) => read_task(arguments),
-        // An argument that is no text names no file that could be told.
-        Err(error) if error.kind() == io::ErrorKind::InvalidData => Ok(Task::Unknown),
+        Err(error) if error.kind() == io::ErrorKind::InvalidData => {
+            Ok(Task::Unknown(Wrong::NotText))
+        }
         Err(_) => return ExitCode::from(report_fault(Fault::Memory)),
     };
     match task {
         Ok(Task::Dump(options, files)) => ExitCode::from(dump_all(&options, files.as_slice())),
         Ok(Task::Help) => {
-            let _ = rattle_std::println!("{}", help::USAGE);
+            let _ = rattle_std::println!("{}\n\n{}", help::USAGE, help::HELP);
             ExitCode::from(WHOLE)
         }
-        Ok(Task::Unknown) => {
-            let _ = rattle_std::eprintln!("{}", help::USAGE);
-            ExitCode::from(WRONG)
-        }
+        Ok(Task::Unknown(wrong)) => ExitCode::from(report_wrong(&wrong)),
         Err(fault) => ExitCode::from(report_fault(fault)),
     }
 }
@@ -83,7 +81,8 @@ fn dump_all(options: &Options, files: &[String]) -> u8 {
     }
 }
 
-// Prints the captures of these files, and where packets are only counted the table behind them.
+// Prints the captures of these files, and where packets are only counted their table at the end, with one line for all
+// of them.
 fn dump_each<W: Write>(options: &Options, files: &[String], output: &mut W) -> Result<u8, Fault> {
     let mut total = Tally::new();
     let mut status = WHOLE;
@@ -99,6 +98,8 @@ fn dump_each<W: Write>(options: &Options, files: &[String], output: &mut W) -> R
     }
     if !options.prints {
         show_table(output, &options.only, &total)?;
+        output.flush()?;
+        report_counts(name_of_all(files), &total)?;
     }
     Ok(status)
 }
@@ -127,7 +128,7 @@ fn dump_file<W: Write>(
     match answer {
         Ok(ending) => {
             if options.prints {
-                report_counts(file, tally)?;
+                report_counts(Some(file), tally)?;
             }
             Ok(report_ending(
                 file,
@@ -151,12 +152,24 @@ fn open(file: &str) -> io::Result<File> {
     File::open(file)
 }
 
-// Says how many packets a capture had.
-fn report_counts(file: &str, tally: &Tally) -> Result<(), Fault> {
+// The name of all these captures together, which one alone has.
+fn name_of_all(files: &[String]) -> Option<&str> {
+    match files {
+        [] => Some("-"),
+        [file] => Some(file.as_str()),
+        _ => None,
+    }
+}
+
+// Says how many packets a capture had, or all of them where they have no name.
+fn report_counts(name: Option<&str>, tally: &Tally) -> Result<(), Fault> {
     let mut summary = Vec::new();
     write_summary(&mut summary, tally)?;
     if let Ok(summary) = from_utf8(summary.as_slice()) {
-        let _ = rattle_std::eprintln!("pcapdump: {file}: {summary}");
+        let _ = match name {
+            Some(name) => rattle_std::eprintln!("pcapdump: {name}: {summary}"),
+            None => rattle_std::eprintln!("pcapdump: {summary}"),
+        };
     }
     Ok(())
 }
@@ -171,8 +184,30 @@ fn report_ending(file: &str, ending: Ending, packets: u64) -> u8 {
         Ending::Version => ("its version is not read", WRONG),
         Ending::NotACapture => ("it is no capture", WRONG),
     };
-    let _ = rattle_std::eprintln!("pcapdump: {file}: {what}, behind packet {packets}");
+    let _ = match packets {
+        0 => rattle_std::eprintln!("pcapdump: {file}: {what}"),
+        last => rattle_std::eprintln!("pcapdump: {file}: {what}, after packet {last}"),
+    };
     status
+}
+
+// Says what is wrong about the arguments, and how the program is called, and answers the status.
+fn report_wrong(wrong: &Wrong) -> u8 {
+    let _ = match wrong {
+        Wrong::UnknownOption(word) => {
+            rattle_std::eprintln!("pcapdump: there is no option '{}'", word.as_str())
+        }
+        Wrong::UnknownKind(name) => {
+            let (name, kinds) = (name.as_str(), help::KINDS);
+            rattle_std::eprintln!("pcapdump: there is no kind '{name}'; the kinds are {kinds}")
+        }
+        Wrong::MissingList => {
+            rattle_std::eprintln!("pcapdump: no list of kinds stands behind --only")
+        }
+        Wrong::NotText => rattle_std::eprintln!("pcapdump: an argument is not UTF-8"),
+    };
+    let _ = rattle_std::eprintln!("{}", help::USAGE);
+    WRONG
 }
 
 // Says what ended the program, and answers the status. Where nobody reads on, that is no fault.

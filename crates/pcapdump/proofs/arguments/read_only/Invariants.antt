@@ -1,5 +1,5 @@
 -- The packets that the names so far choose.
-use Rattle.std.proofs.Common.{◌≡◌, Some}
+use Rattle.std.proofs.Common.{◌≡◌, Ok}
 use Rattle.std.specs.Prelude.{map}
 use Rattle.pcapdump.specs.Arguments.{with_names}
 use Rattle.pcapdump.proofs.arguments.read_only.Given as goal
@@ -7,4 +7,4 @@ use Rattle.pcapdump.proofs.arguments.read_only.Given as goal
 abbrev pub invariant-loop-name : goal.invariant-loop-name
 invariant-loop-name l =
     (goal.iterator-loop-name).can_next l.name-iterator × (goal.iterator-loop-name).is_finite l.name-iterator
-    × (with_names (map (λ name. name.now) l.yielded) ≡ Some l.only)
+    × (with_names (map (λ name. name.now) l.yielded) ≡ Ok l.only)

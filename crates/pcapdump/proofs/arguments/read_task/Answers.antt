@@ -2,7 +2,7 @@
 use Rattle.std.proofs.Common.{◌∙◌, arith}
 use Rattle.std.proofs.lemmas.Iterator.Consumers.{YieldsList-so_far, YieldsList-turn, YieldsList-end}
 use Rattle.std.specs.Prelude.{string_bytes}
-use Rattle.pcapdump.specs.Arguments.{help, task_of, unknown}
+use Rattle.pcapdump.specs.Arguments.{help, task_of, unknown, wrong_value}
 use Rattle.pcapdump.proofs.Words.{skipped, words-all, words-stop}
 use Rattle.pcapdump.proofs.arguments.read_task.Goals as goal
 
@@ -25,7 +25,8 @@ returns-in-Unknown-clause-task c =
     let turn =
     YieldsList-turn road c.loop-argument.yielded _ c.loop-argument.yielded_by _ c.next.new.self
     c.in-Some.argument c.in-Some.is c.next.ensures.steps in
-    words-stop string_bytes _ c.loop-argument.yielded c.in-Some.argument _ unknown front turn c.loop-argument.invariant
+    words-stop string_bytes _ c.loop-argument.yielded c.in-Some.argument _ (unknown (wrong_value c.in-Unknown.wrong))
+    front turn c.loop-argument.invariant
     (rw c.in-Unknown.is at c.in_ok-read.ensures.step)
 
 pub returns-clause-task : goal.returns-clause-task

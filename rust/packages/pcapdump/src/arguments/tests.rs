@@ -32,28 +32,30 @@ fn lists_of_kinds() {
             kinds: *kinds,
             hop_by_hop: *hop_by_hop,
         };
-        same_of(list, read_only(list), Some(only));
+        same_of(list, read_only(list).ok(), Some(only));
     }
 }
 
 #[test]
 fn lists_with_what_is_no_kind() {
-    const LISTS: &[&str] = &[
-        "",
-        ",",
-        "dns,",
-        ",dns",
-        "dns,,mdns",
-        "tcp",
-        "DNS",
-        "dns mdns",
-        "dns, mdns",
-        "icmp",
-        "dns;",
-        "icmp44",
-        "-",
+    // What is told of each.
+    const ROWS: &[(&str, &str)] = &[
+        ("", ""),
+        (",", ""),
+        ("dns,", ""),
+        (",dns", ""),
+        ("dns,,mdns", ""),
+        ("tcp", "tcp"),
+        ("DNS", "DNS"),
+        ("dns mdns", "dns mdns"),
+        ("dns, mdns", " mdns"),
+        ("dns,icmp,tcp,mdns", "icmp"),
+        ("hbh,tcp,icmp", "tcp"),
+        ("dns;", "dns;"),
+        ("icmp44", "icmp44"),
+        ("-", "-"),
     ];
-    for list in LISTS {
-        same_of(list, read_only(list), None);
+    for (list, name) in ROWS {
+        same_of(list, read_only(list), Err(*name));
     }
 }
