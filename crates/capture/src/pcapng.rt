@@ -1,7 +1,7 @@
 //! The blocks of a pcapng file (draft-ietf-opsawg-pcapng sections 3 and 4).
 
-ghost use Rattle.std.specs.Prelude.{◌≡◌, ◌≤◌, ◌↔◌, ℕ, List, IfOk, IfErr, IfSome, IsNone, IsOk, IsOkAnd, IsSomeAnd, IsTrue};
-ghost use Rattle.std.specs.Prelude.{length};
+ghost use Rattle.std.specs.Prelude.{◌≡◌, ◌≤◌, ◌↔◌, ℕ, List, IfOk, IfErr, IfSome, IsNone, IsOk, IsOkAnd, IsSomeAnd};
+ghost use Rattle.std.specs.Prelude.{IsTrue, length};
 ghost use Rattle.capture.specs.Order.{number_in};
 ghost use Rattle.capture.specs.Pcapng.{kind_field, IsSectionKind, HasOrder, IsRead, IsHead, HeadEnds};
 ghost use Rattle.capture.specs.Pcapng.{HoldsPacket, ShowsPacket, IsClosed, IsSection, SectionEnds};

@@ -52,8 +52,8 @@ impl Time {
         }
     }
 
-    // The time so many seconds later, or earlier where they are negative. One before 1970 is 1970-01-01, and the seconds
-    // are at most what 64 bits hold.
+    // The time so many seconds later, or earlier where they are negative. One before 1970 is 1970-01-01, and the
+    // seconds are at most what 64 bits hold.
     #[inline]
     pub(crate) fn moved(self, seconds: i64) -> Time
         requires { self.nanoseconds < 1000000000 }

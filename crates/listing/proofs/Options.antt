@@ -1,5 +1,6 @@
 -- The options of OPT.
-use Rattle.std.proofs.Common.{ℕ, ◌<◌, ◌≤◌, List, [], ◌∷◌, ◌++◌, length, drop, refl, sym, ap, ◌∙◌, subst, arith, length-drop}
+use Rattle.std.proofs.Common.{ℕ, ◌<◌, ◌≤◌, List, [], ◌∷◌, ◌++◌, length, drop, refl, sym, ap, ◌∙◌, subst, arith}
+use Rattle.std.proofs.Common.{length-drop}
 use Rattle.listing.specs.ListingEdns.{OptionValue, IsOption, AreOptions, option_len, option_line}
 use Rattle.listing.specs.ListingParts.{OptionsShown}
 

@@ -25,7 +25,8 @@ pub reads : (message bytes : List ℕ) (labels : List (List ℕ)) → IsName byt
 reads message bytes labels name fits = record { labels = labels; name_ = name; fits = fits; is = refl }
 
 -- one that was not
-pub reads_none : (message bytes : List ℕ) → ((labels : List (List ℕ)) → IsName bytes message labels → AreOfName labels → ⊥)
+pub reads_none : (message bytes : List ℕ)
+    → ((labels : List (List ℕ)) → IsName bytes message labels → AreOfName labels → ⊥)
     → (text : List ℕ) → NameReads message bytes text → ⊥
 reads_none message bytes none text is = none is.labels is.name_ is.fits
 
@@ -67,7 +68,8 @@ module _ (margin : List ℕ) (is_multicast : Bool) (message : List ℕ) (section
   record_listed a b c None e (text, (data_, reads, whole), gains) end = (
     record_line margin is_multicast section r owner data_,
     has owner data_ value name is reads,
-    gains_both a b c (record_front margin is_multicast section r owner ++ data_) _ (subst (λ t. Gains a b t) whole gains)
+    gains_both a b c (record_front margin is_multicast section r owner ++ data_) _
+        (subst (λ t. Gains a b t) whole gains)
         end,
   )
   record_listed a b c (Some why) e shown end = cc e

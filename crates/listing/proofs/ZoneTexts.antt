@@ -1,5 +1,6 @@
 -- The parts of a record in a zone file.
-use Rattle.std.proofs.Common.{◌≡◌, ℕ, ◌+◌, ◌<◌, ◌≤◌, Bool, true, false, cond, leb, List, [], ◌∷◌, ◌++◌, length, take, drop}
+use Rattle.std.proofs.Common.{◌≡◌, ℕ, ◌+◌, ◌<◌, ◌≤◌, Bool, true, false, cond, leb, List, [], ◌∷◌, ◌++◌, length}
+use Rattle.std.proofs.Common.{take, drop}
 use Rattle.std.proofs.Common.{Option, None, Some, codes, refl, sym, ap, ◌∙◌, subst, arith, length-append, length-drop}
 use Rattle.std.proofs.Common.{append_assoc, flat_map, add-one, drop-cons}
 use Rattle.std.proofs.Common.{◌&&◌, not, ◌/◌, ◌%◌}
@@ -43,7 +44,8 @@ string_then string rest = Some (string, rest)
 same_pair : (p q : List ℕ × List ℕ) → Some p ≡ Some q → p ≡ q
 same_pair p q e = cc
 
-at_test : (b : Bool) (x y s r : List ℕ) → cond b (string_then x y) None ≡ string_then s r → (b ≡ true) × (x ≡ s) × (y ≡ r)
+at_test : (b : Bool) (x y s r : List ℕ) → cond b (string_then x y) None ≡ string_then s r
+    → (b ≡ true) × (x ≡ s) × (y ≡ r)
 at_test true x y s r e =
     let p = same_pair (x, y) (s, r) e in
     (refl, ap (λ (q : List ℕ × List ℕ). q.0) p, ap (λ (q : List ℕ × List ℕ). q.1) p)

@@ -58,8 +58,8 @@ PacketsPrint options n old (p ∷ packets) text new =
     × PacketsPrint options (next_number n) (counted outcome p.link_type (length p.octets) old) packets more new
     × (text ≡ first ++ more)
 
--- What a capture of these bytes prints: its packets, from the first on. Their counts are added to those that there were,
--- and the capture ends so.
+-- What a capture of these bytes prints: its packets, from the first on. Their counts are added to those before, and
+-- the capture ends so.
 pub record CapturePrints (options : Options) (bytes : List ℕ) (old : TallyValue) (text : List ℕ) (new : TallyValue)
     (ending : Ending) : Type 0 where
   pub packets : List PacketValue

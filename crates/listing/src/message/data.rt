@@ -112,8 +112,8 @@ fn show_service<'a, W: Write>(
     target: &'a [u8],
 ) -> io::Result<Option<Unread>>
     ensures { IfOk result (λ unread. GainsSome (W.contents output.old) (W.contents output.new)
-        (λ text. LineShown (line_text line.now) (view_octets packet.now) (service (slice_index numbers 0) (slice_index numbers 1) (slice_index numbers 2) target.now)
-        text unread)) }
+        (λ text. LineShown (line_text line.now) (view_octets packet.now) (service
+        (slice_index numbers 0) (slice_index numbers 1) (slice_index numbers 2) target.now) text unread)) }
 {
     let mut host = NameText::new();
     if !host.read(packet, target) {

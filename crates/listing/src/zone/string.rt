@@ -2,7 +2,8 @@
 
 #![tactic(auto, using(crate::proofs::Printing::gained, crate::proofs::Printing::gains_both))]
 
-ghost use Rattle.std.specs.Prelude.{◌≡◌, ◌≤◌, ◌<◌, ◌+◌, ℕ, OnOk, length, take, drop, flat_map, slice_index, true, false};
+ghost use Rattle.std.specs.Prelude.{◌≡◌, ◌≤◌, ◌<◌, ◌+◌, ℕ, OnOk, length, take, drop, flat_map, slice_index};
+ghost use Rattle.std.specs.Prelude.{true, false};
 ghost use Rattle.record_wire.specs.RData.{AreStrings};
 ghost use Rattle.listing.specs.ListingParts.{first_string, seen_string, has_meaning, is_itself};
 ghost use Rattle.listing.specs.ListingRecord.{StringsRead};

@@ -21,5 +21,7 @@ pub returns : goal.returns
 returns g c =
     let margin = c.args.margin.now in
     let left = c.loop-option.left.now in
-    goes_on_to_none (OptionsShown margin left) (OptionsShown margin c.args.octets.now) _ _ c.loop-option.invariant.so_far
-    (no_options margin left (λ option rest is. cc (c.in_default.ensures.whole option rest is)) c.loop-option.invariant.are)
+    goes_on_to_none (OptionsShown margin left) (OptionsShown margin c.args.octets.now) _ _
+    c.loop-option.invariant.so_far
+    (no_options margin left (λ option rest is. cc (c.in_default.ensures.whole option rest is))
+    c.loop-option.invariant.are)

@@ -23,7 +23,8 @@ pub loop-label-preserved-in-Label : goal.loop-label-preserved-in-Label
 loop-label-preserved-in-Label c =
     label_put c.args.bytes.now c.args.message.now c.loop-label.left.now c.loop-label.reach.now c.loop-label.room
     c.put_label.new.room c.in-Label.label.now c.in-Label.rest.now c.loop-label.at c.loop-label.dots c.in-Some.end
-    c.loop-label.invariant c.in-Label.ensures c.put_label.array_long (c.in-Some.ensures.some.0 refl) c.in-Some.ensures.end
+    c.loop-label.invariant c.in-Label.ensures c.put_label.array_long (c.in-Some.ensures.some.0 refl)
+    c.in-Some.ensures.end
     c.in-Some.ensures.text
 
 pub returns-in_default-follow-clause-some : goal.returns-in_default-follow-clause-some
