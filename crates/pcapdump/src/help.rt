@@ -1,7 +1,7 @@
 //! What the program says of itself.
 
 /// The usage, for a wrong argument.
-pub const USAGE: &str = "usage: pcapdump [--only KIND,..] [--count] [FILE..]";
+pub const USAGE: &str = "usage: pcapdump [--only KIND,..] [--count] [--help] [FILE..]";
 
 /// What is told of lists behind `--only` that have something else.
 pub const KINDS: &str = "icmp4, igmp, icmp6, dns, mdns, dhcp, frame and hbh";
@@ -12,16 +12,17 @@ pub const HELP: &str = "\
 Prints each control packet of capture files, pcap or pcapng: a heading with its number, its time, its addresses and
 its kind, and below it what it holds, a field a line. Without a file, and for -, it reads standard input.
 
-  --only KIND,..    prints the packets of these kinds alone
+  --only KIND,..    prints the packets of these kinds alone; of several lists the last counts
   --count           prints no packets but a table at the end: of each kind how many were listed and how many were
-                    refused for each reason, and their octets
+                    refused for each reason, and their octets; on standard error it sums up the rest. The table comes
+                    where the input ends, and not where a signal ends the program
 
 The kinds:
 
   icmp4             ICMP over IPv4
   igmp              IGMP
   icmp6             ICMP over IPv6, with multicast listener and neighbor discovery
-  dns               UDP, where either port is 53
+  dns               UDP, where either port is 53; DNS over TCP is not read
   mdns              UDP, where either port is 5353
   dhcp              UDP over IPv4, where either port is 67 or 68
   frame             what can't be read so far that its kind could be told
@@ -32,7 +33,8 @@ A packet that can't be read has the line `refused=REASON`, with the first of the
   cut               the capture kept less of it than it takes
   fragment          it is a fragment of a datagram
   short             it ends before its header or its own length does
-  checksum          its checksum is wrong
+  checksum          its checksum is wrong; so is that of a packet which was captured on the host that sends it, where
+                    the network card fills it in
   type              it has a type of ICMP or IGMP that is not read
   quote             it is an ICMP error that does not quote the front of a datagram
   name              it has a DNS name that does not read
@@ -42,7 +44,7 @@ Examples:
 
   pcapdump trace.pcap
   pcapdump --only dns,mdns --count trace.pcap more.pcapng
-  tcpdump -U -w - | pcapdump --only icmp6
+  tcpdump --immediate-mode -U -w - | pcapdump --only icmp6
 
 The status is the greatest that holds: 0, 1 where a capture ends within a record or goes on with what is none, 2 where
 an argument is wrong, or a file can't be opened or is no capture, 3 where reading, writing or memory failed.
