@@ -15,7 +15,8 @@
 -- |                destination address, 16 bytes                  |
 -- |                                                               |
 -- +---------------------------------------------------------------+
-use Rattle.std.specs.Prelude.{◌≡◌, ℕ, ◌+◌, ◌/◌, List, [], ◌∷◌, ◌++◌, codes, decimal}
+use Rattle.std.specs.Prelude.{◌≡◌, ◌≢◌, ℕ, ◌+◌, ◌/◌, ◌<◌, ◌≤◌, List, [], ◌∷◌, ◌++◌, codes, decimal}
+use Rattle.std.specs.Prelude.{length}
 use Rattle.std.specs.Borrow.{Bor}
 use Rattle.wirebase.specs.Bytes.{Field, field, Reaches, bytes_of, byte_of, number_of}
 use Rattle.wirebase.specs.ByteWriter.{be8, be16, be32, fields}
@@ -24,6 +25,8 @@ use Rattle.wirebase.specs.Ip.{protocol_number, protocol_of}
 use Rattle.wirebase.specs.Ipv6Address.{octets_of, address_text}
 use Rattle.wirebase.specs.declared.ip.IpProtocol.{IpProtocol}
 use Rattle.wirebase.specs.declared.ipv6.address.Ipv6Address.{Ipv6Address}
+use Rattle.wirebase.specs.declared.ipv6.refusal.Ipv6Refusal.{Ipv6Refusal}
+use Rattle.wirebase.specs.declared.ipv6.refusal.Ipv6Refusal.TheVariants.{Short, Cut, Version}
 use Rattle.wirebase.specs.declared.ipv6.Ipv6Packet.{Ipv6Packet}
 use Rattle.wirebase.specs.declared.ipv6.Ipv6Repr.{Ipv6Repr}
 
@@ -89,6 +92,21 @@ pub record IsPacket (bytes : List ℕ) (r : Ipv6Repr) : Type 0 where
   pub whole : BeginsWhole bytes
   pub version : version_in bytes ≡ 6
   pub header : IsHeader bytes r
+
+-- the bytes begin with some packet
+abbrev pub IsRead : List ℕ → Type 0
+IsRead bytes = BeginsWhole bytes × (version_in bytes ≡ 6)
+
+-- why other bytes are none: the check that fails first
+abbrev pub Refuses : List ℕ → Ipv6Refusal → Type 0
+Refuses bytes Short = length bytes < 40
+Refuses bytes Cut = (40 ≤ length bytes) × (length bytes < 40 + payload_len_in bytes)
+Refuses bytes (Version n) = BeginsWhole bytes × (n ≡ version_in bytes) × (n ≢ 6)
+
+abbrev pub refusal_display : Ipv6Refusal → List ℕ
+refusal_display Short = codes "fewer than 40 bytes"
+refusal_display Cut = codes "the payload is cut"
+refusal_display (Version n) = codes "version " ++ decimal n ++ codes ", not 6"
 
 -- the fields that are written: version 6, no traffic class and no flow label
 unfoldable pub header_fields : Ipv6Repr → List (List ℕ)

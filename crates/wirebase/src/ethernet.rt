@@ -50,6 +50,18 @@ impl EthernetAddress {
     }
 }
 
+impl From<[u8; 6]> for EthernetAddress {
+    ghost use Rattle.wirebase.specs.HardwareAddress.{ethernet_of};
+
+    ghost from_gives = { λ octets address. octets_of (ethernet_of address) ≡ octets };
+
+    fn from(octets: [u8; 6]) -> EthernetAddress
+        ensures { octets_of (ethernet_of result) ≡ octets }
+    {
+        EthernetAddress(octets)
+    }
+}
+
 /// Addresses are equal exactly when their octets are.
 impl PartialEq for EthernetAddress {
     ghost use Rattle.std.specs.Prelude.{◌==◌};
@@ -167,7 +179,7 @@ impl fmt::Display for RawHardwareAddress {
 
 // A byte as two digits.
 #[derive(Clone, Copy)]
-struct HexByte(u8);
+pub(crate) struct HexByte(pub(crate) u8);
 
 impl fmt::Display for HexByte {
     ghost output = { λ byte. Some (hex_byte byte.0) };

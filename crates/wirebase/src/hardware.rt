@@ -1,8 +1,10 @@
 //! The kinds of hardware that a protocol of one hardware type or another speaks of.
 
-ghost use Rattle.std.specs.Prelude.{◌≡◌};
-ghost use Rattle.wirebase.specs.Hardware.{hardware_number, hardware_rows, hardware_of};
+ghost use Rattle.std.specs.Prelude.{◌≡◌, Some};
+ghost use Rattle.wirebase.specs.Hardware.{hardware_number, hardware_rows, hardware_of, hardware_display};
 ghost use Rattle.wirebase.specs.Numbered.{IsProper, IsTable};
+
+use std::fmt;
 
 /// A kind of hardware, by its assigned number (RFC 826, RFC 2131 section 2). DHCP has it in one byte.
 #[derive(Debug, PartialEq, Eq, PartialOrd, Ord, Clone, Copy)]
@@ -39,6 +41,18 @@ impl From<Hardware> for u16 {
         match hardware {
             Hardware::Ethernet => 1,
             Hardware::Unknown(other) => other,
+        }
+    }
+}
+
+/// The name, or the number where there is none.
+impl fmt::Display for Hardware {
+    ghost output = { λ hardware. Some (hardware_display hardware) };
+
+    fn fmt<W: fmt::Write>(&self, f: &mut fmt::Formatter<W>) -> fmt::Result {
+        match *self {
+            Hardware::Ethernet => f.write_str("Ethernet"),
+            Hardware::Unknown(number) => write!(f, "{number}"),
         }
     }
 }

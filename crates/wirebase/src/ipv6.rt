@@ -1,7 +1,8 @@
 //! IPv6: addresses (RFC 4291) and the header (RFC 8200).
 #![tactic(auto, using(crate::proofs::Pieces::pieces))]
 
-ghost use Rattle.std.specs.Prelude.{◌≡◌, ◌↔◌, ◌≤◌, ◌<◌, IsTrue, IsOk, IfOk, Ok, Some, length};
+ghost use Rattle.std.specs.Prelude.{◌≡◌, ◌↔◌, ◌≤◌, ◌<◌, IsTrue, IsNone, IsOk, IfOk, IfSome, Ok, Some};
+ghost use Rattle.std.specs.Prelude.{length};
 ghost use Rattle.std.specs.Borrow.{sem, Lends, Array, u8 as byte};
 ghost use Rattle.wirebase.specs.Bytes.{Reaches, bytes_of, byte_of, with_field, over};
 ghost use Rattle.wirebase.specs.ByteWriter.{free, Puts};
@@ -9,7 +10,7 @@ ghost use Rattle.wirebase.specs.Ip.{protocol_of};
 ghost use Rattle.wirebase.specs.Ipv6.{inner, with_inner, view_octets, version_field, payload_len_field};
 ghost use Rattle.wirebase.specs.Ipv6.{next_header_field, hop_limit_field, src_addr_field, dst_addr_field, version_in};
 ghost use Rattle.wirebase.specs.Ipv6.{payload_len_in, payload_field, BeginsWhole, IsPacket, header_fields, header_text};
-ghost use Rattle.wirebase.specs.Ipv6.{header_display};
+ghost use Rattle.wirebase.specs.Ipv6.{IsRead, Refuses, header_display};
 ghost use Rattle.wirebase.specs.Ipv6Address.{octets_of};
 ghost use Rattle.wirebase.specs.contracts.ipv6.Ipv6Packet.{the_row};
 ghost use Rattle.wirebase.specs.declared.ipv6.Ipv6Repr.{Ipv6Repr};
@@ -21,8 +22,10 @@ use crate::octets::{Octets, OctetsMut};
 use std::fmt;
 
 mod address;
+mod refusal;
 
 pub use address::{IPV6_LINK_LOCAL_ALL_NODES, IPV6_LINK_LOCAL_ALL_ROUTERS, Ipv6Address};
+pub use refusal::Ipv6Refusal;
 
 /// The bytes of a header.
 pub const IPV6_HEADER_LEN: usize = field::DST_ADDR.end;
@@ -231,6 +234,7 @@ impl Ipv6Repr {
         ensures sound { IfOk result (IsPacket (view_octets packet.now)) }
         ensures complete { (repr : Ipv6Repr) → IsPacket (view_octets packet.now) repr
             → result ≡ Ok repr }
+        ensures accepts { IsOk result ↔ IsRead (view_octets packet.now) }
     {
         packet.check_len()?;
         if packet.version() != 6 {
@@ -243,6 +247,24 @@ impl Ipv6Repr {
             payload_len: packet.payload_len() as usize,
             hop_limit: packet.hop_limit(),
         })
+    }
+
+    /// Why [`Ipv6Repr::parse`] refuses these octets, by the check that fails first; None where it reads them.
+    pub fn refusal(packet: &Ipv6Packet<&[u8]>) -> Option<Ipv6Refusal>
+        ensures told { IfSome result (Refuses (view_octets packet.now)) }
+        ensures exact { IsNone result ↔ IsRead (view_octets packet.now) }
+    {
+        if packet.buffer.len() < IPV6_HEADER_LEN {
+            return Some(Ipv6Refusal::Short);
+        }
+        if packet.check_len().is_err() {
+            return Some(Ipv6Refusal::Cut);
+        }
+        let version = packet.version();
+        if version != 6 {
+            return Some(Ipv6Refusal::Version(version));
+        }
+        None
     }
 
     /// The bytes that the header takes: 40.

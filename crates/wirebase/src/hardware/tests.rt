@@ -1,5 +1,5 @@
 use super::Hardware;
-use crate::testing::{same, same_of};
+use crate::testing::{prints, same, same_of};
 
 #[test]
 fn hardware_by_its_number(rt: HostRuntime) {
@@ -15,4 +15,10 @@ fn hardware_by_its_number(rt: HostRuntime) {
     }
     same(&rt, Hardware::Ethernet < Hardware::Unknown(0), true);
     same(&rt, Hardware::Unknown(0) < Hardware::Unknown(2), true);
+}
+
+#[test]
+fn hardware_by_its_name(rt: HostRuntime) {
+    prints(&rt, rt.alloc(), &Hardware::Ethernet, "Ethernet");
+    prints(&rt, rt.alloc(), &Hardware::Unknown(32), "32");
 }

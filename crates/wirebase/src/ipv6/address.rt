@@ -80,6 +80,18 @@ impl Ipv6Address {
     }
 }
 
+impl From<[u8; 16]> for Ipv6Address {
+    ghost use Rattle.wirebase.specs.Ipv6Address.{octets_of};
+
+    ghost from_gives = { λ octets address. octets_of address ≡ octets };
+
+    fn from(octets: [u8; 16]) -> Ipv6Address
+        ensures { octets_of result ≡ octets }
+    {
+        Ipv6Address::from_octets(octets)
+    }
+}
+
 /// All nodes of a link, `ff02::1` (RFC 4291 section 2.7.1).
 pub const IPV6_LINK_LOCAL_ALL_NODES: Ipv6Address = Ipv6Address {
     octets: [0xff, 0x02, 0, 0, 0, 0, 0, 0, 0, 0, 0, 0, 0, 0, 0, 1],
