@@ -11,3 +11,4 @@ pub mod Dhcpv4Lengths
 pub mod Dhcpv4Reading
 pub mod Dhcpv4Canonical
 pub mod Dhcpv4Laws
+pub mod Dhcpv4Refusal

@@ -7,3 +7,5 @@ pub mod Dhcpv4Tables
 pub mod Dhcpv4Writer
 pub mod Dhcpv4Format
 pub mod Dhcpv4Emission
+pub mod Dhcpv4Display
+pub mod Dhcpv4Refusal

@@ -7,6 +7,8 @@ mod kinds;
 mod names;
 mod options;
 mod packet;
+mod printing;
+mod refusal;
 mod repr;
 mod tables;
 
@@ -34,6 +36,7 @@ pub use kinds::{
 };
 pub use options::{DhcpOption, DhcpOptionWriter, OptionsIter};
 pub use packet::Packet;
+pub use refusal::Refusal;
 pub use repr::Repr;
 pub use tables::{Flags, MessageType, OpCode};
 

@@ -208,6 +208,14 @@ fn compare(rt: &impl Abort, alloc: Global, octets: &[u8]) {
     let plain = options_in(rt, alloc, behind);
     compare_view(rt, octets, plain.as_slice());
     compare_value(rt, octets, plain.as_slice());
+    compare_refusal(rt, octets);
+}
+
+// Compares whether a reason is told with whether the parser refuses.
+fn compare_refusal(rt: &impl Abort, octets: &[u8]) {
+    let packet = Packet::new_unchecked(octets);
+    let is_read = Repr::parse(&packet).is_ok();
+    same_of(rt, octets, Repr::refusal(&packet).is_none(), is_read);
 }
 
 // Compares the iterator of a view with these options of the plain reader.

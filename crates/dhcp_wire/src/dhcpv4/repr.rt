@@ -123,7 +123,7 @@ impl<'a> Repr<'a> {
     }
 
     // The value of a packet of which no option was read; its type of message is none that a packet has.
-    fn of(packet: &Packet<&'a [u8]>) -> Repr<'a>
+    pub(super) fn of(packet: &Packet<&'a [u8]>) -> Repr<'a>
         requires { HasHeader (inner packet.now).now }
         ensures header { IsMadeOf (inner packet.now).now result.message_type nothing (value_of result) }
         ensures fresh { kept_of (record { message_type = None; repr = result }) ≡ nothing }

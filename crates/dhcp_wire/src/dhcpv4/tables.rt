@@ -1,13 +1,15 @@
 //! The numbers of DHCP: operations, types of message, flags, and kinds of option (RFC 2131, RFC 2132).
 
-ghost use Rattle.std.specs.Prelude.{⊤, ◌≡◌, map};
+ghost use Rattle.std.specs.Prelude.{⊤, ◌≡◌, Some, map};
 ghost use Rattle.std.specs.Int.RustNames.{bit_and, bit_or, bit_xor};
 ghost use Rattle.bitflags.specs.Sets.{without};
 ghost use Rattle.wirebase.specs.Numbered.{IsProper, IsTable};
+ghost use Rattle.dhcp_wire.specs.Dhcpv4Display.{opcode_display, message_display};
 ghost use Rattle.dhcp_wire.specs.Dhcpv4Tables.{opcode_number, opcode_rows, opcode_of, message_number, message_rows};
 ghost use Rattle.dhcp_wire.specs.Dhcpv4Tables.{message_of, operation_of, flag_table, flag_bits};
 
 use bitflags::Flag;
+use std::fmt;
 use std::ops::{BitAnd, BitOr, BitXor, Not, Sub};
 
 /// What a packet is, one byte (RFC 2131 section 2).
@@ -48,6 +50,19 @@ impl From<OpCode> for u8 {
             OpCode::Request => 1,
             OpCode::Reply => 2,
             OpCode::Unknown(other) => other,
+        }
+    }
+}
+
+/// The name of an operation, as `BOOTREQUEST`; one without a name prints its number, as `unknown 3`.
+impl fmt::Display for OpCode {
+    ghost output = { λ opcode. Some (opcode_display opcode) };
+
+    fn fmt<W: fmt::Write>(&self, f: &mut fmt::Formatter<W>) -> fmt::Result {
+        match self {
+            OpCode::Request => f.write_str("BOOTREQUEST"),
+            OpCode::Reply => f.write_str("BOOTREPLY"),
+            OpCode::Unknown(other) => write!(f, "unknown {other}"),
         }
     }
 }
@@ -124,6 +139,26 @@ impl From<MessageType> for u8 {
             MessageType::Inform => 8,
             MessageType::Unknown(other) => other,
         }
+    }
+}
+
+/// The name of a type, as `DISCOVER`; one without a name prints its number, as `unknown 34`.
+impl fmt::Display for MessageType {
+    ghost output = { λ message. Some (message_display message) };
+
+    fn fmt<W: fmt::Write>(&self, f: &mut fmt::Formatter<W>) -> fmt::Result {
+        let name = match self {
+            MessageType::Discover => "DISCOVER",
+            MessageType::Offer => "OFFER",
+            MessageType::Request => "REQUEST",
+            MessageType::Decline => "DECLINE",
+            MessageType::Ack => "ACK",
+            MessageType::Nak => "NAK",
+            MessageType::Release => "RELEASE",
+            MessageType::Inform => "INFORM",
+            MessageType::Unknown(other) => return write!(f, "unknown {other}"),
+        };
+        f.write_str(name)
     }
 }
 

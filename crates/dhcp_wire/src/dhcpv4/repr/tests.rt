@@ -9,6 +9,7 @@ use std::process::Abort;
 use wirebase::{EthernetAddress, Ipv4Address};
 
 mod lengths;
+mod printing;
 mod reading;
 mod writing;
 

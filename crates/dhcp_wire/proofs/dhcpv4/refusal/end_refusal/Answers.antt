@@ -1,0 +1,24 @@
+use Rattle.std.proofs.Common.{List, ℕ, Some, None, subst}
+use Rattle.std.proofs.lemmas.List.{take_rest}
+use Rattle.dhcp_wire.specs.Dhcpv4OptionsAhead.{list_of}
+use Rattle.dhcp_wire.specs.Dhcpv4Packet.{inner, options_in}
+use Rattle.dhcp_wire.specs.Dhcpv4Refusal.{Ends}
+use Rattle.dhcp_wire.proofs.dhcpv4.refusal.end_refusal.Goals as goal
+
+pub returns-in-Some : goal.returns-in-Some
+returns-in-Some c =
+    let bytes = (inner c.args.packet.now).now in (
+      list_of (options_in bytes),
+      c.requires.no_type,
+      c.requires.none,
+      subst (λ (l : List ℕ). Ends l (Some c.in-Some.kind)) (take_rest bytes 240) c.in-Some.ensures,
+    )
+
+pub returns-in-None : goal.returns-in-None
+returns-in-None c =
+    let bytes = (inner c.args.packet.now).now in (
+      list_of (options_in bytes),
+      c.requires.no_type,
+      c.requires.none,
+      subst (λ (l : List ℕ). Ends l None) (take_rest bytes 240) c.in-None.ensures,
+    )
