@@ -5,7 +5,7 @@ use Rattle.std.specs.List.{flat_map}
 use Rattle.std.proofs.lemmas.List.{append-nil, length-append, take-take, drop-take, length-take-le, take-append-drop}
 use Rattle.std.proofs.lemmas.List.{drop-append-le}
 use Rattle.dns_wire.specs.DnsName.{written, Stop, ends, goes_on, IsPart, IsFront, IsFalling, windows, HaveParts}
-use Rattle.dns_wire.specs.DnsName.{last_window, joined, Follows, here, there}
+use Rattle.dns_wire.specs.DnsName.{last_window, open_below, joined, Follows, here, there}
 use Rattle.dns_wire.specs.DnsNameAhead.{whole, pointer, torn, front_of}
 use Rattle.dns_wire.proofs.DnsNameTurns.{whole_parts}
 use Rattle.dns_wire.proofs.DnsNameParts.{front_at, front_at_other, part_mark, after_label, label_front, part_one}
@@ -45,6 +45,7 @@ pub record Opened (C : List ℕ → List ℕ → List (List ℕ) → Type 0) (ab
   pub falls : IsFalling above targets
   pub leads : HaveParts (text ∷ windows message above targets) (map goes_on targets) firsts
   pub closes : C (last_window text message above targets) reach final
+  pub open_ : length reach ≡ open_below above targets
 
 pub opened : (C : List ℕ → List ℕ → List (List ℕ) → Type 0) (targets : List ℕ) (parts : List (List (List ℕ)))
     (above : ℕ) (text message : List ℕ) → above ≤ length message → Route C text (take above message) targets parts
@@ -57,6 +58,7 @@ opened C [] parts above text message b h = record {
   falls = tt;
   leads = tt;
   closes = h.2;
+  open_ = length-take-le above message b;
 }
 opened C (p ∷ ps) [] above text message b h = absurd h
 opened C (p ∷ ps) (labels ∷ more) above text message b h =
@@ -72,6 +74,7 @@ opened C (p ∷ ps) (labels ∷ more) above text message b h =
       falls = (l, r.falls);
       leads = (h.1, r.leads);
       closes = r.closes;
+      open_ = r.open_;
     }
 
 -- what is behind the first label where a text breaks

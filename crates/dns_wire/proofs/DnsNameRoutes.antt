@@ -106,7 +106,7 @@ route_ahead C closing close (p ∷ ps) (labels ∷ more) i n text reach h =
 abbrev pub Some_route : (List ℕ → List ℕ → List (List ℕ) → Type 0) → List ℕ → List ℕ → Type 0
 Some_route C text reach = (targets : List ℕ) × (parts : List (List (List ℕ))) × Route C text reach targets parts
 
-add_label : (C : List ℕ → List ℕ → List (List ℕ) → Type 0) (text bytes rest reach : List ℕ) → Whole text bytes rest
+pub add_label : (C : List ℕ → List ℕ → List (List ℕ) → Type 0) (text bytes rest reach : List ℕ) → Whole text bytes rest
     → ((labels : List (List ℕ)) → C rest reach labels → C text reach (bytes ∷ labels))
     → (targets : List ℕ) (parts : List (List (List ℕ))) → Route C rest reach targets parts → Some_route C text reach
 add_label C text bytes rest reach w more [] parts h = ([], (bytes ∷ h.0) ∷ [], (bytes ∷ h.0, refl, more h.0 h.2))
@@ -122,7 +122,7 @@ add_label C text bytes rest reach w more (p ∷ ps) (labels ∷ others) h = (
   ),
 )
 
-ends_more : (text bytes rest reach : List ℕ) → Whole text bytes rest → (labels : List (List ℕ)) → Ends rest reach labels
+pub ends_more : (text bytes rest reach : List ℕ) → Whole text bytes rest → (labels : List (List ℕ)) → Ends rest reach labels
     → Ends text reach (bytes ∷ labels)
 ends_more text bytes rest reach w labels h =
     subst (λ t. IsPart t (bytes ∷ labels) ends) (sym w.is) (part_cons bytes rest labels ends (w.some, w.few) h)
@@ -145,7 +145,7 @@ break_here : (text reach : List ℕ)
     → ((front_of text ≡ torn) ⊎ ((p : ℕ) × (front_of text ≡ pointer p) × (length reach ≤ p))) → Found text reach
 break_here text reach b = inr ([], [] ∷ [], ([], refl, record { rest = text; each = tt; is = refl; bad = b }))
 
-pointer_part : (text : List ℕ) (p : ℕ) → Points text p → IsPart text [] (goes_on p)
+pub pointer_part : (text : List ℕ) (p : ℕ) → Points text p → IsPart text [] (goes_on p)
 pointer_part text p h = record {
   mark = h.first ∷ h.second ∷ [];
   rest = h.rest;

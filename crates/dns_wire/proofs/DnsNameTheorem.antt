@@ -18,13 +18,13 @@ use Rattle.dns_wire.proofs.DnsNamePaths.{complete_route, opened, break_part, bre
 use Rattle.dns_wire.proofs.DnsNamePaths.{end_stays, route_longest, route_follows, follows_one}
 
 -- the whole message is open at first
-whole_open : (C : List ℕ → List ℕ → List (List ℕ) → Type 0) (text message targets : List ℕ)
+pub whole_open : (C : List ℕ → List ℕ → List (List ℕ) → Type 0) (text message targets : List ℕ)
     (parts : List (List (List ℕ))) → Route C text (take (length message) message) targets parts
     → Route C text message targets parts
 whole_open C text message targets parts r =
     subst (λ m. Route C text m targets parts) (take_all (length message) message (omega arith)) r
 
-open_whole : (C : List ℕ → List ℕ → List (List ℕ) → Type 0) (text message targets : List ℕ)
+pub open_whole : (C : List ℕ → List ℕ → List (List ℕ) → Type 0) (text message targets : List ℕ)
     (parts : List (List (List ℕ))) → Route C text message targets parts
     → Route C text (take (length message) message) targets parts
 open_whole C text message targets parts r =

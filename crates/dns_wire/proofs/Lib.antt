@@ -10,3 +10,5 @@ pub mod DnsQuestionFormat
 pub mod DnsFlagsWord
 pub mod DnsReprFormat
 pub mod DnsRecordData
+pub mod DnsNameBreaks
+pub mod DnsRefused

@@ -85,6 +85,11 @@ abbrev pub last_window : List ℕ → List ℕ → ℕ → List ℕ → List ℕ
 last_window text message above [] = text
 last_window text message above (p ∷ ps) = last_window (slice_range message p above) message p ps
 
+-- where the last of the windows ends: behind it no byte of the message is open to a pointer
+abbrev pub open_below : ℕ → List ℕ → ℕ
+open_below above [] = above
+open_below above (p ∷ ps) = open_below p ps
+
 -- each window in turn begins with a part that has these labels and stops so, as far as the stops go
 abbrev pub HaveParts : List (List ℕ) → List Stop → List (List (List ℕ)) → Type 0
 HaveParts ws [] [] = Unit {0}

@@ -7,3 +7,5 @@ pub mod DnsPart
 pub mod DnsQuestion
 pub mod DnsRepr
 pub mod DnsRecord
+pub mod DnsDisplay
+pub mod DnsRefusal

@@ -1,0 +1,100 @@
+-- What messages and their parts print, by the names of IANA's registry of DNS parameters.
+use Rattle.std.specs.Prelude.{ℕ, ◌==◌, if◌then◌else◌, List, [], ◌∷◌, ◌++◌, length, codes, decimal}
+use Rattle.std.specs.Int.Bits.{bit_and}
+use Rattle.wirebase.specs.Display.{pieces}
+use Rattle.wirebase.specs.Ipv4 as ipv4
+use Rattle.wirebase.specs.Ipv6Address as ipv6
+use Rattle.dns_wire.specs.DnsTables.{opcode_number, rcode_number, type_number}
+use Rattle.dns_wire.specs.DnsQuestion.{QuestionValue}
+use Rattle.dns_wire.specs.DnsRecord.{DataValue, address4, address6, canonical_name, other, RecordValue}
+use Rattle.dns_wire.specs.DnsRepr.{QueryValue}
+use Rattle.dns_wire.specs.declared.dns.tables.Opcode.{Opcode}
+use Rattle.dns_wire.specs.declared.dns.tables.Rcode.{Rcode}
+use Rattle.dns_wire.specs.declared.dns.tables.Type.{«Type» as RecordType}
+
+-- ---- numbers
+
+-- the name of a number, or a word and the number where the table has no name for it
+abbrev pub named : List ℕ → List (List ℕ × ℕ) → ℕ → List ℕ
+named word [] n = word ++ decimal n
+named word (row ∷ rest) n = if n == row.1 then row.0 else named word rest n
+
+-- types of record; a number with no name is written as RFC 3597 section 5 has it
+abbrev pub type_names : List (List ℕ × ℕ)
+type_names =
+    (codes "A", 1) ∷ (codes "NS", 2) ∷ (codes "CNAME", 5) ∷ (codes "SOA", 6)
+    ∷ (codes "PTR", 12) ∷ (codes "HINFO", 13) ∷ (codes "MX", 15) ∷ (codes "TXT", 16)
+    ∷ (codes "AAAA", 28) ∷ (codes "SRV", 33) ∷ (codes "NAPTR", 35) ∷ (codes "DNAME", 39)
+    ∷ (codes "OPT", 41) ∷ (codes "DS", 43) ∷ (codes "SSHFP", 44) ∷ (codes "RRSIG", 46)
+    ∷ (codes "NSEC", 47) ∷ (codes "DNSKEY", 48) ∷ (codes "NSEC3", 50) ∷ (codes "TLSA", 52)
+    ∷ (codes "SVCB", 64) ∷ (codes "HTTPS", 65) ∷ (codes "SPF", 99) ∷ (codes "IXFR", 251)
+    ∷ (codes "AXFR", 252) ∷ (codes "ANY", 255) ∷ (codes "CAA", 257) ∷ []
+
+abbrev pub type_display : RecordType → List ℕ
+type_display t = named (codes "TYPE") type_names (type_number t)
+
+-- Kinds of query by their numbers, so that 1 is IQUERY and 2 is STATUS (RFC 1035 section 4.1.1), whatever the case
+-- is called.
+abbrev pub opcode_names : List (List ℕ × ℕ)
+opcode_names = (codes "QUERY", 0) ∷ (codes "IQUERY", 1) ∷ (codes "STATUS", 2) ∷ []
+
+abbrev pub opcode_display : Opcode → List ℕ
+opcode_display opcode = named (codes "OPCODE") opcode_names (opcode_number opcode)
+
+-- outcomes (RFC 1035 section 4.1.1, RFC 2136 section 2.2)
+abbrev pub rcode_names : List (List ℕ × ℕ)
+rcode_names =
+    (codes "NOERROR", 0) ∷ (codes "FORMERR", 1) ∷ (codes "SERVFAIL", 2) ∷ (codes "NXDOMAIN", 3)
+    ∷ (codes "NOTIMP", 4) ∷ (codes "REFUSED", 5) ∷ (codes "YXDOMAIN", 6) ∷ (codes "YXRRSET", 7)
+    ∷ (codes "NXRRSET", 8) ∷ (codes "NOTAUTH", 9) ∷ (codes "NOTZONE", 10) ∷ []
+
+abbrev pub rcode_display : Rcode → List ℕ
+rcode_display rcode = named (codes "RCODE") rcode_names (rcode_number rcode)
+
+-- ---- flags
+
+-- each flag's short name and bit (RFC 1035 section 4.1.1, RFC 4035 section 3.2)
+abbrev pub flag_names : List (List ℕ × ℕ)
+flag_names =
+    (codes "qr", 0x8000) ∷ (codes "aa", 0x0400) ∷ (codes "tc", 0x0200) ∷ (codes "rd", 0x0100)
+    ∷ (codes "ra", 0x0080) ∷ (codes "ad", 0x0020) ∷ (codes "cd", 0x0010) ∷ []
+
+-- The names of the flags that are set, with commas between them; this stands in front of the first, and where none is
+-- set there is this text.
+abbrev pub names_set : List ℕ → List ℕ → List (List ℕ × ℕ) → ℕ → List ℕ
+names_set front none [] bits = none
+names_set front none (row ∷ rest) bits =
+    if bit_and bits row.1 == 0 then names_set front none rest bits
+    else front ++ row.0 ++ names_set (codes ",") [] rest bits
+
+-- a set with none of the flags is `-`
+abbrev pub flags_display : ℕ → List ℕ
+flags_display bits = names_set [] (codes "-") flag_names bits
+
+-- ---- messages; a name is told by the bytes that it takes where it stands, and data by its length
+
+abbrev pub question_fields_display : QuestionValue → List ℕ
+question_fields_display question =
+    pieces (codes "name_len=" ∷ decimal (length question.name) ∷ codes " type=" ∷ type_display question.kind ∷ [])
+
+abbrev pub question_display : QuestionValue → List ℕ
+question_display question = codes "DNS question " ++ question_fields_display question
+
+abbrev pub data_display : DataValue → List ℕ
+data_display (address4 address) = codes "A addr=" ++ ipv4.address_text address
+data_display (address6 address) = codes "AAAA addr=" ++ ipv6.address_text address
+data_display (canonical_name name) = codes "CNAME name_len=" ++ decimal (length name)
+data_display (other t bytes) = pieces (type_display t ∷ codes " len=" ∷ decimal (length bytes) ∷ [])
+
+abbrev pub record_display : RecordValue → List ℕ
+record_display r =
+    pieces (codes "DNS record name_len=" ∷ decimal (length r.name)
+    ∷ codes " ttl=" ∷ decimal r.ttl
+    ∷ codes " " ∷ data_display r.holds ∷ [])
+
+abbrev pub query_display : QueryValue → List ℕ
+query_display query =
+    pieces (codes "DNS query id=" ∷ decimal query.transaction_id
+    ∷ codes " opcode=" ∷ opcode_display query.kind
+    ∷ codes " flags=" ∷ flags_display query.flags
+    ∷ codes " " ∷ question_fields_display query.asks ∷ [])

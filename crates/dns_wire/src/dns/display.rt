@@ -1,0 +1,137 @@
+//! What messages and their parts print, by the names of IANA's registry of DNS parameters.
+
+ghost use Rattle.std.specs.Prelude.{◌≡◌, [], ◌∷◌, Some, None, codes, map};
+ghost use Rattle.std.specs.Fmt.{WritesOnOk};
+ghost use Rattle.dns_wire.specs.DnsTables.{flag_bits};
+ghost use Rattle.dns_wire.specs.DnsQuestion.{value_of as question_value};
+ghost use Rattle.dns_wire.specs.DnsRecord.{data_value, value_of as record_value};
+ghost use Rattle.dns_wire.specs.DnsRepr.{value_of as query_value};
+ghost use Rattle.dns_wire.specs.DnsDisplay.{type_display, opcode_display, rcode_display, flags_display, names_set};
+ghost use Rattle.dns_wire.specs.DnsDisplay.{question_display, data_display, record_display, query_display};
+
+use super::{Flags, Opcode, Question, Rcode, Record, RecordData, Repr, Type};
+use bitflags::Flags as _;
+use std::fmt;
+
+/// The name of the type, as `AAAA`, or its number where it has none here, as `TYPE34` (RFC 3597 section 5). A number
+/// that is kept as [`Type::Unknown`] has its name too, as `MX`.
+impl fmt::Display for Type {
+    ghost output = { λ kind. Some (type_display kind) };
+
+    fn fmt<W: fmt::Write>(&self, f: &mut fmt::Formatter<W>) -> fmt::Result {
+        let name = match u16::from(*self) {
+            1 => "A",
+            2 => "NS",
+            5 => "CNAME",
+            6 => "SOA",
+            12 => "PTR",
+            13 => "HINFO",
+            15 => "MX",
+            16 => "TXT",
+            28 => "AAAA",
+            33 => "SRV",
+            35 => "NAPTR",
+            39 => "DNAME",
+            41 => "OPT",
+            43 => "DS",
+            44 => "SSHFP",
+            46 => "RRSIG",
+            47 => "NSEC",
+            48 => "DNSKEY",
+            50 => "NSEC3",
+            52 => "TLSA",
+            64 => "SVCB",
+            65 => "HTTPS",
+            99 => "SPF",
+            251 => "IXFR",
+            252 => "AXFR",
+            255 => "ANY",
+            257 => "CAA",
+            number => return write!(f, "TYPE{number}"),
+        };
+        f.write_str(name)
+    }
+}
+
+/// The name of the kind of query, or its number where it has none here, as `OPCODE6`. It goes by the number: of
+/// [`Opcode::Status`], which is 1, it is `IQUERY`, and of `Opcode::Unknown(2)` it is `STATUS` (RFC 1035 section 4.1.1).
+impl fmt::Display for Opcode {
+    ghost output = { λ opcode. Some (opcode_display opcode) };
+
+    fn fmt<W: fmt::Write>(&self, f: &mut fmt::Formatter<W>) -> fmt::Result {
+        let name = match u8::from(*self) {
+            0 => "QUERY",
+            1 => "IQUERY",
+            2 => "STATUS",
+            number => return write!(f, "OPCODE{number}"),
+        };
+        f.write_str(name)
+    }
+}
+
+/// The name of the outcome, as `NXDOMAIN`, or its number where it has none, as `RCODE15`.
+impl fmt::Display for Rcode {
+    ghost output = { λ rcode. Some (rcode_display rcode) };
+
+    fn fmt<W: fmt::Write>(&self, f: &mut fmt::Formatter<W>) -> fmt::Result {
+        let name = match u8::from(*self) {
+            0 => "NOERROR",
+            1 => "FORMERR",
+            2 => "SERVFAIL",
+            3 => "NXDOMAIN",
+            4 => "NOTIMP",
+            5 => "REFUSED",
+            6 => "YXDOMAIN",
+            7 => "YXRRSET",
+            8 => "NXRRSET",
+            9 => "NOTAUTH",
+            10 => "NOTZONE",
+            number => return write!(f, "RCODE{number}"),
+        };
+        f.write_str(name)
+    }
+}
+
+/// The question, as `DNS question name_len=12 type=A`. Its name is told by the bytes that it takes where it stands.
+impl fmt::Display for Question<'_> {
+    ghost output = { λ it. Some (question_display (question_value it)) };
+
+    fn fmt<W: fmt::Write>(&self, f: &mut fmt::Formatter<W>) -> fmt::Result {
+        let name_len = self.name.len();
+        let type_ = self.type_;
+        write!(f, "DNS question name_len={name_len} type={type_}")
+    }
+}
+
+/// The type of the record, and its address or the bytes that its data take, as `A addr=192.0.2.1` or `SOA len=38`.
+impl fmt::Display for RecordData<'_> {
+    ghost output = { λ it. Some (data_display (data_value it)) };
+
+    fn fmt<W: fmt::Write>(&self, f: &mut fmt::Formatter<W>) -> fmt::Result {
+        match self {
+            RecordData::A(address) => write!(f, "A addr={address}"),
+            RecordData::Aaaa(address) => write!(f, "AAAA addr={address}"),
+            RecordData::Cname(name) => {
+                let name_len = name.len();
+                write!(f, "CNAME name_len={name_len}")
+            }
+            RecordData::Other(type_, data) => {
+                let len = data.len();
+                write!(f, "{type_} len={len}")
+            }
+        }
+    }
+}
+
+/// The record, as `DNS record name_len=2 ttl=202 A addr=192.0.2.1`. Its name is told by the bytes that it takes where
+/// it stands, and its time to live is in seconds.
+impl fmt::Display for Record<'_> {
+    ghost output = { λ it. Some (record_display (record_value it)) };
+
+    fn fmt<W: fmt::Write>(&self, f: &mut fmt::Formatter<W>) -> fmt::Result {
+        let name_len = self.name.len();
+        let ttl = self.ttl;
+        let data = self.data;
+        write!(f, "DNS record name_len={name_len} ttl={ttl} {data}")
+    }
+}
