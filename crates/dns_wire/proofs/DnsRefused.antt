@@ -34,9 +34,11 @@ question_begins bytes name after s reaches class = (
 pub question_fixed : (bytes name after : List ℕ) → IsSplit bytes name after → BeginsWithQuestion bytes
     → Reaches class_field after × (number_of class_field after ≡ internet)
 question_fixed bytes name after s (value, rest, h) =
-    let e = (split_one bytes value.name name h.after after (record { name_ = h.name_; whole = h.whole }) s).1 in
-    (subst (λ (t : List ℕ). Reaches class_field t) e h.reaches, subst
-        (λ (t : List ℕ). number_of class_field t ≡ internet) e h.class)
+    let e = (split_one bytes value.name name h.after after (record { name_ = h.name_; whole = h.whole }) s).1 in (
+      subst (λ (t : List ℕ). Reaches class_field t) e h.reaches,
+      subst
+          (λ (t : List ℕ). number_of class_field t ≡ internet) e h.class,
+    )
 
 -- ---- records
 

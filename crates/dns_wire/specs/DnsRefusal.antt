@@ -116,7 +116,7 @@ BeginsWithRecord bytes = (value : RecordValue) × (rest : List ℕ) × IsRecord 
 abbrev pub name_refusal_display : NameRefusal → List ℕ
 name_refusal_display NoEnd = codes "the name has no end"
 name_refusal_display LabelCut = codes "a label is cut"
-name_refusal_display (LabelType n) = pieces (codes "byte " ∷ decimal n ∷ codes " begins no label" ∷ [])
+name_refusal_display (LabelType n) = pieces (decimal n ∷ codes " is neither the length of a label nor a pointer" ∷ [])
 name_refusal_display PointerCut = codes "a pointer is cut"
 name_refusal_display (Pointer place) = pieces (codes "a pointer to byte " ∷ decimal place ∷ codes " does not lead back" ∷ [])
 

@@ -4,7 +4,8 @@
 
 ghost use Rattle.std.specs.Prelude.{◌≡◌, true};
 
-use std::fmt::Debug;
+use std::alloc::Global;
+use std::fmt::{self, Debug, Display, Write};
 use std::process::Abort;
 use wirebase::Result;
 
@@ -43,6 +44,41 @@ pub(crate) fn agree<T: PartialEq + Debug + Drop>(
     plain: &Option<T>,
 ) {
     same_of(rt, octets, read.as_ref().ok(), plain.as_ref());
+}
+
+// Ends the test where the value prints another text, or where there is no memory for it.
+pub(crate) fn prints(rt: &impl Abort, alloc: Global, value: &impl Display, text: &str) {
+    let printed = value.to_string(alloc).ok();
+    same(rt, printed.as_deref(), Some(text));
+}
+
+// A writer that takes so many writes, and fails at the one after them.
+#[derive(Drop)]
+struct FailingWriter {
+    left: u32,
+}
+
+impl Write for FailingWriter {
+    fn write_str(&mut self, _text: &str) -> fmt::Result {
+        if self.left == 0 {
+            return Err(fmt::Error);
+        }
+        self.left -= 1;
+        Ok(())
+    }
+}
+
+// Whether the value is printed by a writer that takes so many writes.
+fn is_printed(value: &impl Display, writes: u32) -> bool {
+    let mut writer = FailingWriter { left: writes };
+    write!(writer, "{value}").is_ok()
+}
+
+// Ends the test unless the value is printed in so many writes, and fails where its writer refuses one of them.
+pub(crate) fn takes_writes(rt: &impl Abort, value: &impl Display, writes: u32) {
+    for left in 0..=writes {
+        same_of(rt, left, is_printed(value, left), left == writes);
+    }
 }
 
 // Ends the test, for want of what should have been.

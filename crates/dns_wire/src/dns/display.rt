@@ -135,3 +135,67 @@ impl fmt::Display for Record<'_> {
         write!(f, "DNS record name_len={name_len} ttl={ttl} {data}")
     }
 }
+
+/// The names of the flags that are set, with commas between them, as `rd,ad`; `-` where none is set. Bits that have no
+/// name are not told.
+impl fmt::Display for Flags {
+    ghost output = { λ flags. Some (flags_display (flag_bits flags)) };
+
+    fn fmt<W: fmt::Write>(&self, f: &mut fmt::Formatter<W>) -> fmt::Result {
+        fmt_flags(f, "", "-", FLAG_NAMES, self.bits())
+    }
+}
+
+// Each flag's short name and bit.
+const FLAG_NAMES: &[(&str, u16)] = &[
+    ("qr", 0x8000),
+    ("aa", 0x0400),
+    ("tc", 0x0200),
+    ("rd", 0x0100),
+    ("ra", 0x0080),
+    ("ad", 0x0020),
+    ("cd", 0x0010),
+];
+
+// Prints the names of the flags that are set, behind this text and with commas between them; another text where none
+// is set.
+fn fmt_flags<W: fmt::Write>(
+    f: &mut fmt::Formatter<W>,
+    front: &str,
+    none: &str,
+    names: &[(&str, u16)],
+    bits: u16,
+) -> fmt::Result
+    ensures { WritesOnOk W.write_str_gives f.old result (names_set front.now none.now
+        (map (λ row. (row.0.now, row.1)) names.now) bits) f.new }
+{
+    let [(name, bit), rest @ ..] = names else {
+        return f.write_str(none);
+    };
+    if bits & *bit == 0 {
+        return fmt_flags(f, front, none, rest, bits);
+    }
+    write!(f, "{front}{name}")?;
+    fmt_flags(f, ",", "", rest, bits)
+}
+
+/// The query, as `DNS query id=4660 opcode=QUERY flags=rd name_len=12 type=A`. The name of its question is told by the
+/// bytes that it takes.
+impl fmt::Display for Repr<'_> {
+    ghost output = { λ it. Some (query_display (query_value it)) };
+
+    fn fmt<W: fmt::Write>(&self, f: &mut fmt::Formatter<W>) -> fmt::Result {
+        let Repr {
+            transaction_id,
+            opcode,
+            flags,
+            question,
+        } = self;
+        let name_len = question.name.len();
+        let type_ = question.type_;
+        write!(
+            f,
+            "DNS query id={transaction_id} opcode={opcode} flags={flags} name_len={name_len} type={type_}"
+        )
+    }
+}

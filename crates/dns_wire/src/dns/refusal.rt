@@ -35,15 +35,15 @@ mod field {
 pub enum NameRefusal {
     /// The bytes end where a label, byte 0 or a pointer is to stand.
     NoEnd,
-    /// Fewer bytes follow than the length of a label says. Behind a pointer, the bytes from the place that the pointer
-    /// before it led to on are not read again.
+    /// A label of fewer bytes than its length says. Behind a pointer the bytes end where the pointer before it led to,
+    /// since no byte of the message is read twice.
     LabelCut,
     /// A byte of 64 to 191, which is neither the length of a label nor the first byte of a pointer.
     LabelType(u8),
     /// The first byte of a pointer, and no second.
     PointerCut,
-    /// A pointer to this place of the message, which is not in front of the place that the pointer before it led to;
-    /// or, of the first pointer, not in the message.
+    /// A pointer to this place of the message, which is not in front of the place that the pointer before it led to, as
+    /// in a loop; or, of the first pointer, is not in the message.
     Pointer(usize),
 }
 
@@ -69,7 +69,9 @@ impl fmt::Display for NameRefusal {
         match self {
             NameRefusal::NoEnd => f.write_str("the name has no end"),
             NameRefusal::LabelCut => f.write_str("a label is cut"),
-            NameRefusal::LabelType(number) => write!(f, "byte {number} begins no label"),
+            NameRefusal::LabelType(number) => {
+                write!(f, "{number} is neither the length of a label nor a pointer")
+            },
             NameRefusal::PointerCut => f.write_str("a pointer is cut"),
             NameRefusal::Pointer(place) => {
                 write!(f, "a pointer to byte {place} does not lead back")

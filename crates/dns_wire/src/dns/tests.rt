@@ -6,6 +6,8 @@ use std::process::Abort;
 use wirebase::{Ipv4Address, Ipv6Address};
 
 pub(super) mod damaged;
+mod printing;
+mod refusals;
 mod written;
 
 #[test]
