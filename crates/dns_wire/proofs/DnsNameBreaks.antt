@@ -1,17 +1,17 @@
 -- Why a name breaks.
-use Rattle.std.proofs.Common.{◌≡◌, ℕ, ◌+◌, ◌<◌, ◌≤◌, ◌⊎◌, inl, inr, false, true, ltb, eqb, List, [], ◌∷◌, ◌++◌, length}
+use Rattle.std.proofs.Common.{◌≡◌, ℕ, ◌<◌, ◌≤◌, ◌⊎◌, inl, inr, false, true, ltb, eqb, List, [], ◌∷◌, ◌++◌, length}
 use Rattle.std.proofs.Common.{take, drop, refl, sym, ap, ◌∙◌, subst, arith, append_assoc}
 use Rattle.std.specs.List.{AllByRecursion, flat_map}
 use Rattle.std.proofs.lemmas.Bool.{lt-ltb, le-ltb, ne_eqb}
 use Rattle.std.proofs.lemmas.List.{take_at, drop_at}
-use Rattle.dns_wire.specs.DnsName.{IsLabel, written, ends, goes_on, IsBrokenPath, joined}
+use Rattle.dns_wire.specs.DnsName.{IsLabel, written, ends, goes_on, joined}
 use Rattle.dns_wire.specs.DnsNameAhead.{whole, pointer, stop, torn, front_of}
 use Rattle.dns_wire.specs.DnsPart.{IsSplit, BeginsWithPart}
 use Rattle.dns_wire.specs.DnsRefusal.{IsTorn, PartBreaks, BreaksHere, NameBreaks, HasName}
 use Rattle.dns_wire.specs.declared.dns.refusal.NameRefusal.{NameRefusal}
 use Rattle.dns_wire.specs.declared.dns.refusal.NameRefusal.TheVariants.{NoEnd, LabelCut, LabelType, PointerCut}
 use Rattle.dns_wire.specs.declared.dns.refusal.NameRefusal.TheVariants.{Pointer}
-use Rattle.dns_wire.proofs.DnsNameTurns.{Whole, Whole-front, Points-front, stop-front}
+use Rattle.dns_wire.proofs.DnsNameTurns.{Whole-front, Points-front, stop-front}
 use Rattle.dns_wire.proofs.DnsNameParts.{mark_front, label_front}
 use Rattle.dns_wire.proofs.DnsNameRoutes.{Breaks, Ends, Route, Some_route, add_label, ends_more, pointer_part}
 use Rattle.dns_wire.proofs.DnsNamePaths.{complete_route, opened, break_part, break_longest, break_stays, route_longest}

@@ -1,5 +1,5 @@
 -- Questions and records, and what is told of other octets.
-use Rattle.std.proofs.Common.{◌≡◌, ℕ, ◌≤◌, List, [], ◌∷◌, ◌++◌, length, drop, take, refl, sym, ap, ◌∙◌, subst, arith}
+use Rattle.std.proofs.Common.{◌≡◌, ℕ, List, [], ◌∷◌, length, drop, refl, sym, subst, arith}
 use Rattle.wirebase.specs.Bytes.{Reaches, number_of}
 use Rattle.dns_wire.specs.declared.dns.refusal.Refusal.{Refusal}
 use Rattle.dns_wire.specs.declared.dns.refusal.Refusal.TheVariants.{Name, Short, Class, Length, AddressLength}
@@ -8,8 +8,8 @@ use Rattle.dns_wire.specs.declared.dns.tables.Type.TheVariants as kind
 use Rattle.dns_wire.specs.DnsTables.{type_of}
 use Rattle.dns_wire.specs.DnsPart.{IsSplit}
 use Rattle.dns_wire.specs.DnsQuestion.{internet, type_field, class_field}
-use Rattle.dns_wire.specs.DnsRecord.{IsBehindName, DataValue, address4, address6, canonical_name, other, length_field}
-use Rattle.dns_wire.specs.DnsRefusal.{RefusesRecord, RefusesBehindName, RefusesData, AreData, BeginsWithQuestion}
+use Rattle.dns_wire.specs.DnsRecord.{IsBehindName, address4, address6, canonical_name, other}
+use Rattle.dns_wire.specs.DnsRefusal.{RefusesRecord, RefusesBehindName, AreData, BeginsWithQuestion}
 use Rattle.dns_wire.specs.DnsRefusal.{BeginsWithRecord, GoesOnBehindName}
 use Rattle.dns_wire.proofs.DnsNameBreaks.{split_one}
 

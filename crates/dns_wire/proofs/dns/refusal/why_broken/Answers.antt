@@ -1,4 +1,4 @@
-use Rattle.std.proofs.Common.{refl, sym}
+use Rattle.std.proofs.Common.{refl}
 use Rattle.dns_wire.specs.declared.dns.refusal.NameRefusal.TheVariants.{Pointer}
 use Rattle.dns_wire.proofs.DnsNameRoutes.{Ends}
 use Rattle.dns_wire.proofs.DnsNameBreaks.{BreaksFor, breaks_label, ends_label, route_pointer, ends_here, breaks_torn}
