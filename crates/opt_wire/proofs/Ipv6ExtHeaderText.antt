@@ -1,11 +1,14 @@
 -- The text of an extension header, and the options that it carries.
 use Rattle.std.proofs.Common.{◌≡◌, ℕ, ◌+◌, ◌-◌, ◌*◌, ◌≤◌, List, length, refl, sym, ◌∙◌, arith}
 use Rattle.std.proofs.lemmas.List.{take_all}
-use Rattle.wirebase.specs.Bytes.{part, over}
+use Rattle.wirebase.specs.Bytes.{part, over, byte_of, bytes_of}
 use Rattle.wirebase.specs.ByteWriter.{be8, fields}
+use Rattle.wirebase.specs.Ip.{protocol_of}
 use Rattle.wirebase.proofs.Pieces.{over-exact}
 use Rattle.opt_wire.specs.Ipv6Hbh as hop_by_hop
-use Rattle.opt_wire.specs.Ipv6ExtHeader.{HeaderValue, text, Emits, CarriesOptions}
+use Rattle.opt_wire.specs.Ipv6ExtHeader.{next_header_field, length_field, payload_field, IsWhole, HeaderValue, text}
+use Rattle.opt_wire.specs.Ipv6ExtHeader.{Emits, CarriesOptions}
+use Rattle.opt_wire.specs.Ipv6ExtHeaderRefusal.{IsRead}
 use Rattle.opt_wire.proofs.Ipv6HbhFormat.{header_format}
 
 length-text : (header : HeaderValue) → length (text header) ≡ 2
@@ -30,3 +33,14 @@ carries_options most one n count options small fits canonical long =
       },
       (header_format most one).reads_back options _ canonical,
     )
+
+-- whole bytes are read
+pub whole-read : (bytes : List ℕ) → IsWhole bytes → IsRead bytes
+whole-read bytes whole = (
+  record {
+    next_header = protocol_of (byte_of next_header_field bytes);
+    count = byte_of length_field bytes;
+    payload = bytes_of (payload_field bytes) bytes;
+  },
+  record { whole = whole; next_header_ = refl; count_ = refl; payload_ = refl },
+)

@@ -1,9 +1,11 @@
 pub mod Ipv6ExtHeader
+pub mod Ipv6ExtHeaderRefusal
 pub mod Ipv6Hbh
 pub mod Ipv6Option
 pub mod Ipv6OptionAnswers
 pub mod Ipv6OptionDisplay
 pub mod Ipv6OptionModel
+pub mod Ipv6OptionRefusal
 pub mod Ipv6OptionTables
 pub mod NdiscOption
 pub mod NdiscOptionRepr

@@ -12,6 +12,10 @@ ghost use Rattle.opt_wire.specs.contracts.ipv6ext_header.Header.{the_row};
 
 use wirebase::{ByteWriter, Error, IPV6_HBH_MAX_OPTIONS, IpProtocol, Octets, OctetsMut, Result};
 
+mod refusal;
+
+pub use refusal::Refusal;
+
 // The fields of a header; their picture is in specs/Ipv6ExtHeader.antt.
 mod field {
     use wirebase::Field;

@@ -20,9 +20,11 @@ use std::fmt;
 use wirebase::{ByteWriter, Error, Octets, OctetsMut, Result, are_bytes};
 
 mod options;
+mod refusal;
 mod tables;
 
 pub use options::Ipv6OptionsIterator;
+pub use refusal::Refusal;
 use tables::AlertName;
 pub use tables::{FailureType, RouterAlert, Type};
 

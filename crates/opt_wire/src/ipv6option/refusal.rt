@@ -1,0 +1,69 @@
+//! Why octets begin with no option, check by check (RFC 8200 section 4.2, RFC 2711 section 2.1).
+
+ghost use Rattle.std.specs.Prelude.{◌↔◌, IfSome, IsNone, Some};
+ghost use Rattle.opt_wire.specs.Ipv6Option.{view_octets};
+ghost use Rattle.opt_wire.specs.Ipv6OptionRefusal.{IsRead, Refuses, refusal_text};
+
+use super::{Ipv6Option, Repr, RouterAlert, Type, field};
+use std::fmt;
+
+/// Why octets begin with no option that [`Repr::parse`] reads: the check that fails first.
+#[derive(Debug, PartialEq, Eq, Clone, Copy)]
+pub enum Refusal {
+    /// No bytes.
+    Empty,
+    /// A type that is not a Pad1, and no length behind it.
+    Short,
+    /// Fewer bytes than the length counts, which is this many with the type and the length.
+    Cut(usize),
+    /// A length, in bytes, that the type does not allow: a router alert of other than 2 bytes of data.
+    Length(Type, u8),
+}
+
+impl<'a> Repr<'a> {
+    /// Why [`Repr::parse`] refuses these octets, by the check that fails first; None where it reads them.
+    pub fn refusal(opt: &Ipv6Option<&'a [u8]>) -> Option<Refusal>
+        ensures told { IfSome result (λ refusal. Refuses (view_octets opt.now) refusal) }
+        ensures exact { IsNone result ↔ IsRead (view_octets opt.now) }
+    {
+        if Repr::parse(opt).is_ok() {
+            return None;
+        }
+        Some(why_none(opt))
+    }
+}
+
+// Why the octets, which begin with no option, don't.
+fn why_none(opt: &Ipv6Option<&[u8]>) -> Refusal
+    requires { IsRead (view_octets opt.now) → ⊥ }
+    ensures { Refuses (view_octets opt.now) result }
+{
+    let len = opt.buffer.len();
+    if len == 0 {
+        return Refusal::Empty;
+    }
+    if len < field::LENGTH.end {
+        return Refusal::Short;
+    }
+    let end = field::data(opt.data_len()).end;
+    if len < end {
+        return Refusal::Cut(end);
+    }
+    Refusal::Length(Type::RouterAlert, opt.data_len())
+}
+
+/// A short phrase, as `a length of 3 is not allowed for RouterAlert`.
+impl fmt::Display for Refusal {
+    ghost output = { λ refusal. Some (refusal_text refusal) };
+
+    fn fmt<W: fmt::Write>(&self, f: &mut fmt::Formatter<W>) -> fmt::Result {
+        match *self {
+            Refusal::Empty => f.write_str("no bytes"),
+            Refusal::Short => f.write_str("a type without a length"),
+            Refusal::Cut(len) => write!(f, "fewer than the {len} bytes that the option counts"),
+            Refusal::Length(type_, length) => {
+                write!(f, "a length of {length} is not allowed for {type_}")
+            }
+        }
+    }
+}
