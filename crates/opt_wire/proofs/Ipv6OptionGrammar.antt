@@ -18,6 +18,7 @@ use Rattle.opt_wire.specs.Ipv6OptionTables.{type_number, type_of, alert_of}
 use Rattle.opt_wire.specs.Ipv6Option.{option_type_field, opt_data_len_field, option_data_field, BeginsWhole}
 use Rattle.opt_wire.specs.Ipv6Option.{OptionValue, pad1, pad_n, router_alert, unknown, value_of, IsOption}
 use Rattle.opt_wire.specs.Ipv6Option.{BeginsWith}
+use Rattle.opt_wire.specs.Ipv6OptionRefusal.{IsRead}
 use Rattle.opt_wire.proofs.FieldsAtOnce.{all_bytes}
 use Rattle.opt_wire.specs.Ipv6OptionModel.{front_of, counted_at, known_at, alert_at}
 
@@ -188,3 +189,41 @@ pub complete : {E : Type 0} (result : Result Repr E) (bytes : List ℕ) → IfOk
     → (v : OptionValue) → BeginsWith bytes v → IsOkAnd result (λ r. value_of r ≡ v)
 complete (Ok r) bytes sound refuses v b = begins_with-unique bytes (value_of r) v sound b
 complete (Err e) bytes sound refuses v b = absurd (refuses refl v b)
+
+-- WHAT IS NOT READ
+
+tested : (b : Bool) → (b ≡ true) ⊎ (b ≡ false)
+tested true = inl refl
+tested false = inr refl
+
+known_at-some : (t n : ℕ) (d : List ℕ) → (t ≡ 5 → n ≡ 2) → (v : OptionValue) × (known_at t n d ≡ Some v)
+known_at-some t n d fits = elim (tested (eqb t 1)) [
+  | inl a ↦ (pad_n n, rw a refl)
+  | inr b ↦ elim (tested (eqb t 5)) [
+    | inl a ↦
+        let two : eqb n 2 ≡ true = rw (fits (eqb-true t 5 a)) refl in
+        (router_alert (alert_of (big_number 2 d)), rw (b, a, two) refl)
+    | inr a ↦ (unknown (type_of t) n d, rw (b, a) refl)
+  ]
+]
+
+-- whole bytes are read, but for a router alert of other than 2 bytes
+whole-read : (bytes : List ℕ) → BeginsWhole bytes
+    → (byte_of option_type_field bytes ≡ 5 → byte_of opt_data_len_field bytes ≡ 2) → IsRead bytes
+whole-read [] w fits = absurd (omega (arith, w.0))
+whole-read (t ∷ rest) w fits = elim (tested (eqb t 0)) [
+  | inl a ↦
+      let pad : front_of (t ∷ rest) ≡ Some pad1 = rw a refl in
+      (pad1, begins_with (t ∷ rest) pad1 pad)
+  | inr b ↦
+      let known = known_at-some t (byte_of opt_data_len_field (t ∷ rest))
+      (bytes_of (option_data_field (t ∷ rest)) (t ∷ rest)) fits in
+      (known.0, begins_with (t ∷ rest) known.0 (front_of-whole (t ∷ rest) w (eqb-false t 0 b) ∙ known.1))
+]
+
+pub misfit : (bytes : List ℕ) → BeginsWhole bytes → (IsRead bytes → ⊥)
+    → (byte_of option_type_field bytes ≡ 5) × (byte_of opt_data_len_field bytes ≢ 2)
+misfit bytes w none = elim (tested (eqb (byte_of option_type_field bytes) 5)) [
+  | inl a ↦ (eqb-true _ _ a, λ two. none (whole-read bytes w (λ five. two)))
+  | inr b ↦ absurd (none (whole-read bytes w (λ five. absurd (eqb-false _ _ b five))))
+]

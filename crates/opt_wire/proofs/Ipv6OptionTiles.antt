@@ -6,6 +6,7 @@ use Rattle.std.proofs.lemmas.List.{drop_at}
 use Rattle.std.proofs.lemmas.List.Sums.{sum_by-cons}
 use Rattle.wirebase.specs.declared.error.Error.{Error}
 use Rattle.opt_wire.specs.Ipv6Option.{OptionValue, pad1, pad_n, router_alert, unknown, text_len, IsOption, BeginsWith}
+use Rattle.opt_wire.specs.Ipv6OptionRefusal.{IsBehind}
 use Rattle.opt_wire.specs.Ipv6OptionAnswers.{Answer, Tile, ends, goes_on, breaks}
 use Rattle.opt_wire.specs.Ipv6OptionModel.{front_of, after_front, answers_within, answers_of, answers_to_come}
 use Rattle.opt_wire.proofs.Ipv6OptionGrammar.{begins_with, front_of-begins, begins_with-unique}
@@ -21,7 +22,7 @@ counted_some : (v : OptionValue) → 1 ≤ text_len v
 counted_some v = grind arith
 
 -- the bytes after the option at the front
-rest_after : (front rest : List ℕ) (v : OptionValue) → IsOption front v → drop (text_len v) (front ++ rest) ≡ rest
+pub rest_after : (front rest : List ℕ) (v : OptionValue) → IsOption front v → drop (text_len v) (front ++ rest) ≡ rest
 rest_after front rest v h = drop_at front rest (text_len v) (length-option front v h)
 
 tile_front : (most : ℕ) (bytes : List ℕ)
@@ -56,6 +57,14 @@ begins_by bytes front rest v h e = record { front = front; rest = rest; whole = 
 
 none_in_nothing : (v : OptionValue) → BeginsWith [] v → ⊥
 none_in_nothing v h = let f = front_of-begins [] v h in cc
+
+-- what stands behind the option at the front
+pub behind_first : (bytes rest : List ℕ) (v : OptionValue) → BeginsWith bytes v → rest ≡ drop (text_len v) bytes
+    → IsBehind bytes rest
+behind_first bytes rest v h e =
+    let same : rest ≡ h.rest = e ∙ ap (λ (b : List ℕ). drop (text_len v) b) h.whole ∙ rest_after h.front h.rest v h.option
+    in
+    (h.front, v, h.whole ∙ ap (λ (b : List ℕ). h.front ++ b) (sym same), h.option)
 
 -- there is one tiling only
 pub tile-unique : (bytes : List ℕ) (answers others : List Answer) → Tile bytes answers → Tile bytes others

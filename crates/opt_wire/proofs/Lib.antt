@@ -1,5 +1,6 @@
 pub mod FieldsAtOnce
 pub mod Ipv6ExtHeaderText
+pub mod Ipv6HbhBehind
 pub mod Ipv6HbhFormat
 pub mod Ipv6HbhGrammar
 pub mod Ipv6HbhText

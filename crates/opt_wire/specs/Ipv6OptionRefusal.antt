@@ -1,8 +1,9 @@
 -- Why bytes begin with no option (RFC 8200 section 4.2, RFC 2711 section 2.1), and what that reason prints.
-use Rattle.std.specs.Prelude.{◌≡◌, ◌≢◌, ℕ, ◌+◌, ◌≤◌, ◌<◌, List, [], ◌∷◌, length, codes, decimal}
+use Rattle.std.specs.Prelude.{◌≡◌, ◌≢◌, ℕ, ◌+◌, ◌≤◌, ◌<◌, List, [], ◌∷◌, ◌++◌, length, codes, decimal}
 use Rattle.wirebase.specs.Bytes.{byte_of}
 use Rattle.wirebase.specs.Display.{pieces}
-use Rattle.opt_wire.specs.Ipv6Option.{option_type_field, opt_data_len_field, BeginsWhole, OptionValue, BeginsWith}
+use Rattle.opt_wire.specs.Ipv6Option.{option_type_field, opt_data_len_field, BeginsWhole, OptionValue, IsOption}
+use Rattle.opt_wire.specs.Ipv6Option.{BeginsWith}
 use Rattle.opt_wire.specs.Ipv6OptionDisplay.{type_display}
 use Rattle.opt_wire.specs.declared.ipv6option.tables.Type as Kind
 use Rattle.opt_wire.specs.declared.ipv6option.tables.Type.TheVariants as kind
@@ -12,6 +13,10 @@ use Rattle.opt_wire.specs.declared.ipv6option.refusal.Refusal.TheVariants.{Empty
 -- the bytes begin with an option
 abbrev pub IsRead : List ℕ → Type 0
 IsRead bytes = (value : OptionValue) × BeginsWith bytes value
+
+-- behind an option at the front of the bytes stand these
+abbrev pub IsBehind : List ℕ → List ℕ → Type 0
+IsBehind bytes rest = (front : List ℕ) × (value : OptionValue) × (bytes ≡ front ++ rest) × IsOption front value
 
 -- the first byte is the type of an option with a length: not a Pad1
 abbrev pub HasLength : List ℕ → Type 0

@@ -1,6 +1,7 @@
 pub mod Ipv6ExtHeader
 pub mod Ipv6ExtHeaderRefusal
 pub mod Ipv6Hbh
+pub mod Ipv6HbhRefusal
 pub mod Ipv6Option
 pub mod Ipv6OptionAnswers
 pub mod Ipv6OptionDisplay

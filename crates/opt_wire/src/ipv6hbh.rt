@@ -17,6 +17,10 @@ use arrayvec::ArrayVec;
 use std::alloc::AllocError;
 use wirebase::{ByteWriter, Error, IPV6_HBH_MAX_OPTIONS, Octets, OctetsMut, Result, are_bytes};
 
+mod refusal;
+
+pub use refusal::Refusal;
+
 /// A view of the options of a hop-by-hop header: all that stands after its first two bytes.
 #[derive(Drop)]
 pub struct Header<T: Octets> {

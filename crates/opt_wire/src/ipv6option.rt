@@ -20,7 +20,7 @@ use std::fmt;
 use wirebase::{ByteWriter, Error, Octets, OctetsMut, Result, are_bytes};
 
 mod options;
-mod refusal;
+pub(crate) mod refusal;
 mod tables;
 
 pub use options::Ipv6OptionsIterator;

@@ -1,8 +1,8 @@
 //! Why octets begin with no option, check by check (RFC 8200 section 4.2, RFC 2711 section 2.1).
 
-ghost use Rattle.std.specs.Prelude.{◌↔◌, IfSome, IsNone, Some};
+ghost use Rattle.std.specs.Prelude.{◌↔◌, IfSome, IsNone, IfOk, IfErr, IsErr, Some};
 ghost use Rattle.opt_wire.specs.Ipv6Option.{view_octets};
-ghost use Rattle.opt_wire.specs.Ipv6OptionRefusal.{IsRead, Refuses, refusal_text};
+ghost use Rattle.opt_wire.specs.Ipv6OptionRefusal.{IsRead, IsBehind, Refuses, refusal_text};
 
 use super::{Ipv6Option, Repr, RouterAlert, Type, field};
 use std::fmt;
@@ -26,10 +26,10 @@ impl<'a> Repr<'a> {
         ensures told { IfSome result (λ refusal. Refuses (view_octets opt.now) refusal) }
         ensures exact { IsNone result ↔ IsRead (view_octets opt.now) }
     {
-        if Repr::parse(opt).is_ok() {
-            return None;
+        match Repr::parse(opt) {
+            Ok(_) => None,
+            Err(_) => Some(why_none(opt)),
         }
-        Some(why_none(opt))
     }
 }
 
@@ -50,6 +50,20 @@ fn why_none(opt: &Ipv6Option<&[u8]>) -> Refusal
         return Refusal::Cut(end);
     }
     Refusal::Length(Type::RouterAlert, opt.data_len())
+}
+
+// The octets behind the option at the front of these, or why none stands there.
+
+pub(crate) fn behind_first(octets: &[u8]) -> Result<&[u8], Refusal>
+    ensures found { IfOk result (λ rest. IsBehind octets.now rest.now) }
+    ensures told { IfErr result (λ refusal. Refuses octets.now refusal) }
+    ensures refuses { IsErr result → IsRead octets.now → ⊥ }
+{
+    let opt = Ipv6Option::new_unchecked(octets);
+    match Repr::parse(&opt) {
+        Ok(repr) => Ok(&octets[repr.buffer_len()..]),
+        Err(_) => Err(why_none(&opt)),
+    }
 }
 
 /// A short phrase, as `a length of 3 is not allowed for RouterAlert`.

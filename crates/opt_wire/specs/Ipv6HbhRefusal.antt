@@ -1,0 +1,40 @@
+-- Why bytes are no options of a hop-by-hop header, and what such a header and that reason print.
+use Rattle.std.specs.Prelude.{◌≡◌, ◌≢◌, ℕ, suc, ◌≤◌, List, [], ◌∷◌, ◌++◌, length, flat_map, codes, decimal}
+use Rattle.wirebase.specs.Display.{pieces}
+use Rattle.opt_wire.specs.Ipv6Option.{OptionValue}
+use Rattle.opt_wire.specs.Ipv6OptionDisplay.{option_display}
+use Rattle.opt_wire.specs.Ipv6OptionRefusal as option
+use Rattle.opt_wire.specs.Ipv6Hbh.{IsHeader}
+use Rattle.opt_wire.specs.declared.ipv6hbh.refusal.Refusal.{Refusal}
+use Rattle.opt_wire.specs.declared.ipv6hbh.refusal.Refusal.TheVariants as refusals
+
+-- the bytes are read, where at most so many options are kept
+abbrev pub IsRead : ℕ → List ℕ → Type 0
+IsRead most bytes = (options : List OptionValue) × IsHeader most bytes options
+
+-- behind so many options, which stand at the front of the bytes one after another, stand these
+pub data AreBehind (bytes : List ℕ) : ℕ → List ℕ → Type 0 where
+  none : AreBehind bytes 0 bytes
+  one_more : {count : ℕ} {middle rest : List ℕ} → AreBehind bytes count middle → option.IsBehind middle rest
+      → AreBehind bytes (suc count) rest
+
+-- what is told of other bytes: there are none, or behind so many options, but no more than are kept, stands what is
+-- none, and why
+abbrev pub Refuses : ℕ → List ℕ → Refusal → Type 0
+Refuses most bytes refusals.Empty = bytes ≡ []
+Refuses most bytes (refusals.Option place why) =
+    (rest : List ℕ) × AreBehind bytes place rest × (place ≤ most) × (rest ≢ []) × option.Refuses rest why
+
+abbrev pub refusal_text : Refusal → List ℕ
+refusal_text refusals.Empty = codes "no options"
+refusal_text (refusals.Option place why) =
+    pieces (codes "option " ∷ decimal place ∷ codes ": " ∷ option.refusal_text why ∷ [])
+
+-- options behind one another, each in parentheses
+abbrev pub options_display : List OptionValue → List ℕ
+options_display options = flat_map (λ v. codes " (" ++ (option_display v ++ codes ")")) options
+
+-- a header: how many options it has, and each of them
+abbrev pub header_display : List OptionValue → List ℕ
+header_display options =
+    codes "IPv6 Hop-by-Hop Options count=" ++ (decimal (length options) ++ options_display options)
