@@ -11,4 +11,5 @@ pub mod Ipv6OptionTiles
 pub mod NdiscOptionFormat
 pub mod NdiscOptionGrammar
 pub mod NdiscOptionReading
+pub mod NdiscOptionRefusals
 pub mod NdiscOptionTexts

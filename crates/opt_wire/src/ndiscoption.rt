@@ -20,9 +20,11 @@ use bitflags::Flags as _;
 use std::fmt;
 use wirebase::{Duration, Error, Ipv6Address, Octets, OctetsMut, RawHardwareAddress, Result};
 
+mod refusal;
 mod repr;
 mod tables;
 
+pub use refusal::Refusal;
 pub use repr::{PrefixInformation, RedirectedHeader, Repr};
 pub use tables::{PrefixInfoFlags, Type};
 

@@ -237,7 +237,7 @@ impl<'a> NdiscOption<&'a [u8]> {
 
     // The redirected packet.
     #[tactic(auto, using(wirebase::proofs::Pieces::pieces), unfolding(wirebase::specs::Bytes::part))]
-    fn redirected(&self) -> &'a [u8]
+    pub(super) fn redirected(&self) -> &'a [u8]
         requires some { 1 ≤ units_in (view_octets self.now) }
         requires whole { Reaches (redirected_field (view_octets self.now)) (view_octets self.now) }
         ensures { result.now ≡ bytes_of (redirected_field (view_octets self.now))
