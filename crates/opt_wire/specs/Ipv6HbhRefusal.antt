@@ -22,13 +22,13 @@ pub data AreBehind (bytes : List ℕ) : ℕ → List ℕ → Type 0 where
 -- none, and why
 abbrev pub Refuses : ℕ → List ℕ → Refusal → Type 0
 Refuses most bytes refusals.Empty = bytes ≡ []
-Refuses most bytes (refusals.Option place why) =
-    (rest : List ℕ) × AreBehind bytes place rest × (place ≤ most) × (rest ≢ []) × option.Refuses rest why
+Refuses most bytes (refusals.Option index why) =
+    (rest : List ℕ) × AreBehind bytes index rest × (index ≤ most) × (rest ≢ []) × option.Refuses rest why
 
 abbrev pub refusal_text : Refusal → List ℕ
 refusal_text refusals.Empty = codes "no options"
-refusal_text (refusals.Option place why) =
-    pieces (codes "option " ∷ decimal place ∷ codes ": " ∷ option.refusal_text why ∷ [])
+refusal_text (refusals.Option index why) =
+    pieces (codes "option " ∷ decimal index ∷ codes ": " ∷ option.refusal_text why ∷ [])
 
 -- options behind one another, each in parentheses
 abbrev pub options_display : List OptionValue → List ℕ

@@ -18,7 +18,14 @@ type_display kind.RouterAlert = codes "RouterAlert"
 type_display kind.Rpl = codes "RPL"
 type_display (kind.Unknown n) = decimal n
 
--- what a router alert tells of, by its name
+-- what a router alert tells of
+abbrev pub alert_text : RouterAlert → List ℕ
+alert_text alert.MulticastListenerDiscovery = codes "multicast listener discovery"
+alert_text alert.Rsvp = codes "RSVP"
+alert_text alert.ActiveNetworks = codes "active networks"
+alert_text (alert.Unknown n) = decimal n
+
+-- the same as it stands in an option, by its name
 abbrev pub alert_display : RouterAlert → List ℕ
 alert_display alert.MulticastListenerDiscovery = codes "MulticastListenerDiscovery"
 alert_display alert.Rsvp = codes "Rsvp"

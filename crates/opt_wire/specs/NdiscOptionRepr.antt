@@ -4,7 +4,8 @@ use Rattle.std.specs.Prelude.{◌≡◌, ◌≢◌, ℕ, ◌+◌, ◌-◌, ◌*�
 use Rattle.std.specs.Prelude.{◌++◌, codes, decimal, length, replicate}
 use Rattle.wirebase.specs.Bytes.{bytes_of, byte_of, number_of, over}
 use Rattle.wirebase.specs.ByteWriter.{be8, be16, be32, fields}
-use Rattle.wirebase.specs.Duration.{micros_of, seconds_of, whole_seconds}
+use Rattle.wirebase.specs.Display.{pieces}
+use Rattle.wirebase.specs.Duration.{micros_of, seconds_of, whole_seconds, duration_text}
 use Rattle.wirebase.specs.Ethernet.{hex_colons}
 use Rattle.wirebase.specs.Format.{Format, RoundTrips}
 use Rattle.wirebase.specs.HardwareAddress.{raw_bytes}
@@ -18,7 +19,7 @@ use Rattle.wirebase.specs.declared.ipv6.Ipv6Repr.{Ipv6Repr}
 use Rattle.opt_wire.specs.NdiscOption.{type_field, prefix_len_field, prefix_flags_field, valid_lifetime_field}
 use Rattle.opt_wire.specs.NdiscOption.{preferred_lifetime_field, prefix_field, mtu_field, units_in, data_field}
 use Rattle.opt_wire.specs.NdiscOption.{link_addr_field, redirected_field, BeginsWithBlock}
-use Rattle.opt_wire.specs.NdiscOptionTables.{flag_bits, known, IsKnown, HasAddrconf}
+use Rattle.opt_wire.specs.NdiscOptionTables.{flag_bits, flags_text, known, IsKnown, HasAddrconf}
 use Rattle.opt_wire.specs.declared.ndiscoption.repr.PrefixInformation.{PrefixInformation}
 use Rattle.opt_wire.specs.declared.ndiscoption.repr.Repr.{Repr}
 use Rattle.opt_wire.specs.declared.ndiscoption.repr.Repr.TheVariants as repr
@@ -236,6 +237,19 @@ display (prefix_ p) =
 display (redirected h d) = codes "NDISC Option: RedirectedHeader header=" ++ header_display h
 display (mtu n) = codes "NDISC Option: MTU mtu=" ++ decimal n
 display (unknown t n d) = codes "NDISC Option: Unknown(" ++ decimal t ++ codes ") length=" ++ decimal n
+
+-- a prefix and a redirected packet, by all that they hold
+abbrev pub prefix_display : PrefixInformation → List ℕ
+prefix_display p =
+    pieces (codes "PrefixInformation prefix_len=" ∷ decimal p.prefix_len
+    ∷ codes " flags=" ∷ flags_text (flag_bits p.flags)
+    ∷ codes " valid_lifetime=" ∷ duration_text p.valid_lifetime
+    ∷ codes " preferred_lifetime=" ∷ duration_text p.preferred_lifetime
+    ∷ codes " prefix=" ∷ address_text p.prefix ∷ [])
+
+abbrev pub redirected_display : Ipv6Repr → List ℕ → List ℕ
+redirected_display h d =
+    pieces (codes "RedirectedHeader header=" ∷ header_display h ∷ codes " len=" ∷ decimal (length d) ∷ [])
 
 -- octets that are read as no option
 abbrev pub refusal_display : List ℕ

@@ -1,5 +1,5 @@
 -- The numbers of a neighbor discovery option: its type, and the flags of a prefix.
-use Rattle.std.specs.Prelude.{◌≡◌, ℕ, List, [], ◌∷◌, codes, decimal}
+use Rattle.std.specs.Prelude.{◌≡◌, ℕ, ◌==◌, if◌then◌else◌, List, [], ◌∷◌, codes, decimal}
 use Rattle.std.specs.Int.RustNames.{bit_and}
 use Rattle.wirebase.specs.Numbered.{rows_of, case_in}
 use Rattle.opt_wire.specs.declared.ndiscoption.tables.Type as Kind
@@ -37,6 +37,13 @@ type_text (kind.Unknown n) = decimal n
 -- each flag of a prefix with its bit (RFC 4861 section 4.6.2)
 abbrev pub flag_rows : List (List ℕ × ℕ)
 flag_rows = (codes "ON_LINK", 0x80) ∷ (codes "ADDRCONF", 0x40) ∷ []
+
+-- what a set of flags prints: the names of those that are set, with a comma between them; `-` where none is
+abbrev pub flags_text : ℕ → List ℕ
+flags_text bits =
+    if bit_and bits 0x80 == 0 then if bit_and bits 0x40 == 0 then codes "-" else codes "addrconf"
+    else if bit_and bits 0x40 == 0 then codes "on_link"
+    else codes "on_link,addrconf"
 
 -- the bits of a set of flags, all bits that have a name, those among some bits, and bits that all have a name
 abbrev pub flag_bits : PrefixInfoFlags → ℕ

@@ -17,7 +17,7 @@ pub enum Refusal {
 }
 
 impl<'a> Repr<'a> {
-    /// Why [`Repr::parse`] refuses these octets, by the check that fails first; None where it reads them.
+    /// Why [`Repr::parse`] refuses these octets, by the check that fails first; None exactly where it reads them.
     pub fn refusal(header: &Header<&'a [u8]>) -> Option<Refusal>
         ensures told { IfSome result (λ refusal. Refuses (view_octets header.now) refusal) }
         ensures exact { IsNone result ↔ IsRead (view_octets header.now) }

@@ -19,15 +19,15 @@ pub enum Refusal {
     Empty,
     /// An option that is not read, among those that a header keeps and the one after them.
     Option {
-        /// The options before it: 0 is the first.
-        place: usize,
+        /// How many options stand before it.
+        index: usize,
         /// Why it is not read.
         refusal: ipv6option::Refusal,
     },
 }
 
 impl<'a> Repr<'a> {
-    /// Why [`Repr::parse`] refuses these octets, by the check that fails first; None where it reads them.
+    /// Why [`Repr::parse`] refuses these octets, by the check that fails first; None exactly where it reads them.
     pub fn refusal(header: &Header<&'a [u8]>) -> Option<Refusal>
         ensures told { IfSome result (λ refusal.
             Refuses IPV6_HBH_MAX_OPTIONS (view_octets header.now) refusal) }
@@ -48,26 +48,26 @@ fn first_bad(octets: &[u8]) -> Option<Refusal>
     ensures exact { IsNone result ↔ IsRead IPV6_HBH_MAX_OPTIONS octets.now }
 {
     let mut rest = octets;
-    for place in 0..IPV6_HBH_MAX_OPTIONS + 1 {
+    for index in 0..IPV6_HBH_MAX_OPTIONS + 1 {
         if rest.is_empty() {
             return None;
         }
         match behind_first(rest) {
             Ok(behind) => rest = behind,
-            Err(refusal) => return Some(Refusal::Option { place, refusal }),
+            Err(refusal) => return Some(Refusal::Option { index, refusal }),
         }
     }
     None
 }
 
-/// A short phrase, as `option 2: a length of 3 is not allowed for RouterAlert`; the first is option 0.
+/// A short phrase, as `option 0: a length of 3 is not allowed for RouterAlert`, of the first option.
 impl fmt::Display for Refusal {
     ghost output = { λ refusal. Some (refusal_text refusal) };
 
     fn fmt<W: fmt::Write>(&self, f: &mut fmt::Formatter<W>) -> fmt::Result {
         match *self {
             Refusal::Empty => f.write_str("no options"),
-            Refusal::Option { place, refusal } => write!(f, "option {place}: {refusal}"),
+            Refusal::Option { index, refusal } => write!(f, "option {index}: {refusal}"),
         }
     }
 }

@@ -4,7 +4,7 @@ ghost use Rattle.std.specs.Prelude.{◌≡◌, ◌*◌, ◌/◌, Some};
 ghost use Rattle.wirebase.specs.Numbered.{Ascends, IsProper, IsTable, IsEqualityOf};
 ghost use Rattle.opt_wire.specs.Ipv6OptionTables.{type_number, type_rows, type_of, alert_number, alert_rows, alert_of};
 ghost use Rattle.opt_wire.specs.Ipv6OptionTables.{failure_number, failures, failure_of};
-ghost use Rattle.opt_wire.specs.Ipv6OptionDisplay.{type_display, alert_display, failure_display};
+ghost use Rattle.opt_wire.specs.Ipv6OptionDisplay.{type_display, alert_text, alert_display, failure_display};
 
 use std::fmt;
 
@@ -122,6 +122,21 @@ impl From<RouterAlert> for u16 {
             RouterAlert::ActiveNetworks => 2,
             RouterAlert::Unknown(other) => other,
         }
+    }
+}
+
+/// What the router alert tells of, or its number.
+impl fmt::Display for RouterAlert {
+    ghost output = { λ alert. Some (alert_text alert) };
+
+    fn fmt<W: fmt::Write>(&self, f: &mut fmt::Formatter<W>) -> fmt::Result {
+        let words = match *self {
+            RouterAlert::MulticastListenerDiscovery => "multicast listener discovery",
+            RouterAlert::Rsvp => "RSVP",
+            RouterAlert::ActiveNetworks => "active networks",
+            RouterAlert::Unknown(number) => return write!(f, "{number}"),
+        };
+        f.write_str(words)
     }
 }
 

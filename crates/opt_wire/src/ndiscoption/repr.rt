@@ -13,6 +13,7 @@ ghost use Rattle.opt_wire.specs.NdiscOptionRepr.{OptionValue, prefix_, unknown};
 ghost use Rattle.opt_wire.specs.NdiscOptionRepr.{value_of};
 ghost use Rattle.opt_wire.specs.NdiscOptionRepr.{text, text_len, CanEmit};
 ghost use Rattle.opt_wire.specs.NdiscOptionRepr.{BeginsWith, IsValidPrefix, format, Emits, display};
+ghost use Rattle.opt_wire.specs.NdiscOptionRepr.{prefix_display, redirected_display};
 ghost use Rattle.opt_wire.specs.declared.ndiscoption.repr.PrefixInformation.{PrefixInformation};
 
 use super::{NdiscOption, PrefixInfoFlags, Type, field};
@@ -52,6 +53,26 @@ impl PrefixInformation {
     }
 }
 
+/// All fields in their order, with times in seconds.
+impl fmt::Display for PrefixInformation {
+    ghost output = { λ info. Some (prefix_display info) };
+
+    fn fmt<W: fmt::Write>(&self, f: &mut fmt::Formatter<W>) -> fmt::Result {
+        let PrefixInformation {
+            prefix_len,
+            flags,
+            valid_lifetime,
+            preferred_lifetime,
+            prefix,
+        } = *self;
+        write!(
+            f,
+            "PrefixInformation prefix_len={prefix_len} flags={flags} valid_lifetime={valid_lifetime} \
+             preferred_lifetime={preferred_lifetime} prefix={prefix}"
+        )
+    }
+}
+
 /// The packet that a redirect speaks of (RFC 4861 section 4.6.3).
 #[derive(Debug, PartialEq, Eq, Clone, Copy)]
 pub struct RedirectedHeader<'a> {
@@ -59,6 +80,16 @@ pub struct RedirectedHeader<'a> {
     pub header: Ipv6Repr,
     /// The payload, all the bytes that the header counts.
     pub data: &'a [u8],
+}
+
+/// The header, and the bytes of the payload.
+impl fmt::Display for RedirectedHeader<'_> {
+    ghost output = { λ redirected. Some (redirected_display redirected.header redirected.«data».now) };
+
+    fn fmt<W: fmt::Write>(&self, f: &mut fmt::Formatter<W>) -> fmt::Result {
+        let len = self.data.len();
+        write!(f, "RedirectedHeader header={} len={len}", self.header)
+    }
 }
 
 /// An option (RFC 4861 section 4.6).

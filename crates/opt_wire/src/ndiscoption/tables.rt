@@ -5,6 +5,7 @@ ghost use Rattle.std.specs.Int.RustNames.{bit_and, bit_or, bit_xor};
 ghost use Rattle.bitflags.specs.Sets.{without};
 ghost use Rattle.wirebase.specs.Numbered.{IsProper, IsTable};
 ghost use Rattle.opt_wire.specs.NdiscOptionTables.{type_number, type_rows, type_of, type_text, flag_rows, flag_bits};
+ghost use Rattle.opt_wire.specs.NdiscOptionTables.{flags_text};
 
 use bitflags::Flag;
 use std::fmt;
@@ -134,6 +135,22 @@ impl bitflags::Flags for PrefixInfoFlags {
 
     fn from_bits_retain(bits: u8) -> PrefixInfoFlags {
         PrefixInfoFlags(bits)
+    }
+}
+
+/// The names of the flags that are set, as `on_link,addrconf`; `-` where none is. Bits without a name are not told.
+impl fmt::Display for PrefixInfoFlags {
+    ghost output = { λ flags. Some (flags_text (flag_bits flags)) };
+
+    fn fmt<W: fmt::Write>(&self, f: &mut fmt::Formatter<W>) -> fmt::Result {
+        let on_link = self.0 & 0x80 != 0;
+        let addrconf = self.0 & 0x40 != 0;
+        f.write_str(match (on_link, addrconf) {
+            (false, false) => "-",
+            (false, true) => "addrconf",
+            (true, false) => "on_link",
+            (true, true) => "on_link,addrconf",
+        })
     }
 }
 
