@@ -28,12 +28,11 @@ before_next bytes count middle rest e b =
     let read : List OptionValue = e.0 ++ (v ∷ []) in
     let front : all e.0 ++ (Ok v ∷ answers_of rest) ≡ all read ++ answers_of rest =
     sym (append_assoc (all e.0) (Ok v ∷ []) (answers_of rest))
-    ∙ ap (λ (l : List Answer). l ++ answers_of rest) (sym (map-append Ok e.0 (v ∷ []))) in
-    (
+    ∙ ap (λ (l : List Answer). l ++ answers_of rest) (sym (map-append Ok e.0 (v ∷ []))) in (
       read,
       omega (arith, length-append e.0 (v ∷ []), e.1),
       subst (λ (l : List Answer). Tile bytes l)
-      (ap (λ (l : List Answer). all e.0 ++ l) (one_answer middle rest b) ∙ front) e.2,
+          (ap (λ (l : List Answer). all e.0 ++ l) (one_answer middle rest b) ∙ front) e.2,
     )
 
 -- the options before a place
@@ -52,11 +51,10 @@ next_place bytes count middle rest a b =
 pub read-end : (most : ℕ) (bytes : List ℕ) (count : ℕ) (rest : List ℕ) → AreBehind bytes count rest → bytes ≢ []
     → length rest ≡ 0 → count ≤ most → IsRead most bytes
 read-end most bytes count [] a some e l =
-    let b = before bytes count [] a in
-    (
+    let b = before bytes count [] a in (
       b.0,
       header-end most bytes b.0 _ some b.2
-      (ap (λ (l : List Answer). all b.0 ++ l) answers_of-nothing ∙ append-nil (all b.0)) (omega (arith, l, b.1)),
+          (ap (λ (l : List Answer). all b.0 ++ l) answers_of-nothing ∙ append-nil (all b.0)) (omega (arith, l, b.1)),
     )
 read-end most bytes count (t ∷ rest) a some e l = absurd (omega (arith, e))
 
@@ -64,8 +62,7 @@ read-end most bytes count (t ∷ rest) a some e l = absurd (omega (arith, e))
 pub read-full : (most : ℕ) (bytes : List ℕ) (count : ℕ) (rest : List ℕ) → AreBehind bytes count rest → bytes ≢ []
     → count ≡ most + 1 → IsRead most bytes
 read-full most bytes count rest a some full =
-    let b = before bytes count rest a in
-    (
+    let b = before bytes count rest a in (
       take most b.0,
       record {
         answers = all b.0 ++ answers_of rest;

@@ -61,8 +61,7 @@ prefix-read bytes u three four =
       valid_lifetime = of_micros (1000000 * number_of valid_lifetime_field bytes);
       preferred_lifetime = of_micros (1000000 * number_of preferred_lifetime_field bytes);
       prefix = address.0;
-    } in
-    (
+    } in (
       prefix_ p,
       record {
         block = block bytes u (λ e. omega (arith, four)) (λ e. absurd (omega (arith, e, three)));
@@ -129,13 +128,16 @@ prefix-misfit : (bytes : List ℕ) → HasUnits bytes → (IsRead bytes → ⊥)
 prefix-misfit bytes u none three = as_type bytes 3 three (three, λ four. none (prefix-read bytes u three four))
 
 mtu-misfit : (bytes : List ℕ) → HasUnits bytes → (IsRead bytes → ⊥) → byte_of type_field bytes ≡ 5 → Misfits bytes
-mtu-misfit bytes u none five = as_type bytes 5 five (five, λ one. none (
-  mtu (number_of mtu_field bytes),
-  record {
-    block = other_block bytes 5 u five (λ e. omega (arith, e)) (λ e. omega (arith, e));
-    reading = record { kind = five; count = one; number = refl };
-  },
-))
+mtu-misfit bytes u none five = as_type bytes 5 five (
+  five,
+  λ one. none (
+    mtu (number_of mtu_field bytes),
+    record {
+      block = other_block bytes 5 u five (λ e. omega (arith, e)) (λ e. omega (arith, e));
+      reading = record { kind = five; count = one; number = refl };
+    },
+  ),
+)
 
 link-read : (bytes : List ℕ) → HasUnits bytes → (byte_of type_field bytes ≡ 1) ⊎ (byte_of type_field bytes ≡ 2)
     → IsRead bytes
@@ -182,9 +184,9 @@ misfit bytes u none few =
             | inr d ↦ elim (tested (eqb t 5)) [
               | inl e ↦ mtu-misfit bytes u none (eqb-true t 5 e)
               | inr e ↦ absurd (none (
-                unnamed-read bytes t u refl (eqb-false t 1 a) (eqb-false t 2 b) (eqb-false t 3 c) (eqb-false t 4 d)
-                (eqb-false t 5 e)
-              ))
+                  unnamed-read bytes t u refl (eqb-false t 1 a) (eqb-false t 2 b) (eqb-false t 3 c) (eqb-false t 4 d)
+                  (eqb-false t 5 e)
+                  ))
             ]
           ]
         ]

@@ -6,7 +6,7 @@ ghost use Rattle.std.specs.Prelude.{◌≤◌, ◌<◌, length};
 
 use crate::ipv6hbh;
 use crate::ipv6hbh::Header;
-use crate::ipv6option::{Ipv6OptionsIterator, Repr};
+use crate::ipv6option::{Ipv6Option, Ipv6OptionsIterator, Repr};
 use crate::testing::{holds_of, same_of};
 use std::process::Abort;
 use wirebase::{Error, IPV6_HBH_MAX_OPTIONS};
@@ -79,10 +79,14 @@ pub(crate) fn compare_damaged(rt: &impl Abort, packet: &[u8]) {
     }
 }
 
-// Compares the iterator and the header's reader with the plain reader.
+// Compares the iterator and the header's reader with the plain reader, and where reasons are told.
 fn compare(rt: &impl Abort, octets: &[u8]) {
     compare_options(rt, octets);
     compare_header(rt, octets);
+    let option = Repr::refusal(&Ipv6Option::new_unchecked(octets));
+    same_of(rt, octets, option.is_none(), first_option(octets).is_some());
+    let header = ipv6hbh::Repr::refusal(&Header::new_unchecked(octets));
+    same_of(rt, octets, header.is_none(), is_header(octets));
 }
 
 fn compare_options(rt: &impl Abort, octets: &[u8]) {

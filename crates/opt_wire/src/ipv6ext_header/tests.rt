@@ -1,10 +1,10 @@
 ghost use Rattle.std.specs.Prelude.{◌≤◌};
 
-use super::{Header, Repr};
+use super::{Header, Refusal, Repr};
 use crate::ipv6option;
 use crate::ipv6option::RouterAlert;
 use crate::plain_reader::{DAMAGE, LONGEST, check_kept, damaged};
-use crate::testing::{FILLERS, holds_of, same, same_of};
+use crate::testing::{FILLERS, holds_of, prints, same, same_of, takes_writes};
 use std::process::Abort;
 use wirebase::IpProtocol;
 
@@ -73,6 +73,43 @@ fn compare(rt: &impl Abort, octets: &[u8]) {
     same_of(rt, octets, checked, plain.is_some());
     let read = Repr::parse(&Header::new_unchecked(octets)).ok();
     same_of(rt, octets, read, plain);
+    let told = Repr::refusal(&Header::new_unchecked(octets));
+    same_of(rt, octets, told.is_none(), plain.is_some());
+}
+
+#[test]
+fn reasons_of_refused_headers(rt: HostRuntime) {
+    const ROWS: &[(&[u8], Refusal, &str)] = &[
+        (&[], Refusal::Short, "fewer than 8 bytes"),
+        (
+            &[0x3a, 0xff, 0, 0, 0, 0, 0],
+            Refusal::Short,
+            "fewer than 8 bytes",
+        ),
+        (
+            &[0x06, 0x02, 0, 0, 0, 0, 0, 0],
+            Refusal::Cut(24),
+            "fewer than the 24 bytes that the header counts",
+        ),
+    ];
+    for &(octets, refusal, text) in ROWS {
+        let told = Repr::refusal(&Header::new_unchecked(octets));
+        same_of(&rt, octets, told, Some(refusal));
+        prints(&rt, rt.alloc(), &refusal, text);
+    }
+    takes_writes(&rt, &Refusal::Cut(24), 3);
+}
+
+#[test]
+fn what_a_header_prints(rt: HostRuntime) {
+    let header = Repr {
+        next_header: IpProtocol::Icmpv6,
+        length: 0,
+        data: &[0x05, 0x02, 0x00, 0x00, 0x01, 0x00],
+    };
+    const TEXT: &str = "IPv6 Extension Header next_header=58 length=0 len=6";
+    prints(&rt, rt.alloc(), &header, TEXT);
+    takes_writes(&rt, &header, 6);
 }
 
 // Compares the crate with the plain reader over these octets, over each shorter part of them from their start on, and

@@ -85,7 +85,10 @@ impl fmt::Display for Repr<'_> {
 }
 
 // What options print, each in parentheses behind a space.
-fn fmt_options<W: fmt::Write>(f: &mut fmt::Formatter<W>, options: &[ipv6option::Repr<'_>]) -> fmt::Result
+fn fmt_options<W: fmt::Write>(
+    f: &mut fmt::Formatter<W>,
+    options: &[ipv6option::Repr<'_>],
+) -> fmt::Result
     ensures { WritesOnOk W.write_str_gives f.old result
         (options_display (map option_value options.now)) f.new }
 {

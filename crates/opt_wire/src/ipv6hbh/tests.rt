@@ -3,11 +3,11 @@ ghost use Rattle.opt_wire.specs.Ipv6Option.{pad_n, router_alert};
 ghost use Rattle.opt_wire.specs.Ipv6Hbh.{value_of, text_len, HaveData};
 ghost use Rattle.opt_wire.specs.declared.ipv6option.tables.RouterAlert.TheVariants.{MulticastListenerDiscovery};
 
-use super::{Header, Repr};
+use super::{Header, Refusal, Repr};
 use crate::ipv6option;
 use crate::ipv6option::{RouterAlert, Type};
 use crate::plain_reader::{check_kept, compare_damaged};
-use crate::testing::{FILLERS, holds_of, same, same_of};
+use crate::testing::{FILLERS, holds_of, prints, same, same_of, takes_writes};
 use arrayvec::ArrayVec;
 use std::process::Abort;
 
@@ -79,6 +79,53 @@ fn headers_refused(rt: HostRuntime) {
         holds_of(&rt, octets, Repr::parse(&header).is_err());
         compare_damaged(&rt, octets);
     }
+}
+
+#[test]
+fn reasons_of_refused_headers(rt: HostRuntime) {
+    const THREE: ipv6option::Refusal = ipv6option::Refusal::Length(Type::RouterAlert, 3);
+    const ROWS: &[(&[u8], usize, ipv6option::Refusal)] = &[
+        (&[0x11], 0, ipv6option::Refusal::Short),
+        (&[0x00, 0x00, 0x05, 0x03, 0, 0, 0], 2, THREE),
+        (
+            &[0x01, 0x02, 0, 0, 0x11, 0x02, 0x00],
+            1,
+            ipv6option::Refusal::Cut(4),
+        ),
+        // A bad ninth option, after as many as are kept.
+        (
+            &[0, 0, 0, 0, 0, 0, 0, 0, 0x11],
+            8,
+            ipv6option::Refusal::Short,
+        ),
+        (&[0, 0, 0, 0, 0, 0, 0, 0, 0x05, 0x03, 0, 0, 0], 8, THREE),
+    ];
+    let none = Repr::refusal(&Header::new_unchecked(&[]));
+    same(&rt, none, Some(Refusal::Empty));
+    for &(octets, index, refusal) in ROWS {
+        let told = Repr::refusal(&Header::new_unchecked(octets));
+        same_of(&rt, octets, told, Some(Refusal::Option { index, refusal }));
+    }
+}
+
+#[test]
+fn what_reasons_print(rt: HostRuntime) {
+    let refusal = Refusal::Option {
+        index: 2,
+        refusal: ipv6option::Refusal::Length(Type::RouterAlert, 3),
+    };
+    const TEXT: &str = "option 2: a length of 3 is not allowed for RouterAlert";
+    prints(&rt, rt.alloc(), &refusal, TEXT);
+    takes_writes(&rt, &refusal, 7);
+    prints(&rt, rt.alloc(), &Refusal::Empty, "no options");
+}
+
+#[test]
+fn what_a_header_prints(rt: HostRuntime) {
+    const TEXT: &str = "IPv6 Hop-by-Hop Options count=2 \
+        (IPv6 Option RouterAlert value=MulticastListenerDiscovery) (IPv6 Option PadN length=0 )";
+    prints(&rt, rt.alloc(), &report(), TEXT);
+    takes_writes(&rt, &report(), 11);
 }
 
 #[test]

@@ -97,7 +97,10 @@ impl fmt::Display for Refusal {
                 write!(f, "a length of {length} is not allowed for {type_}")
             }
             Refusal::PacketCut(len) => {
-                write!(f, "fewer than the {len} bytes that the redirected packet counts")
+                write!(
+                    f,
+                    "fewer than the {len} bytes that the redirected packet counts"
+                )
             }
             Refusal::PacketVersion(version) => {
                 write!(f, "version {version} of the redirected packet")

@@ -10,6 +10,7 @@ use std::process::Abort;
 use wirebase::{Duration, Error, IpProtocol, Ipv6Address, Ipv6Repr, RawHardwareAddress};
 
 mod plain_reader;
+mod refusals;
 mod types;
 mod views;
 
@@ -397,6 +398,16 @@ fn options_in_words(rt: HostRuntime) {
     for &(bytes, text) in ROWS {
         check_printed(&rt, rt.alloc(), bytes, text);
     }
+}
+
+#[test]
+fn prefixes_and_redirected_headers_in_words(rt: HostRuntime) {
+    const PREFIX_TEXT: &str = "PrefixInformation prefix_len=64 flags=on_link,addrconf \
+        valid_lifetime=900.000s preferred_lifetime=1000.000s prefix=fe80::1";
+    prints(&rt, rt.alloc(), &prefix_information(), PREFIX_TEXT);
+    const PACKET_TEXT: &str =
+        "RedirectedHeader header=IPv6 src=fe80::1 dst=fe80::2 nxt_hdr=17 hop_limit=64 len=4";
+    prints(&rt, rt.alloc(), &redirected_header(), PACKET_TEXT);
 }
 
 #[test]

@@ -133,4 +133,6 @@ fn compare(rt: &impl Abort, octets: &[u8]) {
         Ok(read) => same_of(rt, octets, &Some(read), &plain),
         Err(_) => holds_of(rt, octets, plain.is_none()),
     }
+    let told = Repr::refusal(&NdiscOption::new_unchecked(octets));
+    same_of(rt, octets, told.is_none(), plain.is_some());
 }

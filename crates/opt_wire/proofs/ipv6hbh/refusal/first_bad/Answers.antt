@@ -21,9 +21,9 @@ pub returns-in-Err-clause-exact : goal.returns-in-Err-clause-exact
 returns-in-Err-clause-exact c = (
   λ told. cc,
   λ read. absurd (
-    read-broken 8 _ _ _ c.loop-index.invariant (omega (arith, c.loop-index-test.true))
-    (λ e. eqb-false _ 0 (sym c.is_empty.ensures ∙ c.if-is_empty.false) (ap length e)) (c.in-Err.ensures.refuses refl) read
-  ),
+      read-broken 8 _ _ _ c.loop-index.invariant (omega (arith, c.loop-index-test.true))
+      (λ e. eqb-false _ 0 (sym c.is_empty.ensures ∙ c.if-is_empty.false) (ap length e)) (c.in-Err.ensures.refuses refl) read
+      ),
 )
 
 pub returns-clause-exact : goal.returns-clause-exact
