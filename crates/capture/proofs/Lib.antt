@@ -1,4 +1,5 @@
 pub mod Blocks
+pub mod Calendars
 pub mod Filling
 pub mod Reading
 pub mod Records

@@ -1,12 +1,14 @@
 -- A record of a pcap file is read.
-use Rattle.std.proofs.Common.{◌≡◌, ℕ, ◌+◌, ◌*◌, List, length, take, Option, refl, ap, sym, subst, ◌∙◌, arith}
+use Rattle.std.proofs.Common.{◌≡◌, ℕ, ◌+◌, ◌*◌, List, length, take, Option, None, Some, IsSomeAnd, refl, ap, sym}
+use Rattle.std.proofs.Common.{subst, ◌∙◌, arith}
+use Rattle.std.specs.Option.{option_map}
 use Rattle.std.proofs.lemmas.List.{length-take, take-take}
 use Rattle.capture.specs.Capture.{most_octets}
 use Rattle.capture.specs.Packet.{packet_in}
 use Rattle.capture.specs.Pcap.{IsRecord, IsRecordHeader, RecordEnds, whole_, head_cut, cut, large}
 use Rattle.capture.specs.Reader.{Reads}
 use Rattle.capture.specs.Taken.{Splits}
-use Rattle.capture.specs.Time.{IsTime, fraction_of}
+use Rattle.capture.specs.Time.{IsTime, value_of, time_value, fraction_of, digits_in}
 use Rattle.capture.specs.Unit as unit
 use Rattle.capture.specs.Unit.{record_form, RecordHeadEnds, UnitEnds, none, no_head, UnitReads}
 use Rattle.capture.specs.declared.ending.Ending.{Ending}
@@ -14,8 +16,15 @@ use Rattle.capture.specs.declared.ending.Ending.TheVariants.{Whole, Cut, TooLarg
 use Rattle.capture.specs.declared.packet.Packet.{Packet}
 use Rattle.capture.specs.declared.pcap.FileHeader.{FileHeader}
 use Rattle.capture.specs.declared.pcap.RecordHeader.{RecordHeader}
+use Rattle.capture.specs.declared.time.Time.{Time}
 use Rattle.capture.specs.declared.unit.Taken.TheVariants.{Read}
 use Rattle.capture.proofs.Filling.{no_byte, reads_splits}
+
+-- the content of a time that is there
+told_time : (o : Option Time) (nanoseconds digits : ℕ) → IsSomeAnd o (λ time. IsTime time nanoseconds digits)
+    → option_map value_of o ≡ Some (time_value nanoseconds digits)
+told_time None nanoseconds digits is = absurd is
+told_time (Some time) nanoseconds digits is = rw (is.sum_, is.digits_) refl
 
 module _ (h : FileHeader) (all : List ℕ) where
   head_ends : (ending : Ending) → RecordHeadEnds h.order (take 16 all) ending → RecordEnds most_octets h all ending
@@ -36,7 +45,8 @@ module _ (h : FileHeader) (all : List ℕ) where
   pub record_read : (octets : List ℕ) (left : Option (List ℕ)) (r : RecordHeader) (k : Packet)
       → UnitReads 16 record_form h.order all (Read r) octets left → k.start ≡ 16 → k.captured_len ≡ r.captured_len
       → k.original_len ≡ r.original_len → k.link_type ≡ h.link_type
-      → IsTime k.time (r.seconds * 1000000000 + fraction_of h.precision r.fraction)
+      → IsSomeAnd k.time (λ time. IsTime time (r.seconds * 1000000000 + fraction_of h.precision r.fraction)
+      (digits_in h.precision))
       → Splits all octets left × IsRecord most_octets h octets (packet_in k octets)
   record_read octets left r k read start captured original link time =
       let reads : Reads all left octets (16 + r.captured_len) = record { front = read.3; rest = read.4 } in
@@ -48,7 +58,7 @@ module _ (h : FileHeader) (all : List ℕ) where
           is_head = subst (λ l. IsRecordHeader h.order l r) front read.0.0;
           whole = omega (arith, ap length reads.front, length-take (16 + r.captured_len) all, read.2);
           few = read.0.1;
-          time = time.sum_;
+          time_ = told_time k.time _ _ time;
           link_type_ = link;
           original_len_ = original;
           octets_ = rw (start, captured) refl;

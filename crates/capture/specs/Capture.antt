@@ -1,11 +1,13 @@
 -- What the bytes of a capture hold: packets one after another, and what ends them.
-use Rattle.std.specs.Prelude.{◌≡◌, ◌≢◌, ℕ, ◌+◌, ◌-◌, ◌*◌, ◌^◌, ◌<◌, ◌≤◌, min, List, [], ◌∷◌, ◌++◌, length, take}
-use Rattle.std.specs.Prelude.{Option, None, Some, ⊤}
+use Rattle.std.specs.Prelude.{◌≡◌, ◌≢◌, ℕ, ◌+◌, ◌-◌, ◌^◌, ◌<◌, ◌≤◌, min, List, [], ◌∷◌, ◌++◌, length, take}
+use Rattle.std.specs.Prelude.{Option, None, Some, IfSome, ⊤}
+use Rattle.std.specs.Option.{option_map}
 use Rattle.wirebase.specs.Bytes.{part}
 use Rattle.capture.specs.Packet.{PacketValue}
 use Rattle.capture.specs.Pcap.{IsFileHeader, FileEnds, IsRecord, ShowsRecord, RecordEnds}
 use Rattle.capture.specs.Pcapng.{IsSectionKind, section_kind, IsRead, IsHead, HeadEnds, IsClosed, IsSection}
 use Rattle.capture.specs.Pcapng.{SectionEnds, IsInterface, IsPacket, ShowsPacket}
+use Rattle.capture.specs.Time.{value_of}
 use Rattle.capture.specs.declared.capture.Capture.{Capture}
 use Rattle.capture.specs.declared.capture.Next.{Next}
 use Rattle.capture.specs.declared.capture.Next.TheVariants as next
@@ -143,7 +145,7 @@ count_of c = c.count
 -- a record's packet, of these bytes
 abbrev pub packet_of : Record → List ℕ → PacketValue
 packet_of r octets = record {
-  nanoseconds = r.time.seconds * 1000000000 + r.time.nanoseconds;
+  time = option_map value_of r.time;
   link_type = r.link_type;
   original_len = r.original_len;
   octets = octets;
@@ -157,11 +159,11 @@ GivesNext old bytes (next.Record r) octets new left =
     → Holds new rest packets ending → Holds old bytes (packet_of r octets ∷ packets) ending)
 GivesNext old bytes (next.Ended ending) octets new left = Holds old bytes [] ending × (new.stage ≡ stage.End ending)
 
--- a record is in order: its number, its time, and its captured length
+-- a record is in order: its number, its time where it has one, and its captured length
 pub record IsInOrder (r : Record) (octets : List ℕ) (old new : ℕ) : Type 0 where
   pub number_ : r.number ≡ min (old + 1) (2 ^ 64 - 1)
   pub count_ : new ≡ r.number
-  pub nanoseconds_ : r.time.nanoseconds < 1000000000
+  pub nanoseconds_ : IfSome r.time (λ t. t.nanoseconds < 1000000000)
   pub captured_len_ : r.captured_len ≡ length octets
 
 abbrev pub IfRecord : Next → (Record → Type 0) → Type 0

@@ -1,3 +1,4 @@
+pub mod Calendar
 pub mod Capture
 pub mod Order
 pub mod Packet
@@ -6,4 +7,5 @@ pub mod Pcapng
 pub mod Reader
 pub mod Taken
 pub mod Time
+pub mod TimeText
 pub mod Unit

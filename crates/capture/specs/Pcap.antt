@@ -25,11 +25,11 @@
 -- +---------------------------------------------------------------+
 -- |  the packet, as many bytes as the captured length counts
 -- +- - - - - - - - - - - - - - - -
-use Rattle.std.specs.Prelude.{◌≡◌, ℕ, ◌≢◌, ◌+◌, ◌*◌, ◌%◌, ◌<◌, ◌≤◌, List, [], length, take}
+use Rattle.std.specs.Prelude.{◌≡◌, ℕ, ◌≢◌, ◌+◌, ◌*◌, ◌%◌, ◌<◌, ◌≤◌, List, [], length, take, Some}
 use Rattle.wirebase.specs.Bytes.{Field, field, Reaches, part}
 use Rattle.capture.specs.Order.{number_in}
 use Rattle.capture.specs.Packet.{PacketValue}
-use Rattle.capture.specs.Time.{fraction_of}
+use Rattle.capture.specs.Time.{time_value, fraction_of, digits_in}
 use Rattle.capture.specs.declared.ending.Ending.{Ending}
 use Rattle.capture.specs.declared.ending.Ending.TheVariants.{Whole, Cut, TooLarge, Version, NotACapture}
 use Rattle.capture.specs.declared.order.Order.{Order}
@@ -109,7 +109,8 @@ pub record IsRecord (most : ℕ) (h : FileHeader) (bytes : List ℕ) (p : Packet
   pub is_head : IsRecordHeader h.order (take 16 bytes) head
   pub whole : length bytes ≡ 16 + head.captured_len
   pub few : head.captured_len ≤ most
-  pub time : p.nanoseconds ≡ head.seconds * 1000000000 + fraction_of h.precision head.fraction
+  pub time_ : p.time ≡ Some (time_value (head.seconds * 1000000000 + fraction_of h.precision head.fraction)
+      (digits_in h.precision))
   pub link_type_ : p.link_type ≡ h.link_type
   pub original_len_ : p.original_len ≡ head.original_len
   pub octets_ : p.octets ≡ part bytes 16 (16 + head.captured_len)

@@ -46,11 +46,11 @@
 -- |  the packet, padded to four bytes
 -- +- - - - - - - - - - - - - - - -
 use Rattle.std.specs.Prelude.{◌≡◌, ◌≢◌, ℕ, ◌+◌, ◌-◌, ◌*◌, ◌/◌, ◌%◌, ◌<◌, ◌≤◌, ◌⊎◌, ◌==◌, min, List, [], length}
-use Rattle.std.specs.Prelude.{ℤ, pos, drop, slice_index, slice_get, Some, if◌then◌else◌}
+use Rattle.std.specs.Prelude.{ℤ, pos, drop, slice_index, slice_get, None, Some, if◌then◌else◌}
 use Rattle.wirebase.specs.Bytes.{Field, field, part}
 use Rattle.capture.specs.Order.{number, signed_number, number_in}
 use Rattle.capture.specs.Packet.{PacketValue}
-use Rattle.capture.specs.Time.{nanoseconds_of, moved}
+use Rattle.capture.specs.Time.{time_value, nanoseconds_of, digits_of, moved}
 use Rattle.capture.specs.declared.ending.Ending.{Ending}
 use Rattle.capture.specs.declared.ending.Ending.TheVariants.{Whole, Cut, TooLarge, Malformed, Version}
 use Rattle.capture.specs.declared.order.Order.{Order}
@@ -216,8 +216,9 @@ pub record IsTimed (order : Order) (interfaces : List Interface) (place : ℕ) (
   pub interface : Interface
   pub described : slice_get interfaces place ≡ Some interface
   pub fits : 32 + number_in order captured_len_field bytes ≤ length bytes
-  pub time : p.nanoseconds ≡ moved interface.offset (nanoseconds_of interface.resolution
-      (number_in order ticks_high_field bytes * 4294967296 + number_in order ticks_low_field bytes))
+  pub time_ : p.time ≡ Some (time_value (moved interface.offset (nanoseconds_of interface.resolution
+      (number_in order ticks_high_field bytes * 4294967296 + number_in order ticks_low_field bytes)))
+      (digits_of interface.resolution))
   pub link_type_ : p.link_type ≡ interface.link_type
   pub original_len_ : p.original_len ≡ number_in order original_len_field bytes
   pub octets_ : p.octets ≡ part bytes 28 (28 + number_in order captured_len_field bytes)
@@ -232,7 +233,7 @@ pub record IsSimple (order : Order) (interfaces : List Interface) (bytes : List 
   pub interface : Interface
   pub described : slice_get interfaces 0 ≡ Some interface
   pub fits : 16 + kept_len interface.snap_len (number_in order (field 8 12) bytes) ≤ length bytes
-  pub time : p.nanoseconds ≡ 0
+  pub time_ : p.time ≡ None
   pub link_type_ : p.link_type ≡ interface.link_type
   pub original_len_ : p.original_len ≡ number_in order (field 8 12) bytes
   pub octets_ : p.octets ≡ part bytes 12 (12 + kept_len interface.snap_len (number_in order (field 8 12) bytes))

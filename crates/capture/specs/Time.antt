@@ -1,13 +1,29 @@
--- The time of a packet, as the number of nanoseconds since 1970-01-01 00:00:00 UTC.
+-- The time of a packet, as the number of nanoseconds since 1970-01-01 00:00:00 UTC, and what it is told in.
 use Rattle.std.specs.Prelude.{◌≡◌, ℕ, ◌+◌, ◌-◌, ◌*◌, ◌/◌, ◌%◌, ◌^◌, ◌<◌, min, ℤ, pos, negsuc, nat_lt, if◌then◌else◌}
 use Rattle.capture.specs.declared.pcap.Precision.{Precision}
 use Rattle.capture.specs.declared.pcap.Precision.TheVariants.{Micro, Nano}
 use Rattle.capture.specs.declared.time.Time.{Time}
 
--- a time of so many nanoseconds
-pub record IsTime (t : Time) (nanoseconds : ℕ) : Type 0 where
+-- a time by its content: its nanoseconds, and to how many digits of a second its file tells it
+pub record TimeValue : Type 0 where
+  pub nanoseconds : ℕ
+  pub digits : ℕ
+
+abbrev pub time_value : ℕ → ℕ → TimeValue
+time_value nanoseconds digits = record { nanoseconds = nanoseconds; digits = digits }
+
+-- the nanoseconds of a time
+abbrev pub nanos_of : Time → ℕ
+nanos_of t = t.seconds * 1000000000 + t.nanoseconds
+
+abbrev pub value_of : Time → TimeValue
+value_of t = time_value (nanos_of t) t.digits
+
+-- a time of so many nanoseconds, told to so many digits
+pub record IsTime (t : Time) (nanoseconds digits : ℕ) : Type 0 where
   pub sum_ : t.seconds * 1000000000 + t.nanoseconds ≡ nanoseconds
   pub part_ : t.nanoseconds < 1000000000
+  pub digits_ : t.digits ≡ digits
 
 -- the units in a second of a resolution: a power of 10, or one of 2 where the highest bit is set
 -- (draft-ietf-opsawg-pcapng section 4.2, if_tsresol)
@@ -17,6 +33,11 @@ units resolution = if nat_lt resolution 128 then 10 ^ resolution else 2 ^ (resol
 -- the whole nanoseconds in so many units of a resolution
 abbrev pub nanoseconds_of : ℕ → ℕ → ℕ
 nanoseconds_of resolution ticks = ticks * 1000000000 / units resolution
+
+-- the digits of a second that a resolution tells, of at most nine: a power of 2 has as many behind the point as one of
+-- 10
+abbrev pub digits_of : ℕ → ℕ
+digits_of resolution = min (resolution % 128) 9
 
 -- A time that is moved by a signed number of seconds: 1970-01-01 where it would be earlier, and where its seconds would
 -- be more than 64 bits hold, the most that they hold, with the same part of a second
@@ -30,3 +51,8 @@ moved (negsuc seconds) nanoseconds = nanoseconds - (seconds + 1) * 1000000000
 abbrev pub fraction_of : Precision → ℕ → ℕ
 fraction_of Micro fraction = fraction * 1000
 fraction_of Nano fraction = fraction
+
+-- the digits of such a fraction
+abbrev pub digits_in : Precision → ℕ
+digits_in Micro = 6
+digits_in Nano = 9

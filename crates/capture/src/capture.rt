@@ -30,8 +30,8 @@ pub const MOST_INTERFACES: usize = 65_536;
 pub struct Record {
     /// The number of the packet; the first is 1.
     pub number: u64,
-    /// When it was captured.
-    pub time: Time,
+    /// When it was captured. A simple packet of a pcapng file (draft-ietf-opsawg-pcapng section 4.4) has no time.
+    pub time: Option<Time>,
     /// The type of the link.
     pub link_type: u16,
     /// How many of its bytes are kept: at most `MOST_OCTETS`.

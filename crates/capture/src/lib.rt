@@ -1,6 +1,7 @@
 //! Capture files: what a pcap or a pcapng file holds, read as records in bounded memory.
 #![tactic(auto)]
 
+pub mod calendar;
 mod capture;
 mod ending;
 mod order;

@@ -1,7 +1,8 @@
 //! The headers of a pcap file and of its records (draft-ietf-opsawg-pcap sections 4 and 5).
 
-ghost use Rattle.std.specs.Prelude.{◌≡◌, ◌≤◌, ◌+◌, ◌*◌, ◌↔◌, IfOk, IfErr, IfSome, IsNone, IsOkAnd, IsTrue, length};
-ghost use Rattle.capture.specs.Time.{IsTime, fraction_of};
+ghost use Rattle.std.specs.Prelude.{◌≡◌, ◌≤◌, ◌+◌, ◌*◌, ◌↔◌, IfOk, IfErr, IfSome, IsNone, IsOkAnd, IsSomeAnd, IsTrue};
+ghost use Rattle.std.specs.Prelude.{length};
+ghost use Rattle.capture.specs.Time.{IsTime, fraction_of, digits_in};
 ghost use Rattle.capture.specs.Capture.{most_octets};
 ghost use Rattle.capture.specs.Pcap.{HasMagic, IsFileHeader, FileEnds, IsRecordHeader, ShowsRecord};
 ghost use Rattle.capture.specs.declared.ending.Ending.{Ending};
@@ -183,11 +184,12 @@ pub fn packet(file: &FileHeader, head: &RecordHeader) -> Packet
     ensures captured_len { result.captured_len ≡ head.now.captured_len }
     ensures original_len { result.original_len ≡ head.now.original_len }
     ensures link_type { result.link_type ≡ file.now.link_type }
-    ensures time { IsTime result.time (head.now.seconds * 1000000000
-        + fraction_of file.now.precision head.now.fraction) }
+    ensures time { IsSomeAnd result.time (λ time. IsTime time
+        (head.now.seconds * 1000000000 + fraction_of file.now.precision head.now.fraction)
+        (digits_in file.now.precision)) }
 {
     Packet {
-        time: Time::of_fraction(head.seconds, head.fraction, file.precision),
+        time: Some(Time::of_fraction(head.seconds, head.fraction, file.precision)),
         link_type: file.link_type,
         original_len: head.original_len,
         start: RECORD_HEADER_LEN,

@@ -399,7 +399,7 @@ fn timed(
         interface.resolution,
     );
     Ok(Packet {
-        time: told.moved(interface.offset),
+        time: Some(told.moved(interface.offset)),
         link_type: interface.link_type,
         original_len: order.u32_at(block, field::ORIGINAL_LEN),
         start: field::PACKET,
@@ -427,7 +427,7 @@ fn simple(order: Order, interfaces: &[Interface], block: &[u8]) -> wirebase::Res
         return Err(Error);
     }
     Ok(Packet {
-        time: Time::ZERO,
+        time: None,
         link_type: interface.link_type,
         original_len,
         start: field::SIMPLE_PACKET,

@@ -1,9 +1,15 @@
 //! The times of packets.
 
-ghost use Rattle.std.specs.Prelude.{◌≡◌, ◌+◌, ◌-◌, ◌*◌, ◌/◌, ◌%◌, ◌^◌, ◌<◌, min};
-ghost use Rattle.capture.specs.Time.{IsTime, nanoseconds_of, fraction_of, moved};
+mod text;
+
+ghost use Rattle.std.specs.Prelude.{◌≡◌, ◌+◌, ◌-◌, ◌*◌, ◌/◌, ◌%◌, ◌^◌, ◌<◌, ◌↔◌, min, IsTrue};
+ghost use Rattle.std.specs.Duration.{as_nanos, max_nanos};
+ghost use Rattle.std.specs.Ordering.{nat_cmp};
+ghost use Rattle.capture.specs.Time.{IsTime, nanos_of, nanoseconds_of, digits_of, fraction_of, digits_in, moved};
 
 use crate::pcap::Precision;
+use std::cmp::Ordering;
+use std::time::Duration;
 
 // The nanoseconds and the microseconds in a second.
 const NANOS_A_SECOND: u64 = 1_000_000_000;
@@ -13,25 +19,36 @@ const MICROS_A_SECOND: u64 = 1_000_000;
 // The nanoseconds in a second, among those of any resolution.
 const NANOS: u128 = 1_000_000_000;
 
+// The digits of a second in microseconds and in nanoseconds, which are the most that are kept.
+const MICRO_DIGITS: u8 = 6;
+
+const NANO_DIGITS: u8 = 9;
+
 /// A time, since 1970-01-01 00:00:00 UTC.
-#[derive(Debug, PartialEq, Eq, Clone, Copy)]
+///
+/// Times are equal, and one is less than another, as their nanoseconds since then are, whatever their digits. A time
+/// prints as RFC 3339 writes it, in UTC and with its own digits.
+#[derive(Debug, Clone, Copy)]
 pub struct Time {
     /// The whole seconds.
     pub seconds: u64,
     /// The nanoseconds past them, fewer than 1,000,000,000.
     pub nanoseconds: u32,
+    /// To how many decimal digits of a second its file tells it, 0 to 9: 6 where the file counts microseconds.
+    pub digits: u8,
 }
 
 impl Time {
-    /// 1970-01-01 00:00:00 UTC, the time of a packet of which none is told.
+    /// 1970-01-01 00:00:00 UTC, in whole seconds.
     pub const ZERO: Time = Time {
         seconds: 0,
         nanoseconds: 0,
+        digits: 0,
     };
 
     /// The time of a second and a fraction behind it, which may be more than a second.
     pub fn of_fraction(seconds: u32, fraction: u32, precision: Precision) -> Time
-        ensures { IsTime result (seconds * 1000000000 + fraction_of precision fraction) }
+        ensures { IsTime result (seconds * 1000000000 + fraction_of precision fraction) (digits_in precision) }
     {
         match precision {
             Precision::Micro => Time::of_micros(seconds as u64 * MICROS_A_SECOND + fraction as u64),
@@ -42,14 +59,21 @@ impl Time {
     /// The time of so many units of a resolution, less what is below a nanosecond. A resolution below 128 is a number
     /// of decimal digits, and one from 128 on is 128 more than a number of binary digits.
     pub fn of_ticks(ticks: u64, resolution: u8) -> Time
-        ensures { IsTime result (nanoseconds_of resolution ticks) }
+        ensures { IsTime result (nanoseconds_of resolution ticks) (digits_of resolution) }
     {
         // What nearly all captures count needs no more than 64 bits.
         match resolution {
             6 => Time::of_micros(ticks),
             9 => Time::of_nanos(ticks),
-            _ => Time::of_nanoseconds(nanoseconds(ticks, resolution)),
+            _ => Time::of_nanoseconds(nanoseconds(ticks, resolution), digits(resolution)),
         }
+    }
+
+    /// The nanoseconds since 1970-01-01 00:00:00 UTC.
+    pub fn as_nanos(&self) -> u128
+        ensures { result ≡ nanos_of self.now }
+    {
+        self.seconds as u128 * NANOS + self.nanoseconds as u128
     }
 
     // The time so many seconds later, or earlier where they are negative. One before 1970 is 1970-01-01, and the
@@ -57,7 +81,7 @@ impl Time {
     #[inline]
     pub(crate) fn moved(self, seconds: i64) -> Time
         requires { self.nanoseconds < 1000000000 }
-        ensures { IsTime result (moved seconds (self.seconds * 1000000000 + self.nanoseconds)) }
+        ensures { IsTime result (moved seconds (nanos_of self)) self.digits }
     {
         if seconds == 0 {
             return self;
@@ -69,7 +93,7 @@ impl Time {
     #[inline(never)]
     fn shifted(self, seconds: i64) -> Time
         requires { self.nanoseconds < 1000000000 }
-        ensures { IsTime result (moved seconds (self.seconds * 1000000000 + self.nanoseconds)) }
+        ensures { IsTime result (moved seconds (nanos_of self)) self.digits }
     {
         if seconds < 0 {
             return self.earlier(seconds.unsigned_abs());
@@ -80,60 +104,148 @@ impl Time {
     // The time so many seconds later, whose seconds are at most what 64 bits hold.
     fn later(self, seconds: u64) -> Time
         requires { self.nanoseconds < 1000000000 }
-        ensures { IsTime result (min (self.seconds * 1000000000 + self.nanoseconds + seconds * 1000000000)
-            (18446744073709551615 * 1000000000
-            + (self.seconds * 1000000000 + self.nanoseconds) % 1000000000)) }
+        ensures { IsTime result (min (nanos_of self + seconds * 1000000000)
+            (18446744073709551615 * 1000000000 + nanos_of self % 1000000000)) self.digits }
     {
         Time {
             seconds: self.seconds.saturating_add(seconds),
             nanoseconds: self.nanoseconds,
+            digits: self.digits,
         }
     }
 
     // The time so many seconds earlier, or 1970-01-01 where that is before it.
     fn earlier(self, seconds: u64) -> Time
         requires { self.nanoseconds < 1000000000 }
-        ensures { IsTime result (self.seconds * 1000000000 + self.nanoseconds - seconds * 1000000000) }
+        ensures { IsTime result (nanos_of self - seconds * 1000000000) self.digits }
     {
         match self.seconds.checked_sub(seconds) {
             Some(seconds) => Time {
                 seconds,
                 nanoseconds: self.nanoseconds,
+                digits: self.digits,
             },
-            None => Time::ZERO,
+            None => Time {
+                seconds: 0,
+                nanoseconds: 0,
+                digits: self.digits,
+            },
         }
     }
 
     // The time of so many microseconds.
     fn of_micros(micros: u64) -> Time
-        ensures { IsTime result (micros * 1000) }
+        ensures { IsTime result (micros * 1000) 6 }
     {
         Time {
             seconds: micros / MICROS_A_SECOND,
             nanoseconds: (micros % MICROS_A_SECOND) as u32 * 1000,
+            digits: MICRO_DIGITS,
         }
     }
 
     // The time of so many nanoseconds that 64 bits hold.
     fn of_nanos(nanos: u64) -> Time
-        ensures { IsTime result nanos }
+        ensures { IsTime result nanos 9 }
     {
         Time {
             seconds: nanos / NANOS_A_SECOND,
             nanoseconds: (nanos % NANOS_A_SECOND) as u32,
+            digits: NANO_DIGITS,
         }
     }
 
-    // The time of so many nanoseconds.
-    fn of_nanoseconds(nanoseconds: u128) -> Time
+    // The time of so many nanoseconds, told to so many digits.
+    fn of_nanoseconds(nanoseconds: u128, digits: u8) -> Time
         requires { nanoseconds < 2 ^ 64 * 1000000000 }
-        ensures { IsTime result nanoseconds }
+        ensures { IsTime result nanoseconds digits }
     {
         Time {
             seconds: (nanoseconds / NANOS) as u64,
             nanoseconds: (nanoseconds % NANOS) as u32,
+            digits,
         }
     }
+}
+
+/// Times are equal exactly where their nanoseconds since 1970 are.
+impl PartialEq for Time {
+    ghost use Rattle.std.specs.Prelude.{◌==◌};
+    ghost use Rattle.std.proofs.Common.{rules};
+    ghost use Rattle.std.specs.Cmp.Rules.{comparing};
+    ghost use Rattle.std.specs.Ordering.{on};
+
+    ghost eq = { on nanos_of ◌==◌ };
+
+    ghost laws = { Prim.search (comparing, rules) };
+
+    fn eq(&self, other: &Time) -> bool
+        ensures { IsTrue result ↔ (nanos_of self.now ≡ nanos_of other.now) }
+    {
+        self.as_nanos() == other.as_nanos()
+    }
+}
+
+impl Eq for Time {
+    ghost use Rattle.std.proofs.Common.{rules};
+    ghost use Rattle.std.specs.Cmp.Rules.{comparing};
+
+    ghost laws = { Prim.search (comparing, rules) };
+}
+
+/// The earlier of two times is the lesser.
+impl Ord for Time {
+    ghost use Rattle.std.proofs.Common.{rules};
+    ghost use Rattle.std.specs.Cmp.Rules.{comparing};
+    ghost use Rattle.std.specs.Ordering.{on};
+
+    ghost cmp = { on nanos_of nat_cmp };
+
+    ghost total = { Prim.search (comparing, rules) };
+
+    ghost matches_partial_cmp = { Prim.search (comparing, rules) };
+
+    ghost matches_eq = { Prim.search (comparing, rules) };
+
+    fn cmp(&self, other: &Time) -> Ordering
+        ensures { result ≡ nat_cmp (nanos_of self.now) (nanos_of other.now) }
+    {
+        self.as_nanos().cmp(&other.as_nanos())
+    }
+}
+
+impl PartialOrd for Time {
+    ghost use Rattle.std.proofs.Common.{rules};
+    ghost use Rattle.std.specs.Cmp.{partial_order_from_own_ties};
+    ghost use Rattle.std.specs.Cmp.Rules.{comparing};
+    ghost use Rattle.std.specs.Ordering.{on, as_partial_cmp};
+
+    ghost partial_cmp = { as_partial_cmp (on nanos_of nat_cmp) };
+
+    ghost laws = { partial_order_from_own_ties (Prim.search (comparing, rules)) (Prim.search (comparing, rules)) };
+
+    fn partial_cmp(&self, other: &Time) -> Option<Ordering> {
+        Some(self.cmp(other))
+    }
+}
+
+/// The span since 1970-01-01 00:00:00 UTC, the longest where that would be longer.
+impl From<Time> for Duration {
+    ghost from_gives = { λ time span. as_nanos span ≡ min (nanos_of time) max_nanos };
+
+    fn from(time: Time) -> Duration
+        ensures { as_nanos result ≡ min (nanos_of time) max_nanos }
+    {
+        let past = Duration::from_nanos(time.nanoseconds as u64);
+        Duration::from_secs(time.seconds).saturating_add(past)
+    }
+}
+
+// The digits of a second that a resolution tells.
+fn digits(resolution: u8) -> u8
+    ensures { result ≡ digits_of resolution }
+{
+    (resolution % 128).min(NANO_DIGITS)
 }
 
 // The whole nanoseconds in so many units of a resolution.

@@ -13,8 +13,8 @@ nanos ticks = omega arith
 
 pub returns-in-6 : goal.returns-in-6
 returns-in-6 c =
-    rw c.in-6.is (subst (IsTime c.of_micros.result) (micros c.args.ticks) c.of_micros.ensures)
+    rw c.in-6.is (subst (λ n. IsTime c.of_micros.result n 6) (micros c.args.ticks) c.of_micros.ensures)
 
 pub returns-in-9 : goal.returns-in-9
 returns-in-9 c =
-    rw c.in-9.is (subst (IsTime c.of_nanos.result) (nanos c.args.ticks) c.of_nanos.ensures)
+    rw c.in-9.is (subst (λ n. IsTime c.of_nanos.result n 9) (nanos c.args.ticks) c.of_nanos.ensures)

@@ -21,7 +21,7 @@ pub returns-then-seconds-lt0 : goal.returns-then-seconds-lt0
 returns-then-seconds-lt0 c =
     let n = c.args.self.seconds * 1000000000 + c.args.self.nanoseconds in
     let same = to_z-of_z w64 c.args.seconds c.ranges.seconds in
-    subst (IsTime c.earlier.result)
+    subst (λ n. IsTime c.earlier.result n c.args.self.digits)
     (ap (λ s. n - s * 1000000000) (c.unsigned_abs.ensures.value ∙ ap unsigned_abs same)
     ∙ earlier c.args.seconds n (subst (λ z. int_lt z (pos 0) ≡ true) same c.if-seconds-lt0.true)) c.earlier.ensures
 
@@ -29,6 +29,6 @@ pub returns : goal.returns
 returns c =
     let n = c.args.self.seconds * 1000000000 + c.args.self.nanoseconds in
     let same = to_z-of_z w64 c.args.seconds c.ranges.seconds in
-    subst (IsTime c.later.result)
+    subst (λ n. IsTime c.later.result n c.args.self.digits)
     (ap (λ z. min (n + unsigned_abs z * 1000000000) (18446744073709551615 * 1000000000 + n % 1000000000)) same
     ∙ later c.args.seconds n (subst (λ z. int_lt z (pos 0) ≡ false) same c.if-seconds-lt0.false)) c.later.ensures
