@@ -2,12 +2,12 @@
 use Rattle.std.proofs.Common.{◌≡◌, ◌≢◌, ℕ, ◌-◌, ◌<◌, ◌≤◌, List, length, take, drop, take_all, Result, Ok, Err}
 use Rattle.std.proofs.Common.{IfOk, ◌↔◌, ℤ, slice_index, refl, ap, sym, subst, ◌∙◌, arith}
 use Rattle.wirebase.specs.Bytes.{field, part}
-use Rattle.wirebase.specs.declared.error.Error.{Error}
 use Rattle.capture.specs.Order.{signed_number, number_in}
 use Rattle.capture.specs.Packet.{PacketValue, packet_in}
 use Rattle.capture.specs.Pcapng.{IsOption, option_end, TellsOption, here, later, HasResolution, told, microseconds}
 use Rattle.capture.specs.Pcapng.{HasOffset, moved_by, not_moved, link_type_field, snap_len_field, IsInterface}
 use Rattle.capture.specs.Pcapng.{IsTimed, IsSimple, IsPacket, obsolete, simple, enhanced}
+use Rattle.capture.specs.declared.ending.Refusal.{Refusal}
 use Rattle.capture.specs.declared.order.Order.{Order}
 use Rattle.capture.specs.declared.pcapng.Interface.{Interface}
 use Rattle.capture.specs.declared.packet.Packet.{Packet}
@@ -123,19 +123,19 @@ module _ (order : Order) (interfaces : List Interface) (bytes : List ℕ) (kind 
   abbrev pub OfKind : PacketValue → Type 0
   OfKind p = IsPacket order interfaces bytes p kind
 
-  pub obsolete_sound : kind ≡ 2 → place ≡ number_in order (field 8 10) bytes → (r : Result Packet Error)
+  pub obsolete_sound : kind ≡ 2 → place ≡ number_in order (field 8 10) bytes → (r : Result Packet Refusal)
       → IfOk r (λ packet. Timed (packet_in packet bytes)) → IfOk r (λ packet. OfKind (packet_in packet bytes))
   obsolete_sound is e (Ok packet) h =
       obsolete is (subst (λ i. IsTimed order interfaces i bytes (packet_in packet bytes)) e h)
   obsolete_sound is e (Err error) h = tt
 
-  pub enhanced_sound : kind ≡ 6 → place ≡ number_in order (field 8 12) bytes → (r : Result Packet Error)
+  pub enhanced_sound : kind ≡ 6 → place ≡ number_in order (field 8 12) bytes → (r : Result Packet Refusal)
       → IfOk r (λ packet. Timed (packet_in packet bytes)) → IfOk r (λ packet. OfKind (packet_in packet bytes))
   enhanced_sound is e (Ok packet) h =
       enhanced is (subst (λ i. IsTimed order interfaces i bytes (packet_in packet bytes)) e h)
   enhanced_sound is e (Err error) h = tt
 
-  pub simple_sound : kind ≡ 3 → (r : Result Packet Error)
+  pub simple_sound : kind ≡ 3 → (r : Result Packet Refusal)
       → IfOk r (λ packet. IsSimple order interfaces bytes (packet_in packet bytes))
       → IfOk r (λ packet. OfKind (packet_in packet bytes))
   simple_sound is (Ok packet) h = simple is h

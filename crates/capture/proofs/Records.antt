@@ -12,7 +12,8 @@ use Rattle.capture.specs.Time.{IsTime, value_of, time_value, fraction_of, digits
 use Rattle.capture.specs.Unit as unit
 use Rattle.capture.specs.Unit.{record_form, RecordHeadEnds, UnitEnds, none, no_head, UnitReads}
 use Rattle.capture.specs.declared.ending.Ending.{Ending}
-use Rattle.capture.specs.declared.ending.Ending.TheVariants.{Whole, Cut, TooLarge, Malformed, Version, NotACapture}
+use Rattle.capture.specs.declared.ending.Ending.TheVariants.{Whole, Cut, TooLarge, TooManyInterfaces, Malformed}
+use Rattle.capture.specs.declared.ending.Ending.TheVariants.{Version, NotACapture}
 use Rattle.capture.specs.declared.packet.Packet.{Packet}
 use Rattle.capture.specs.declared.pcap.FileHeader.{FileHeader}
 use Rattle.capture.specs.declared.pcap.RecordHeader.{RecordHeader}
@@ -32,7 +33,8 @@ module _ (h : FileHeader) (all : List ℕ) where
   head_ends Cut short =
       head_cut (λ e. short.0 (ap (take 16) e)) (omega (arith, short.1, length-take 16 all))
   head_ends TooLarge many = large many.0 many.1 many.2
-  head_ends Malformed no' = absurd no'
+  head_ends TooManyInterfaces no' = absurd no'
+  head_ends (Malformed refusal) no' = absurd no'
   head_ends Version no' = absurd no'
   head_ends NotACapture no' = absurd no'
 

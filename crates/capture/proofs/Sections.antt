@@ -47,15 +47,15 @@ module _ (section : Order) (h : Head) (interfaces : List Interface) (octets : Li
       → BlockTakes section h interfaces octets s new
   section_takes kind step.Passed new t = header h w.head w.whole closed kind t.0 t.1 refl
   section_takes kind (step.Packet k) new t = absurd t
-  section_takes kind (step.Ended e) new t = no_section kind t
+  section_takes kind (step.Ended e) new t = no_section closed kind t
 
   pub interface_takes : h.kind ≡ 1 → (s : Step) (new : State)
       → InterfaceTakes h.order (state (Section section) interfaces) octets s new
       → BlockTakes section h interfaces octets s new
   interface_takes kind step.Passed new t = described h t.0 w.head w.whole closed kind t.1 t.2 t.3 refl
   interface_takes kind (step.Packet k) new t = absurd t
-  interface_takes kind (step.Ended e) new (inl t) = no_interface kind t.0 t.1
-  interface_takes kind (step.Ended e) new (inr t) = many t.0 kind t.1 t.2 t.3
+  interface_takes kind (step.Ended e) new (inl t) = no_interface closed kind t.0 t.1
+  interface_takes kind (step.Ended e) new (inr t) = many t.0 closed kind t.1 t.2 t.3
 
   pub packet_takes : h.kind ≢ section_kind → h.kind ≢ 1 → (s : Step) → PacketTakes h.order h.kind interfaces octets s
       → BlockTakes section h interfaces octets s (state (Section section) interfaces)
@@ -63,9 +63,10 @@ module _ (section : Order) (h : Head) (interfaces : List Interface) (octets : Li
   packet_takes no_section' no_interface' (step.Packet k) t =
       held h (packet_in k octets) w.head w.whole closed t.0
       (omega (arith, t.1, length-part octets k.start (k.start + k.captured_len) (omega arith) t.2.within)) refl refl
-  packet_takes no_section' no_interface' (step.Ended e) (inl t) = no_packet no_section' no_interface' t.0 t.1
+  packet_takes no_section' no_interface' (step.Ended e) (inl t) =
+      no_packet t.0 closed no_section' no_interface' t.1 t.2
   packet_takes no_section' no_interface' (step.Ended e) (inr t) =
-      large (packet_in t.0 octets) t.1
+      large (packet_in t.0 octets) closed t.1
       (omega (arith, t.2, length-part octets t.0.start (t.0.start + t.0.captured_len) (omega arith) t.3.within)) t.4
 
 -- ---- a block that was read, or passed over

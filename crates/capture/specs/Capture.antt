@@ -6,7 +6,7 @@ use Rattle.wirebase.specs.Bytes.{part}
 use Rattle.capture.specs.Packet.{PacketValue}
 use Rattle.capture.specs.Pcap.{IsFileHeader, FileEnds, IsRecord, ShowsRecord, RecordEnds}
 use Rattle.capture.specs.Pcapng.{IsSectionKind, section_kind, IsRead, IsHead, HeadEnds, IsClosed, IsSection}
-use Rattle.capture.specs.Pcapng.{SectionEnds, IsInterface, IsPacket, ShowsPacket}
+use Rattle.capture.specs.Pcapng.{SectionEnds, IsInterface, IsPacket, RefusesPacket, ShowsPacket}
 use Rattle.capture.specs.Time.{value_of}
 use Rattle.capture.specs.declared.capture.Capture.{Capture}
 use Rattle.capture.specs.declared.capture.Next.{Next}
@@ -15,7 +15,9 @@ use Rattle.capture.specs.declared.capture.Record.{Record}
 use Rattle.capture.specs.declared.capture.Stage.{Stage}
 use Rattle.capture.specs.declared.capture.Stage.TheVariants as stage
 use Rattle.capture.specs.declared.ending.Ending.{Ending}
-use Rattle.capture.specs.declared.ending.Ending.TheVariants.{Cut, TooLarge, Malformed}
+use Rattle.capture.specs.declared.ending.Ending.TheVariants.{Cut, TooLarge, TooManyInterfaces, Malformed}
+use Rattle.capture.specs.declared.ending.Refusal.{Refusal}
+use Rattle.capture.specs.declared.ending.Refusal.TheVariants.{ClosingLength, Short}
 use Rattle.capture.specs.declared.order.Order.{Order}
 use Rattle.capture.specs.declared.order.Order.TheVariants.{Big}
 use Rattle.capture.specs.declared.pcap.FileHeader.{FileHeader}
@@ -55,19 +57,20 @@ pub data IsBlock (section : Order) (interfaces : List Interface) (bytes : List �
       → IsClosed h.order bytes → IsPacket h.order interfaces bytes p h.kind → length p.octets ≤ most_octets
       → new ≡ state (stage.Section section) interfaces → packet ≡ Some p → IsBlock section interfaces bytes new packet
 
--- what ends a capture at a block that is there as a whole
+-- what ends a capture at a block that is there as a whole, by the first check that fails
 pub data Refused (h : Head) (interfaces : List Interface) (block : List ℕ) (ending : Ending) : Type 0 where
-  not_closed : (IsClosed h.order block → ⊥) → ending ≡ Malformed → Refused h interfaces block ending
-  no_section : h.kind ≡ section_kind → SectionEnds h.order block ending → Refused h interfaces block ending
-  no_interface : h.kind ≡ 1 → ((i : Interface) → IsInterface h.order block i → ⊥) → ending ≡ Malformed
+  not_closed : (IsClosed h.order block → ⊥) → ending ≡ Malformed ClosingLength → Refused h interfaces block ending
+  no_section : IsClosed h.order block → h.kind ≡ section_kind → SectionEnds h.order block ending
       → Refused h interfaces block ending
-  many : (i : Interface) → h.kind ≡ 1 → IsInterface h.order block i → most_interfaces ≤ length interfaces
-      → ending ≡ TooLarge → Refused h interfaces block ending
-  no_packet : h.kind ≢ section_kind → h.kind ≢ 1
-      → ((p : PacketValue) → IsPacket h.order interfaces block p h.kind → ⊥) → ending ≡ Malformed
+  no_interface : IsClosed h.order block → h.kind ≡ 1 → length block < 20 → ending ≡ Malformed Short
       → Refused h interfaces block ending
-  large : (p : PacketValue) → IsPacket h.order interfaces block p h.kind → most_octets < length p.octets
-      → ending ≡ TooLarge → Refused h interfaces block ending
+  many : (i : Interface) → IsClosed h.order block → h.kind ≡ 1 → IsInterface h.order block i
+      → most_interfaces ≤ length interfaces → ending ≡ TooManyInterfaces → Refused h interfaces block ending
+  no_packet : (refusal : Refusal) → IsClosed h.order block → h.kind ≢ section_kind → h.kind ≢ 1
+      → RefusesPacket h.order interfaces block h.kind refusal → ending ≡ Malformed refusal
+      → Refused h interfaces block ending
+  large : (p : PacketValue) → IsClosed h.order block → IsPacket h.order interfaces block p h.kind
+      → most_octets < length p.octets → ending ≡ TooLarge → Refused h interfaces block ending
 
 -- what ends a section that goes on with these bytes, and so with no block
 pub data BlockEnds (section : Order) (interfaces : List Interface) (bytes : List ℕ) (ending : Ending) : Type 0 where

@@ -1,5 +1,6 @@
 pub mod Calendar
 pub mod Capture
+pub mod Ending
 pub mod Order
 pub mod Packet
 pub mod Pcap

@@ -53,6 +53,8 @@ use Rattle.capture.specs.Packet.{PacketValue}
 use Rattle.capture.specs.Time.{time_value, nanoseconds_of, digits_of, moved}
 use Rattle.capture.specs.declared.ending.Ending.{Ending}
 use Rattle.capture.specs.declared.ending.Ending.TheVariants.{Whole, Cut, TooLarge, Malformed, Version}
+use Rattle.capture.specs.declared.ending.Refusal.{Refusal}
+use Rattle.capture.specs.declared.ending.Refusal.TheVariants as refusal
 use Rattle.capture.specs.declared.order.Order.{Order}
 use Rattle.capture.specs.declared.order.Order.TheVariants.{Big, Little}
 use Rattle.capture.specs.declared.pcapng.Head.{Head}
@@ -111,14 +113,21 @@ pub record IsHead (section : Order) (bytes : List ℕ) (h : Head) : Type 0 where
   pub length_ : IsLength h.total_len
   pub small : IsRead h.kind → h.total_len ≤ 524288
 
+-- what is told of other bytes, twelve or more: a section header's order is none, or the length is no block's
+abbrev pub RefusesHead : Order → List ℕ → Refusal → Type 0
+RefusesHead section bytes refusal.ByteOrder = (order : Order) → HasOrder section bytes order → ⊥
+RefusesHead section bytes (refusal.Length n) =
+    (order : Order) × HasOrder section bytes order × (n ≡ number_in order total_len_field bytes) × (IsLength n → ⊥)
+RefusesHead section bytes _ = ⊥
+
 -- what ends a capture that goes on with these bytes, and so with no head
 abbrev pub HeadEnds : Order → List ℕ → Ending → Type 0
 HeadEnds section bytes Whole = bytes ≡ []
 HeadEnds section bytes Cut = (bytes ≢ []) × (length bytes < 12)
-HeadEnds section bytes Malformed = (12 ≤ length bytes)
-    × ((order : Order) → HasOrder section bytes order → IsLength (number_in order total_len_field bytes) → ⊥)
+HeadEnds section bytes (Malformed r) = (12 ≤ length bytes) × RefusesHead section bytes r
 HeadEnds section bytes TooLarge = (12 ≤ length bytes) × IsRead (number_in section kind_field bytes)
-    × ((order : Order) × HasOrder section bytes order × (524288 < number_in order total_len_field bytes))
+    × ((order : Order) × HasOrder section bytes order × IsLength (number_in order total_len_field bytes)
+    × (524288 < number_in order total_len_field bytes))
 HeadEnds section bytes _ = ⊥
 
 -- the last four bytes are the length again
@@ -141,7 +150,7 @@ pub record IsSection (order : Order) (bytes : List ℕ) : Type 0 where
 
 -- what ends a capture at a section header that is not read
 abbrev pub SectionEnds : Order → List ℕ → Ending → Type 0
-SectionEnds order bytes Malformed = length bytes < 28
+SectionEnds order bytes (Malformed r) = (length bytes < 28) × (r ≡ refusal.Short)
 SectionEnds order bytes Version = (28 ≤ length bytes) × (IsSection order bytes → ⊥)
 SectionEnds order bytes _ = ⊥
 
@@ -252,6 +261,42 @@ pub data HoldsPacket (kind : ℕ) : Type 0 where
   holds_obsolete : kind ≡ 2 → HoldsPacket kind
   holds_simple : kind ≡ 3 → HoldsPacket kind
   holds_enhanced : kind ≡ 6 → HoldsPacket kind
+
+-- what is told of another enhanced or obsolete packet: the block is too short, its interface is not described, or it is
+-- shorter than the packet
+abbrev pub RefusesTimed : Order → List Interface → ℕ → List ℕ → Refusal → Type 0
+RefusesTimed order interfaces place bytes refusal.Short = length bytes < 32
+RefusesTimed order interfaces place bytes (refusal.Interface n) =
+    (32 ≤ length bytes) × (slice_get interfaces place ≡ None) × (n ≡ place)
+RefusesTimed order interfaces place bytes (refusal.CapturedLength n) =
+    (32 ≤ length bytes) × ((i : Interface) × (slice_get interfaces place ≡ Some i))
+    × (n ≡ number_in order captured_len_field bytes) × (length bytes < 32 + n)
+RefusesTimed order interfaces place bytes _ = ⊥
+
+-- the same of a simple packet
+abbrev pub RefusesSimple : Order → List Interface → List ℕ → Refusal → Type 0
+RefusesSimple order interfaces bytes refusal.Short = length bytes < 16
+RefusesSimple order interfaces bytes (refusal.Interface n) =
+    (16 ≤ length bytes) × (slice_get interfaces 0 ≡ None) × (n ≡ 0)
+RefusesSimple order interfaces bytes (refusal.CapturedLength n) =
+    (16 ≤ length bytes) × ((i : Interface) × (slice_get interfaces 0 ≡ Some i)
+    × (n ≡ kept_len i.snap_len (number_in order (field 8 12) bytes))) × (length bytes < 16 + n)
+RefusesSimple order interfaces bytes _ = ⊥
+
+-- what is told of a block that holds no packet, by the first check that fails
+pub data RefusesPacket (order : Order) (interfaces : List Interface) (bytes : List ℕ) (kind : ℕ) (r : Refusal)
+    : Type 0 where
+  no_head : length bytes < 12 → r ≡ refusal.Short → RefusesPacket order interfaces bytes kind r
+  no_kind : 12 ≤ length bytes → (HoldsPacket kind → ⊥) → r ≡ refusal.Kind kind
+      → RefusesPacket order interfaces bytes kind r
+  no_obsolete : 12 ≤ length bytes → kind ≡ 2
+      → RefusesTimed order interfaces (number_in order (field 8 10) bytes) bytes r
+      → RefusesPacket order interfaces bytes kind r
+  no_simple : 12 ≤ length bytes → kind ≡ 3 → RefusesSimple order interfaces bytes r
+      → RefusesPacket order interfaces bytes kind r
+  no_enhanced : 12 ≤ length bytes → kind ≡ 6
+      → RefusesTimed order interfaces (number_in order (field 8 12) bytes) bytes r
+      → RefusesPacket order interfaces bytes kind r
 
 -- the bytes begin with a whole block that holds a packet, by the kind and the length that its head tells
 pub record ShowsPacket (section : Order) (bytes : List ℕ) : Type 0 where

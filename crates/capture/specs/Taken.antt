@@ -1,10 +1,12 @@
 -- What the parts of the reader answer, beside what their bytes are.
 use Rattle.std.specs.Prelude.{◌≡◌, ℕ, ◌<◌, ◌≤◌, ◌⊎◌, List, [], ◌∷◌, ◌++◌, length, take, Option, None, Some}
 use Rattle.capture.specs.Capture.{State, state, IsBlock, BlockEnds, Refused, IsUnit, Ends, most_octets, most_interfaces}
-use Rattle.capture.specs.Packet.{PacketValue, packet_in, IsPlace}
+use Rattle.capture.specs.Packet.{packet_in, IsPlace}
 use Rattle.capture.specs.Pcap.{IsRecord, RecordEnds}
-use Rattle.capture.specs.Pcapng.{IsRead, IsHead, IsSection, SectionEnds, IsInterface, IsPacket}
-use Rattle.capture.specs.declared.ending.Ending.TheVariants.{TooLarge, Malformed}
+use Rattle.capture.specs.Pcapng.{IsRead, IsHead, IsSection, SectionEnds, IsInterface, IsPacket, RefusesPacket}
+use Rattle.capture.specs.declared.ending.Ending.TheVariants.{TooLarge, TooManyInterfaces, Malformed}
+use Rattle.capture.specs.declared.ending.Refusal.{Refusal}
+use Rattle.capture.specs.declared.ending.Refusal.TheVariants.{Short}
 use Rattle.capture.specs.declared.packet.Packet.{Packet}
 use Rattle.capture.specs.declared.capture.Stage.TheVariants as stage
 use Rattle.capture.specs.declared.capture.Step.{Step}
@@ -51,15 +53,16 @@ InterfaceTakes order old octets step.Passed new =
     × (new ≡ state old.stage (old.interfaces ++ (i ∷ [])))
 InterfaceTakes order old octets (step.Packet k) new = ⊥
 InterfaceTakes order old octets (step.Ended ending) new =
-    (((i : Interface) → IsInterface order octets i → ⊥) × (ending ≡ Malformed))
-    ⊎ ((i : Interface) × IsInterface order octets i × (most_interfaces ≤ length old.interfaces) × (ending ≡ TooLarge))
+    ((length octets < 20) × (ending ≡ Malformed Short))
+    ⊎ ((i : Interface) × IsInterface order octets i × (most_interfaces ≤ length old.interfaces)
+    × (ending ≡ TooManyInterfaces))
 
 abbrev pub PacketTakes : Order → ℕ → List Interface → List ℕ → Step → Type 0
 PacketTakes order kind interfaces octets step.Passed = ⊥
 PacketTakes order kind interfaces octets (step.Packet k) =
     IsPacket order interfaces octets (packet_in k octets) kind × (k.captured_len ≤ most_octets) × IsPlace k octets
 PacketTakes order kind interfaces octets (step.Ended ending) =
-    (((p : PacketValue) → IsPacket order interfaces octets p kind → ⊥) × (ending ≡ Malformed))
+    ((refusal : Refusal) × RefusesPacket order interfaces octets kind refusal × (ending ≡ Malformed refusal))
     ⊎ ((k : Packet) × IsPacket order interfaces octets (packet_in k octets) kind × (most_octets < k.captured_len)
     × IsPlace k octets × (ending ≡ TooLarge))
 

@@ -8,7 +8,7 @@ ghost use Rattle.capture.specs.Reader.{Reads};
 ghost use Rattle.capture.specs.Taken.{BlockTakes, BlockGives, StepGives, SectionTakes, InterfaceTakes, PacketTakes};
 ghost use Rattle.capture.specs.Taken.{IfPacket, RecordGives, IsWholeBlock};
 
-use crate::ending::{Ending, Fault};
+use crate::ending::{Ending, Fault, Refusal};
 use crate::order::Order;
 use crate::packet::Packet;
 use crate::pcap::{self, FileHeader, RecordHeader};
@@ -265,7 +265,7 @@ impl Capture {
         let order = head.order;
         self.stage = Stage::Section(section);
         if !pcapng::is_closed(order, self.octets.as_slice()) {
-            return Ok(Step::Ended(Ending::Malformed));
+            return Ok(Step::Ended(Ending::Malformed(Refusal::ClosingLength)));
         }
         if head.kind == pcapng::SECTION {
             return Ok(self.take_section(order));
@@ -300,11 +300,12 @@ impl Capture {
         ensures count { count_of self.new ≡ count_of self.old }
         ensures fault { IfErr result (λ fault. fault ≡ Fault.Memory) }
     {
-        let Ok(interface) = Interface::parse(order, self.octets.as_slice()) else {
-            return Ok(Step::Ended(Ending::Malformed));
+        let interface = match Interface::parse(order, self.octets.as_slice()) {
+            Ok(interface) => interface,
+            Err(refusal) => return Ok(Step::Ended(Ending::Malformed(refusal))),
         };
         if self.interfaces.as_slice().len() >= MOST_INTERFACES {
-            return Ok(Step::Ended(Ending::TooLarge));
+            return Ok(Step::Ended(Ending::TooManyInterfaces));
         }
         match self.interfaces.push(interface) {
             Ok(()) => Ok(Step::Passed),
@@ -321,7 +322,7 @@ impl Capture {
         match pcapng::parse_packet(order, kind, interfaces, self.octets.as_slice()) {
             Ok(packet) if packet.captured_len > MOST_OCTETS => Step::Ended(Ending::TooLarge),
             Ok(packet) => Step::Packet(packet),
-            Err(_) => Step::Ended(Ending::Malformed),
+            Err(refusal) => Step::Ended(Ending::Malformed(refusal)),
         }
     }
 }

@@ -15,7 +15,7 @@ mod time;
 mod unit;
 
 pub use capture::{Capture, MOST_INTERFACES, MOST_OCTETS, Next, Record};
-pub use ending::{Ending, Fault};
+pub use ending::{Ending, Fault, Refusal};
 pub use order::Order;
 pub use packet::Packet;
 pub use time::Time;

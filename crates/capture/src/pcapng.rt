@@ -1,23 +1,23 @@
 //! The blocks of a pcapng file (draft-ietf-opsawg-pcapng sections 3 and 4).
 
-ghost use Rattle.std.specs.Prelude.{◌≡◌, ◌≤◌, ◌↔◌, ℕ, List, IfOk, IfErr, IfSome, IsNone, IsOk, IsOkAnd, IsSomeAnd};
+ghost use Rattle.std.specs.Prelude.{◌≡◌, ◌<◌, ◌≤◌, ◌↔◌, ℕ, List, IfOk, IfErr, IfSome, IsNone, IsOk, IsOkAnd, IsSomeAnd};
 ghost use Rattle.std.specs.Prelude.{IsTrue, length};
 ghost use Rattle.capture.specs.Order.{number_in};
 ghost use Rattle.capture.specs.Pcapng.{kind_field, IsSectionKind, HasOrder, IsRead, IsHead, HeadEnds};
 ghost use Rattle.capture.specs.Pcapng.{HoldsPacket, ShowsPacket, IsClosed, IsSection, SectionEnds};
 ghost use Rattle.capture.specs.Pcapng.{TellsOption, HasResolution, HasOffset, IsInterface, IsTimed, IsSimple, IsPacket};
-ghost use Rattle.capture.specs.Pcapng.{kept_len};
+ghost use Rattle.capture.specs.Pcapng.{kept_len, RefusesTimed, RefusesSimple, RefusesPacket};
 ghost use Rattle.capture.specs.Packet.{PacketValue, packet_in, IsPlace};
 ghost use Rattle.capture.specs.declared.order.Order.{Order as AnOrder};
 ghost use Rattle.capture.specs.declared.pcapng.Head.{Head as AHead};
 ghost use Rattle.capture.specs.declared.pcapng.Interface.{Interface as AnInterface};
 
-use crate::ending::Ending;
+use crate::ending::{Ending, Refusal};
 use crate::order::Order;
 use crate::packet::Packet;
 use crate::time::Time;
 use crate::unit::UnitHead;
-use wirebase::{Error, Octets};
+use wirebase::Octets;
 
 // The fields of the blocks; their pictures are in specs/Pcapng.antt.
 mod field {
@@ -122,8 +122,8 @@ pub struct Head {
 
 impl Head {
     /// The head at the front of the octets, in a section of this order. Refused where there are no octets (`Whole`),
-    /// fewer than 12 (`Cut`), where the order or the length can't be (`Malformed`), and where a block that is read has
-    /// more than `MOST_BLOCK_OCTETS` (`TooLarge`).
+    /// fewer than 12 (`Cut`), where a section header tells no order of bytes or the length is no block's (`Malformed`,
+    /// with `ByteOrder` or `Length`), and where a block that is read has more than `MOST_BLOCK_OCTETS` (`TooLarge`).
     pub fn parse(section: Order, octets: &[u8]) -> Result<Head, Ending>
         ensures sound { IfOk result (λ head. IsHead section octets.now head) }
         ensures complete { (h : AHead) → IsHead section octets.now h → IsOkAnd result (λ head. head ≡ h) }
@@ -137,11 +137,11 @@ impl Head {
         }
         let kind = section.u32_at(octets, field::KIND);
         let Some(order) = order_of(section, kind, octets) else {
-            return Err(Ending::Malformed);
+            return Err(Ending::Malformed(Refusal::ByteOrder));
         };
         let total_len = order.u32_at(octets, field::TOTAL_LEN);
         if total_len < 12 || total_len % 4 != 0 {
-            return Err(Ending::Malformed);
+            return Err(Ending::Malformed(Refusal::Length(total_len)));
         }
         if is_read(kind) && total_len > MOST_BLOCK_OCTETS {
             return Err(Ending::TooLarge);
@@ -242,14 +242,14 @@ pub fn is_closed(order: Order, block: &[u8]) -> bool
     order.u32_at(block, len - field::TRAILER..len) as usize == len
 }
 
-/// Accepts a section header of version 1.0 or 1.2. Refused where it is shorter than 28 bytes (`Malformed`) or of
-/// another version (`Version`).
+/// Accepts a section header of version 1.0 or 1.2. Refused where it is shorter than 28 bytes (`Malformed`, with `Short`)
+/// or of another version (`Version`).
 pub fn check_section(order: Order, block: &[u8]) -> Result<(), Ending>
     ensures accepts { IsOk result ↔ IsSection order block.now }
     ensures ends { IfErr result (λ ending. SectionEnds order block.now ending) }
 {
     if block.len() < field::SECTION_END {
-        return Err(Ending::Malformed);
+        return Err(Ending::Malformed(Refusal::Short));
     }
     let minor = order.u16_at(block, field::MINOR);
     if order.u16_at(block, field::MAJOR) != 1 || (minor != 0 && minor != 2) {
@@ -272,15 +272,17 @@ pub struct Interface {
 }
 
 impl Interface {
-    /// The interface that a block describes. Refused where the block is shorter than 20 bytes.
-    pub fn parse(order: Order, block: &[u8]) -> wirebase::Result<Interface>
+    /// The interface that a block describes. Refused where the block is shorter than 20 bytes (`Short`). Options that are
+    /// cut short are not looked at.
+    pub fn parse(order: Order, block: &[u8]) -> Result<Interface, Refusal>
         ensures sound { IfOk result (λ interface. IsInterface order block.now interface) }
         ensures complete { (i : AnInterface) → IsInterface order block.now i
             → IsOkAnd result (λ interface. interface ≡ i) }
+        ensures refused { IfErr result (λ refusal. (length block.now < 20) × (refusal ≡ Refusal.Short)) }
     {
         let len = block.len();
         if len < field::OPTIONS + field::TRAILER {
-            return Err(Error);
+            return Err(Refusal::Short);
         }
         let options = block.range(field::OPTIONS, len - field::TRAILER);
         Ok(Interface {
@@ -337,60 +339,63 @@ fn first_option(order: Order, options: &[u8], code: u16, len: u16) -> Option<&[u
     None
 }
 
-/// The packet that a block of a kind holds, in a section with these interfaces. Refused where the block is too
-/// short for it, names an interface that is not described, or is of no kind of packet.
+/// The packet that a block of a kind holds, in a section with these interfaces. Refused where the block is too short
+/// (`Short`), is of no kind of packet (`Kind`), names an interface that is not described (`Interface`), or is shorter
+/// than its packet (`CapturedLength`).
 #[inline]
 pub fn parse_packet(
     order: Order,
     kind: u32,
     interfaces: &[Interface],
     block: &[u8],
-) -> wirebase::Result<Packet>
+) -> Result<Packet, Refusal>
     ensures sound { IfOk result (λ packet. IsPacket order interfaces.now block.now (packet_in packet block.now) kind) }
     ensures complete { (p : PacketValue) → IsPacket order interfaces.now block.now p kind
         → IsOkAnd result (λ packet. packet_in packet block.now ≡ p) }
     ensures place { IfOk result (λ packet. IsPlace packet block.now) }
+    ensures refused { IfErr result (λ refusal. RefusesPacket order interfaces.now block.now kind refusal) }
 {
     if block.len() < field::HEAD_END {
-        return Err(Error);
+        return Err(Refusal::Short);
     }
     match kind {
         OBSOLETE_PACKET => {
-            let place = order.u16_at(block, field::SHORT_INTERFACE) as usize;
-            timed(order, interfaces, place, block)
+            let number = order.u16_at(block, field::SHORT_INTERFACE) as u32;
+            timed(order, interfaces, number, block)
         }
         SIMPLE_PACKET => simple(order, interfaces, block),
         ENHANCED_PACKET => {
-            let place = order.u32_at(block, field::INTERFACE) as usize;
-            timed(order, interfaces, place, block)
+            let number = order.u32_at(block, field::INTERFACE);
+            timed(order, interfaces, number, block)
         }
-        _ => Err(Error),
+        _ => Err(Refusal::Kind(kind)),
     }
 }
 
-// An enhanced or an obsolete packet, of the interface at a place.
+// An enhanced or an obsolete packet, of the interface of a number.
 #[inline]
 fn timed(
     order: Order,
     interfaces: &[Interface],
-    place: usize,
+    number: u32,
     block: &[u8],
-) -> wirebase::Result<Packet>
-    ensures sound { IfOk result (λ packet. IsTimed order interfaces.now place block.now (packet_in packet block.now)) }
-    ensures complete { (p : PacketValue) → IsTimed order interfaces.now place block.now p
+) -> Result<Packet, Refusal>
+    ensures sound { IfOk result (λ packet. IsTimed order interfaces.now number block.now (packet_in packet block.now)) }
+    ensures complete { (p : PacketValue) → IsTimed order interfaces.now number block.now p
         → IsOkAnd result (λ packet. packet_in packet block.now ≡ p) }
     ensures place { IfOk result (λ packet. IsPlace packet block.now) }
+    ensures refused { IfErr result (λ refusal. RefusesTimed order interfaces.now number block.now refusal) }
 {
-    let Some(interface) = interfaces.get(place) else {
-        return Err(Error);
-    };
     let len = block.len();
     if len < field::PACKET + field::TRAILER {
-        return Err(Error);
+        return Err(Refusal::Short);
     }
+    let Some(interface) = interfaces.get(number as usize) else {
+        return Err(Refusal::Interface(number));
+    };
     let captured_len = order.u32_at(block, field::CAPTURED_LEN);
     if captured_len as u64 > (len - field::PACKET - field::TRAILER) as u64 {
-        return Err(Error);
+        return Err(Refusal::CapturedLength(captured_len));
     }
     let high = order.u32_at(block, field::TICKS_HIGH);
     let low = order.u32_at(block, field::TICKS_LOW);
@@ -408,23 +413,24 @@ fn timed(
 }
 
 // A simple packet, which belongs to the first interface and has no time.
-fn simple(order: Order, interfaces: &[Interface], block: &[u8]) -> wirebase::Result<Packet>
+fn simple(order: Order, interfaces: &[Interface], block: &[u8]) -> Result<Packet, Refusal>
     ensures sound { IfOk result (λ packet. IsSimple order interfaces.now block.now (packet_in packet block.now)) }
     ensures complete { (p : PacketValue) → IsSimple order interfaces.now block.now p
         → IsOkAnd result (λ packet. packet_in packet block.now ≡ p) }
     ensures place { IfOk result (λ packet. IsPlace packet block.now) }
+    ensures refused { IfErr result (λ refusal. RefusesSimple order interfaces.now block.now refusal) }
 {
-    let Some(interface) = interfaces.get(0) else {
-        return Err(Error);
-    };
     let len = block.len();
     if len < field::SIMPLE_PACKET + field::TRAILER {
-        return Err(Error);
+        return Err(Refusal::Short);
     }
+    let Some(interface) = interfaces.get(0) else {
+        return Err(Refusal::Interface(0));
+    };
     let original_len = order.u32_at(block, field::SIMPLE_ORIGINAL_LEN);
     let captured_len = kept_len(interface.snap_len, original_len);
     if captured_len as u64 > (len - field::SIMPLE_PACKET - field::TRAILER) as u64 {
-        return Err(Error);
+        return Err(Refusal::CapturedLength(captured_len));
     }
     Ok(Packet {
         time: None,

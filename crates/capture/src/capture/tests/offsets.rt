@@ -65,8 +65,9 @@ fn check(rt: &impl Abort, alloc: Global, octets: &[u8], seconds: u64, nanosecond
     let time = Time {
         seconds,
         nanoseconds,
+        digits: 6,
     };
-    for want in [time, time, Time::ZERO] {
+    for want in [Some(time), Some(time), None] {
         let read = match capture.next(&mut input) {
             Ok(Next::Record(record)) => Some(record.time),
             _ => None,
@@ -176,10 +177,12 @@ fn times_at_the_end_of_64_bits(rt: HostRuntime) {
         let time = Time {
             seconds,
             nanoseconds: 7,
+            digits: 9,
         };
         let moved = Time {
             seconds: want,
             nanoseconds: 7,
+            digits: 9,
         };
         same_of(&rt, (seconds, offset), time.moved(offset), moved);
     }

@@ -1,0 +1,111 @@
+// What endings, refusals, faults, times and dates print.
+
+use crate::calendar::date_of;
+use crate::ending::{Ending, Fault, Refusal};
+use crate::testing::prints;
+use crate::time::Time;
+
+#[test]
+fn endings_print_what_ended_the_capture(rt: HostRuntime) {
+    const ROWS: &[(Ending, &str)] = &[
+        (Ending::Whole, "it ends behind a whole record"),
+        (Ending::Cut, "it ends within a record"),
+        (Ending::TooLarge, "a record is too large"),
+        (
+            Ending::TooManyInterfaces,
+            "it describes too many interfaces",
+        ),
+        (
+            Ending::Malformed(Refusal::Interface(3)),
+            "a record contradicts itself: interface 3 is not described",
+        ),
+        (Ending::Version, "its version is not read"),
+        (Ending::NotACapture, "it is no capture"),
+    ];
+    for (ending, text) in ROWS {
+        prints(&rt, rt.alloc(), ending, text);
+    }
+}
+
+#[test]
+fn refusals_print_the_check_that_failed(rt: HostRuntime) {
+    const ROWS: &[(Refusal, &str)] = &[
+        (
+            Refusal::ByteOrder,
+            "a section header tells no order of bytes",
+        ),
+        (Refusal::Length(30), "30 is not the length of a block"),
+        (
+            Refusal::ClosingLength,
+            "a block ends with another length than it begins with",
+        ),
+        (Refusal::Short, "a block is too short for its kind"),
+        (Refusal::Kind(5), "a block of kind 5 holds no packet"),
+        (
+            Refusal::Interface(65_536),
+            "interface 65536 is not described",
+        ),
+        (
+            Refusal::CapturedLength(70_000),
+            "a packet of 70000 bytes is longer than its block",
+        ),
+    ];
+    for (refusal, text) in ROWS {
+        prints(&rt, rt.alloc(), refusal, text);
+    }
+}
+
+#[test]
+fn faults_print_what_failed(rt: HostRuntime) {
+    prints(&rt, rt.alloc(), &Fault::Read, "reading failed");
+    prints(&rt, rt.alloc(), &Fault::Memory, "there is no memory");
+}
+
+#[test]
+fn times_print_with_their_own_digits(rt: HostRuntime) {
+    // Seconds, nanoseconds and digits. The seconds of the texts are those that `date -u -d TEXT +%s` prints.
+    const ROWS: &[(u64, u32, u8, &str)] = &[
+        (0, 0, 0, "1970-01-01T00:00:00Z"),
+        (1_795_825_769, 123_456_000, 6, "2026-11-28T00:29:29.123456Z"),
+        (
+            1_795_825_769,
+            123_456_000,
+            9,
+            "2026-11-28T00:29:29.123456000Z",
+        ),
+        (1_795_825_769, 123_456_000, 3, "2026-11-28T00:29:29.123Z"),
+        (1_795_825_769, 123_456_000, 0, "2026-11-28T00:29:29Z"),
+        (1_795_825_769, 5, 9, "2026-11-28T00:29:29.000000005Z"),
+        (1_795_825_769, 500_000_000, 1, "2026-11-28T00:29:29.5Z"),
+        (
+            1_795_825_769,
+            123_456_789,
+            200,
+            "2026-11-28T00:29:29.123456789Z",
+        ),
+        (951_868_799, 0, 0, "2000-02-29T23:59:59Z"),
+        (4_107_542_400, 0, 6, "2100-03-01T00:00:00.000000Z"),
+        (
+            253_402_300_799,
+            999_999_999,
+            9,
+            "9999-12-31T23:59:59.999999999Z",
+        ),
+        (253_402_300_800, 0, 0, "10000-01-01T00:00:00Z"),
+    ];
+    for &(seconds, nanoseconds, digits, text) in ROWS {
+        let time = Time {
+            seconds,
+            nanoseconds,
+            digits,
+        };
+        prints(&rt, rt.alloc(), &time, text);
+    }
+}
+
+#[test]
+fn dates_print_as_the_calendar_has_them(rt: HostRuntime) {
+    prints(&rt, rt.alloc(), &date_of(0), "1970-01-01");
+    prints(&rt, rt.alloc(), &date_of(11_016), "2000-02-29");
+    prints(&rt, rt.alloc(), &date_of(20_785), "2026-11-28");
+}
