@@ -1,9 +1,9 @@
 //! What ends a capture, and what ends the reading of it.
 
-ghost use Rattle.std.specs.Prelude.{Some};
+ghost use Rattle.std.specs.Prelude.{◌≡◌, Some};
 ghost use Rattle.capture.specs.Ending.{ending_text, refusal_text, fault_text};
 
-use std::fmt;
+use std::{fmt, io};
 
 /// What ends the records of a capture.
 #[derive(Debug, PartialEq, Eq, Clone, Copy)]
@@ -50,6 +50,19 @@ pub enum Fault {
     Read,
     /// There was no memory.
     Memory,
+}
+
+/// What an input tells that could not be read.
+impl From<io::Error> for Fault {
+    ghost use Rattle.capture.specs.declared.ending.Fault.TheVariants.{Read};
+
+    ghost from_gives = { λ error fault. fault ≡ Read };
+
+    fn from(_error: io::Error) -> Fault
+        ensures { result ≡ Fault.Read }
+    {
+        Fault::Read
+    }
 }
 
 /// What ended the capture, of a file that is named before it.
