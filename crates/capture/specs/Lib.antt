@@ -7,6 +7,7 @@ pub mod Pcap
 pub mod Pcapng
 pub mod Reader
 pub mod Taken
+pub mod Text
 pub mod Time
 pub mod TimeText
 pub mod Unit

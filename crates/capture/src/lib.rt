@@ -11,6 +11,7 @@ pub mod pcapng;
 mod reader;
 #[cfg(test)]
 mod testing;
+mod text;
 mod time;
 mod unit;
 

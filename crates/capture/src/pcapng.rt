@@ -242,8 +242,8 @@ pub fn is_closed(order: Order, block: &[u8]) -> bool
     order.u32_at(block, len - field::TRAILER..len) as usize == len
 }
 
-/// Accepts a section header of version 1.0 or 1.2. Refused where it is shorter than 28 bytes (`Malformed`, with `Short`)
-/// or of another version (`Version`).
+/// Accepts a section header of version 1.0 or 1.2. Refused where it is shorter than 28 bytes (`Malformed`, with
+/// `Short`) or of another version (`Version`).
 pub fn check_section(order: Order, block: &[u8]) -> Result<(), Ending>
     ensures accepts { IsOk result ↔ IsSection order block.now }
     ensures ends { IfErr result (λ ending. SectionEnds order block.now ending) }
@@ -272,8 +272,8 @@ pub struct Interface {
 }
 
 impl Interface {
-    /// The interface that a block describes. Refused where the block is shorter than 20 bytes (`Short`). Options that are
-    /// cut short are not looked at.
+    /// The interface that a block describes. Refused where the block is shorter than 20 bytes (`Short`). Options that
+    /// are cut short are not looked at.
     pub fn parse(order: Order, block: &[u8]) -> Result<Interface, Refusal>
         ensures sound { IfOk result (λ interface. IsInterface order block.now interface) }
         ensures complete { (i : AnInterface) → IsInterface order block.now i

@@ -1,7 +1,12 @@
-// What endings, refusals, faults, times and dates print.
+// What endings, refusals, faults, times, dates, records and headers print.
 
 use crate::calendar::date_of;
+use crate::capture::{Next, Record};
 use crate::ending::{Ending, Fault, Refusal};
+use crate::order::Order;
+use crate::packet::Packet;
+use crate::pcap::{FileHeader, Precision, RecordHeader};
+use crate::pcapng::{Head, Interface};
 use crate::testing::prints;
 use crate::time::Time;
 
@@ -128,4 +133,94 @@ fn dates_print_as_the_calendar_has_them(rt: HostRuntime) {
     prints(&rt, rt.alloc(), &date_of(0), "1970-01-01");
     prints(&rt, rt.alloc(), &date_of(11_016), "2000-02-29");
     prints(&rt, rt.alloc(), &date_of(20_785), "2026-11-28");
+}
+
+const RECORD: Record = Record {
+    number: 1,
+    time: Some(Time {
+        seconds: 1_795_825_769,
+        nanoseconds: 123_456_000,
+        digits: 6,
+    }),
+    link_type: 1,
+    captured_len: 64,
+    original_len: 98,
+};
+
+#[test]
+fn records_print_their_fields(rt: HostRuntime) {
+    let text =
+        "record number=1 time=2026-11-28T00:29:29.123456Z link_type=1 captured_len=64 original_len=98";
+    prints(&rt, rt.alloc(), &RECORD, text);
+    prints(&rt, rt.alloc(), &Next::Record(RECORD), text);
+    prints(
+        &rt,
+        rt.alloc(),
+        &Next::Ended(Ending::Cut),
+        "it ends within a record",
+    );
+    let packet = Packet {
+        time: None,
+        link_type: 1,
+        original_len: 98,
+        start: 12,
+        captured_len: 64,
+    };
+    prints(
+        &rt,
+        rt.alloc(),
+        &packet,
+        "packet time=none link_type=1 original_len=98 start=12 captured_len=64",
+    );
+}
+
+#[test]
+fn headers_print_their_fields(rt: HostRuntime) {
+    let file = FileHeader {
+        order: Order::Little,
+        precision: Precision::Micro,
+        link_type: 1,
+    };
+    let record = RecordHeader {
+        seconds: 1_795_825_769,
+        fraction: 123_456,
+        captured_len: 64,
+        original_len: 98,
+    };
+    let head = Head {
+        order: Order::Big,
+        kind: 6,
+        total_len: 36,
+    };
+    let interface = Interface {
+        link_type: 1,
+        snap_len: 262_144,
+        resolution: 9,
+        offset: -3_600,
+    };
+    prints(
+        &rt,
+        rt.alloc(),
+        &file,
+        "pcap file order=little-endian precision=microseconds link_type=1",
+    );
+    prints(&rt, rt.alloc(), &Precision::Nano, "nanoseconds");
+    prints(
+        &rt,
+        rt.alloc(),
+        &record,
+        "record header seconds=1795825769 fraction=123456 captured_len=64 original_len=98",
+    );
+    prints(
+        &rt,
+        rt.alloc(),
+        &head,
+        "block order=big-endian kind=6 total_len=36",
+    );
+    prints(
+        &rt,
+        rt.alloc(),
+        &interface,
+        "interface link_type=1 snap_len=262144 resolution=9 offset=-3600",
+    );
 }
