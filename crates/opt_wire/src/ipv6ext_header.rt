@@ -1,4 +1,16 @@
 //! The header that the extension headers of IPv6 with options have in common (RFC 8200 sections 4.3 and 4.6).
+//!
+//! ```
+//! use control_wire::IpProtocol;
+//! use control_wire::ipv6ext_header::{Header, Repr};
+//!
+//! // A hop-by-hop header before a message of ICMPv6.
+//! let header = Header::new_checked(&[58, 0, 5, 2, 0, 0, 1, 0])?;
+//! let header = Repr::parse(&header)?;
+//! assert_eq!(header.next_header, IpProtocol::Icmpv6);
+//! assert_eq!(header.data, [5, 2, 0, 0, 1, 0]);
+//! # Ok::<(), control_wire::Error>(())
+//! ```
 
 ghost use Rattle.std.specs.Prelude.{◌≡◌, ◌≤◌, ◌<◌, ◌-◌, ◌+◌, ◌*◌, ◌↔◌, [], ◌∷◌, length, IsTrue, IsOk, IfOk};
 ghost use Rattle.std.specs.Prelude.{IsOkAnd};

@@ -1,4 +1,15 @@
 //! Hop-by-hop options headers (RFC 8200 section 4.3), from their options on.
+//!
+//! ```
+//! use control_wire::ipv6hbh::{Header, Repr};
+//! use control_wire::ipv6option;
+//!
+//! // The options of the header before a report of multicast listener discovery: a router alert, and padding.
+//! let header = Header::new_checked(&[5, 2, 0, 0, 1, 0])?;
+//! let options = Repr::parse(&header)?.options;
+//! assert!(matches!(options[0], ipv6option::Repr::RouterAlert(_)));
+//! # Ok::<(), control_wire::Error>(())
+//! ```
 
 ghost use Rattle.std.specs.Prelude.{◌≡◌, ◌≢◌, ◌+◌, ◌≤◌, ◌<◌, ◌↔◌, ◌++◌, [], ◌∷◌, List, length, map, IsOk, IfOk};
 ghost use Rattle.std.specs.Prelude.{⊤, IsOkAnd};

@@ -1,4 +1,15 @@
 //! Options of IPv6 extension headers (RFC 8200 section 4.2).
+//!
+//! ```
+//! use control_wire::ipv6option::{Ipv6OptionsIterator, Repr, RouterAlert};
+//!
+//! // A router alert, and two bytes of padding.
+//! let options = [5, 2, 0, 0, 1, 0];
+//! let options: Vec<Repr> = Ipv6OptionsIterator::new(&options).collect::<Result<_, _>>()?;
+//! let alert = Repr::RouterAlert(RouterAlert::MulticastListenerDiscovery);
+//! assert_eq!(options, [alert, Repr::PadN(0)]);
+//! # Ok::<(), control_wire::Error>(())
+//! ```
 
 ghost use Rattle.std.specs.Prelude.{◌≡◌, ◌≤◌, ◌-◌, ◌*◌, ◌/◌, ◌+◌, ◌↔◌, [], ◌∷◌, length, IsTrue, IsOk, IfOk, IsErr};
 ghost use Rattle.std.specs.Prelude.{IsOkAnd};

@@ -1,4 +1,18 @@
 //! Options of neighbor discovery (RFC 4861 section 4.6).
+//!
+//! ```
+//! use control_wire::ndiscoption::{NdiscOption, Repr};
+//! use control_wire::{EthernetAddress, RawHardwareAddress};
+//!
+//! let octets = [1, 1, 0x52, 0x54, 0, 0, 0, 1];
+//! let option = NdiscOption::new_checked(&octets)?;
+//! let address = EthernetAddress([0x52, 0x54, 0, 0, 0, 1]);
+//! assert_eq!(
+//!     Repr::parse(&option)?,
+//!     Repr::SourceLinkLayerAddr(RawHardwareAddress::from(address)),
+//! );
+//! # Ok::<(), control_wire::Error>(())
+//! ```
 
 ghost use Rattle.std.specs.Prelude.{◌≡◌, ◌+◌, ◌*◌, ◌-◌, ◌≤◌, ◌↔◌, [], ◌∷◌, length, replicate, IsOk, IfOk};
 ghost use Rattle.std.specs.Borrow.{sem, Lends, Array, u8 as byte};

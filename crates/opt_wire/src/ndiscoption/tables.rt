@@ -143,8 +143,8 @@ impl fmt::Display for PrefixInfoFlags {
     ghost output = { λ flags. Some (flags_text (flag_bits flags)) };
 
     fn fmt<W: fmt::Write>(&self, f: &mut fmt::Formatter<W>) -> fmt::Result {
-        let on_link = self.0 & 0x80 != 0;
-        let addrconf = self.0 & 0x40 != 0;
+        let on_link = self.bits() & 0x80 != 0;
+        let addrconf = self.bits() & 0x40 != 0;
         f.write_str(match (on_link, addrconf) {
             (false, false) => "-",
             (false, true) => "addrconf",
