@@ -7,7 +7,7 @@ ghost use Rattle.wirebase.specs.Numbered.{IsProper, IsTable};
 ghost use Rattle.opt_wire.specs.NdiscOptionTables.{type_number, type_rows, type_of, type_text, flag_rows, flag_bits};
 ghost use Rattle.opt_wire.specs.NdiscOptionTables.{flags_text};
 
-use bitflags::Flag;
+use bitflags::{Flag, Flags as _};
 use std::fmt;
 use std::ops::{BitAnd, BitOr, BitXor, Not, Sub};
 
