@@ -1,2 +1,3 @@
 pub mod Headers
 pub mod Tags
+pub mod Witnesses

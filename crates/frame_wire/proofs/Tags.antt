@@ -6,6 +6,7 @@ use Rattle.std.proofs.lemmas.List.{drop-drop, append-nil}
 use Rattle.std.proofs.Math.Seq.{take-add}
 use Rattle.wirebase.specs.Bytes.{field, part, number_of}
 use Rattle.frame_wire.specs.Link.{IsTagType, IsTagged, plain, tagged}
+use Rattle.frame_wire.specs.LinkRefusal.{IsTagCut, here, later}
 
 -- the first bytes are tags, behind which `last` is the type of what follows: what is tagged there is tagged here
 pub record SoFar (type : ℕ) (bytes : List ℕ) (last end : ℕ) : Type 0 where
@@ -14,12 +15,14 @@ pub record SoFar (type : ℕ) (bytes : List ℕ) (last end : ℕ) : Type 0 where
       → IsTagged type bytes (take end bytes ++ tags) final rest
   pub back : (tags : List ℕ) (final : ℕ) (rest : List ℕ) → IsTagged type bytes tags final rest
       → (more : List ℕ) × (tags ≡ take end bytes ++ more) × IsTagged last (drop end bytes) more final rest
+  pub cut : IsTagCut last (drop end bytes) → IsTagCut type bytes
 
 pub so_far-init : (type : ℕ) (bytes : List ℕ) → SoFar type bytes type 0
 so_far-init type bytes = record {
   fits = omega arith;
   forth = λ tags final rest is. is;
   back = λ tags final rest is. (tags, refl, is);
+  cut = λ is. is;
 }
 
 -- one tag more
@@ -55,6 +58,9 @@ so_far-more type bytes last end next so tag room e =
             subst (λ l. IsTagged next l second.0 final rest) behind
                 (subst (λ n. IsTagged n (drop 4 (drop end bytes)) second.0 final rest) (sym e) second.2),
           );
+      cut = λ is.
+          so.cut (later tag long
+          (subst (λ n. IsTagCut n (drop 4 (drop end bytes))) e (subst (λ l. IsTagCut next l) (sym behind) is)));
     }
 
 short_none : (type : ℕ) (bytes tags : List ℕ) (final : ℕ) (rest : List ℕ) → IsTagType type → length bytes < 4
@@ -68,6 +74,10 @@ pub cut_none : (type : ℕ) (bytes : List ℕ) (last end : ℕ) → SoFar type b
 cut_none type bytes last end so tag short tags final rest is =
     let behind = so.back tags final rest is in
     short_none last (drop end bytes) behind.0 final rest tag (omega (arith, short, length-drop end bytes)) behind.2
+
+pub cut_here : (type : ℕ) (bytes : List ℕ) (last end : ℕ) → SoFar type bytes last end → IsTagType last
+    → length bytes - end < 4 → IsTagCut type bytes
+cut_here type bytes last end so tag short = so.cut (here tag (omega (arith, short, length-drop end bytes)))
 
 pub so_far-last : (type : ℕ) (bytes : List ℕ) (last end : ℕ) → SoFar type bytes last end → (IsTagType last → ⊥)
     → IsTagged type bytes (take end bytes) last (drop end bytes)

@@ -1,8 +1,8 @@
 -- Datagrams of IPv4 (RFC 791 section 3.1), and of IPv6 with the headers that extend it (RFC 8200 sections 3 and 4).
 use Rattle.std.specs.Prelude.{◌≡◌, ◌≢◌, ℕ, ◌+◌, ◌-◌, ◌*◌, ◌<◌, ◌≤◌, ◌⊎◌, ◌==◌, ◌||◌, nat_le, if◌then◌else◌}
-use Rattle.std.specs.Prelude.{List, length, drop, slice_index, Option, None, Some}
+use Rattle.std.specs.Prelude.{List, length, drop, slice_index, Option, None, Some, ◌↔◌, ◌/◌, ◌%◌, false, IsTrue}
 use Rattle.std.specs.Option.{option_map}
-use Rattle.wirebase.specs.Bytes.{part, byte_of, bytes_of}
+use Rattle.wirebase.specs.Bytes.{field, part, byte_of, bytes_of, number_of}
 use Rattle.wirebase.specs.Ip.{protocol_of}
 use Rattle.wirebase.specs.Ipv4 as ipv4
 use Rattle.wirebase.specs.Ipv6 as ipv6
@@ -14,8 +14,10 @@ use Rattle.wirebase.specs.declared.ipv6.address.Ipv6Address.{Ipv6Address}
 use Rattle.frame_wire.specs.declared.datagram.Addresses.{Addresses}
 use Rattle.frame_wire.specs.declared.datagram.Addresses.TheVariants.{V4, V6}
 use Rattle.frame_wire.specs.declared.datagram.Datagram.{Datagram}
+use Rattle.frame_wire.specs.declared.datagram.Head.{Head}
 use Rattle.frame_wire.specs.declared.datagram.Refusal.{Refusal}
-use Rattle.frame_wire.specs.declared.datagram.Refusal.TheVariants.{Cut, Malformed, Fragment}
+use Rattle.frame_wire.specs.declared.datagram.Refusal.TheVariants.{Short, Version, HeaderLen, TotalLen, Cut, Extension}
+use Rattle.frame_wire.specs.declared.datagram.Refusal.TheVariants.{Fragment}
 
 -- a datagram by its content
 pub record DatagramValue : Type 0 where
@@ -47,11 +49,8 @@ pub record HasHeader4 (bytes : List ℕ) : Type 0 where
 abbrev pub IsFragment4 : List ℕ → Type 0
 IsFragment4 bytes = (ipv4.more_frags_in bytes ≡ 1) ⊎ (ipv4.frag_offset_in bytes ≢ 0)
 
--- The grammar: the bytes begin with a whole datagram by its own lengths, and what stands behind it is no part.
-pub record IsDatagram4 (bytes : List ℕ) (v : DatagramValue) : Type 0 where
-  pub header : HasHeader4 bytes
-  pub total : ipv4.total_len_in bytes ≤ length bytes
-  pub unfragmented : IsFragment4 bytes → ⊥
+-- what the header tells of the datagram
+pub record IsHeaded4 (bytes : List ℕ) (v : DatagramValue) : Type 0 where
   pub source : Ipv4Address
   pub destination : Ipv4Address
   pub source_ : ipv4.octets_of source ≡ bytes_of ipv4.src_addr_field bytes
@@ -60,13 +59,40 @@ pub record IsDatagram4 (bytes : List ℕ) (v : DatagramValue) : Type 0 where
   pub protocol_ : v.protocol ≡ protocol_of (byte_of ipv4.protocol_field bytes)
   pub hop_limit_ : v.hop_limit ≡ byte_of ipv4.time_to_live_field bytes
   pub hop_by_hop_ : v.hop_by_hop ≡ None
+
+-- The grammar: the bytes begin with a whole datagram by its own lengths, and what stands behind it is no part.
+pub record IsDatagram4 (bytes : List ℕ) (v : DatagramValue) : Type 0 where
+  pub header : HasHeader4 bytes
+  pub total : ipv4.total_len_in bytes ≤ length bytes
+  pub unfragmented : IsFragment4 bytes → ⊥
+  pub headed : IsHeaded4 bytes v
   pub payload_ : v.payload ≡ part bytes (ipv4.header_len_in bytes) (ipv4.total_len_in bytes)
 
--- what is told of other bytes: they end too early, contradict themselves, or are a fragment
+-- what the header tells of a datagram that is cut or a fragment
+pub record IsHead4 (bytes : List ℕ) (h : Head) : Type 0 where
+  pub source : Ipv4Address
+  pub destination : Ipv4Address
+  pub source_ : ipv4.octets_of source ≡ bytes_of ipv4.src_addr_field bytes
+  pub destination_ : ipv4.octets_of destination ≡ bytes_of ipv4.dst_addr_field bytes
+  pub addresses_ : h.addresses ≡ V4 source destination
+  pub protocol_ : h.protocol ≡ protocol_of (byte_of ipv4.protocol_field bytes)
+  pub ident_ : h.ident ≡ Some (number_of ipv4.ident_field bytes)
+  pub frag_offset_ : h.frag_offset ≡ ipv4.frag_offset_in bytes
+  pub more_frags_ : IsTrue h.more_frags ↔ (ipv4.more_frags_in bytes ≡ 1)
+
+-- what is told of other bytes: the check that fails first
 abbrev pub Refuses4 : List ℕ → Refusal → Type 0
-Refuses4 bytes Cut = (length bytes < 20) ⊎ (HasHeader4 bytes × (length bytes < ipv4.total_len_in bytes))
-Refuses4 bytes Malformed = (20 ≤ length bytes) × (HasHeader4 bytes → ⊥)
-Refuses4 bytes Fragment = HasHeader4 bytes × (ipv4.total_len_in bytes ≤ length bytes) × IsFragment4 bytes
+Refuses4 bytes Short = length bytes < 20
+Refuses4 bytes (Version n) = (20 ≤ length bytes) × (ipv4.version_in bytes ≡ n) × (n ≢ 4)
+Refuses4 bytes (HeaderLen n) =
+    (20 ≤ length bytes) × (ipv4.version_in bytes ≡ 4) × (ipv4.header_len_in bytes ≡ n) × (n < 20)
+Refuses4 bytes (TotalLen n) =
+    (20 ≤ length bytes) × (ipv4.version_in bytes ≡ 4) × (20 ≤ ipv4.header_len_in bytes)
+    × (ipv4.total_len_in bytes ≡ n) × (n < ipv4.header_len_in bytes)
+Refuses4 bytes (Cut head) = HasHeader4 bytes × (length bytes < ipv4.total_len_in bytes) × IsHead4 bytes head
+Refuses4 bytes (Fragment head) =
+    HasHeader4 bytes × (ipv4.total_len_in bytes ≤ length bytes) × IsFragment4 bytes × IsHead4 bytes head
+Refuses4 bytes (Extension p) = ⊥
 
 -- ---- the headers that extend IPv6
 
@@ -104,24 +130,18 @@ pub data Routes (p : IpProtocol) (header destination next : List ℕ) : Type 0 w
   by_route : p ≡ Ipv6Route → next ≡ routed header destination → Routes p header destination next
   by_options : p ≢ Ipv6Route → next ≡ destination → Routes p header destination next
 
--- A protocol and the bytes behind it lead past as many headers as there are to a protocol that is none of them, with
--- these bytes and this destination.
-pub data Leads : IpProtocol → List ℕ → List ℕ → IpProtocol → List ℕ → List ℕ → Type 0 where
-  here : {p : IpProtocol} {bytes destination : List ℕ} {q : IpProtocol} {payload final : List ℕ}
-      → (IsExtension p → ⊥) → p ≢ Ipv6Frag → q ≡ p → payload ≡ bytes → final ≡ destination
-      → Leads p bytes destination q payload final
-  past : {p : IpProtocol} {bytes destination : List ℕ} {q : IpProtocol} {payload final : List ℕ} (next : List ℕ)
+-- A protocol and the bytes behind it lead past some headers to a protocol, with these bytes and this destination.
+pub data Passes : IpProtocol → List ℕ → List ℕ → IpProtocol → List ℕ → List ℕ → Type 0 where
+  here : {p : IpProtocol} {bytes destination : List ℕ} {q : IpProtocol} {rest final : List ℕ}
+      → q ≡ p → rest ≡ bytes → final ≡ destination → Passes p bytes destination q rest final
+  past : {p : IpProtocol} {bytes destination : List ℕ} {q : IpProtocol} {rest final : List ℕ} (next : List ℕ)
       → IsExtension p → HasExtension bytes → Routes p bytes destination next
-      → Leads (protocol_of (slice_index bytes 0)) (drop (extension_end bytes) bytes) next q payload final
-      → Leads p bytes destination q payload final
+      → Passes (protocol_of (slice_index bytes 0)) (drop (extension_end bytes) bytes) next q rest final
+      → Passes p bytes destination q rest final
 
--- or they lead to a fragment, or to a header that is not whole
-pub data Stops : IpProtocol → List ℕ → Refusal → Type 0 where
-  at_fragment : {p : IpProtocol} {bytes : List ℕ} {r : Refusal} → p ≡ Ipv6Frag → r ≡ Fragment → Stops p bytes r
-  torn : {p : IpProtocol} {bytes : List ℕ} {r : Refusal} → IsExtension p → (HasExtension bytes → ⊥) → r ≡ Malformed
-      → Stops p bytes r
-  later : {p : IpProtocol} {bytes : List ℕ} {r : Refusal} → IsExtension p → HasExtension bytes
-      → Stops (protocol_of (slice_index bytes 0)) (drop (extension_end bytes) bytes) r → Stops p bytes r
+-- a header that is not whole: one of those that are passed, or that of a fragment, which has eight bytes
+abbrev pub IsTornHeader : IpProtocol → List ℕ → Type 0
+IsTornHeader p bytes = (IsExtension p × (HasExtension bytes → ⊥)) ⊎ ((p ≡ Ipv6Frag) × (length bytes < 8))
 
 -- ---- IPv6
 
@@ -133,29 +153,81 @@ pub record HasHeader6 (bytes : List ℕ) : Type 0 where
 abbrev pub total_len6 : List ℕ → ℕ
 total_len6 bytes = 40 + ipv6.payload_len_in bytes
 
--- The hop-by-hop options of a datagram. Their header may stand only directly behind the fixed one (RFC 8200 section
--- 4.1): a later one is passed like any other.
-abbrev pub hop_by_hop_in : List ℕ → Option (List ℕ)
-hop_by_hop_in bytes =
-    options_of (protocol_of (byte_of ipv6.next_header_field bytes)) (bytes_of (ipv6.payload_field bytes) bytes)
+-- what stands behind the fixed header, up to the datagram's end
+abbrev pub behind6 : List ℕ → List ℕ
+behind6 bytes = bytes_of (ipv6.payload_field bytes) bytes
 
--- The grammar: the bytes begin with a whole datagram by its own length, and what stands behind it is no part.
-pub record IsDatagram6 (bytes : List ℕ) (v : DatagramValue) : Type 0 where
-  pub header : HasHeader6 bytes
-  pub total : total_len6 bytes ≤ length bytes
+-- the header behind the fixed one
+abbrev pub next_header_in : List ℕ → IpProtocol
+next_header_in bytes = protocol_of (byte_of ipv6.next_header_field bytes)
+
+-- The fixed header of a datagram, and what stands behind it, which leads past as many headers as there are to a
+-- protocol that is none of them. A hop-by-hop header may stand only directly behind the fixed one (RFC 8200
+-- section 4.1): a later one is passed like any other.
+pub record IsHeaded6 (bytes behind : List ℕ) (v : DatagramValue) : Type 0 where
   pub source : Ipv6Address
   pub destination : Ipv6Address
   pub source_ : octets_of source ≡ bytes_of ipv6.src_addr_field bytes
   pub addresses_ : v.addresses ≡ V6 source destination
   pub hop_limit_ : v.hop_limit ≡ byte_of ipv6.hop_limit_field bytes
-  pub hop_by_hop_ : v.hop_by_hop ≡ hop_by_hop_in bytes
-  pub leads_ : Leads (protocol_of (byte_of ipv6.next_header_field bytes)) (bytes_of (ipv6.payload_field bytes) bytes)
-      (bytes_of ipv6.dst_addr_field bytes) v.protocol v.payload (octets_of destination)
+  pub hop_by_hop_ : v.hop_by_hop ≡ options_of (next_header_in bytes) behind
+  pub passes_ : Passes (next_header_in bytes) behind (bytes_of ipv6.dst_addr_field bytes) v.protocol v.payload
+      (octets_of destination)
+  pub passed : IsExtension v.protocol → ⊥
+  pub unfragmented : v.protocol ≢ Ipv6Frag
 
--- what is told of other bytes
-pub data Refuses6 (bytes : List ℕ) (r : Refusal) : Type 0 where
-  cut : (length bytes < 40) ⊎ (HasHeader6 bytes × (length bytes < total_len6 bytes)) → r ≡ Cut → Refuses6 bytes r
-  malformed : 40 ≤ length bytes → (HasHeader6 bytes → ⊥) → r ≡ Malformed → Refuses6 bytes r
-  stops : HasHeader6 bytes → total_len6 bytes ≤ length bytes
-      → Stops (protocol_of (byte_of ipv6.next_header_field bytes)) (bytes_of (ipv6.payload_field bytes) bytes) r
-      → Refuses6 bytes r
+-- The grammar: the bytes begin with a whole datagram by its own length, and what stands behind it is no part.
+pub record IsDatagram6 (bytes : List ℕ) (v : DatagramValue) : Type 0 where
+  pub header : HasHeader6 bytes
+  pub total : total_len6 bytes ≤ length bytes
+  pub headed : IsHeaded6 bytes (behind6 bytes) v
+
+-- what the fixed header tells of a datagram that is cut, without the headers behind it
+pub record IsHead6 (bytes : List ℕ) (h : Head) : Type 0 where
+  pub source : Ipv6Address
+  pub destination : Ipv6Address
+  pub source_ : octets_of source ≡ bytes_of ipv6.src_addr_field bytes
+  pub destination_ : octets_of destination ≡ bytes_of ipv6.dst_addr_field bytes
+  pub addresses_ : h.addresses ≡ V6 source destination
+  pub protocol_ : h.protocol ≡ next_header_in bytes
+  pub ident_ : h.ident ≡ None
+  pub frag_offset_ : h.frag_offset ≡ 0
+  pub more_frags_ : h.more_frags ≡ false
+
+-- The headers lead to that of a fragment (RFC 8200 section 4.5): the protocol behind it, a reserved byte, the offset
+-- in the upper 13 bits of two bytes, of which the lowest is set where more fragments follow, and the identification.
+pub record IsFragment6 (bytes behind : List ℕ) (h : Head) : Type 0 where
+  pub source : Ipv6Address
+  pub destination : Ipv6Address
+  pub header : List ℕ
+  pub passes_ : Passes (next_header_in bytes) behind (bytes_of ipv6.dst_addr_field bytes) Ipv6Frag header
+      (octets_of destination)
+  pub whole : 8 ≤ length header
+  pub source_ : octets_of source ≡ bytes_of ipv6.src_addr_field bytes
+  pub addresses_ : h.addresses ≡ V6 source destination
+  pub protocol_ : h.protocol ≡ protocol_of (slice_index header 0)
+  pub ident_ : h.ident ≡ Some (number_of (field 4 8) header)
+  pub frag_offset_ : h.frag_offset ≡ 8 * (number_of (field 2 4) header / 8)
+  pub more_frags_ : IsTrue h.more_frags ↔ (number_of (field 2 4) header % 2 ≡ 1)
+
+-- a protocol and the bytes behind it lead to a header of a protocol that is not whole
+pub record LeadsToTorn (p : IpProtocol) (bytes destination : List ℕ) (q : IpProtocol) : Type 0 where
+  pub rest : List ℕ
+  pub final : List ℕ
+  pub passes_ : Passes p bytes destination q rest final
+  pub torn : IsTornHeader q rest
+
+-- what is told of the bytes behind a fixed header, where they lead to no payload
+abbrev pub RefusesBehind6 : List ℕ → List ℕ → Refusal → Type 0
+RefusesBehind6 bytes behind (Extension p) =
+    LeadsToTorn (next_header_in bytes) behind (bytes_of ipv6.dst_addr_field bytes) p
+RefusesBehind6 bytes behind (Fragment head) = IsFragment6 bytes behind head
+RefusesBehind6 bytes behind _ = ⊥
+
+-- what is told of other bytes: the check that fails first
+abbrev pub Refuses6 : List ℕ → Refusal → Type 0
+Refuses6 bytes Short = length bytes < 40
+Refuses6 bytes (Version n) = (40 ≤ length bytes) × (ipv6.version_in bytes ≡ n) × (n ≢ 6)
+Refuses6 bytes (Cut head) = HasHeader6 bytes × (length bytes < total_len6 bytes) × IsHead6 bytes head
+Refuses6 bytes refusal =
+    HasHeader6 bytes × (total_len6 bytes ≤ length bytes) × RefusesBehind6 bytes (behind6 bytes) refusal

@@ -1,4 +1,9 @@
 pub mod Addresses
+pub mod Captured
 pub mod Datagram
+pub mod DatagramDisplay
 pub mod Link
+pub mod LinkDisplay
+pub mod LinkRefusal
 pub mod Udp
+pub mod UdpRefusal

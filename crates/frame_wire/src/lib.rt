@@ -7,6 +7,6 @@ pub mod link;
 mod testing;
 pub mod udp;
 
-pub use datagram::{Addresses, Datagram, Refusal};
+pub use datagram::{Addresses, Captured, Datagram, Extent, Head, Refusal};
 pub use link::{Frame, Link, Network};
 pub use udp::{UdpPacket, UdpRepr};

@@ -1,16 +1,22 @@
 //! Frames of the links that captures have.
 
-ghost use Rattle.std.specs.Prelude.{◌≡◌, ◌≤◌, ◌↔◌, ◌+◌, ◌*◌, ◌/◌, ◌%◌, [], IfOk, IsOkAnd, IsTrue, length, drop, take};
+ghost use Rattle.std.specs.Prelude.{◌≡◌, ◌<◌, ◌≤◌, ◌↔◌, ◌+◌, ◌*◌, ◌/◌, ◌%◌, [], IfOk, IfErr, IsOkAnd, IsTrue, length};
+ghost use Rattle.std.specs.Prelude.{drop, take, IfSome, IsNone};
 ghost use Rattle.std.specs.Prelude.{slice_index};
 ghost use Rattle.frame_wire.specs.Link.{FrameValue, value_of, network_of_type, IsTagType, TypedValue, typed_of};
 ghost use Rattle.frame_wire.specs.Link.{IsTagged};
 ghost use Rattle.frame_wire.specs.Link.{network_of_protocol, IsProtocol, HasAddress, IsPpp, IsSession, IsPayload};
 ghost use Rattle.frame_wire.specs.Link.{IsTypedFrame, link_of, IsFrame, IsRaw, IsFamily, family_in, network_of_family};
 ghost use Rattle.frame_wire.specs.Link.{vlan_in};
+ghost use Rattle.frame_wire.specs.LinkRefusal.{Refuses, RefusesTyped, RefusesSession, IsRead, IsTagCut, IsProtocolCut};
+ghost use Rattle.frame_wire.specs.LinkRefusal.{RefusesPpp, IsSessionCut};
+ghost use Rattle.frame_wire.specs.declared.link.Refusal.TheVariants as refusals;
 ghost use Rattle.wirebase.specs.Bytes.{field as field_at, number_of};
 
 use byteorder::{ByteOrder, LittleEndian};
 use wirebase::{Error, Octets, Result};
+
+mod display;
 
 /// The links whose frames are read.
 #[derive(Debug, PartialEq, Eq, Clone, Copy)]
@@ -65,6 +71,48 @@ impl Link {
             Link::LinuxSll2 => typed_at(octets, 0, 20),
         }
     }
+
+    /// Why [`Link::frame`] refuses these octets, by the check that fails first; None where it reads them.
+    pub fn refusal(self, octets: &[u8]) -> Option<Refusal>
+        ensures told { IfSome result (λ refusal. Refuses self octets.now refusal) }
+        ensures exact { IsNone result ↔ IsRead self octets.now }
+    {
+        match self {
+            Link::Null => match family(octets) {
+                Ok(_) => None,
+                Err(_) => Some(Refusal::Short),
+            },
+            Link::Ethernet => why_not_typed(octets, 12, 14),
+            Link::Ppp => match ppp(octets) {
+                Ok(_) => None,
+                Err(_) => Some(Refusal::Protocol),
+            },
+            Link::PppEther => why_no_session(octets),
+            Link::Raw => match raw(octets) {
+                Ok(_) => None,
+                Err(_) => Some(Refusal::Short),
+            },
+            Link::LinuxSll => why_not_typed(octets, 14, 16),
+            Link::LinuxSll2 => why_not_typed(octets, 0, 20),
+        }
+    }
+}
+
+/// Why octets are no frame of a link that is read: the check that fails first.
+#[derive(Debug, PartialEq, Eq, Clone, Copy)]
+pub enum Refusal {
+    /// Fewer bytes than the header of the link has.
+    Short,
+    /// A VLAN tag that ends behind the frame: it has four bytes.
+    Tag,
+    /// A protocol of PPP that ends behind the frame: it has two bytes, or one whose number is odd.
+    Protocol,
+    /// A PPPoE session of another version than 1, this one.
+    SessionVersion(u8),
+    /// A PPPoE session of another type than 1, this one.
+    SessionType(u8),
+    /// A PPPoE header with another code than 0, which data has: this one.
+    SessionCode(u8),
 }
 
 /// The network that a frame is of.
@@ -157,6 +205,7 @@ fn is_tag(kind: u16) -> bool
 fn untagged<'a>(kind: u16, octets: &'a [u8]) -> Result<Typed<'a>>
     ensures sound { IfOk result (λ t. IsTagged kind octets.now (typed_of t).tags (typed_of t).type
         (typed_of t).payload) }
+    ensures cut { IfErr result (λ _. IsTagCut kind octets.now) }
     ensures complete { (v : TypedValue) → IsTagged kind octets.now v.tags v.type v.payload
         → IsOkAnd result (λ t. typed_of t ≡ v) }
 {
@@ -179,6 +228,7 @@ fn untagged<'a>(kind: u16, octets: &'a [u8]) -> Result<Typed<'a>>
 // What stands behind a protocol of PPP. Refused where the protocol is cut short.
 fn protocol<'a>(octets: &'a [u8], tags: &'a [u8]) -> Result<Frame<'a>>
     ensures sound { IfOk result (λ f. IsProtocol octets.now tags.now (value_of f)) }
+    ensures cut { IfErr result (λ _. IsProtocolCut octets.now) }
     ensures complete { (v : FrameValue) → IsProtocol octets.now tags.now v → IsOkAnd result (λ f. value_of f ≡ v) }
 {
     if octets.is_empty() {
@@ -206,6 +256,7 @@ fn protocol<'a>(octets: &'a [u8], tags: &'a [u8]) -> Result<Frame<'a>>
 // RFC 1662 section 3.1). Refused where the protocol is cut short.
 fn ppp(octets: &[u8]) -> Result<Frame<'_>>
     ensures sound { IfOk result (λ f. IsPpp octets.now (value_of f)) }
+    ensures cut { IfErr result (λ _. RefusesPpp octets.now refusals.Protocol) }
     ensures complete { (v : FrameValue) → IsPpp octets.now v → IsOkAnd result (λ f. value_of f ≡ v) }
 {
     if octets.len() >= 2 && octets.u16_at(0..2) == 0xff03 {
@@ -218,6 +269,7 @@ fn ppp(octets: &[u8]) -> Result<Frame<'_>>
 fn payload_of<'a>(typed: Typed<'a>) -> Result<Frame<'a>>
     ensures sound { IfOk result (λ f. IsPayload (typed_of typed.entry).type (typed_of typed.entry).tags
         (typed_of typed.entry).payload (value_of f)) }
+    ensures cut { IfErr result (λ _. IsSessionCut (typed_of typed.entry).type (typed_of typed.entry).payload) }
     ensures complete { (v : FrameValue) → IsPayload (typed_of typed.entry).type (typed_of typed.entry).tags
         (typed_of typed.entry).payload v → IsOkAnd result (λ f. value_of f ≡ v) }
 {
@@ -236,7 +288,7 @@ fn payload_of<'a>(typed: Typed<'a>) -> Result<Frame<'a>>
     })
 }
 
-// A frame with a type at a place, and what it speaks of from another on. Refused where its headers are cut short.
+// A frame whose EtherType is at `place` and whose payload begins at `start`. Refused where its headers are cut short.
 fn typed_at(octets: &[u8], place: usize, start: usize) -> Result<Frame<'_>>
     requires order { place + 2 ≤ start }
     requires small { start ≤ 20 }
@@ -273,9 +325,54 @@ fn session(octets: &[u8]) -> Result<Frame<'_>>
     protocol(behind(octets, 6), &[])
 }
 
+// Why a frame whose EtherType is at `place` and whose payload begins at `start` is refused; None where it is read.
+fn why_not_typed(octets: &[u8], place: usize, start: usize) -> Option<Refusal>
+    requires order { place + 2 ≤ start }
+    requires small { start ≤ 20 }
+    ensures told { IfSome result (λ refusal. RefusesTyped place start octets.now refusal) }
+    ensures exact { IsNone result ↔ ((v : FrameValue) × (start ≤ length octets.now)
+        × IsTypedFrame (number_of (field_at place (place + 2)) octets.now) (drop start octets.now) v) }
+{
+    if octets.len() < start {
+        return Some(Refusal::Short);
+    }
+    let Ok(typed) = untagged(octets.u16_at(place..place + 2), behind(octets, start)) else {
+        return Some(Refusal::Tag);
+    };
+    match payload_of(typed) {
+        Ok(_) => None,
+        Err(_) => Some(Refusal::Protocol),
+    }
+}
+
+// Why octets are no data of a PPPoE session; None where they are.
+fn why_no_session(octets: &[u8]) -> Option<Refusal>
+    ensures told { IfSome result (λ refusal. RefusesSession octets.now refusal) }
+    ensures exact { IsNone result ↔ ((v : FrameValue) × IsSession octets.now × IsProtocol (drop 6 octets.now) [] v) }
+{
+    if octets.len() < 6 {
+        return Some(Refusal::Short);
+    }
+    let word = octets.u16_at(0..2);
+    if word / 0x1000 != 1 {
+        return Some(Refusal::SessionVersion((word / 0x1000) as u8));
+    }
+    if word / 0x100 % 0x10 != 1 {
+        return Some(Refusal::SessionType((word / 0x100 % 0x10) as u8));
+    }
+    if word % 0x100 != 0 {
+        return Some(Refusal::SessionCode((word % 0x100) as u8));
+    }
+    match protocol(behind(octets, 6), &[]) {
+        Ok(_) => None,
+        Err(_) => Some(Refusal::Protocol),
+    }
+}
+
 // A datagram without a header of a link. Refused where there is nothing.
 fn raw(octets: &[u8]) -> Result<Frame<'_>>
     ensures sound { IfOk result (λ f. IsRaw octets.now (value_of f)) }
+    ensures cut { IfErr result (λ _. length octets.now < 1) }
     ensures complete { (v : FrameValue) → IsRaw octets.now v → IsOkAnd result (λ f. value_of f ≡ v) }
 {
     if octets.is_empty() {
@@ -296,6 +393,7 @@ fn raw(octets: &[u8]) -> Result<Frame<'_>>
 // A frame behind an address family. Refused where that is cut short.
 fn family(octets: &[u8]) -> Result<Frame<'_>>
     ensures sound { IfOk result (λ f. IsFamily octets.now (value_of f)) }
+    ensures cut { IfErr result (λ _. length octets.now < 4) }
     ensures complete { (v : FrameValue) → IsFamily octets.now v → IsOkAnd result (λ f. value_of f ≡ v) }
 {
     if octets.len() < 4 {

@@ -1,7 +1,8 @@
 // What the tests compare by, over one macro of std: the prover goes through the code of a macro anew at each place
 // where it stands, and through a call of these in a sixth of the time.
 
-use std::fmt::Debug;
+use std::alloc::Global;
+use std::fmt::{Debug, Display};
 use std::process::Abort;
 
 // Ends the test where the two differ, and says what they are of.
@@ -12,4 +13,10 @@ pub(crate) fn same_of<T: PartialEq + Debug + Drop>(
     right: T,
 ) {
     assert!(rt; left == right, "{of:?}: {left:?} is not {right:?}");
+}
+
+// Ends the test where the value prints another text, or where there is no memory for it.
+pub(crate) fn prints(rt: &impl Abort, alloc: Global, value: &impl Display, text: &str) {
+    let printed = value.to_string(alloc).ok();
+    same_of(rt, (), printed.as_deref(), Some(text));
 }

@@ -1,18 +1,21 @@
 //! UDP datagrams (RFC 768).
 
-ghost use Rattle.std.specs.Prelude.{◌≡◌, ◌≤◌, ◌↔◌, ◌⊎◌, ℕ, List, length, IsTrue, IsOk, IfOk, IsOkAnd};
+ghost use Rattle.std.specs.Prelude.{◌≡◌, ◌≤◌, ◌↔◌, ◌⊎◌, ℕ, List, length, IsTrue, IsOk, IfOk, IsOkAnd, IfSome, IsNone};
 ghost use Rattle.std.specs.Borrow.{sem, Lends, Array, u8 as byte};
 ghost use Rattle.byteorder.specs.Endian.{big_bytes};
 ghost use Rattle.wirebase.specs.Bytes.{Reaches, bytes_of, number_of, splice};
 ghost use Rattle.frame_wire.specs.Udp.{inner, with_inner, view_octets, Sets, KeepsLen, src_port_field, dst_port_field};
 ghost use Rattle.frame_wire.specs.Udp.{len_field, checksum_field, len_in, payload_field, BeginsWhole, IsVerified};
 ghost use Rattle.frame_wire.specs.Udp.{IsDatagram};
+ghost use Rattle.frame_wire.specs.UdpRefusal.{Refuses, RefusesLen, IsRead};
 ghost use Rattle.frame_wire.specs.Addresses.{IsV4};
 ghost use Rattle.frame_wire.specs.contracts.udp.UdpPacket.{the_row};
 ghost use Rattle.frame_wire.specs.declared.udp.UdpRepr.{UdpRepr as AnUdpRepr};
 
 use crate::datagram::Addresses;
 use wirebase::{ChecksumCapabilities, Error, IpProtocol, Octets, OctetsMut, Result, checksum};
+
+mod display;
 
 // The fields; their picture is in specs/Udp.antt.
 mod field {
@@ -71,6 +74,25 @@ impl<T: Octets> UdpPacket<T> {
             return Err(Error);
         }
         Ok(())
+    }
+
+    /// Why [`UdpPacket::check_len`] refuses these octets, by the check that fails first; None where it accepts them.
+    pub fn refusal(&self) -> Option<Refusal>
+        ensures told { IfSome result (λ refusal. RefusesLen (T.bytes (inner self.now)) refusal) }
+        ensures exact { IsNone result ↔ BeginsWhole (T.bytes (inner self.now)) }
+    {
+        let len = self.buffer.octets().len();
+        if len < HEADER_LEN {
+            return Some(Refusal::Short);
+        }
+        let total = self.len();
+        if (total as usize) < HEADER_LEN {
+            return Some(Refusal::Length(total));
+        }
+        if len < total as usize {
+            return Some(Refusal::Cut(total));
+        }
+        None
     }
 
     /// What the view was made from, as it is now.
@@ -216,6 +238,23 @@ impl<T: Octets> Eq for UdpPacket<T> {
     ghost laws = { Prim.search (comparing, rules) };
 }
 
+/// Why octets are no UDP datagram that is read: the check that fails first.
+#[derive(Debug, PartialEq, Eq, Clone, Copy)]
+pub enum Refusal {
+    /// Fewer than 8 bytes.
+    Short,
+    /// A length field below 8, which the header alone has: this one.
+    Length(u16),
+    /// Fewer bytes than the length field says, which is this one.
+    Cut(u16),
+    /// To port 0.
+    Port,
+    /// Over IPv6, which requires a checksum, there is none (RFC 8200 section 8.1).
+    NoChecksum,
+    /// The checksum does not hold.
+    Checksum,
+}
+
 /// The ports of a datagram.
 #[derive(Debug, PartialEq, Eq, Clone, Copy)]
 pub struct UdpRepr {
@@ -249,6 +288,34 @@ impl UdpRepr {
             src_port: packet.src_port(),
             dst_port,
         })
+    }
+
+    /// Why [`UdpRepr::parse`] refuses these octets, by the check that fails first; None where it reads them.
+    pub fn refusal(
+        packet: &UdpPacket<&[u8]>,
+        addresses: &Addresses,
+        checksum_caps: &ChecksumCapabilities,
+    ) -> Option<Refusal>
+        ensures told { IfSome result (λ refusal. Refuses checksum_caps.now addresses.now (view_octets packet.now)
+            refusal) }
+        ensures exact { IsNone result ↔ IsRead checksum_caps.now addresses.now (view_octets packet.now) }
+    {
+        if let Some(refusal) = packet.refusal() {
+            return Some(refusal);
+        }
+        if packet.dst_port() == 0 {
+            return Some(Refusal::Port);
+        }
+        if !checksum_caps.udp.rx() {
+            return None;
+        }
+        if has_checksum(packet, addresses) {
+            return None;
+        }
+        if packet.checksum() == 0 {
+            return Some(Refusal::NoChecksum);
+        }
+        Some(Refusal::Checksum)
     }
 
     /// The bytes of the header: 8.

@@ -2,7 +2,7 @@
 use Rattle.std.proofs.Common.{take, ap, sym, subst, ◌∙◌}
 use Rattle.byteorder.specs.Endian.{big_number}
 use Rattle.frame_wire.specs.Link.{IsTagged}
-use Rattle.frame_wire.proofs.Tags.{so_far-init, so_far-more, so_far-last, cut_none, part-behind, told, told_not}
+use Rattle.frame_wire.proofs.Tags.{so_far-init, so_far-more, so_far-last, cut_none, cut_here, part-behind, told, told_not}
 use Rattle.frame_wire.proofs.link.untagged.Goals as goal
 
 pub tags-init : goal.tags-init
@@ -11,6 +11,10 @@ tags-init c = so_far-init _ _
 pub returns-then-octets-end-lt4-clause-complete : goal.returns-then-octets-end-lt4-clause-complete
 returns-then-octets-end-lt4-clause-complete c v is =
     cut_none _ _ _ _ c.tags.invariant (told _ c.is_tag.ensures c.tags-test.true) c.if-octets-end-lt4.true _ _ _ is
+
+pub returns-then-octets-end-lt4-clause-cut : goal.returns-then-octets-end-lt4-clause-cut
+returns-then-octets-end-lt4-clause-cut c =
+    cut_here _ _ _ _ c.tags.invariant (told _ c.is_tag.ensures c.tags-test.true) c.if-octets-end-lt4.true
 
 pub tags-preserved : goal.tags-preserved
 tags-preserved c =

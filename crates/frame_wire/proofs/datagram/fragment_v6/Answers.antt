@@ -1,0 +1,28 @@
+-- The header of a fragment is read, where the headers lead.
+use Rattle.std.proofs.Common.{rules, refl, arith, subst}
+use Rattle.std.proofs.lemmas.Grind.{common_steps}
+use Rattle.wirebase.specs.Bytes.{bytes_of}
+use Rattle.wirebase.specs.Ipv6.{dst_addr_field}
+use Rattle.wirebase.specs.Ipv6Address.{octets_of}
+use Rattle.frame_wire.specs.Datagram.{Passes, next_header_in}
+use Rattle.frame_wire.proofs.datagram.fragment_v6.Goals as goal
+
+pub returns : goal.returns
+returns c =
+    let octets = c.args.octets.now in
+    let upper = c.args.upper in
+    record {
+      source = c.src_addr.result;
+      destination = upper.dst_addr;
+      header = upper.payload.now;
+      passes_ =
+          subst (λ p. Passes (next_header_in octets) c.args.behind.now (bytes_of dst_addr_field octets) p
+          upper.payload.now (octets_of upper.dst_addr)) c.requires.fragment c.requires.passes;
+      whole = first_of (search rules, omega arith);
+      source_ = first_of (search rules, grind (arith, common_steps));
+      addresses_ = refl;
+      protocol_ = first_of (search rules, grind (arith, common_steps));
+      ident_ = first_of (search rules, grind (arith, common_steps));
+      frag_offset_ = first_of (search rules, grind (arith, common_steps));
+      more_frags_ = first_of (search rules, grind (arith, common_steps));
+    }

@@ -1,0 +1,29 @@
+-- A frame of each link is read.
+use Rattle.std.proofs.Common.{refl, sym, subst}
+use Rattle.frame_wire.specs.Link.{value_of}
+use Rattle.frame_wire.specs.LinkRefusal.{IsRead}
+use Rattle.frame_wire.proofs.link.Link.refusal.Goals as goal
+
+pub returns-in-Ok-clause-exact : goal.returns-in-Ok-clause-exact
+returns-in-Ok-clause-exact c = (
+  λ _.
+      subst (λ link. IsRead link c.args.octets.now) (sym c.in-Null.is)
+      (value_of c.in-Ok.field-0, c.in-Ok.ensures.sound),
+  λ _. refl,
+)
+
+pub returns-in-Ok-ppp-clause-exact : goal.returns-in-Ok-ppp-clause-exact
+returns-in-Ok-ppp-clause-exact c = (
+  λ _.
+      subst (λ link. IsRead link c.args.octets.now) (sym c.in-Ppp.is)
+      (value_of c.in-Ok-ppp.field-0, c.in-Ok-ppp.ensures.sound),
+  λ _. refl,
+)
+
+pub returns-in-Ok-raw-clause-exact : goal.returns-in-Ok-raw-clause-exact
+returns-in-Ok-raw-clause-exact c = (
+  λ _.
+      subst (λ link. IsRead link c.args.octets.now) (sym c.in-Raw.is)
+      (value_of c.in-Ok-raw.field-0, c.in-Ok-raw.ensures.sound),
+  λ _. refl,
+)

@@ -1,0 +1,83 @@
+-- Datagrams as far as a capture has them: whole, cut at their end, or of no stated length.
+use Rattle.std.specs.Prelude.{◌≡◌, ◌≢◌, ℕ, ◌+◌, ◌<◌, ◌≤◌, ◌⊎◌, List, length, drop}
+use Rattle.wirebase.specs.Ipv4 as ipv4
+use Rattle.wirebase.specs.declared.ip.IpProtocol.{IpProtocol}
+use Rattle.frame_wire.specs.Datagram.{DatagramValue, value_of, HasHeader4, IsFragment4, IsHeaded4, IsDatagram4, IsHead4}
+use Rattle.frame_wire.specs.Datagram.{Refuses4, HasHeader6, total_len6, IsHeaded6, IsDatagram6, IsHead6, Refuses6}
+use Rattle.frame_wire.specs.Datagram.{RefusesBehind6}
+use Rattle.frame_wire.specs.declared.datagram.Refusal.{Refusal}
+use Rattle.frame_wire.specs.declared.datagram.Refusal.TheVariants.{TotalLen, Cut, Extension}
+use Rattle.frame_wire.specs.declared.datagram.Refusal.TheVariants.{Fragment}
+use Rattle.frame_wire.specs.declared.datagram.captured.Captured.{Captured}
+use Rattle.frame_wire.specs.declared.datagram.captured.Extent.{Extent}
+use Rattle.frame_wire.specs.declared.datagram.captured.Extent.TheVariants as extent
+
+-- by content
+pub record CapturedValue : Type 0 where
+  pub datagram : DatagramValue
+  pub extent : Extent
+
+abbrev pub captured_of : Captured → CapturedValue
+captured_of c = record { datagram = value_of c.datagram; extent = c.extent }
+
+-- ---- IPv4
+
+-- a header like that of a datagram, but with a total length of zero, as segmentation by a network card leaves it
+pub record HasUnstated4 (bytes : List ℕ) : Type 0 where
+  pub fixed : 20 ≤ length bytes
+  pub version : ipv4.version_in bytes ≡ 4
+  pub least : 20 ≤ ipv4.header_len_in bytes
+  pub none : ipv4.total_len_in bytes ≡ 0
+
+-- a datagram that no fragment is, whose header is there, and whose payload is all that stands behind it
+pub record IsOpen4 (bytes : List ℕ) (v : DatagramValue) : Type 0 where
+  pub there : ipv4.header_len_in bytes ≤ length bytes
+  pub unfragmented : IsFragment4 bytes → ⊥
+  pub headed : IsHeaded4 bytes v
+  pub payload_ : v.payload ≡ drop (ipv4.header_len_in bytes) bytes
+
+-- The grammar: a whole datagram; one that lacks some bytes at its end, by its own length; or one that states none.
+pub data IsCaptured4 (bytes : List ℕ) (v : CapturedValue) : Type 0 where
+  whole : IsDatagram4 bytes v.datagram → v.extent ≡ extent.Whole → IsCaptured4 bytes v
+  cut : (missing : ℕ) → HasHeader4 bytes → length bytes + missing ≡ ipv4.total_len_in bytes → missing ≢ 0
+      → IsOpen4 bytes v.datagram → v.extent ≡ extent.Cut missing → IsCaptured4 bytes v
+  unstated : HasUnstated4 bytes → IsOpen4 bytes v.datagram → v.extent ≡ extent.Unstated → IsCaptured4 bytes v
+
+-- a header that one of these has which is not whole
+abbrev pub IsOpening4 : List ℕ → Type 0
+IsOpening4 bytes = (HasHeader4 bytes × (length bytes < ipv4.total_len_in bytes)) ⊎ HasUnstated4 bytes
+
+-- what is told where it is none: its header is cut, or it is a fragment
+abbrev pub RefusesOpen4 : List ℕ → Refusal → Type 0
+RefusesOpen4 bytes (Cut head) =
+    IsOpening4 bytes × (length bytes < ipv4.header_len_in bytes) × IsHead4 bytes head
+RefusesOpen4 bytes (Fragment head) =
+    IsOpening4 bytes × (ipv4.header_len_in bytes ≤ length bytes) × IsFragment4 bytes × IsHead4 bytes head
+RefusesOpen4 bytes _ = ⊥
+
+-- what is told of other bytes: as of a whole datagram, but where the bytes end too early or state no length
+abbrev pub RefusesCaptured4 : List ℕ → Refusal → Type 0
+RefusesCaptured4 bytes (TotalLen n) = Refuses4 bytes (TotalLen n) × (n ≢ 0)
+RefusesCaptured4 bytes (Cut head) = RefusesOpen4 bytes (Cut head)
+RefusesCaptured4 bytes (Fragment head) = Refuses4 bytes (Fragment head) ⊎ RefusesOpen4 bytes (Fragment head)
+RefusesCaptured4 bytes refusal = Refuses4 bytes refusal
+
+-- ---- IPv6
+
+-- The grammar: a whole datagram, or one that lacks some bytes at its end, by its own length, with the headers that
+-- extend IPv6 in what is there.
+pub data IsCaptured6 (bytes : List ℕ) (v : CapturedValue) : Type 0 where
+  whole : IsDatagram6 bytes v.datagram → v.extent ≡ extent.Whole → IsCaptured6 bytes v
+  cut : (missing : ℕ) → HasHeader6 bytes → length bytes + missing ≡ total_len6 bytes → missing ≢ 0
+      → IsHeaded6 bytes (drop 40 bytes) v.datagram → v.extent ≡ extent.Cut missing → IsCaptured6 bytes v
+
+-- what is told of other bytes: as of a whole datagram, but where the bytes end too early
+abbrev pub RefusesCaptured6 : List ℕ → Refusal → Type 0
+RefusesCaptured6 bytes (Cut head) =
+    HasHeader6 bytes × (length bytes < total_len6 bytes) × IsHead6 bytes head
+    × ((p : IpProtocol) × RefusesBehind6 bytes (drop 40 bytes) (Extension p))
+RefusesCaptured6 bytes (Fragment head) =
+    Refuses6 bytes (Fragment head)
+    ⊎ (HasHeader6 bytes × (length bytes < total_len6 bytes)
+    × RefusesBehind6 bytes (drop 40 bytes) (Fragment head))
+RefusesCaptured6 bytes refusal = Refuses6 bytes refusal

@@ -1,0 +1,51 @@
+-- Why octets are no UDP datagram that is read: the check that fails first.
+use Rattle.std.specs.Prelude.{◌≡◌, ◌≢◌, ℕ, ◌<◌, ◌≤◌, true, List, [], ◌∷◌, codes, decimal, length}
+use Rattle.wirebase.specs.Bytes.{number_of}
+use Rattle.wirebase.specs.Capabilities.{is_verified}
+use Rattle.wirebase.specs.Display.{pieces}
+use Rattle.wirebase.specs.declared.capabilities.ChecksumCapabilities.{ChecksumCapabilities}
+use Rattle.frame_wire.specs.Addresses.{IsV4}
+use Rattle.frame_wire.specs.Udp.{BeginsWhole, IsVerified, IsDatagram, len_in, dst_port_field, checksum_field}
+use Rattle.frame_wire.specs.declared.datagram.Addresses.{Addresses}
+use Rattle.frame_wire.specs.declared.udp.Refusal.{Refusal}
+use Rattle.frame_wire.specs.declared.udp.Refusal.TheVariants.{Short, Length, Cut, Port, NoChecksum, Checksum}
+use Rattle.frame_wire.specs.declared.udp.UdpRepr.{UdpRepr}
+
+-- the bytes are read
+abbrev pub IsRead : ChecksumCapabilities → Addresses → List ℕ → Type 0
+IsRead capabilities addresses bytes = (r : UdpRepr) × IsDatagram capabilities addresses bytes r
+
+-- the bytes don't begin with a whole datagram
+abbrev pub RefusesLen : List ℕ → Refusal → Type 0
+RefusesLen bytes Short = length bytes < 8
+RefusesLen bytes (Length n) = (8 ≤ length bytes) × (len_in bytes ≡ n) × (n < 8)
+RefusesLen bytes (Cut n) = (8 ≤ length bytes) × (len_in bytes ≡ n) × (8 ≤ n) × (length bytes < n)
+RefusesLen bytes _ = ⊥
+
+-- a whole datagram to some port, whose checksum does not hold where it is verified
+pub record IsUnverified (capabilities : ChecksumCapabilities) (addresses : Addresses) (bytes : List ℕ) : Type 0 where
+  pub whole : BeginsWhole bytes
+  pub port : number_of dst_port_field bytes ≢ 0
+  pub verified : is_verified capabilities.udp ≡ true
+  pub bad : IsVerified addresses bytes → ⊥
+
+-- what is told of bytes that are not read
+abbrev pub Refuses : ChecksumCapabilities → Addresses → List ℕ → Refusal → Type 0
+Refuses capabilities addresses bytes Port = BeginsWhole bytes × (number_of dst_port_field bytes ≡ 0)
+Refuses capabilities addresses bytes NoChecksum =
+    IsUnverified capabilities addresses bytes × (IsV4 addresses → ⊥) × (number_of checksum_field bytes ≡ 0)
+Refuses capabilities addresses bytes Checksum =
+    IsUnverified capabilities addresses bytes × (number_of checksum_field bytes ≢ 0)
+Refuses capabilities addresses bytes refusal = RefusesLen bytes refusal
+
+abbrev pub refusal_display : Refusal → List ℕ
+refusal_display Short = codes "fewer than 8 bytes"
+refusal_display (Length n) = pieces (codes "a length of " ∷ decimal n ∷ codes " is below 8" ∷ [])
+refusal_display (Cut n) = pieces (codes "cut short, of " ∷ decimal n ∷ codes " bytes" ∷ [])
+refusal_display Port = codes "the destination port is 0"
+refusal_display NoChecksum = codes "there is no checksum, over IPv6"
+refusal_display Checksum = codes "the checksum does not hold"
+
+-- what the ports of a datagram print
+abbrev pub repr_display : UdpRepr → List ℕ
+repr_display r = pieces (codes "UDP src=" ∷ decimal r.src_port ∷ codes " dst=" ∷ decimal r.dst_port ∷ [])

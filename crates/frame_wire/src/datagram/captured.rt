@@ -1,0 +1,132 @@
+//! Datagrams as far as a capture has them.
+
+ghost use Rattle.std.specs.Prelude.{◌<◌, IfOk, IfErr, length};
+ghost use Rattle.frame_wire.specs.Captured.{captured_of, IsCaptured4, RefusesCaptured4, IsCaptured6, RefusesCaptured6};
+ghost use Rattle.frame_wire.specs.Captured.{IsOpening4, IsOpen4, RefusesOpen4};
+ghost use Rattle.frame_wire.specs.Datagram.{value_of, IsHead4, HasHeader6, total_len6, IsHead6};
+
+use super::{Addresses, Datagram, Head, Refusal, head_v4, read_v6};
+use crate::link::behind;
+use wirebase::{IPV6_HEADER_LEN, Ipv4Packet, Ipv6Packet};
+
+/// How much of a datagram is there.
+#[derive(Debug, PartialEq, Eq, Clone, Copy)]
+pub enum Extent {
+    /// All of it.
+    Whole,
+    /// Its front.
+    Cut {
+        /// The bytes that it has by its own length and that are not there, 1 or more.
+        missing: usize,
+    },
+    /// All that the capture kept, of a datagram of IPv4 whose total length is 0: a machine that leaves segmentation to
+    /// its network card captures such ones, whose length is that of the frame.
+    Unstated,
+}
+
+/// A datagram as far as a capture has it.
+#[derive(Debug, PartialEq, Eq, Clone, Copy)]
+pub struct Captured<'a> {
+    /// The datagram, of which the payload ends early where it is cut.
+    pub datagram: Datagram<'a>,
+    /// How much of it is there.
+    pub extent: Extent,
+}
+
+impl<'a> Captured<'a> {
+    /// The datagram of IPv4 at the front of the octets, as far as it is there: where it is whole, what
+    /// `Datagram::parse_v4` reads; where the octets end before it, its front, and how many bytes are missing; and where
+    /// its total length is 0, as before segmentation by a network card, all octets, so give those of the frame without
+    /// its padding. Refused where the header of IPv4 itself is cut, as `Cut`, and as `parse_v4` does for other reasons.
+    pub fn parse_v4(octets: &'a [u8]) -> Result<Captured<'a>, Refusal>
+        ensures sound { IfOk result (λ c. IsCaptured4 octets.now (captured_of c)) }
+        ensures refuses { IfErr result (λ refusal. RefusesCaptured4 octets.now refusal) }
+    {
+        match Datagram::parse_v4(octets) {
+            Ok(datagram) => Ok(Captured {
+                datagram,
+                extent: Extent::Whole,
+            }),
+            Err(Refusal::Cut(head)) => {
+                let datagram = open_v4(octets, head)?;
+                let total_len = Ipv4Packet::new_unchecked(octets).total_len() as usize;
+                Ok(Captured {
+                    datagram,
+                    extent: Extent::Cut {
+                        missing: total_len - octets.len(),
+                    },
+                })
+            }
+            Err(Refusal::TotalLen(0)) => {
+                let datagram = open_v4(octets, head_v4(octets))?;
+                Ok(Captured {
+                    datagram,
+                    extent: Extent::Unstated,
+                })
+            }
+            Err(refusal) => Err(refusal),
+        }
+    }
+
+    /// The datagram of IPv6 at the front of the octets, as far as it is there: where it is whole, what
+    /// `Datagram::parse_v6` reads, and where the octets end before it, its front, and how many bytes are missing.
+    /// Refused where a header of IPv6 is cut, as `Cut`, and as `parse_v6` does for other reasons.
+    pub fn parse_v6(octets: &'a [u8]) -> Result<Captured<'a>, Refusal>
+        ensures sound { IfOk result (λ c. IsCaptured6 octets.now (captured_of c)) }
+        ensures refuses { IfErr result (λ refusal. RefusesCaptured6 octets.now refusal) }
+    {
+        match Datagram::parse_v6(octets) {
+            Ok(datagram) => Ok(Captured {
+                datagram,
+                extent: Extent::Whole,
+            }),
+            Err(Refusal::Cut(head)) => cut_v6(octets, head),
+            Err(refusal) => Err(refusal),
+        }
+    }
+}
+
+// A datagram of IPv4 of which all octets behind the header are payload.
+fn open_v4<'a>(octets: &'a [u8], head: Head) -> Result<Datagram<'a>, Refusal>
+    requires opening { IsOpening4 octets.now }
+    requires head { IsHead4 octets.now head }
+    ensures sound { IfOk result (λ d. IsOpen4 octets.now (value_of d)) }
+    ensures refuses { IfErr result (λ refusal. RefusesOpen4 octets.now refusal) }
+{
+    let packet = Ipv4Packet::new_unchecked(octets);
+    let header_len = packet.header_len() as usize;
+    if octets.len() < header_len {
+        return Err(Refusal::Cut(head));
+    }
+    if head.more_frags || head.frag_offset != 0 {
+        return Err(Refusal::Fragment(head));
+    }
+    Ok(Datagram {
+        addresses: head.addresses,
+        protocol: head.protocol,
+        hop_limit: packet.hop_limit(),
+        hop_by_hop: None,
+        payload: behind(octets, header_len),
+    })
+}
+
+// A datagram of IPv6 that lacks some of its bytes.
+fn cut_v6<'a>(octets: &'a [u8], head: Head) -> Result<Captured<'a>, Refusal>
+    requires header { HasHeader6 octets.now }
+    requires cut { length octets.now < total_len6 octets.now }
+    requires head { IsHead6 octets.now head }
+    ensures sound { IfOk result (λ c. IsCaptured6 octets.now (captured_of c)) }
+    ensures refuses { IfErr result (λ refusal. RefusesCaptured6 octets.now refusal) }
+{
+    let payload_len = Ipv6Packet::new_unchecked(octets).payload_len() as usize;
+    match read_v6(octets, behind(octets, IPV6_HEADER_LEN)) {
+        Ok(datagram) => Ok(Captured {
+            datagram,
+            extent: Extent::Cut {
+                missing: IPV6_HEADER_LEN + payload_len - octets.len(),
+            },
+        }),
+        Err(Refusal::Fragment(head)) => Err(Refusal::Fragment(head)),
+        Err(_) => Err(Refusal::Cut(head)),
+    }
+}

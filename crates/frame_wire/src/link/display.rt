@@ -1,0 +1,69 @@
+//! What links, frames and their refusals print.
+
+ghost use Rattle.std.specs.Prelude.{Some};
+ghost use Rattle.frame_wire.specs.Link.{value_of};
+ghost use Rattle.frame_wire.specs.LinkDisplay.{link_display, network_display, frame_display, refusal_display};
+
+use super::{Frame, Link, Network, Refusal};
+use std::fmt;
+
+/// The name of the link type in the registry of pcap and pcapng, without `LINKTYPE_`.
+impl fmt::Display for Link {
+    ghost output = { λ link. Some (link_display link) };
+
+    fn fmt<W: fmt::Write>(&self, f: &mut fmt::Formatter<W>) -> fmt::Result {
+        match self {
+            Link::Null => write!(f, "NULL"),
+            Link::Ethernet => write!(f, "ETHERNET"),
+            Link::Ppp => write!(f, "PPP"),
+            Link::PppEther => write!(f, "PPP_ETHER"),
+            Link::Raw => write!(f, "RAW"),
+            Link::LinuxSll => write!(f, "LINUX_SLL"),
+            Link::LinuxSll2 => write!(f, "LINUX_SLL2"),
+        }
+    }
+}
+
+/// The name of the network, or its number on the link.
+impl fmt::Display for Network {
+    ghost output = { λ network. Some (network_display network) };
+
+    fn fmt<W: fmt::Write>(&self, f: &mut fmt::Formatter<W>) -> fmt::Result {
+        match self {
+            Network::Ipv4 => write!(f, "IPv4"),
+            Network::Ipv6 => write!(f, "IPv6"),
+            Network::Other(number) => write!(f, "{number}"),
+        }
+    }
+}
+
+/// The network, how many VLAN tags there are, and the bytes of the payload.
+impl fmt::Display for Frame<'_> {
+    ghost output = { λ frame. Some (frame_display (value_of frame)) };
+
+    fn fmt<W: fmt::Write>(&self, f: &mut fmt::Formatter<W>) -> fmt::Result {
+        let network = self.network;
+        let vlans = self.vlans();
+        let len = self.payload.len();
+        write!(f, "{network} vlans={vlans} len={len}")
+    }
+}
+
+/// The reason, as a phrase.
+impl fmt::Display for Refusal {
+    ghost output = { λ refusal. Some (refusal_display refusal) };
+
+    fn fmt<W: fmt::Write>(&self, f: &mut fmt::Formatter<W>) -> fmt::Result {
+        match self {
+            Refusal::Short => write!(f, "fewer bytes than the header of the link has"),
+            Refusal::Tag => write!(f, "a VLAN tag is cut short"),
+            Refusal::Protocol => write!(f, "the protocol of PPP is cut short"),
+            Refusal::SessionVersion(version) => write!(f, "version {version} of PPPoE is not read"),
+            Refusal::SessionType(number) => write!(f, "type {number} of PPPoE is not read"),
+            Refusal::SessionCode(code) => write!(f, "code {code} of PPPoE is no session"),
+        }
+    }
+}
+
+#[cfg(test)]
+mod tests;
