@@ -1,5 +1,6 @@
 -- What is read, and what is cut, behind the header of a link.
-use Rattle.std.proofs.Common.{◌≡◌, ◌≢◌, ℕ, ◌+◌, ◌≤◌, ◌⊎◌, List, length, drop, refl, sym, subst, true, false, Bool, arith, ◌∙◌, ◌-◌}
+use Rattle.std.proofs.Common.{◌≡◌, ◌≢◌, ℕ, ◌+◌, ◌-◌, ◌≤◌, ◌⊎◌, List, length, drop, refl, sym, subst, ◌∙◌, arith}
+use Rattle.std.proofs.Common.{Bool, true, false}
 use Rattle.byteorder.specs.Endian.{big_number}
 use Rattle.wirebase.specs.Bytes.{field, part, number_of}
 use Rattle.wirebase.specs.Capabilities.{is_verified}

@@ -36,14 +36,14 @@ head_display h = head_by h h.ident
 
 abbrev pub refusal_display : Refusal → List ℕ
 refusal_display refusal.Short = codes "fewer bytes than the fixed header has"
-refusal_display (refusal.Version n) = pieces (codes "version " ∷ decimal n ∷ codes " is another" ∷ [])
+refusal_display (refusal.Version n) = pieces (codes "version " ∷ decimal n ∷ codes " is not read" ∷ [])
 refusal_display (refusal.HeaderLen n) =
     pieces (codes "a header length of " ∷ decimal n ∷ codes " is below 20" ∷ [])
 refusal_display (refusal.TotalLen n) =
     pieces (codes "a total length of " ∷ decimal n ∷ codes " is below that of the header" ∷ [])
 refusal_display (refusal.Cut head) = pieces (codes "cut short, " ∷ head_display head ∷ [])
 refusal_display (refusal.Extension p) =
-    pieces (codes "the header of protocol " ∷ decimal (protocol_number p) ∷ codes " is cut short" ∷ [])
+    pieces (codes "the extension header of protocol " ∷ decimal (protocol_number p) ∷ codes " is cut short" ∷ [])
 refusal_display (refusal.Fragment head) = pieces (codes "a fragment, " ∷ head_display head ∷ [])
 
 abbrev pub datagram_display : DatagramValue → List ℕ

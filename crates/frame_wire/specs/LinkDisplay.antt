@@ -33,7 +33,7 @@ frame_display f =
 abbrev pub refusal_display : Refusal → List ℕ
 refusal_display refusal.Short = codes "fewer bytes than the header of the link has"
 refusal_display refusal.Tag = codes "a VLAN tag is cut short"
-refusal_display refusal.Protocol = codes "the protocol of PPP is cut short"
-refusal_display (refusal.SessionVersion n) = pieces (codes "version " ∷ decimal n ∷ codes " of PPPoE is not read" ∷ [])
-refusal_display (refusal.SessionType n) = pieces (codes "type " ∷ decimal n ∷ codes " of PPPoE is not read" ∷ [])
-refusal_display (refusal.SessionCode n) = pieces (codes "code " ∷ decimal n ∷ codes " of PPPoE is no session" ∷ [])
+refusal_display refusal.Protocol = codes "the PPP protocol is cut short"
+refusal_display (refusal.SessionVersion n) = pieces (codes "PPPoE version " ∷ decimal n ∷ codes " is not read" ∷ [])
+refusal_display (refusal.SessionType n) = pieces (codes "PPPoE type " ∷ decimal n ∷ codes " is not read" ∷ [])
+refusal_display (refusal.SessionCode n) = pieces (codes "PPPoE code " ∷ decimal n ∷ codes " is not read" ∷ [])

@@ -41,9 +41,9 @@ Refuses capabilities addresses bytes refusal = RefusesLen bytes refusal
 abbrev pub refusal_display : Refusal → List ℕ
 refusal_display Short = codes "fewer than 8 bytes"
 refusal_display (Length n) = pieces (codes "a length of " ∷ decimal n ∷ codes " is below 8" ∷ [])
-refusal_display (Cut n) = pieces (codes "cut short, of " ∷ decimal n ∷ codes " bytes" ∷ [])
+refusal_display (Cut n) = pieces (codes "fewer than its " ∷ decimal n ∷ codes " bytes" ∷ [])
 refusal_display Port = codes "the destination port is 0"
-refusal_display NoChecksum = codes "there is no checksum, over IPv6"
+refusal_display NoChecksum = codes "no checksum over IPv6"
 refusal_display Checksum = codes "the checksum does not hold"
 
 -- what the ports of a datagram print

@@ -60,15 +60,16 @@ impl Addresses {
 pub enum Refusal {
     /// They end before the fixed header does: fewer than 20 bytes of IPv4, or 40 of IPv6.
     Short,
-    /// They are of another version, this one.
+    /// They are of another version: this one.
     Version(u8),
-    /// A header of IPv4 is counted as fewer than 20 bytes, as this many.
+    /// The header length of IPv4 is less than 20 bytes: this many.
     HeaderLen(u8),
-    /// The total length of IPv4 is less than that of the header: this many bytes.
+    /// The total length of IPv4 is less than the header length: this many bytes.
     TotalLen(u16),
-    /// They end before the datagram does by its own length, as where a capture kept less than there was.
+    /// They end before the datagram does by its own length, as where a capture kept less than there was;
+    /// `Captured` reads what is there.
     Cut(Head),
-    /// A header that extends IPv6 ends behind the datagram: one of this protocol.
+    /// A header that extends IPv6, of this protocol, ends behind the datagram.
     Extension(IpProtocol),
     /// They are a fragment.
     Fragment(Head),
@@ -77,12 +78,13 @@ pub enum Refusal {
 /// What the headers tell of a datagram that is cut or a fragment.
 #[derive(Debug, PartialEq, Eq, Clone, Copy)]
 pub struct Head {
-    /// Where it comes from, and where it goes to: of a fragment of IPv6 where it goes to at last.
+    /// Where it comes from, and where it goes to: for a fragment of IPv6 at last, as its routing headers say.
     pub addresses: Addresses,
-    /// The protocol of the payload. Of an IPv6 datagram that is cut this is the header behind the fixed one, since those
-    /// that follow may be cut; `parse_captured_v6` passes them.
+    /// The protocol of the payload. For an IPv6 datagram that is cut this is the next header of the fixed header, since
+    /// those that follow may be cut; `Captured::parse_v6` passes them.
     pub protocol: IpProtocol,
-    /// The identification that the fragments of one datagram share; None where only the fixed header of IPv6 is read.
+    /// The identification that the fragments of one datagram share; None for an IPv6 datagram that is cut, of which
+    /// only the fixed header is read.
     pub ident: Option<u32>,
     /// Where the payload stands in that of the datagram that was fragmented, in bytes: a multiple of 8.
     pub frag_offset: u16,

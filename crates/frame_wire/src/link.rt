@@ -103,15 +103,15 @@ impl Link {
 pub enum Refusal {
     /// Fewer bytes than the header of the link has.
     Short,
-    /// A VLAN tag that ends behind the frame: it has four bytes.
+    /// A VLAN tag of four bytes ends behind the octets.
     Tag,
-    /// A protocol of PPP that ends behind the frame: it has two bytes, or one whose number is odd.
+    /// A protocol of PPP, of one byte where that is odd and else of two, ends behind the octets.
     Protocol,
-    /// A PPPoE session of another version than 1, this one.
+    /// The PPPoE version is not 1 but this one (RFC 2516 section 4).
     SessionVersion(u8),
-    /// A PPPoE session of another type than 1, this one.
+    /// The PPPoE type is not 1 but this one.
     SessionType(u8),
-    /// A PPPoE header with another code than 0, which data has: this one.
+    /// The PPPoE code is not 0, which session data has, but this one.
     SessionCode(u8),
 }
 

@@ -243,13 +243,13 @@ impl<T: Octets> Eq for UdpPacket<T> {
 pub enum Refusal {
     /// Fewer than 8 bytes.
     Short,
-    /// A length field below 8, which the header alone has: this one.
+    /// The length field is below 8, the length of the header: this many bytes.
     Length(u16),
-    /// Fewer bytes than the length field says, which is this one.
+    /// Fewer bytes than the length field says: it says this many.
     Cut(u16),
-    /// To port 0.
+    /// The port of the receiver is 0.
     Port,
-    /// Over IPv6, which requires a checksum, there is none (RFC 8200 section 8.1).
+    /// There is no checksum over IPv6, which requires one (RFC 8200 section 8.1).
     NoChecksum,
     /// The checksum does not hold.
     Checksum,

@@ -16,28 +16,29 @@ pub enum Extent {
     Whole,
     /// Its front.
     Cut {
-        /// The bytes that it has by its own length and that are not there, 1 or more.
+        /// How many bytes its own length counts that are not there, 1 or more.
         missing: usize,
     },
-    /// All that the capture kept, of a datagram of IPv4 whose total length is 0: a machine that leaves segmentation to
-    /// its network card captures such ones, whose length is that of the frame.
+    /// A datagram of IPv4 whose total length is 0, as a machine captures it that leaves segmentation to its network
+    /// card: the payload is all that the octets have, and whether they have all of it is not known.
     Unstated,
 }
 
 /// A datagram as far as a capture has it.
 #[derive(Debug, PartialEq, Eq, Clone, Copy)]
 pub struct Captured<'a> {
-    /// The datagram, of which the payload ends early where it is cut.
+    /// The datagram. Its payload ends early where it is cut.
     pub datagram: Datagram<'a>,
     /// How much of it is there.
     pub extent: Extent,
 }
 
 impl<'a> Captured<'a> {
-    /// The datagram of IPv4 at the front of the octets, as far as it is there: where it is whole, what
-    /// `Datagram::parse_v4` reads; where the octets end before it, its front, and how many bytes are missing; and where
-    /// its total length is 0, as before segmentation by a network card, all octets, so give those of the frame without
-    /// its padding. Refused where the header of IPv4 itself is cut, as `Cut`, and as `parse_v4` does for other reasons.
+    /// The datagram of IPv4 at the front of the octets, as far as it is there. A whole one is what `Datagram::parse_v4`
+    /// reads. One that ends behind the octets has the payload that is there, and it is told how many bytes are missing.
+    /// One with a total length of 0 is taken to end where the octets do. Refused with `Cut` where the header itself,
+    /// with its options, is cut, and where `Datagram::parse_v4` refuses for another reason; a fragment is a `Fragment`,
+    /// also where it is cut.
     pub fn parse_v4(octets: &'a [u8]) -> Result<Captured<'a>, Refusal>
         ensures sound { IfOk result (λ c. IsCaptured4 octets.now (captured_of c)) }
         ensures refuses { IfErr result (λ refusal. RefusesCaptured4 octets.now refusal) }
@@ -68,9 +69,10 @@ impl<'a> Captured<'a> {
         }
     }
 
-    /// The datagram of IPv6 at the front of the octets, as far as it is there: where it is whole, what
-    /// `Datagram::parse_v6` reads, and where the octets end before it, its front, and how many bytes are missing.
-    /// Refused where a header of IPv6 is cut, as `Cut`, and as `parse_v6` does for other reasons.
+    /// The datagram of IPv6 at the front of the octets, as far as it is there. A whole one is what `Datagram::parse_v6`
+    /// reads. One that ends behind the octets has the payload that is there, and it is told how many bytes are missing.
+    /// Refused with `Cut` where a header that extends IPv6 is cut, and where `Datagram::parse_v6` refuses for another
+    /// reason; a fragment is a `Fragment`, also where it is cut.
     pub fn parse_v6(octets: &'a [u8]) -> Result<Captured<'a>, Refusal>
         ensures sound { IfOk result (λ c. IsCaptured6 octets.now (captured_of c)) }
         ensures refuses { IfErr result (λ refusal. RefusesCaptured6 octets.now refusal) }

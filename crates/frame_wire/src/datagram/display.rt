@@ -21,7 +21,7 @@ impl fmt::Display for Addresses {
     }
 }
 
-/// What is known: the place among the fragments only where there is an identification.
+/// What is known of a datagram: the fields of a fragment are printed only where there is an identification.
 impl fmt::Display for Head {
     ghost output = { λ head. Some (head_display head) };
 
@@ -47,7 +47,7 @@ impl fmt::Display for Refusal {
     fn fmt<W: fmt::Write>(&self, f: &mut fmt::Formatter<W>) -> fmt::Result {
         match self {
             Refusal::Short => write!(f, "fewer bytes than the fixed header has"),
-            Refusal::Version(version) => write!(f, "version {version} is another"),
+            Refusal::Version(version) => write!(f, "version {version} is not read"),
             Refusal::HeaderLen(len) => write!(f, "a header length of {len} is below 20"),
             Refusal::TotalLen(len) => {
                 write!(f, "a total length of {len} is below that of the header")
@@ -55,7 +55,7 @@ impl fmt::Display for Refusal {
             Refusal::Cut(head) => write!(f, "cut short, {head}"),
             Refusal::Extension(protocol) => {
                 let number = u8::from(*protocol);
-                write!(f, "the header of protocol {number} is cut short")
+                write!(f, "the extension header of protocol {number} is cut short")
             }
             Refusal::Fragment(head) => write!(f, "a fragment, {head}"),
         }

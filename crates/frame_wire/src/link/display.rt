@@ -57,10 +57,10 @@ impl fmt::Display for Refusal {
         match self {
             Refusal::Short => write!(f, "fewer bytes than the header of the link has"),
             Refusal::Tag => write!(f, "a VLAN tag is cut short"),
-            Refusal::Protocol => write!(f, "the protocol of PPP is cut short"),
-            Refusal::SessionVersion(version) => write!(f, "version {version} of PPPoE is not read"),
-            Refusal::SessionType(number) => write!(f, "type {number} of PPPoE is not read"),
-            Refusal::SessionCode(code) => write!(f, "code {code} of PPPoE is no session"),
+            Refusal::Protocol => write!(f, "the PPP protocol is cut short"),
+            Refusal::SessionVersion(version) => write!(f, "PPPoE version {version} is not read"),
+            Refusal::SessionType(number) => write!(f, "PPPoE type {number} is not read"),
+            Refusal::SessionCode(code) => write!(f, "PPPoE code {code} is not read"),
         }
     }
 }

@@ -25,9 +25,9 @@ impl fmt::Display for Refusal {
         match self {
             Refusal::Short => write!(f, "fewer than 8 bytes"),
             Refusal::Length(len) => write!(f, "a length of {len} is below 8"),
-            Refusal::Cut(len) => write!(f, "cut short, of {len} bytes"),
+            Refusal::Cut(len) => write!(f, "fewer than its {len} bytes"),
             Refusal::Port => write!(f, "the destination port is 0"),
-            Refusal::NoChecksum => write!(f, "there is no checksum, over IPv6"),
+            Refusal::NoChecksum => write!(f, "no checksum over IPv6"),
             Refusal::Checksum => write!(f, "the checksum does not hold"),
         }
     }

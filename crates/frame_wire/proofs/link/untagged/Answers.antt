@@ -2,7 +2,8 @@
 use Rattle.std.proofs.Common.{take, ap, sym, subst, ◌∙◌}
 use Rattle.byteorder.specs.Endian.{big_number}
 use Rattle.frame_wire.specs.Link.{IsTagged}
-use Rattle.frame_wire.proofs.Tags.{so_far-init, so_far-more, so_far-last, cut_none, cut_here, part-behind, told, told_not}
+use Rattle.frame_wire.proofs.Tags.{so_far-init, so_far-more, so_far-last, cut_none, cut_here, part-behind, told}
+use Rattle.frame_wire.proofs.Tags.{told_not}
 use Rattle.frame_wire.proofs.link.untagged.Goals as goal
 
 pub tags-init : goal.tags-init

@@ -17,4 +17,5 @@ returns-in-Ok-payload_of-clause-exact c = (
 pub returns-in-Err-clause-told : goal.returns-in-Err-clause-told
 returns-in-Err-clause-told c =
     typed_cut c.args.octets.now c.args.place c.args.start c.u16_at.result _ (typed_of c.in-Ok.typed)
-    c.if-octets-start.false (number_of_two c.args.octets.now c.args.place _ c.u16_at.ensures) c.behind.ensures c.in-Ok.ensures.sound c.in-Err.ensures.cut
+    c.if-octets-start.false (number_of_two c.args.octets.now c.args.place _ c.u16_at.ensures) c.behind.ensures
+    c.in-Ok.ensures.sound c.in-Err.ensures.cut

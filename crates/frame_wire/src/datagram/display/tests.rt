@@ -62,7 +62,7 @@ fn refusals_in_words(rt: HostRuntime) {
     };
     let rows = [
         (Refusal::Short, "fewer bytes than the fixed header has"),
-        (Refusal::Version(5), "version 5 is another"),
+        (Refusal::Version(5), "version 5 is not read"),
         (Refusal::HeaderLen(16), "a header length of 16 is below 20"),
         (
             Refusal::TotalLen(19),
@@ -74,7 +74,7 @@ fn refusals_in_words(rt: HostRuntime) {
         ),
         (
             Refusal::Extension(IpProtocol::Ipv6Opts),
-            "the header of protocol 60 is cut short",
+            "the extension header of protocol 60 is cut short",
         ),
         (
             Refusal::Fragment(fragment),

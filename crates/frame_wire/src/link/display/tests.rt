@@ -42,13 +42,10 @@ fn refusals_in_words(rt: HostRuntime) {
             "fewer bytes than the header of the link has",
         ),
         (Refusal::Tag, "a VLAN tag is cut short"),
-        (Refusal::Protocol, "the protocol of PPP is cut short"),
-        (Refusal::SessionVersion(2), "version 2 of PPPoE is not read"),
-        (Refusal::SessionType(0), "type 0 of PPPoE is not read"),
-        (
-            Refusal::SessionCode(0xa7),
-            "code 167 of PPPoE is no session",
-        ),
+        (Refusal::Protocol, "the PPP protocol is cut short"),
+        (Refusal::SessionVersion(2), "PPPoE version 2 is not read"),
+        (Refusal::SessionType(0), "PPPoE type 0 is not read"),
+        (Refusal::SessionCode(0xa7), "PPPoE code 167 is not read"),
     ];
     for (refusal, text) in rows {
         prints(&rt, rt.alloc(), &refusal, text);

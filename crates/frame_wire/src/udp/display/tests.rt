@@ -11,9 +11,9 @@ fn ports_and_refusals_in_words(rt: HostRuntime) {
     let rows = [
         (Refusal::Short, "fewer than 8 bytes"),
         (Refusal::Length(7), "a length of 7 is below 8"),
-        (Refusal::Cut(11), "cut short, of 11 bytes"),
+        (Refusal::Cut(11), "fewer than its 11 bytes"),
         (Refusal::Port, "the destination port is 0"),
-        (Refusal::NoChecksum, "there is no checksum, over IPv6"),
+        (Refusal::NoChecksum, "no checksum over IPv6"),
         (Refusal::Checksum, "the checksum does not hold"),
     ];
     for (refusal, text) in rows {
