@@ -23,7 +23,7 @@ abbrev pub version_display : IgmpVersion → List ℕ
 version_display Version1 = codes "Version1"
 version_display Version2 = codes "Version2"
 
--- a message; that of a leave message ends in a bracket that nothing opens
+-- a message
 abbrev pub repr_display : Repr → List ℕ
 repr_display (MembershipQuery time group version) =
     pieces (codes "IGMP membership query max_resp_time=" ∷ duration_text time
@@ -32,7 +32,7 @@ repr_display (MembershipQuery time group version) =
 repr_display (MembershipReport group version) =
     pieces (codes "IGMP membership report group_addr=" ∷ address_text group
     ∷ codes " version=" ∷ version_display version ∷ [])
-repr_display (LeaveGroup group) = pieces (codes "IGMP leave group group_addr=" ∷ address_text group ∷ codes ")" ∷ [])
+repr_display (LeaveGroup group) = pieces (codes "IGMP leave group group_addr=" ∷ address_text group ∷ [])
 
 -- of octets that are refused
 abbrev pub refused_display : List ℕ

@@ -17,9 +17,9 @@ ghost use Rattle.icmp4_wire.specs.Icmpv4Display.{repr_display, refused_display};
 ghost use Rattle.icmp4_wire.specs.contracts.icmpv4.packet.Packet.{the_row};
 
 use super::field;
-use super::refusal::Refusal;
 use super::repr::Repr;
 use super::tables::Message;
+use super::unread::Unread;
 use std::fmt;
 use wirebase::{ChecksumCapabilities, Error, Octets, OctetsMut, Result, checksum};
 
@@ -248,24 +248,24 @@ impl<T: Octets> fmt::Display for Packet<T> {
         let packet = Packet::new_unchecked(self.buffer.octets());
         match Repr::parse(&packet, &ChecksumCapabilities::default()) {
             Ok(repr) => write!(f, "{repr}"),
-            Err(_) => packet.fmt_refusal(f),
+            Err(_) => packet.fmt_unread(f),
         }
     }
 }
 
 impl Packet<&[u8]> {
     // What is printed of octets that are refused.
-    fn fmt_refusal<W: fmt::Write>(&self, f: &mut fmt::Formatter<W>) -> fmt::Result
+    fn fmt_unread<W: fmt::Write>(&self, f: &mut fmt::Formatter<W>) -> fmt::Result
         ensures { WritesOnOk W.write_str_gives f.old result
             (refused_display (view_octets self.now)) f.new }
     {
         if self.buffer.len() < field::CODE.end {
             return write!(f, "ICMPv4 (wire::Error)");
         }
-        let refusal = Refusal {
+        let unread = Unread {
             kind: self.msg_type(),
             code: self.msg_code(),
         };
-        write!(f, "{refusal}")
+        write!(f, "{unread}")
     }
 }

@@ -169,7 +169,7 @@ impl Repr {
     }
 }
 
-/// The message and its fields. That of a leave message ends in a bracket which nothing opens.
+/// The message and its fields.
 impl fmt::Display for Repr {
     ghost output = { λ repr. Some (repr_display repr) };
 
@@ -180,7 +180,6 @@ impl fmt::Display for Repr {
                 group_addr,
                 version,
             } => {
-                let version = version_name(*version);
                 write!(
                     f,
                     "IGMP membership query max_resp_time={max_resp_time} group_addr={group_addr} version={version}"
@@ -190,26 +189,28 @@ impl fmt::Display for Repr {
                 group_addr,
                 version,
             } => {
-                let version = version_name(*version);
                 write!(
                     f,
                     "IGMP membership report group_addr={group_addr} version={version}"
                 )
             }
             Repr::LeaveGroup { group_addr } => {
-                write!(f, "IGMP leave group group_addr={group_addr})")
+                write!(f, "IGMP leave group group_addr={group_addr}")
             }
         }
     }
 }
 
-// The name of a version.
-fn version_name(version: IgmpVersion) -> &'static str
-    ensures { result.now ≡ version_display version }
-{
-    match version {
-        IgmpVersion::Version1 => "Version1",
-        IgmpVersion::Version2 => "Version2",
+/// The name of the version.
+impl fmt::Display for IgmpVersion {
+    ghost output = { λ version. Some (version_display version) };
+
+    fn fmt<W: fmt::Write>(&self, f: &mut fmt::Formatter<W>) -> fmt::Result {
+        let name = match self {
+            IgmpVersion::Version1 => "Version1",
+            IgmpVersion::Version2 => "Version2",
+        };
+        f.write_str(name)
     }
 }
 
@@ -223,7 +224,7 @@ fn put_message(w: &mut ByteWriter<'_>, message: Message, code: u8, group: Ipv4Ad
 
 // Whether a message may speak of this group: of none, 0.0.0.0, or of a multicast address.
 #[inline]
-fn is_group(address: Ipv4Address) -> bool
+pub(super) fn is_group(address: Ipv4Address) -> bool
     ensures { IsTrue result ↔ IsGroup address }
 {
     address.is_unspecified() || address.is_multicast()

@@ -112,6 +112,12 @@ fn compare(rt: &impl Abort, octets: &[u8]) {
     agree(rt, octets, &Repr::parse(&packet, &ignored), &plain);
     let verified = if is_good(octets) { plain } else { None };
     agree(rt, octets, &Repr::parse(&packet, &ALL), &verified);
+    same_of(
+        rt,
+        octets,
+        Repr::refusal(&packet, &ALL).is_none(),
+        verified.is_some(),
+    );
 }
 
 // Compares the fields of the view with the octets at their places.
