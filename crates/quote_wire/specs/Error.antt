@@ -75,6 +75,30 @@ module _ {K : Type 0} (p : Protocol K) where
     pub quoted : data_in bytes ≡ v.quoted
     pub quotes : p.IsQuoted v.quoted
 
+  -- the octets are some error
+  abbrev pub IsRead : List ℕ → Type 0
+  IsRead bytes = (v : ErrorValue K) × IsError bytes v
+
+  -- Why octets are no error, by the checks in this order: the header is there, its checksum is good where it is
+  -- verified, the type is that of an error, and what stands behind the header is quoted. Each says that those before
+  -- it hold.
+  pub record HasHeader (bytes : List ℕ) : Type 0 where
+    pub whole : Reaches header bytes
+    pub good : is_verified p.checksum ≡ true → IsGood bytes (p.extra (length bytes))
+
+  abbrev pub IsErrorType : ℕ → Type 0
+  IsErrorType t = (kind : K) × (t ≡ p.number kind)
+
+  abbrev pub RefusesChecksum : List ℕ → Type 0
+  RefusesChecksum bytes =
+      Reaches header bytes × (is_verified p.checksum ≡ true) × (IsGood bytes (p.extra (length bytes)) → ⊥)
+
+  abbrev pub RefusesType : List ℕ → ℕ → Type 0
+  RefusesType bytes t = HasHeader bytes × (t ≡ byte_of type_field bytes) × (IsErrorType t → ⊥)
+
+  abbrev pub RefusesQuote : (List ℕ → Type 0) → List ℕ → Type 0
+  RefusesQuote Why bytes = HasHeader bytes × IsErrorType (byte_of type_field bytes) × Why (data_in bytes)
+
   -- a value that its own text gives back, in normal form
   pub record IsCanonical (v : ErrorValue K) : Type 0 where
     pub code : v.code < 2 ^ 8

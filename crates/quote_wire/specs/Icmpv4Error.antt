@@ -1,14 +1,20 @@
 -- Errors of ICMPv4 (RFC 792): a destination that is unreachable, a source that is to send less, a better gateway, a time
 -- that was exceeded, a parameter that is wrong.
-use Rattle.std.specs.Prelude.{◌≡◌, ℕ, zero, ◌+◌, ◌/◌, ◌%◌, ◌==◌, ◌≤◌, ◌^◌, ◌++◌, List, length, if◌then◌else◌, Option, Some, None}
+use Rattle.std.specs.Prelude.{◌≡◌, ℕ, zero, ◌+◌, ◌/◌, ◌%◌, ◌==◌, ◌<◌, ◌≤◌, ◌^◌, List, [], ◌∷◌, length, if◌then◌else◌, Option, Some, None}
 use Rattle.std.specs.Prelude.{codes, decimal}
 use Rattle.wirebase.specs.declared.capabilities.ChecksumCapabilities.{ChecksumCapabilities}
 use Rattle.wirebase.specs.Bytes.{byte_of}
 use Rattle.wirebase.specs.Ipv4.{ihl_field, header_len_in}
+use Rattle.wirebase.specs.Display.{pieces}
 use Rattle.quote_wire.specs.declared.icmpv4_error.Kind.{Kind}
 use Rattle.quote_wire.specs.declared.icmpv4_error.Kind.TheVariants as kind
 use Rattle.quote_wire.specs.declared.icmpv4_error.Repr.{Repr}
-use Rattle.quote_wire.specs.Error.{Protocol, ErrorValue}
+use Rattle.quote_wire.specs.declared.icmpv4_error.refusal.Refusal.{Refusal}
+use Rattle.quote_wire.specs.declared.icmpv4_error.refusal.Refusal.TheVariants as refusal
+use Rattle.quote_wire.specs.Error.{Protocol, ErrorValue, RefusesChecksum, RefusesType, RefusesQuote}
+use Rattle.quote_wire.specs.Icmpv4Reason.{reason_of}
+use Rattle.quote_wire.specs.Quote.{RefusesIpv4}
+use Rattle.quote_wire.specs.Quote.{refusal_display as quote_display}
 
 -- the types of error
 abbrev pub kind_number : Kind → ℕ
@@ -47,7 +53,7 @@ told_mtu n = Some n
 abbrev pub next_hop_mtu_in : ErrorValue Kind → Option ℕ
 next_hop_mtu_in v = if kind_number v.kind == 3 then (if v.code == 4 then told_mtu (v.rest % 2 ^ 16) else None) else None
 
--- what an error prints
+-- what a type prints, and what an error does
 abbrev pub kind_display : Kind → List ℕ
 kind_display kind.DstUnreachable = codes "destination unreachable"
 kind_display kind.SourceQuench = codes "source quench"
@@ -55,7 +61,29 @@ kind_display kind.Redirect = codes "redirect"
 kind_display kind.TimeExceeded = codes "time exceeded"
 kind_display kind.ParamProblem = codes "parameter problem"
 
+-- with what its code says
+abbrev pub shown : ErrorValue Kind → Option (List ℕ) → List ℕ
+shown v None =
+    pieces (codes "ICMPv4 " ∷ kind_display v.kind ∷ codes " code=" ∷ decimal v.code
+    ∷ codes " quoted=" ∷ decimal (length v.quoted) ∷ [])
+shown v (Some reason) =
+    pieces (codes "ICMPv4 " ∷ kind_display v.kind ∷ codes " code=" ∷ decimal v.code
+    ∷ codes " (" ∷ reason
+    ∷ codes ") quoted=" ∷ decimal (length v.quoted) ∷ [])
+
 abbrev pub repr_display : ErrorValue Kind → List ℕ
-repr_display v =
-    codes "ICMPv4 " ++ kind_display v.kind ++ codes " code=" ++ decimal v.code ++ codes " quoted="
-    ++ decimal (length v.quoted)
+repr_display v = shown v (reason_of v.kind v.code)
+
+-- why octets are no error: the check that fails first
+abbrev pub Refuses : Protocol Kind → List ℕ → Refusal → Type 0
+Refuses p bytes refusal.Short = length bytes < 8
+Refuses p bytes refusal.Checksum = RefusesChecksum p bytes
+Refuses p bytes (refusal.UnknownType t) = RefusesType p bytes t
+Refuses p bytes (refusal.Quote why) = RefusesQuote p (λ quoted. RefusesIpv4 quoted why) bytes
+
+-- what a reason prints
+abbrev pub refusal_display : Refusal → List ℕ
+refusal_display refusal.Short = codes "fewer than 8 bytes"
+refusal_display refusal.Checksum = codes "the checksum does not hold"
+refusal_display (refusal.UnknownType t) = pieces (codes "type " ∷ decimal t ∷ codes " is not that of an error" ∷ [])
+refusal_display (refusal.Quote why) = quote_display why

@@ -13,8 +13,12 @@ ghost use Rattle.quote_wire.specs.Icmpv4Error.{next_hop_mtu_in, kind_display, re
 ghost use Rattle.quote_wire.specs.declared.icmpv4_error.Kind.{Kind as AnyKind};
 ghost use Rattle.wirebase.specs.declared.capabilities.ChecksumCapabilities.{ChecksumCapabilities as AnyCapabilities};
 
+mod reason;
+mod refusal;
+
 use super::field;
 use super::writing::write_error;
+pub use refusal::Refusal;
 use std::fmt;
 use wirebase::{ChecksumCapabilities, Error, Octets, Result, are_bytes, checksum};
 
@@ -194,28 +198,34 @@ impl<'a> Repr<'a> {
     }
 }
 
-/// The type by its name, the code, and the number of bytes that are quoted.
+/// The type by its name, the code and what it says, and the number of bytes that are quoted.
 impl fmt::Display for Repr<'_> {
     ghost output = { λ repr. Some (repr_display (value_of repr)) };
 
     fn fmt<W: fmt::Write>(&self, f: &mut fmt::Formatter<W>) -> fmt::Result {
-        let name = kind_name(self.kind);
+        let kind = self.kind;
         let code = self.code;
         let len = self.quoted.len();
-        write!(f, "ICMPv4 {name} code={code} quoted={len}")
+        match self.reason() {
+            Some(reason) => write!(f, "ICMPv4 {kind} code={code} ({reason}) quoted={len}"),
+            None => write!(f, "ICMPv4 {kind} code={code} quoted={len}"),
+        }
     }
 }
 
-// The name of a type.
-fn kind_name(kind: Kind) -> &'static str
-    ensures { result.now ≡ kind_display kind }
-{
-    match kind {
-        Kind::DstUnreachable => "destination unreachable",
-        Kind::SourceQuench => "source quench",
-        Kind::Redirect => "redirect",
-        Kind::TimeExceeded => "time exceeded",
-        Kind::ParamProblem => "parameter problem",
+/// The name of the type.
+impl fmt::Display for Kind {
+    ghost output = { λ kind. Some (kind_display kind) };
+
+    fn fmt<W: fmt::Write>(&self, f: &mut fmt::Formatter<W>) -> fmt::Result {
+        let name = match self {
+            Kind::DstUnreachable => "destination unreachable",
+            Kind::SourceQuench => "source quench",
+            Kind::Redirect => "redirect",
+            Kind::TimeExceeded => "time exceeded",
+            Kind::ParamProblem => "parameter problem",
+        };
+        f.write_str(name)
     }
 }
 

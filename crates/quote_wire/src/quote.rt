@@ -1,12 +1,19 @@
 //! What an error quotes of a datagram: the fields of its header, and as much of its payload as is quoted.
 
-ghost use Rattle.std.specs.Prelude.{◌↔◌, IfOk, IsOk};
+ghost use Rattle.std.specs.Prelude.{◌↔◌, IfOk, IsOk, Some};
+ghost use Rattle.std.specs.Fmt.{WritesOnOk};
 ghost use Rattle.quote_wire.specs.Icmpv4Error.{IsDatagram};
 ghost use Rattle.quote_wire.specs.Icmpv6Error.{IsPacketFront};
-ghost use Rattle.quote_wire.specs.Quote.{IsIpv4Quote, IsIpv6Quote};
+ghost use Rattle.quote_wire.specs.Quote.{IsIpv4Quote, IsIpv6Quote, ipv4_front_display, ipv4_back_display};
+ghost use Rattle.quote_wire.specs.Quote.{ipv4_quote_display, ipv6_quote_display};
+
+mod refusal;
 
 use super::icmpv4_error::is_datagram;
 use super::icmpv6_error::is_packet_front;
+pub use refusal::Refusal;
+pub(crate) use refusal::{why_no_datagram, why_no_packet};
+use std::fmt;
 use wirebase::{
     Error, Field, IPV6_HEADER_LEN, IpProtocol, Ipv4Address, Ipv4Packet, Ipv6Address, Ipv6Packet,
     Octets, Result,
@@ -79,6 +86,48 @@ impl<'a> Ipv4Quote<'a> {
     }
 }
 
+/// The fields in the order of the header, the protocol by its number, and the bytes of the options and of the payload.
+impl fmt::Display for Ipv4Quote<'_> {
+    ghost output = { λ quote_. Some (ipv4_quote_display quote_) };
+
+    fn fmt<W: fmt::Write>(&self, f: &mut fmt::Formatter<W>) -> fmt::Result {
+        fmt_front(f, self)?;
+        fmt_back(f, self)
+    }
+}
+
+// What is printed of the fields up to the fragment offset.
+fn fmt_front<W: fmt::Write>(f: &mut fmt::Formatter<W>, header: &Ipv4Quote<'_>) -> fmt::Result
+    ensures { WritesOnOk W.write_str_gives f.old result (ipv4_front_display header.now) f.new }
+{
+    write!(
+        f,
+        "IPv4 quote type_of_service={} total_len={} ident={} dont_frag={} more_frags={} frag_offset={}",
+        header.type_of_service,
+        header.total_len,
+        header.ident,
+        header.dont_frag,
+        header.more_frags,
+        header.frag_offset
+    )
+}
+
+// What is printed of the others.
+fn fmt_back<W: fmt::Write>(f: &mut fmt::Formatter<W>, header: &Ipv4Quote<'_>) -> fmt::Result
+    ensures { WritesOnOk W.write_str_gives f.old result (ipv4_back_display header.now) f.new }
+{
+    write!(
+        f,
+        " hop_limit={} next_header={} src_addr={} dst_addr={} options={} payload={}",
+        header.hop_limit,
+        u8::from(header.next_header),
+        header.src_addr,
+        header.dst_addr,
+        header.options.len(),
+        header.payload.len()
+    )
+}
+
 /// What an ICMPv6 error quotes (RFC 4443 section 3): the header of the packet that it is about (RFC 8200 section 3), and
 /// as much of its payload as is quoted, extension headers included.
 #[derive(Debug, PartialEq, Eq, Clone, Copy)]
@@ -123,5 +172,26 @@ impl<'a> Ipv6Quote<'a> {
             dst_addr: packet.dst_addr(),
             payload: &octets[IPV6_HEADER_LEN..],
         })
+    }
+}
+
+/// The fields in the order of the header, the protocol by its number, and the bytes of the payload.
+impl fmt::Display for Ipv6Quote<'_> {
+    ghost output = { λ quote_. Some (ipv6_quote_display quote_) };
+
+    fn fmt<W: fmt::Write>(&self, f: &mut fmt::Formatter<W>) -> fmt::Result {
+        write!(
+            f,
+            "IPv6 quote traffic_class={} flow_label={} payload_len={} next_header={} hop_limit={} src_addr={} \
+             dst_addr={} payload={}",
+            self.traffic_class,
+            self.flow_label,
+            self.payload_len,
+            u8::from(self.next_header),
+            self.hop_limit,
+            self.src_addr,
+            self.dst_addr,
+            self.payload.len()
+        )
     }
 }
