@@ -9,6 +9,10 @@ use Rattle.icmp4_wire.specs.declared.icmpv4.tables.DstUnreachable.{DstUnreachabl
 use Rattle.icmp4_wire.specs.declared.icmpv4.tables.DstUnreachable.TheVariants as reasons
 use Rattle.icmp4_wire.specs.declared.icmpv4.tables.TimeExceeded.{TimeExceeded}
 use Rattle.icmp4_wire.specs.declared.icmpv4.tables.TimeExceeded.TheVariants as times
+use Rattle.icmp4_wire.specs.declared.icmpv4.tables.Redirect.{Redirect}
+use Rattle.icmp4_wire.specs.declared.icmpv4.tables.Redirect.TheVariants as redirects
+use Rattle.icmp4_wire.specs.declared.icmpv4.tables.ParamProblem.{ParamProblem}
+use Rattle.icmp4_wire.specs.declared.icmpv4.tables.ParamProblem.TheVariants as problems
 use Rattle.icmp4_wire.specs.Icmpv4Tables.{message_of, unreachable_of, time_exceeded_of}
 use Rattle.icmp4_wire.specs.Icmpv4.{MessageValue, echo_request, echo_reply, unreachable, time_exceeded}
 
@@ -46,11 +50,26 @@ unreachable_display reasons.HostPrecedViol = codes "host precedence violation"
 unreachable_display reasons.PrecedCutoff = codes "precedence cutoff in effect"
 unreachable_display (reasons.Unknown n) = decimal n
 
+-- for which packets another gateway is better
+abbrev pub redirect_display : Redirect → List ℕ
+redirect_display redirects.Net = codes "redirect for the network"
+redirect_display redirects.Host = codes "redirect for the host"
+redirect_display redirects.NetToS = codes "redirect for the ToS and network"
+redirect_display redirects.HostToS = codes "redirect for the ToS and host"
+redirect_display (redirects.Unknown n) = decimal n
+
 -- which time was exceeded
 abbrev pub time_exceeded_display : TimeExceeded → List ℕ
 time_exceeded_display times.TtlExpired = codes "time-to-live exceeded in transit"
 time_exceeded_display times.FragExpired = codes "fragment reassembly time exceeded"
 time_exceeded_display (times.Unknown n) = decimal n
+
+-- what is wrong with a parameter
+abbrev pub param_problem_display : ParamProblem → List ℕ
+param_problem_display problems.AtPointer = codes "pointer indicates the error"
+param_problem_display problems.MissingOption = codes "missing a required option"
+param_problem_display problems.BadLength = codes "bad length"
+param_problem_display (problems.Unknown n) = decimal n
 
 -- a message: an echo by its numbers and the bytes of its data, an error by its reason
 abbrev pub repr_display : MessageValue → List ℕ

@@ -1,7 +1,7 @@
 //! What is printed.
 
 use super::{ECHO_REQUEST, PORT_UNREACHABLE, QUOTED_DATA, quoted};
-use crate::icmpv4::{DstUnreachable, Message, Packet, Repr, TimeExceeded};
+use crate::icmpv4::{DstUnreachable, Message, Packet, ParamProblem, Redirect, Repr, TimeExceeded};
 use crate::testing::{prints, prints_each, takes_writes};
 
 #[test]
@@ -54,6 +54,25 @@ fn reasons_of_exceeded_times_print_their_words(rt: HostRuntime) {
         (2, "2"),
     ];
     prints_each::<TimeExceeded>(&rt, rt.alloc(), TIMES);
+}
+
+#[test]
+fn reasons_of_redirects_and_of_problems_print_their_words(rt: HostRuntime) {
+    const REDIRECTS: &[(u8, &str)] = &[
+        (0, "redirect for the network"),
+        (1, "redirect for the host"),
+        (2, "redirect for the ToS and network"),
+        (3, "redirect for the ToS and host"),
+        (4, "4"),
+    ];
+    prints_each::<Redirect>(&rt, rt.alloc(), REDIRECTS);
+    const PROBLEMS: &[(u8, &str)] = &[
+        (0, "pointer indicates the error"),
+        (1, "missing a required option"),
+        (2, "bad length"),
+        (3, "3"),
+    ];
+    prints_each::<ParamProblem>(&rt, rt.alloc(), PROBLEMS);
 }
 
 #[test]
