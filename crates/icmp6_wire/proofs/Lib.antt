@@ -7,5 +7,6 @@ pub mod MldRecords
 pub mod MldTexts
 pub mod NdiscFormat
 pub mod NdiscReading
+pub mod NdiscRefusals
 pub mod NdiscTexts
 pub mod NdiscTiling

@@ -1,12 +1,15 @@
 //! The Internet Control Message Protocol of IPv6 (RFC 4443).
 
+mod display;
 mod packet;
 mod quote;
 mod reading;
+mod refusal;
 mod repr;
 mod tables;
 
 pub use packet::Packet;
+pub use refusal::Refusal;
 pub use repr::Repr;
 pub use tables::{DstUnreachable, Message, ParamProblem, TimeExceeded};
 use wirebase::{IPV6_HEADER_LEN, IPV6_MIN_MTU};

@@ -1,11 +1,14 @@
 //! Multicast listener discovery, version 2 (RFC 3810).
 
+mod display;
 mod packet;
 mod record;
+mod refusal;
 mod repr;
 mod tables;
 
 pub use record::{AddressRecord, AddressRecordRepr};
+pub use refusal::{RecordRefusal, Refusal};
 pub use repr::Repr;
 pub(crate) use repr::{read_query, read_report};
 pub use tables::RecordType;

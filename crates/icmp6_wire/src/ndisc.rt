@@ -15,10 +15,12 @@ use crate::icmpv6::Packet;
 use bitflags::Flags as _;
 use wirebase::{Duration, Ipv6Address, Octets, OctetsMut};
 
+mod display;
 mod flags;
 mod found;
 mod options;
 mod reading;
+mod refusal;
 mod repr;
 
 pub use flags::{NeighborFlags, RouterFlags};
@@ -26,6 +28,7 @@ pub(crate) use found::Found;
 pub(crate) use reading::{
     neighbor_advert, neighbor_solicit, redirect, router_advert, router_solicit,
 };
+pub use refusal::Refusal;
 pub use repr::Repr;
 
 // The fields behind the checksum (RFC 4861 section 4); their picture is in specs/NdiscPacket.antt.

@@ -1,11 +1,12 @@
 //! Messages read from the octets of a packet, by their types.
 
-ghost use Rattle.std.specs.Prelude.{◌≡◌, ◌≤◌, ◌<◌, length, IsOk, IfOk};
+ghost use Rattle.std.specs.Prelude.{◌≡◌, ◌≢◌, ◌≤◌, ◌<◌, length, IsOk, IsErr, IfOk};
 ghost use Rattle.wirebase.specs.Bytes.{byte_of};
 ghost use Rattle.wirebase.specs.Icmp.{type_field, code_field, data_in};
 ghost use Rattle.icmp6_wire.specs.Icmpv6Tables.{message_number};
 ghost use Rattle.icmp6_wire.specs.Icmpv6Packet.{view_octets, message_in, BeginsWhole};
 ghost use Rattle.icmp6_wire.specs.Icmpv6.{MessageValue, value_of, IsContent};
+ghost use Rattle.icmp6_wire.specs.declared.icmpv6.tables.Message.TheVariants.{PktTooBig};
 
 use super::field;
 use super::packet::Packet;
@@ -23,6 +24,8 @@ pub(super) fn read_error<'a>(packet: &Packet<&'a [u8]>, kind: Message) -> Result
     ensures sound { IfOk result (λ repr. IsContent (view_octets packet.now) (value_of repr)) }
     ensures reads { (value : MessageValue) → IsContent (view_octets packet.now) value
         → IsOk result }
+    ensures refuses { IsErr result → 48 ≤ length (view_octets packet.now)
+        → (kind ≡ PktTooBig) × (byte_of code_field (view_octets packet.now) ≢ 0) }
 {
     let payload = behind_header(packet);
     if payload.len() < IPV6_HEADER_LEN {

@@ -1,6 +1,7 @@
 //! Records of reports (RFC 3810 section 5.2).
 
-ghost use Rattle.std.specs.Prelude.{◌≡◌, ◌↔◌, ◌-◌, [], ◌∷◌, length, IsTrue, IsOk, IfOk, IsOkAnd};
+ghost use Rattle.std.specs.Prelude.{◌≡◌, ◌↔◌, ◌-◌, ◌<◌, [], ◌∷◌, length, IsTrue, IsOk, IsErr, IfOk};
+ghost use Rattle.std.specs.Prelude.{IsOkAnd};
 ghost use Rattle.std.specs.Borrow.{sem, Lends, Array, u8 as byte};
 ghost use Rattle.byteorder.specs.Endian.{big_bytes};
 ghost use Rattle.wirebase.specs.Bytes.{splice, Reaches, byte_of, bytes_of, number_of, over};
@@ -235,10 +236,11 @@ impl<'a> AddressRecordRepr<'a> {
     }
 
     // The record at the front of the octets.
-    fn read(view: &AddressRecord<&'a [u8]>) -> Result<AddressRecordRepr<'a>>
+    pub(super) fn read(view: &AddressRecord<&'a [u8]>) -> Result<AddressRecordRepr<'a>>
         ensures sound { IfOk result (λ repr. IsRecord (view_octets view.now) (value_of repr)) }
         ensures complete { (value : RecordValue) → IsRecord (view_octets view.now) value
             → IsOkAnd result (λ repr. value_of repr ≡ value) }
+        ensures refuses { IsErr result → length (view_octets view.now) < 20 }
     {
         view.check_len()?;
         Ok(AddressRecordRepr {

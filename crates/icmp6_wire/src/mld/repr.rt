@@ -1,12 +1,14 @@
 //! Messages as values (RFC 3810 section 5).
 
-ghost use Rattle.std.specs.Prelude.{◌≡◌, ◌≤◌, ◌<◌, ◌+◌, ◌*◌, ◌^◌, length, [], ◌∷◌, IsOk, IfOk, IsOkAnd};
+ghost use Rattle.std.specs.Prelude.{◌≡◌, ◌≤◌, ◌<◌, ◌+◌, ◌*◌, ◌^◌, length, [], ◌∷◌, true};
+ghost use Rattle.std.specs.Prelude.{IsOk, IsErr, IfOk, IsOkAnd};
 ghost use Rattle.wirebase.specs.Bytes.{byte_of, over};
 ghost use Rattle.wirebase.specs.ByteWriter.{free, Puts};
 ghost use Rattle.wirebase.specs.Format.{Rewrites, SameText};
 ghost use Rattle.wirebase.specs.Icmp.{type_field};
 ghost use Rattle.wirebase.specs.Ipv6Address.{IsMulticast};
-ghost use Rattle.icmp6_wire.specs.Icmpv6Packet.{inner, view_octets, BeginsWhole};
+ghost use Rattle.icmp6_wire.specs.Icmpv6Packet.{inner, view_octets, message_in, BeginsWhole};
+ghost use Rattle.icmp6_wire.specs.Icmpv6Tables.{is_mld};
 ghost use Rattle.icmp6_wire.specs.Mld.{MldValue, values_of, value_of, query_fields, report_fields, record_texts};
 ghost use Rattle.icmp6_wire.specs.Mld.{message_fields, text};
 ghost use Rattle.icmp6_wire.specs.Mld.{text_len, told_len, AreGroups, CanEmit, IsMessage, format, Emits};
@@ -64,10 +66,12 @@ impl<'a> Repr<'a> {
     }
 
     // The message in the octets.
-    fn read(packet: &Packet<&'a [u8]>) -> Result<Repr<'a>>
+    pub(super) fn read(packet: &Packet<&'a [u8]>) -> Result<Repr<'a>>
         ensures sound { IfOk result (λ repr. IsMessage (view_octets packet.now) (value_of repr)) }
         ensures reads { (value : MldValue) → IsMessage (view_octets packet.now) value
             → IsOk result }
+        ensures refuses { IsErr result → BeginsWhole (view_octets packet.now)
+            → is_mld (message_in (view_octets packet.now)) ≡ true → ⊥ }
     {
         match packet.checked_type()? {
             Message::MldQuery => return Ok(read_query(packet)),

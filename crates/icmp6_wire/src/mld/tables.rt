@@ -1,8 +1,11 @@
 //! The numbers of multicast listener discovery (RFC 3810 section 5.2.12).
 
-ghost use Rattle.std.specs.Prelude.{◌≡◌};
+ghost use Rattle.std.specs.Prelude.{◌≡◌, Some};
 ghost use Rattle.wirebase.specs.Numbered.{IsProper, IsTable};
+ghost use Rattle.icmp6_wire.specs.MldDisplay.{record_type_display};
 ghost use Rattle.icmp6_wire.specs.MldTables.{record_type_number, record_type_rows, record_type_of};
+
+use std::fmt;
 
 /// What a record tells of the sources that a listener asks of a group, one byte (RFC 3810 section 5.2.12).
 #[derive(Debug, PartialEq, Eq, PartialOrd, Ord, Clone, Copy)]
@@ -67,5 +70,23 @@ impl From<RecordType> for u8 {
             RecordType::BlockOldSources => 6,
             RecordType::Unknown(other) => other,
         }
+    }
+}
+
+/// The name of the type, as `MODE_IS_INCLUDE`, and of any other its number, as `unknown 7`.
+impl fmt::Display for RecordType {
+    ghost output = { λ record_type. Some (record_type_display record_type) };
+
+    fn fmt<W: fmt::Write>(&self, f: &mut fmt::Formatter<W>) -> fmt::Result {
+        let words = match self {
+            RecordType::ModeIsInclude => "MODE_IS_INCLUDE",
+            RecordType::ModeIsExclude => "MODE_IS_EXCLUDE",
+            RecordType::ChangeToInclude => "CHANGE_TO_INCLUDE_MODE",
+            RecordType::ChangeToExclude => "CHANGE_TO_EXCLUDE_MODE",
+            RecordType::AllowNewSources => "ALLOW_NEW_SOURCES",
+            RecordType::BlockOldSources => "BLOCK_OLD_SOURCES",
+            RecordType::Unknown(number) => return write!(f, "unknown {number}"),
+        };
+        f.write_str(words)
     }
 }

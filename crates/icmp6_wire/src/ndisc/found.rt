@@ -1,6 +1,7 @@
 //! What the options of a message say, in one pass.
 
 ghost use Rattle.std.specs.Prelude.{◌≡◌, ◌++◌, List, ℕ, IsOk, IfOk, IsErr};
+ghost use Rattle.opt_wire.specs.NdiscOption.{BeginsWithBlock};
 ghost use Rattle.opt_wire.specs.NdiscOptionRepr.{OptionValue, value_of};
 ghost use Rattle.icmp6_wire.specs.NdiscBlocks.{IsBlock, AreBlocks};
 ghost use Rattle.icmp6_wire.specs.NdiscFound.{kept_of, nothing, keep, Says, Notes};
@@ -78,11 +79,12 @@ impl<'a> Found<'a> {
 }
 
 // The block at the front, and what stands behind it. Refused where the octets don't begin with a block.
-fn split_block(octets: &[u8]) -> Result<(&[u8], &[u8])>
+pub(super) fn split_block(octets: &[u8]) -> Result<(&[u8], &[u8])>
     ensures sound { IfOk result (λ parts. IsBlock parts.0.now
         × (octets.now ≡ parts.0.now ++ parts.1.now)) }
     ensures refuses { IsErr result → (block rest : List ℕ) → IsBlock block
         → octets.now ≡ block ++ rest → ⊥ }
+    ensures begins { IsErr result → BeginsWithBlock octets.now → ⊥ }
 {
     let Ok(option) = NdiscOption::new_checked(octets) else {
         return Err(Error);

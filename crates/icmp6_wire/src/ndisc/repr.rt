@@ -1,18 +1,20 @@
 //! Messages as values (RFC 4861 sections 4.1 to 4.5).
 
-ghost use Rattle.std.specs.Prelude.{◌≡◌, ◌+◌, ◌<◌, ◌≤◌, ◌^◌, [], ◌∷◌, length, IfOk, IsOk, IsOkAnd};
+ghost use Rattle.std.specs.Prelude.{◌≡◌, ◌+◌, ◌<◌, ◌≤◌, ◌^◌, [], ◌∷◌, true, List, length};
+ghost use Rattle.std.specs.Prelude.{IfOk, IsOk, IsErr, IsOkAnd};
 ghost use Rattle.std.specs.Option.{option_map};
 ghost use Rattle.wirebase.specs.ByteWriter.{free, Puts, be8, be16, be32};
 ghost use Rattle.wirebase.specs.Duration.{millis_of, seconds_of};
 ghost use Rattle.wirebase.specs.Format.{Rewrites, SameText};
-ghost use Rattle.opt_wire.specs.NdiscOptionRepr.{CanEmit as CanEmitOption};
-ghost use Rattle.icmp6_wire.specs.Icmpv6Packet.{inner, view_octets};
+ghost use Rattle.opt_wire.specs.NdiscOptionRepr.{OptionValue, CanEmit as CanEmitOption};
+ghost use Rattle.icmp6_wire.specs.Icmpv6Packet.{inner, view_octets, message_in, payload_in, BeginsWhole};
 ghost use Rattle.icmp6_wire.specs.Ndisc.{NdiscValue, value_of, sources, targets, mtus, prefixes, packets};
 ghost use Rattle.icmp6_wire.specs.Ndisc.{options_of, option_lens, option_texts, header_len, header_fields, Each};
 ghost use Rattle.icmp6_wire.specs.Ndisc.{HaveTimes, message_fields, text};
 ghost use Rattle.icmp6_wire.specs.Ndisc.{text_len, CanEmit, IsMessage, format, Emits};
+ghost use Rattle.icmp6_wire.specs.NdiscBlocks.{AreBlocks};
 ghost use Rattle.icmp6_wire.specs.NdiscFound.{link_of, packet_of};
-ghost use Rattle.icmp6_wire.specs.Icmpv6Tables.{message_number};
+ghost use Rattle.icmp6_wire.specs.Icmpv6Tables.{message_number, is_ndisc};
 ghost use Rattle.icmp6_wire.specs.NdiscTables.{router_bits, neighbor_bits};
 
 use super::field;
@@ -104,10 +106,13 @@ impl<'a> Repr<'a> {
     }
 
     // The message in the octets.
-    fn read(packet: &Packet<&'a [u8]>) -> Result<Repr<'a>>
+    pub(super) fn read(packet: &Packet<&'a [u8]>) -> Result<Repr<'a>>
         ensures sound { IfOk result (λ repr. IsMessage (view_octets packet.now) (value_of repr)) }
         ensures reads { (value : NdiscValue) → IsMessage (view_octets packet.now) value
             → IsOk result }
+        ensures refuses { IsErr result → BeginsWhole (view_octets packet.now)
+            → is_ndisc (message_in (view_octets packet.now)) ≡ true
+            → (options : List OptionValue) → AreBlocks (payload_in (view_octets packet.now)) options → ⊥ }
     {
         let kind = packet.checked_type()?;
         let mut found = Found::nothing();

@@ -1,0 +1,63 @@
+-- What messages of multicast listener discovery and their parts print.
+use Rattle.std.specs.Prelude.{ℕ, Bool, List, [], ◌∷◌, codes, decimal, length, if◌then◌else◌}
+use Rattle.wirebase.specs.Display.{pieces}
+use Rattle.wirebase.specs.Ipv6Address.{address_text}
+use Rattle.icmp6_wire.specs.Mld.{MldValue, query, report, records}
+use Rattle.icmp6_wire.specs.MldRecord.{RecordValue, address_record}
+use Rattle.icmp6_wire.specs.declared.mld.refusal.Refusal.{Refusal}
+use Rattle.icmp6_wire.specs.declared.mld.refusal.Refusal.TheVariants as refusal
+use Rattle.icmp6_wire.specs.declared.mld.refusal.RecordRefusal.{RecordRefusal}
+use Rattle.icmp6_wire.specs.declared.mld.refusal.RecordRefusal.TheVariants as record_refusal
+use Rattle.icmp6_wire.specs.declared.mld.tables.RecordType.{RecordType}
+use Rattle.icmp6_wire.specs.declared.mld.tables.RecordType.TheVariants as record_type
+
+-- the type of a record (RFC 3810 section 5.2.12)
+abbrev pub record_type_display : RecordType → List ℕ
+record_type_display record_type.ModeIsInclude = codes "MODE_IS_INCLUDE"
+record_type_display record_type.ModeIsExclude = codes "MODE_IS_EXCLUDE"
+record_type_display record_type.ChangeToInclude = codes "CHANGE_TO_INCLUDE_MODE"
+record_type_display record_type.ChangeToExclude = codes "CHANGE_TO_EXCLUDE_MODE"
+record_type_display record_type.AllowNewSources = codes "ALLOW_NEW_SOURCES"
+record_type_display record_type.BlockOldSources = codes "BLOCK_OLD_SOURCES"
+record_type_display (record_type.Unknown n) = pieces (codes "unknown " ∷ decimal n ∷ [])
+
+-- a record: its fields, and the bytes of what stands after them
+abbrev pub record_display : RecordValue → List ℕ
+record_display (address_record kind words sources group rest) =
+    pieces (codes "MLD record record_type=" ∷ record_type_display kind
+    ∷ codes " aux_data_len=" ∷ decimal words
+    ∷ codes " num_srcs=" ∷ decimal sources
+    ∷ codes " mcast_addr=" ∷ address_text group
+    ∷ codes " len=" ∷ decimal (length rest) ∷ [])
+
+-- a flag
+abbrev truth_text : Bool → List ℕ
+truth_text is = if is then codes "true" else codes "false"
+
+-- the fields of a query behind its flag, and the bytes of its data
+abbrev pub counts_display : ℕ → ℕ → ℕ → ℕ → List ℕ
+counts_display qrv qqic sources len =
+    pieces (codes " qrv=" ∷ decimal qrv
+    ∷ codes " qqic=" ∷ decimal qqic
+    ∷ codes " num_srcs=" ∷ decimal sources
+    ∷ codes " len=" ∷ decimal len ∷ [])
+
+-- a message: its fields, and the bytes of its data; of a report by its records, how many they are
+abbrev pub repr_display : MldValue → List ℕ
+repr_display (query code group flag qrv qqic sources d) =
+    pieces (codes "MLD query max_resp_code=" ∷ decimal code
+    ∷ codes " mcast_addr=" ∷ address_text group
+    ∷ codes " s_flag=" ∷ truth_text flag
+    ∷ counts_display qrv qqic sources (length d) ∷ [])
+repr_display (report count d) =
+    pieces (codes "MLD report nr_mcast_addr_rcrds=" ∷ decimal count ∷ codes " len=" ∷ decimal (length d) ∷ [])
+repr_display (records rs) = pieces (codes "MLD report nr_mcast_addr_rcrds=" ∷ decimal (length rs) ∷ [])
+
+-- why octets are refused
+abbrev pub refusal_display : Refusal → List ℕ
+refusal_display refusal.Short = codes "fewer than 8 bytes"
+refusal_display (refusal.UnknownType t) = pieces (codes "type " ∷ decimal t ∷ codes " is not read" ∷ [])
+refusal_display refusal.Length = codes "fewer bytes than the header of its type"
+
+abbrev pub record_refusal_display : RecordRefusal → List ℕ
+record_refusal_display record_refusal.Short = codes "fewer than 20 bytes"

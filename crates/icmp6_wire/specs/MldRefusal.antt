@@ -1,0 +1,37 @@
+-- Why bytes are no message of multicast listener discovery, and no record of a report: the check that fails first.
+use Rattle.std.specs.Prelude.{◌≡◌, ℕ, ◌≤◌, ◌<◌, true, false, List, length}
+use Rattle.wirebase.specs.Bytes.{byte_of}
+use Rattle.wirebase.specs.Icmp.{type_field}
+use Rattle.icmp6_wire.specs.Icmpv6Packet.{message_in, header_len_in}
+use Rattle.icmp6_wire.specs.Icmpv6Tables.{is_mld, message_of}
+use Rattle.icmp6_wire.specs.Mld.{MldValue, IsMessage}
+use Rattle.icmp6_wire.specs.MldRecord.{RecordValue, IsRecord}
+use Rattle.icmp6_wire.specs.declared.mld.refusal.Refusal.{Refusal}
+use Rattle.icmp6_wire.specs.declared.mld.refusal.Refusal.TheVariants as refusal
+use Rattle.icmp6_wire.specs.declared.mld.refusal.RecordRefusal.{RecordRefusal}
+use Rattle.icmp6_wire.specs.declared.mld.refusal.RecordRefusal.TheVariants as record_refusal
+
+-- ---- messages
+
+-- the bytes are some message
+abbrev pub IsRead : List ℕ → Type 0
+IsRead bytes = (value : MldValue) × IsMessage bytes value
+
+-- The checks in their order: there are the 8 bytes of every header; the type is that of a query or of a report; and
+-- there are the bytes of the header of that type, which are 28 of a query.
+abbrev pub Refuses : List ℕ → Refusal → Type 0
+Refuses bytes refusal.Short = length bytes < 8
+Refuses bytes (refusal.UnknownType t) =
+    (8 ≤ length bytes) × (t ≡ byte_of type_field bytes) × (is_mld (message_of t) ≡ false)
+Refuses bytes refusal.Length =
+    (8 ≤ length bytes) × (is_mld (message_in bytes) ≡ true) × (length bytes < header_len_in bytes)
+
+-- ---- records
+
+-- the bytes begin with some record
+abbrev pub IsReadRecord : List ℕ → Type 0
+IsReadRecord bytes = (value : RecordValue) × IsRecord bytes value
+
+-- the one check: there are the 20 bytes of a record's fields
+abbrev pub RefusesRecord : List ℕ → RecordRefusal → Type 0
+RefusesRecord bytes record_refusal.Short = length bytes < 20

@@ -1,0 +1,76 @@
+-- What messages of neighbor discovery print.
+use Rattle.std.specs.Prelude.{ℕ, List, [], ◌∷◌, codes, decimal, length, Option, None, Some}
+use Rattle.wirebase.specs.Display.{pieces}
+use Rattle.wirebase.specs.Duration.{duration_text}
+use Rattle.wirebase.specs.Ethernet.{hex_colons}
+use Rattle.wirebase.specs.Ipv6.{header_display}
+use Rattle.wirebase.specs.Ipv6Address.{address_text}
+use Rattle.wirebase.specs.declared.duration.Duration.{Duration}
+use Rattle.wirebase.specs.declared.ipv6.Ipv6Repr.{Ipv6Repr}
+use Rattle.opt_wire.specs.declared.ndiscoption.repr.PrefixInformation.{PrefixInformation}
+use Rattle.icmp6_wire.specs.Ndisc.{NdiscValue, router_solicit, router_advert, neighbor_solicit, neighbor_advert}
+use Rattle.icmp6_wire.specs.Ndisc.{redirect}
+use Rattle.icmp6_wire.specs.NdiscTables.{router_bits, neighbor_bits}
+use Rattle.icmp6_wire.specs.declared.ndisc.refusal.Refusal.{Refusal}
+use Rattle.icmp6_wire.specs.declared.ndisc.refusal.Refusal.TheVariants as refusal
+
+-- what a field prints that is there or not: nothing where it is not
+unfoldable pub lladdr_display : Option (List ℕ) → List ℕ
+lladdr_display None = []
+lladdr_display (Some address) = pieces (codes " lladdr=" ∷ hex_colons address ∷ [])
+
+unfoldable pub mtu_display : Option ℕ → List ℕ
+mtu_display None = []
+mtu_display (Some n) = pieces (codes " mtu=" ∷ decimal n ∷ [])
+
+unfoldable pub prefix_display : Option PrefixInformation → List ℕ
+prefix_display None = []
+prefix_display (Some p) =
+    pieces (codes " prefix_info=" ∷ address_text p.prefix ∷ codes "/" ∷ decimal p.prefix_len ∷ [])
+
+-- a redirected packet by its header, and the bytes of its payload
+unfoldable pub packet_display : Option (Ipv6Repr × List ℕ) → List ℕ
+packet_display None = []
+packet_display (Some r) =
+    pieces (codes " redirected_hdr=(" ∷ header_display r.0 ∷ codes " len=" ∷ decimal (length r.1) ∷ codes ")" ∷ [])
+
+-- the times of a router advertisement, and its options
+unfoldable pub times_display : Duration → Duration → Duration → List ℕ
+times_display lifetime reachable retrans =
+    pieces (codes " router_lifetime=" ∷ duration_text lifetime
+    ∷ codes " reachable_time=" ∷ duration_text reachable
+    ∷ codes " retrans_time=" ∷ duration_text retrans ∷ [])
+
+unfoldable pub options_display : Option (List ℕ) → Option ℕ → Option PrefixInformation → List ℕ
+options_display l m p = pieces (lladdr_display l ∷ mtu_display m ∷ prefix_display p ∷ [])
+
+-- a message: its fields, flags as the number of their bits
+abbrev pub repr_display : NdiscValue → List ℕ
+repr_display (router_solicit l) = pieces (codes "NDISC router solicitation" ∷ lladdr_display l ∷ [])
+repr_display (router_advert hops flags lifetime reachable retrans l m p) =
+    pieces (codes "NDISC router advertisement hop_limit=" ∷ decimal hops
+    ∷ codes " flags=" ∷ decimal (router_bits flags)
+    ∷ times_display lifetime reachable retrans
+    ∷ options_display l m p ∷ [])
+repr_display (neighbor_solicit t l) =
+    pieces (codes "NDISC neighbor solicitation target_addr=" ∷ address_text t ∷ lladdr_display l ∷ [])
+repr_display (neighbor_advert flags t l) =
+    pieces (codes "NDISC neighbor advertisement flags=" ∷ decimal (neighbor_bits flags)
+    ∷ codes " target_addr=" ∷ address_text t ∷ lladdr_display l ∷ [])
+repr_display (redirect t d l r) =
+    pieces (codes "NDISC redirect target_addr=" ∷ address_text t ∷ codes " dest_addr=" ∷ address_text d
+    ∷ lladdr_display l ∷ packet_display r ∷ [])
+
+-- why octets are refused
+abbrev pub refusal_display : Refusal → List ℕ
+refusal_display refusal.Short = codes "fewer than 8 bytes"
+refusal_display (refusal.UnknownType t) = pieces (codes "type " ∷ decimal t ∷ codes " is not read" ∷ [])
+refusal_display refusal.Length = codes "fewer bytes than the header of its type"
+refusal_display (refusal.OptionCut kind place) =
+    pieces (codes "the option of type " ∷ decimal kind ∷ codes " at byte " ∷ decimal place ∷ codes " is cut" ∷ [])
+refusal_display (refusal.OptionEmpty kind place) =
+    pieces (codes "the option of type " ∷ decimal kind ∷ codes " at byte " ∷ decimal place
+    ∷ codes " has length 0" ∷ [])
+refusal_display (refusal.OptionLength kind units place) =
+    pieces (codes "the option of type " ∷ decimal kind ∷ codes " at byte " ∷ decimal place
+    ∷ codes " has length " ∷ decimal units ∷ codes ", too short for its type" ∷ [])
