@@ -5,6 +5,7 @@ pub mod Icmpv6Refusal
 pub mod Icmpv6Tables
 pub mod Mld
 pub mod MldDisplay
+pub mod MldIterators
 pub mod MldPacket
 pub mod MldRecord
 pub mod MldRefusal

@@ -1,12 +1,14 @@
 //! Multicast listener discovery, version 2 (RFC 3810).
 
 mod display;
+mod iterators;
 mod packet;
 mod record;
 mod refusal;
 mod repr;
 mod tables;
 
+pub use iterators::{Records, Sources};
 pub use record::{AddressRecord, AddressRecordRepr};
 pub use refusal::{RecordRefusal, Refusal};
 pub use repr::Repr;

@@ -10,6 +10,8 @@ use wirebase::{ChecksumCapabilities, Ipv6Address};
 
 mod errors;
 mod fields;
+mod refusals;
+mod texts;
 mod types;
 
 // The octets that stand in a buffer before it is written into.

@@ -10,6 +10,9 @@ use std::process::Abort;
 use wirebase::{IPV6_LINK_LOCAL_ALL_NODES, IPV6_LINK_LOCAL_ALL_ROUTERS, Ipv6Address};
 
 mod inside_icmpv6;
+mod iterators;
+mod refusals;
+mod texts;
 
 // The octets that stand in a buffer before it is written into.
 const FILLS: &[u8] = &[0x00, 0xff, 0x2a, 0xa5];

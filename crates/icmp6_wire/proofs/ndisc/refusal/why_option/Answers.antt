@@ -1,4 +1,3 @@
-use Rattle.std.proofs.Common.{ap, ◌∙◌}
 use Rattle.std.proofs.lemmas.List.{take_rest}
 use Rattle.icmp6_wire.proofs.NdiscRefusals.{whole_none, more_whole, some_behind}
 use Rattle.icmp6_wire.proofs.ndisc.refusal.why_option.Goals as goal

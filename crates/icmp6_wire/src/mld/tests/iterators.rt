@@ -1,0 +1,82 @@
+use super::short_record;
+use crate::mld::{AddressRecordRepr, RecordType, Records};
+use crate::testing::same;
+use wirebase::{Error, IPV6_LINK_LOCAL_ALL_NODES, IPV6_LINK_LOCAL_ALL_ROUTERS};
+
+// A record of ff02::1 with the source ff02::2 and a word of auxiliary data, and one of ff02::2 with neither.
+const RECORDS: [u8; 60] = [
+    0x01, 0x01, 0x00, 0x01, 0xff, 0x02, 0, 0, 0, 0, 0, 0, 0, 0, 0, 0, 0, 0, 0, 0x01, 0xff, 0x02, 0,
+    0, 0, 0, 0, 0, 0, 0, 0, 0, 0, 0, 0, 0x02, 0xaa, 0xbb, 0xcc, 0xdd, 0x04, 0x00, 0x00, 0x00, 0xff,
+    0x02, 0, 0, 0, 0, 0, 0, 0, 0, 0, 0, 0, 0, 0, 0x02,
+];
+
+fn with_source() -> AddressRecordRepr<'static> {
+    AddressRecordRepr {
+        record_type: RecordType::ModeIsInclude,
+        aux_data_len: 1,
+        num_srcs: 1,
+        mcast_addr: IPV6_LINK_LOCAL_ALL_NODES,
+        payload: &RECORDS[20..40],
+    }
+}
+
+fn bare() -> AddressRecordRepr<'static> {
+    AddressRecordRepr::new(RecordType::ChangeToExclude, IPV6_LINK_LOCAL_ALL_ROUTERS)
+}
+
+#[test]
+fn records_of_a_report_in_turn(rt: HostRuntime) {
+    let mut records = Records::new(2, &RECORDS);
+    same(&rt, records.next(), Some(Ok(with_source())));
+    same(&rt, records.next(), Some(Ok(bare())));
+    same(&rt, records.next(), None);
+    same(&rt, records.next(), None);
+}
+
+#[test]
+fn what_stands_behind_the_last_record_is_left_out(rt: HostRuntime) {
+    let mut records = Records::new(1, &RECORDS);
+    same(&rt, records.next(), Some(Ok(with_source())));
+    same(&rt, records.next(), None);
+    same(&rt, Records::new(0, &RECORDS).next(), None);
+}
+
+#[test]
+fn a_record_that_is_cut_is_refused_once(rt: HostRuntime) {
+    for len in 0..40 {
+        let mut records = Records::new(2, &RECORDS[..len]);
+        same(&rt, records.next(), Some(Err(Error)));
+        same(&rt, records.next(), None);
+    }
+    let mut records = Records::new(3, &RECORDS);
+    same(&rt, records.next(), Some(Ok(with_source())));
+    same(&rt, records.next(), Some(Ok(bare())));
+    same(&rt, records.next(), Some(Err(Error)));
+    same(&rt, records.next(), None);
+}
+
+#[test]
+fn sources_of_a_record_in_turn(rt: HostRuntime) {
+    let mut sources = with_source().sources();
+    same(&rt, sources.next(), Some(IPV6_LINK_LOCAL_ALL_ROUTERS));
+    same(&rt, sources.next(), None);
+    same(&rt, sources.next(), None);
+    same(&rt, bare().sources().next(), None);
+}
+
+#[test]
+fn sources_are_as_many_as_are_counted_and_whole(rt: HostRuntime) {
+    same(&rt, short_record().sources().next(), None);
+    let cut = AddressRecordRepr {
+        num_srcs: 2,
+        ..with_source()
+    };
+    let mut sources = cut.sources();
+    same(&rt, sources.next(), Some(IPV6_LINK_LOCAL_ALL_ROUTERS));
+    same(&rt, sources.next(), None);
+    let uncounted = AddressRecordRepr {
+        num_srcs: 0,
+        ..with_source()
+    };
+    same(&rt, uncounted.sources().next(), None);
+}
