@@ -8,8 +8,8 @@ use Rattle.std.specs.List.{AllByRecursion, concat}
 use Rattle.std.proofs.Math.ListN.{get_or-append}
 use Rattle.std.proofs.Math.Seq.{take-add, take-length}
 use Rattle.std.proofs.lemmas.Bool.{leb-true, leb-false, le-leb}
-use Rattle.std.proofs.lemmas.List.{take-append-drop, take-append-le, drop-append-le, length-take-le, length-drop, take_at}
-use Rattle.std.proofs.lemmas.List.{drop_at}
+use Rattle.std.proofs.lemmas.List.{take-append-drop, take-append-le, drop-append-le, length-take-le, length-drop}
+use Rattle.std.proofs.lemmas.List.{take_at, drop_at}
 use Rattle.byteorder.specs.Endian.{big_number}
 use Rattle.wirebase.specs.Bytes.{part, byte_of, number_of}
 use Rattle.wirebase.specs.declared.error.Error.{Error}
@@ -93,7 +93,8 @@ records-unique n bytes answers others (goes_on {n = m} {answers = a} f r l t e) 
     let len : ℕ = record_len_in bytes in
     let one = whole_front bytes f r l e in
     let two = whole_front bytes g s k i in
-    let fronts : f ≡ g = sym (take_at f r len one) ∙ ap (λ (b : List ℕ). take len b) (sym e ∙ i) ∙ take_at g s len two in
+    let fronts : f ≡ g =
+    sym (take_at f r len one) ∙ ap (λ (b : List ℕ). take len b) (sym e ∙ i) ∙ take_at g s len two in
     let rests : r ≡ s = sym (drop_at f r len one) ∙ ap (λ (b : List ℕ). drop len b) (sym e ∙ i) ∙ drop_at g s len two in
     let more : a ≡ b = records-unique m r a b t (subst (λ (x : List ℕ). AreRecords m x b) (sym rests) u) in
     ap (λ (x : List ℕ). Ok x ∷ a) fronts ∙ ap (λ (x : List Answer). Ok g ∷ x) more
@@ -133,7 +134,8 @@ pub refusal_ahead : (n m : ℕ) (bytes : List ℕ) (refusal : Error) → (n ≡ 
 unfolding records_ahead
 refusal_ahead zero m bytes refusal some less e = absurd (some refl)
 refusal_ahead (suc n) m bytes refusal some less e =
-    refused_by (record_len_in bytes) bytes (records_ahead n) (nat_le (record_len_in bytes) (length bytes)) refl less refusal
+    refused_by (record_len_in bytes) bytes (records_ahead n) (nat_le (record_len_in bytes) (length bytes)) refl less
+    refusal
     ∙ ap (λ (l : List Answer). Err refusal ∷ l) (sym (none_ahead m bytes e))
 
 -- ---- sources

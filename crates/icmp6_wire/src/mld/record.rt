@@ -202,7 +202,8 @@ pub struct AddressRecordRepr<'a> {
     pub num_srcs: u16,
     /// The group.
     pub mcast_addr: Ipv6Address,
-    /// What stands after the fields: sources and auxiliary data. It is not written.
+    /// What stands after the fields: sources, which [`AddressRecordRepr::sources`] gives in turn, and auxiliary data.
+    /// It is not written.
     pub payload: &'a [u8],
 }
 

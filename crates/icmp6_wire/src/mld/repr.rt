@@ -44,7 +44,7 @@ pub enum Repr<'a> {
     Report {
         /// The number of records.
         nr_mcast_addr_rcrds: u16,
-        /// The records, and what stands behind them.
+        /// The records, which [`Records`](super::Records) gives in turn, and what stands behind them.
         data: &'a [u8],
     },
     /// A report to be written, by its records.

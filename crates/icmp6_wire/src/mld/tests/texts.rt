@@ -1,6 +1,7 @@
 use super::{query, report_of, short_record};
-use crate::mld::{RecordType, Repr};
+use crate::mld::{AddressRecordRepr, RecordType, Repr};
 use crate::testing::{prints, takes_writes};
+use wirebase::IPV6_LINK_LOCAL_ALL_ROUTERS;
 
 #[test]
 fn texts_of_messages(rt: HostRuntime) {
@@ -17,14 +18,17 @@ fn texts_of_messages(rt: HostRuntime) {
         &report_of(1),
         "MLD report nr_mcast_addr_rcrds=1 len=20",
     );
-    let records = [short_record(), short_record()];
-    prints(
-        &rt,
-        alloc,
-        &Repr::ReportRecordReprs(&records),
-        "MLD report nr_mcast_addr_rcrds=2",
-    );
     takes_writes(&rt, &report_of(1), 4);
+}
+
+#[test]
+fn a_list_of_records_prints_how_many_they_are(rt: HostRuntime) {
+    let records = [AddressRecordRepr::new(
+        RecordType::ChangeToExclude,
+        IPV6_LINK_LOCAL_ALL_ROUTERS,
+    )];
+    let list = Repr::ReportRecordReprs(&records);
+    prints(&rt, rt.alloc(), &list, "MLD report nr_mcast_addr_rcrds=1");
 }
 
 #[test]
