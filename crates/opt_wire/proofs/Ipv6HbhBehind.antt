@@ -1,5 +1,5 @@
 -- Options one by one, and the header that they are read as.
-use Rattle.std.proofs.Common.{◌≡◌, ◌≢◌, ℕ, suc, ◌+◌, ◌≤◌, List, [], ◌∷◌, ◌++◌, length, drop, take, map, Ok, refl, sym, ap}
+use Rattle.std.proofs.Common.{◌≡◌, ◌≢◌, ℕ, suc, ◌+◌, ◌≤◌, List, [], ◌∷◌, ◌++◌, length, drop, take, Ok, refl, sym, ap}
 use Rattle.std.proofs.Common.{subst, ◌∙◌, arith, add-one, length-append}
 use Rattle.std.proofs.lemmas.List.{append-nil, append_assoc, length-map, map-append, take_at}
 use Rattle.opt_wire.specs.Ipv6Option.{OptionValue, text_len, BeginsWith}

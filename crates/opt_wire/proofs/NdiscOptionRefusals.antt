@@ -1,5 +1,5 @@
 -- What stands in bytes that begin with units enough, and what is none of it.
-use Rattle.std.proofs.Common.{◌≡◌, ◌≢◌, ℕ, ◌+◌, ◌*◌, ◌<◌, ◌≤◌, Bool, true, false, eqb, ltb, List, length, ◌⊎◌, inl, inr}
+use Rattle.std.proofs.Common.{◌≡◌, ◌≢◌, ℕ, ◌+◌, ◌*◌, ◌<◌, ◌≤◌, Bool, true, false, eqb, List, length, ◌⊎◌, inl, inr}
 use Rattle.std.proofs.Common.{refl, sym, ap, subst, ◌∙◌, arith}
 use Rattle.std.proofs.lemmas.Bool.{eqb-true, eqb-false}
 use Rattle.wirebase.specs.Bytes.{byte_of, bytes_of, number_of}
@@ -11,14 +11,13 @@ use Rattle.wirebase.specs.declared.ipv6.address.Ipv6Address.{Ipv6Address}
 use Rattle.wirebase.specs.declared.ipv6.Ipv6Repr.{Ipv6Repr}
 use Rattle.wirebase.proofs.Numbered.{number-case_in}
 use Rattle.wirebase.proofs.Pieces.{length-part}
-use Rattle.opt_wire.specs.NdiscOption.{type_field, units_in, redirected_field, link_addr_field, mtu_field, data_field}
+use Rattle.opt_wire.specs.NdiscOption.{type_field, units_in, link_addr_field, mtu_field, data_field}
 use Rattle.opt_wire.specs.NdiscOption.{prefix_len_field, prefix_flags_field, valid_lifetime_field}
-use Rattle.opt_wire.specs.NdiscOption.{preferred_lifetime_field, prefix_field, BeginsWithBlock}
+use Rattle.opt_wire.specs.NdiscOption.{preferred_lifetime_field, BeginsWithBlock}
 use Rattle.opt_wire.specs.NdiscOptionTables.{type_number, types, type_of, known}
-use Rattle.opt_wire.specs.NdiscOptionRepr.{OptionValue, source, target, prefix_, redirected, mtu, unknown}
+use Rattle.opt_wire.specs.NdiscOptionRepr.{source, target, prefix_, redirected, mtu, unknown}
 use Rattle.opt_wire.specs.NdiscOptionRefusal.{IsRead, HasUnits, HasPacket, IsMisfit, packet_in}
 use Rattle.opt_wire.specs.declared.ndiscoption.repr.PrefixInformation.{PrefixInformation}
-use Rattle.opt_wire.specs.declared.ndiscoption.tables.PrefixInfoFlags.{PrefixInfoFlags}
 use Rattle.opt_wire.specs.declared.ndiscoption.tables.Type as Kind
 use Rattle.opt_wire.specs.declared.ndiscoption.tables.Type.TheVariants as kind
 

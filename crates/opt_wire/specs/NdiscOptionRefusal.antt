@@ -3,7 +3,7 @@ use Rattle.std.specs.Prelude.{◌≡◌, ◌≢◌, ℕ, ◌+◌, ◌*◌, ◌�
 use Rattle.wirebase.specs.Bytes.{byte_of, bytes_of}
 use Rattle.wirebase.specs.Display.{pieces}
 use Rattle.wirebase.specs.Ipv6 as ipv6
-use Rattle.opt_wire.specs.NdiscOption.{type_field, units_in, redirected_field, BeginsWithBlock}
+use Rattle.opt_wire.specs.NdiscOption.{type_field, units_in, redirected_field}
 use Rattle.opt_wire.specs.NdiscOptionTables.{type_text}
 use Rattle.opt_wire.specs.NdiscOptionRepr.{OptionValue, BeginsWith}
 use Rattle.opt_wire.specs.declared.ndiscoption.tables.Type as Kind

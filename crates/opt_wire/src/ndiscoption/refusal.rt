@@ -29,8 +29,8 @@ pub enum Refusal {
 }
 
 impl<'a> Repr<'a> {
-    /// Why [`Repr::parse`] refuses these octets, by the check that fails first; None exactly where it reads them. A length
-    /// of 0 is told before what the type allows.
+    /// Why [`Repr::parse`] refuses these octets, by the check that fails first; None exactly where it reads them. A
+    /// length of 0 is told before a length that the type does not allow.
     pub fn refusal(opt: &NdiscOption<&'a [u8]>) -> Option<Refusal>
         ensures told { IfSome result (λ refusal. Refuses (view_octets opt.now) refusal) }
         ensures exact { IsNone result ↔ IsRead (view_octets opt.now) }
