@@ -80,7 +80,8 @@ pub split_one : (text name other after behind : List ℕ) → IsSplit text name 
     → (name ≡ other) × (after ≡ behind)
 split_one text name other after behind h k =
     let long : length name ≡ length other =
-    begins_one text (length name) (length other) (split_begins text name after h) (split_begins text other behind k) in (
+    begins_one text (length name) (length other) (split_begins text name after h)
+    (split_begins text other behind k) in (
       sym (take_at name after (length name) refl)
           ∙ (ap (λ t. take (length name) t) (sym h.whole ∙ k.whole) ∙ take_at other behind (length name) (sym long)),
       sym (drop_at name after (length name) refl)
@@ -150,7 +151,8 @@ ends_label text bytes rest reach e s =
     add_label Ends text bytes rest reach w (ends_more text bytes rest reach w) s.0 s.1 s.2
 
 pub route_pointer : (C : List ℕ → List ℕ → List (List ℕ) → Type 0) (text reach : List ℕ) (p : ℕ)
-    → pointer p ≡ front_of text → p < length reach → Some_route C (drop p reach) (take p reach) → Some_route C text reach
+    → pointer p ≡ front_of text → p < length reach → Some_route C (drop p reach) (take p reach)
+    → Some_route C text reach
 route_pointer C text reach p e inside s =
     (p ∷ s.0, [] ∷ s.1, (inside, pointer_part text p (Points-front text p (sym e)), s.2))
 

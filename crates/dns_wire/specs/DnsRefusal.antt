@@ -118,7 +118,8 @@ name_refusal_display NoEnd = codes "the name has no end"
 name_refusal_display LabelCut = codes "a label is cut"
 name_refusal_display (LabelType n) = pieces (decimal n ∷ codes " is neither the length of a label nor a pointer" ∷ [])
 name_refusal_display PointerCut = codes "a pointer is cut"
-name_refusal_display (Pointer place) = pieces (codes "a pointer to byte " ∷ decimal place ∷ codes " does not lead back" ∷ [])
+name_refusal_display (Pointer place) =
+    pieces (codes "a pointer to byte " ∷ decimal place ∷ codes " does not lead back" ∷ [])
 
 abbrev pub refusal_display : Refusal → List ℕ
 refusal_display (Name reason) = name_refusal_display reason
