@@ -1,7 +1,7 @@
 -- What datagrams, their parts and their refusals print.
 use Rattle.std.specs.Prelude.{ℕ, Bool, if◌then◌else◌, List, [], ◌∷◌, codes, decimal, length, Option, None, Some}
 use Rattle.wirebase.specs.Display.{pieces}
-use Rattle.wirebase.specs.Ip.{protocol_number}
+use Rattle.wirebase.specs.Ip.{protocol_display}
 use Rattle.wirebase.specs.Ipv4.{address_text as address_text_v4}
 use Rattle.wirebase.specs.Ipv6Address.{address_text}
 use Rattle.frame_wire.specs.Captured.{CapturedValue}
@@ -24,12 +24,12 @@ truth_text is = if is then codes "true" else codes "false"
 -- what is known of a datagram that is not read, with its place among the fragments where it has an identification
 abbrev head_by : Head → Option ℕ → List ℕ
 head_by h (Some ident) =
-    pieces (addresses_display h.addresses ∷ codes " protocol=" ∷ decimal (protocol_number h.protocol)
+    pieces (addresses_display h.addresses ∷ codes " protocol=" ∷ protocol_display h.protocol
     ∷ codes " ident=" ∷ decimal ident
     ∷ codes " frag_offset=" ∷ decimal h.frag_offset
     ∷ codes " more_frags=" ∷ truth_text h.more_frags ∷ [])
 head_by h None =
-    pieces (addresses_display h.addresses ∷ codes " protocol=" ∷ decimal (protocol_number h.protocol) ∷ [])
+    pieces (addresses_display h.addresses ∷ codes " protocol=" ∷ protocol_display h.protocol ∷ [])
 
 abbrev pub head_display : Head → List ℕ
 head_display h = head_by h h.ident
@@ -43,12 +43,12 @@ refusal_display (refusal.TotalLen n) =
     pieces (codes "a total length of " ∷ decimal n ∷ codes " is below that of the header" ∷ [])
 refusal_display (refusal.Cut head) = pieces (codes "cut short, " ∷ head_display head ∷ [])
 refusal_display (refusal.Extension p) =
-    pieces (codes "the extension header of protocol " ∷ decimal (protocol_number p) ∷ codes " is cut short" ∷ [])
+    pieces (codes "the extension header " ∷ protocol_display p ∷ codes " is cut short" ∷ [])
 refusal_display (refusal.Fragment head) = pieces (codes "a fragment, " ∷ head_display head ∷ [])
 
 abbrev pub datagram_display : DatagramValue → List ℕ
 datagram_display d =
-    pieces (addresses_display d.addresses ∷ codes " protocol=" ∷ decimal (protocol_number d.protocol)
+    pieces (addresses_display d.addresses ∷ codes " protocol=" ∷ protocol_display d.protocol
     ∷ codes " hop_limit=" ∷ decimal d.hop_limit
     ∷ codes " len=" ∷ decimal (length d.payload) ∷ [])
 

@@ -93,6 +93,22 @@ pub struct Head {
 }
 
 /// A datagram, of which the headers of IP are read.
+///
+/// ```
+/// use frame_wire::{Addresses, Datagram};
+/// use control_wire::{IpProtocol, Ipv6Address};
+///
+/// // A datagram of IPv6 whose hop-by-hop header is passed; its options are handed out.
+/// let mut octets = [0; 49];
+/// octets[..8].copy_from_slice(&[0x60, 0, 0, 0, 0, 9, 0, 1]);
+/// octets[40..].copy_from_slice(&[58, 0, 5, 2, 0, 0, 1, 0, 143]);
+/// let datagram = Datagram::parse_v6(&octets).unwrap();
+/// let any = Ipv6Address::UNSPECIFIED;
+/// assert_eq!(datagram.addresses, Addresses::V6(any, any));
+/// assert_eq!(datagram.protocol, IpProtocol::Icmpv6);
+/// assert_eq!(datagram.hop_by_hop, Some(&[5, 2, 0, 0, 1, 0][..]));
+/// assert_eq!(datagram.payload, [143]);
+/// ```
 #[derive(Debug, PartialEq, Eq, Clone, Copy)]
 pub struct Datagram<'a> {
     /// Where it comes from, and where it goes to at last: a routing header that has segments left leads on.

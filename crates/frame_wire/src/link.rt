@@ -19,6 +19,17 @@ use wirebase::{Error, Octets, Result};
 mod display;
 
 /// The links whose frames are read.
+///
+/// ```
+/// use frame_wire::{Link, Network};
+///
+/// // The link type of a capture file, and a frame of that link: Linux cooked capture, version 1.
+/// let link = Link::of(113).unwrap();
+/// let frame = link.frame(&[0, 0, 0, 1, 0, 6, 2, 0, 0, 0, 0, 1, 0, 0, 0x86, 0xdd, 0x60])?;
+/// assert_eq!(frame.network, Network::Ipv6);
+/// assert_eq!(frame.payload, [0x60]);
+/// # Ok::<(), control_wire::Error>(())
+/// ```
 #[derive(Debug, PartialEq, Eq, Clone, Copy)]
 pub enum Link {
     /// The loopback of BSD: an address family, in the order of bytes of the machine or of the network.
@@ -127,6 +138,18 @@ pub enum Network {
 }
 
 /// What a frame holds.
+///
+/// ```
+/// use frame_wire::{Link, Network};
+///
+/// // A frame of Ethernet with the tag of VLAN 7.
+/// let octets = [2, 0, 0, 0, 0, 2, 2, 0, 0, 0, 0, 1, 0x81, 0x00, 0x00, 0x07, 0x08, 0x00, 0x45];
+/// let frame = Link::Ethernet.frame(&octets)?;
+/// assert_eq!(frame.network, Network::Ipv4);
+/// assert_eq!((frame.vlans(), frame.vlan(0)), (1, 7));
+/// assert_eq!(frame.payload, [0x45]);
+/// # Ok::<(), control_wire::Error>(())
+/// ```
 #[derive(Debug, PartialEq, Eq, Clone, Copy)]
 pub struct Frame<'a> {
     /// The network.

@@ -36,6 +36,19 @@ mod field {
 pub const HEADER_LEN: usize = field::PAYLOAD;
 
 /// A view of the octets of a UDP datagram.
+///
+/// ```
+/// use frame_wire::UdpPacket;
+///
+/// // A header before one byte; over IPv4 its checksum may be left out.
+/// let mut octets = [0, 0, 0, 0, 0, 0, 0, 0, b'x'];
+/// let mut packet = UdpPacket::new_unchecked(&mut octets);
+/// packet.set_src_port(68);
+/// packet.set_dst_port(67);
+/// packet.set_len(9);
+/// assert_eq!(UdpPacket::new_checked(&octets)?.payload(), b"x");
+/// # Ok::<(), control_wire::Error>(())
+/// ```
 #[derive(Debug, Clone, Drop)]
 pub struct UdpPacket<T: Octets> {
     buffer: T,

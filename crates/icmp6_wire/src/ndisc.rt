@@ -1,4 +1,27 @@
 //! Neighbor discovery (RFC 4861): what its messages have behind the checksum.
+//!
+//! ```
+//! use control_wire::icmpv6::{Packet, Repr as Icmpv6Repr};
+//! use control_wire::ndisc::Repr;
+//! use control_wire::{
+//!     ChecksumCapabilities, EthernetAddress, IPV6_LINK_LOCAL_ALL_ROUTERS, Ipv6Address,
+//! };
+//!
+//! let src_addr = Ipv6Address::new(0xfe80, 0, 0, 0, 0, 0, 0, 1);
+//! let dst_addr = IPV6_LINK_LOCAL_ALL_ROUTERS;
+//! let checksums = ChecksumCapabilities::default();
+//! let ethernet = EthernetAddress([0x52, 0x54, 0, 0, 0, 1]);
+//! let solicit = Repr::RouterSolicit { lladdr: Some(ethernet.into()) };
+//! let message = Icmpv6Repr::Ndisc(solicit);
+//! let mut octets = [0; 64];
+//! let octets = &mut octets[..message.packet_len()];
+//! message.emit_into(&src_addr, &dst_addr, octets, &checksums);
+//! assert_eq!(octets.len(), 16);
+//!
+//! let packet = Packet::new_checked(&*octets)?;
+//! assert_eq!(Repr::parse(&packet)?, solicit);
+//! # Ok::<(), control_wire::Error>(())
+//! ```
 
 ghost use Rattle.std.specs.Prelude.{◌≡◌, ◌*◌, ◌≤◌, [], ◌∷◌};
 ghost use Rattle.byteorder.specs.Endian.{big_bytes};

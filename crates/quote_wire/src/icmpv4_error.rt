@@ -78,6 +78,22 @@ impl Kind {
 }
 
 /// An error about a datagram (RFC 792).
+///
+/// ```
+/// use quote_wire::icmpv4_error::{Kind, Repr};
+/// use control_wire::ChecksumCapabilities;
+///
+/// // A datagram that must not be fragmented was too big for the next link, which takes 1400 bytes.
+/// let mut datagram = [0; 28];
+/// datagram[0] = 0x45;
+/// let error = Repr { kind: Kind::DstUnreachable, code: 4, rest: 1400, quoted: &datagram };
+/// let checksums = ChecksumCapabilities::default();
+/// let mut octets = [0; 64];
+/// let octets = &mut octets[..error.buffer_len()];
+/// error.emit_into(octets, &checksums);
+/// assert_eq!(Repr::parse(octets, &checksums)?.next_hop_mtu(), Some(1400));
+/// # Ok::<(), control_wire::Error>(())
+/// ```
 #[derive(Debug, PartialEq, Eq, Clone, Copy)]
 pub struct Repr<'a> {
     /// The type.

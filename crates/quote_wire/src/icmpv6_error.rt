@@ -72,6 +72,26 @@ impl Kind {
 }
 
 /// An error about a packet (RFC 4443 section 3).
+///
+/// ```
+/// use quote_wire::icmpv6_error::{Kind, Repr};
+/// use control_wire::{ChecksumCapabilities, Ipv6Address};
+///
+/// // A packet was too big for the next link, which takes 1280 bytes.
+/// let (router, host) = (
+///     Ipv6Address::new(0x2001, 0xdb8, 0, 0, 0, 0, 0, 1),
+///     Ipv6Address::new(0x2001, 0xdb8, 0, 0, 0, 0, 0, 2),
+/// );
+/// let mut packet = [0; 40];
+/// packet[0] = 0x60;
+/// let error = Repr { kind: Kind::PktTooBig, code: 0, rest: 1280, quoted: &packet };
+/// let checksums = ChecksumCapabilities::default();
+/// let mut octets = [0; 64];
+/// let octets = &mut octets[..error.buffer_len()];
+/// error.emit_into(&router, &host, octets, &checksums);
+/// assert_eq!(Repr::parse(&router, &host, octets, &checksums)?.mtu(), Some(1280));
+/// # Ok::<(), control_wire::Error>(())
+/// ```
 #[derive(Debug, PartialEq, Eq, Clone, Copy)]
 pub struct Repr<'a> {
     /// The type.

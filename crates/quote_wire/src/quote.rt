@@ -130,6 +130,18 @@ fn fmt_back<W: fmt::Write>(f: &mut fmt::Formatter<W>, header: &Ipv4Quote<'_>) ->
 
 /// What an ICMPv6 error quotes (RFC 4443 section 3): the header of the packet that it is about (RFC 8200 section 3), and
 /// as much of its payload as is quoted, extension headers included.
+///
+/// ```
+/// use quote_wire::quote::Ipv6Quote;
+/// use control_wire::IpProtocol;
+///
+/// let mut quoted = [0; 44];
+/// quoted[..8].copy_from_slice(&[0x60, 0, 0, 0, 0, 20, 58, 64]);
+/// let quote = Ipv6Quote::parse(&quoted)?;
+/// assert_eq!((quote.next_header, quote.payload_len), (IpProtocol::Icmpv6, 20));
+/// assert_eq!(quote.payload.len(), 4);
+/// # Ok::<(), control_wire::Error>(())
+/// ```
 #[derive(Debug, PartialEq, Eq, Clone, Copy)]
 pub struct Ipv6Quote<'a> {
     /// The traffic class: the differentiated services field and the congestion notification (RFC 2474, RFC 3168).

@@ -27,7 +27,7 @@ impl fmt::Display for Head {
 
     fn fmt<W: fmt::Write>(&self, f: &mut fmt::Formatter<W>) -> fmt::Result {
         let addresses = self.addresses;
-        let protocol = u8::from(self.protocol);
+        let protocol = self.protocol;
         let offset = self.frag_offset;
         let more = self.more_frags;
         match self.ident {
@@ -54,8 +54,7 @@ impl fmt::Display for Refusal {
             }
             Refusal::Cut(head) => write!(f, "cut short, {head}"),
             Refusal::Extension(protocol) => {
-                let number = u8::from(*protocol);
-                write!(f, "the extension header of protocol {number} is cut short")
+                write!(f, "the extension header {protocol} is cut short")
             }
             Refusal::Fragment(head) => write!(f, "a fragment, {head}"),
         }
@@ -68,7 +67,7 @@ impl fmt::Display for Datagram<'_> {
 
     fn fmt<W: fmt::Write>(&self, f: &mut fmt::Formatter<W>) -> fmt::Result {
         let addresses = self.addresses;
-        let protocol = u8::from(self.protocol);
+        let protocol = self.protocol;
         let hop_limit = self.hop_limit;
         let len = self.payload.len();
         write!(

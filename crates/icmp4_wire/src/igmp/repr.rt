@@ -27,6 +27,19 @@ pub enum IgmpVersion {
 }
 
 /// A message (RFC 1112 appendix I, RFC 2236).
+///
+/// ```
+/// use control_wire::Ipv4Address;
+/// use control_wire::igmp::{IgmpVersion, Repr};
+///
+/// let report = Repr::MembershipReport {
+///     group_addr: Ipv4Address::new(224, 0, 0, 251),
+///     version: IgmpVersion::Version2,
+/// };
+/// let mut octets = [0; 8];
+/// report.emit_into(&mut octets);
+/// assert_eq!(octets, [0x16, 0, 0x09, 0x04, 224, 0, 0, 251]);
+/// ```
 #[derive(Debug, PartialEq, Eq, Clone, Copy)]
 pub enum Repr {
     /// A router asks which groups have members, or whether this one has.

@@ -21,6 +21,28 @@ use crate::writing::put_address;
 use wirebase::{ByteWriter, Error, Ipv6Address, OctetsMut, Result, are_bytes, icmp};
 
 /// A message (RFC 3810 section 5).
+///
+/// ```
+/// use control_wire::icmpv6::{Packet, Repr as Icmpv6Repr};
+/// use control_wire::mld::{AddressRecordRepr, RecordType, Repr};
+/// use control_wire::{ChecksumCapabilities, Ipv6Address};
+///
+/// // A host that joins a group reports it to all routers that speak the protocol, ff02::16.
+/// let src_addr = Ipv6Address::new(0xfe80, 0, 0, 0, 0, 0, 0, 1);
+/// let dst_addr = Ipv6Address::new(0xff02, 0, 0, 0, 0, 0, 0, 0x16);
+/// let join = [AddressRecordRepr {
+///     record_type: RecordType::ChangeToExclude,
+///     aux_data_len: 0,
+///     num_srcs: 0,
+///     mcast_addr: Ipv6Address::new(0xff02, 0, 0, 0, 0, 0, 0, 0xfb),
+///     payload: &[],
+/// }];
+/// let report = Icmpv6Repr::Mld(Repr::ReportRecordReprs(&join));
+/// let mut octets = [0; 64];
+/// let octets = &mut octets[..report.packet_len()];
+/// report.emit_into(&src_addr, &dst_addr, octets, &ChecksumCapabilities::default());
+/// assert_eq!(octets.len(), 28);
+/// ```
 #[derive(Debug, PartialEq, Eq, Clone, Copy)]
 pub enum Repr<'a> {
     /// A router asks which groups have listeners, or whether this one has.

@@ -28,15 +28,15 @@ fn datagrams_in_a_line(rt: HostRuntime) {
     let rows = [
         (
             Extent::Whole,
-            "192.0.2.1 > 192.0.2.2 protocol=17 hop_limit=64 len=3 whole",
+            "192.0.2.1 > 192.0.2.2 protocol=UDP hop_limit=64 len=3 whole",
         ),
         (
             Extent::Cut { missing: 9 },
-            "192.0.2.1 > 192.0.2.2 protocol=17 hop_limit=64 len=3 cut missing=9",
+            "192.0.2.1 > 192.0.2.2 protocol=UDP hop_limit=64 len=3 cut missing=9",
         ),
         (
             Extent::Unstated,
-            "192.0.2.1 > 192.0.2.2 protocol=17 hop_limit=64 len=3 of no stated length",
+            "192.0.2.1 > 192.0.2.2 protocol=UDP hop_limit=64 len=3 of no stated length",
         ),
     ];
     for (extent, text) in rows {
@@ -70,15 +70,15 @@ fn refusals_in_words(rt: HostRuntime) {
         ),
         (
             Refusal::Cut(cut),
-            "cut short, fe80::1 > ff02::16 protocol=0",
+            "cut short, fe80::1 > ff02::16 protocol=Hop-by-Hop",
         ),
         (
             Refusal::Extension(IpProtocol::Ipv6Opts),
-            "the extension header of protocol 60 is cut short",
+            "the extension header IPv6-Opts is cut short",
         ),
         (
             Refusal::Fragment(fragment),
-            "a fragment, 192.0.2.1 > 192.0.2.2 protocol=17 ident=7 frag_offset=1480 more_frags=true",
+            "a fragment, 192.0.2.1 > 192.0.2.2 protocol=UDP ident=7 frag_offset=1480 more_frags=true",
         ),
     ];
     for (refusal, text) in rows {
