@@ -5,6 +5,7 @@ pub mod NameReading
 pub mod NameParts
 pub mod Name
 pub mod NameDotted
+pub mod Multicast
 pub mod Record
 pub mod Entries
 pub mod RData

@@ -3,6 +3,7 @@
 #![tactic(auto)]
 
 pub mod entries;
+pub mod multicast;
 pub mod name;
 pub mod rdata;
 pub mod record;

@@ -5,7 +5,9 @@ ghost use Rattle.dns_wire.specs.DnsName.{IsOnePart};
 ghost use Rattle.record_wire.specs.RData.{layout_of, RDataValue, rdata_of, IsRData, IsLaidOut, IsAddress4, IsAddress6};
 ghost use Rattle.record_wire.specs.RData.{IsNameData, IsMail, IsService, IsAuthority, IsStrings, AreStrings};
 ghost use Rattle.record_wire.specs.RData.{string_rest, seen_rest};
+ghost use Rattle.record_wire.specs.Multicast.{class_of};
 
+use crate::multicast;
 use dns_wire::dns::{Type, split_name};
 use wirebase::{Error, Ipv4Address, Ipv6Address, Octets, Result};
 
@@ -104,35 +106,46 @@ pub struct Authority<'a> {
     pub minimum: u32,
 }
 
-/// How the data of a type is laid out.
+// How the data of a type is laid out.
 #[derive(Debug, PartialEq, Eq, Clone, Copy)]
-pub enum Layout {
-    /// An IPv4 address.
+enum Layout {
+    // An IPv4 address.
     Ipv4,
-    /// An IPv6 address.
+    // An IPv6 address.
     Ipv6,
-    /// A name.
+    // A name.
     Name,
-    /// A preference and a name.
+    // A preference and a name.
     Mail,
-    /// A priority, a weight, a port and a name.
+    // A priority, a weight, a port and a name.
     Service,
-    /// Two names and five numbers.
+    // Two names and five numbers.
     Authority,
-    /// Strings.
+    // Strings.
     Strings,
-    /// Any bytes.
+    // Any bytes.
     Opaque,
 }
 
 impl<'a> RData<'a> {
-    /// The data of a record of this type and class. Refused where the bytes are not laid out as the type has it.
+    /// The data of a record of this type and class. Refused where the bytes are not laid out as the type has it. Of a
+    /// record of multicast DNS, [`RData::parse_multicast`] reads it.
     pub fn parse(type_: Type, class: u16, octets: &'a [u8]) -> Result<RData<'a>>
         ensures sound { IfOk result (λ read. IsRData type_ class octets.now (rdata_of read)) }
         ensures complete { (value : RDataValue) → IsRData type_ class octets.now value
             → IsOkAnd result (λ read. rdata_of read ≡ value) }
     {
         read(find_layout(type_, class), octets)
+    }
+
+    /// The data of a record of multicast DNS: by its type and its class without the top bit, which is a flag there (RFC
+    /// 6762 section 10.2). Refused where the bytes are not laid out as the type has it.
+    pub fn parse_multicast(type_: Type, class: u16, octets: &'a [u8]) -> Result<RData<'a>>
+        ensures sound { IfOk result (λ read. IsRData type_ (class_of class) octets.now (rdata_of read)) }
+        ensures complete { (value : RDataValue) → IsRData type_ (class_of class) octets.now value
+            → IsOkAnd result (λ read. rdata_of read ≡ value) }
+    {
+        RData::parse(type_, multicast::class_of(class), octets)
     }
 }
 

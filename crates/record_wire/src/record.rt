@@ -3,7 +3,11 @@
 ghost use Rattle.std.specs.Prelude.{◌≡◌, ℕ, List, IfOk, IsOkAnd};
 ghost use Rattle.record_wire.specs.Record.{QuestionValue, question_of, IsQuestion, RecordValue, record_of, IsRecord};
 ghost use Rattle.record_wire.specs.Record.{IsBehindName};
+ghost use Rattle.record_wire.specs.RData.{RDataValue, rdata_of, IsRData};
+ghost use Rattle.record_wire.specs.Multicast.{class_of, has_top_bit, record_class_of, flushes};
 
+use crate::multicast;
+use crate::rdata::RData;
 use dns_wire::dns::{Type, split_name};
 use wirebase::{Error, Octets, Result};
 
@@ -31,7 +35,8 @@ pub struct Question<'a> {
     pub name: &'a [u8],
     /// The type of the records.
     pub type_: Type,
-    /// The class of the records: 1 is the internet, 255 any.
+    /// The class of the records: 1 is the internet, 255 any. In multicast DNS its top bit is a flag:
+    /// [`Question::multicast_class`] is the class, [`Question::wants_unicast`] the flag.
     pub class: u16,
 }
 
@@ -54,6 +59,21 @@ impl<'a> Question<'a> {
         };
         Ok((&after[field::QUESTION_END..], question))
     }
+
+    /// Whether a question of multicast DNS wants its answer sent to the asker alone: the top bit of its class (RFC 6762
+    /// section 5.4).
+    pub fn wants_unicast(&self) -> bool
+        ensures { result ≡ has_top_bit self.now.class }
+    {
+        multicast::has_top_bit(self.class)
+    }
+
+    /// The class of a question of multicast DNS, without the top bit (RFC 6762 section 5.4): 1 is the internet.
+    pub fn multicast_class(&self) -> u16
+        ensures { result ≡ class_of self.now.class }
+    {
+        multicast::class_of(self.class)
+    }
 }
 
 /// A resource record of any type and class, also of one that belongs to the message and to no name, as OPT (RFC 6891
@@ -64,7 +84,8 @@ pub struct Record<'a> {
     pub name: &'a [u8],
     /// The type of the data.
     pub type_: Type,
-    /// The class: 1 is the internet. An OPT record has the sender's payload size here.
+    /// The class: 1 is the internet. An OPT record has the sender's payload size here. In multicast DNS its top bit is
+    /// a flag: [`Record::multicast_class`] is the class, [`Record::flushes_cache`] the flag.
     pub class: u16,
     /// How long the record may be kept, in seconds. An OPT record has flags here.
     pub ttl: u32,
@@ -82,6 +103,49 @@ impl<'a> Record<'a> {
     {
         let (name, after) = split_name(octets)?;
         Record::read_behind(name, after)
+    }
+
+    /// The data by the record's type and class. Refused where the bytes are not laid out as the type has it. Of a record
+    /// of multicast DNS, [`Record::multicast_rdata`] gives it.
+    pub fn rdata(&self) -> Result<RData<'a>>
+        ensures sound { IfOk result (λ read.
+            IsRData self.now.type_ self.now.class self.now.«data».now (rdata_of read)) }
+        ensures complete { (value : RDataValue)
+            → IsRData self.now.type_ self.now.class self.now.«data».now value
+            → IsOkAnd result (λ read. rdata_of read ≡ value) }
+    {
+        RData::parse(self.type_, self.class, self.data)
+    }
+
+    /// The data of a record of multicast DNS, by its type and its class without the top bit. Refused where the bytes
+    /// are not laid out as the type has it.
+    pub fn multicast_rdata(&self) -> Result<RData<'a>>
+        ensures sound { IfOk result (λ read.
+            IsRData self.now.type_ (class_of self.now.class) self.now.«data».now (rdata_of read)) }
+        ensures complete { (value : RDataValue)
+            → IsRData self.now.type_ (class_of self.now.class) self.now.«data».now value
+            → IsOkAnd result (λ read. rdata_of read ≡ value) }
+    {
+        RData::parse_multicast(self.type_, self.class, self.data)
+    }
+
+    /// Whether a record of multicast DNS tells caches to drop the older records of its name, type and class: the top
+    /// bit of its class (RFC 6762 section 10.2). An OPT record has no such bit, and does not.
+    pub fn flushes_cache(&self) -> bool
+        ensures { result ≡ flushes self.now.type_ self.now.class }
+    {
+        !multicast::is_opt(self.type_) && multicast::has_top_bit(self.class)
+    }
+
+    /// The class of a record of multicast DNS, without the top bit (RFC 6762 section 10.2): 1 is the internet. The
+    /// payload size of an OPT record is left as it is.
+    pub fn multicast_class(&self) -> u16
+        ensures { result ≡ record_class_of self.now.type_ self.now.class }
+    {
+        if multicast::is_opt(self.type_) {
+            return self.class;
+        }
+        multicast::class_of(self.class)
     }
 
     // What stands behind the record of this name, and the record; the octets begin behind its name.
@@ -111,3 +175,6 @@ impl<'a> Record<'a> {
         Ok((&behind[len..], record))
     }
 }
+
+#[cfg(test)]
+mod tests;

@@ -1,0 +1,32 @@
+//! The class in multicast DNS, whose top bit is a flag (RFC 6762 sections 5.4 and 10.2).
+
+ghost use Rattle.std.specs.Prelude.{◌≡◌};
+ghost use Rattle.record_wire.specs.Multicast as multicast;
+
+use dns_wire::dns::Type;
+
+// The bit of a class that is a flag in multicast DNS.
+const TOP_BIT: u16 = 0x8000;
+
+/// The class without its top bit, which is a flag in multicast DNS (RFC 6762 sections 5.4 and 10.2). The class of an
+/// OPT record is a payload size and has no flag: `Record::multicast_class` leaves it as it is.
+pub fn class_of(class: u16) -> u16
+    ensures { result ≡ multicast.class_of class }
+{
+    class % TOP_BIT
+}
+
+/// Whether a class has its top bit set: in a question of multicast DNS it asks for a unicast answer (RFC 6762 section
+/// 5.4), in a record it tells caches to drop what they had (RFC 6762 section 10.2).
+pub fn has_top_bit(class: u16) -> bool
+    ensures { result ≡ multicast.has_top_bit class }
+{
+    class >= TOP_BIT
+}
+
+// Whether this is the type OPT, whose class is a payload size (RFC 6891 section 6.1.2).
+pub(crate) fn is_opt(type_: Type) -> bool
+    ensures { result ≡ multicast.is_opt type_ }
+{
+    matches!(type_, Type::Unknown(41))
+}
