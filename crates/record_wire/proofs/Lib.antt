@@ -11,3 +11,6 @@ pub mod Outcomes
 pub mod RecordFormat
 pub mod EntryCases
 pub mod RDataParts
+pub mod Ahead
+pub mod StringLists
+pub mod EdnsTiles

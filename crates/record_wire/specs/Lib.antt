@@ -9,3 +9,6 @@ pub mod Multicast
 pub mod Record
 pub mod Entries
 pub mod RData
+pub mod Ahead
+pub mod Strings
+pub mod Edns

@@ -2,14 +2,18 @@
 //! resource records of any type and class.
 #![tactic(auto)]
 
+pub mod edns;
 pub mod entries;
 pub mod multicast;
 pub mod name;
 pub mod rdata;
 pub mod record;
+pub mod strings;
 #[cfg(test)]
 mod testing;
 
+pub use edns::{EdnsOption, EdnsOptions};
 pub use entries::{Entries, Entry, Section};
 pub use name::Name;
 pub use record::{Question, Record};
+pub use strings::TxtStrings;

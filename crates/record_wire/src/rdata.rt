@@ -81,9 +81,10 @@ pub enum RData<'a> {
     },
     /// Who is responsible for a zone (RFC 1035 section 3.3.13).
     Soa(Authority<'a>),
-    /// Strings of up to 255 bytes, each behind its length, one at least (RFC 1035 section 3.3.14).
+    /// Strings of up to 255 bytes, each behind its length, one at least (RFC 1035 section 3.3.14): `TxtStrings` gives
+    /// them in turn.
     Txt(&'a [u8]),
-    /// Data of any other type or class.
+    /// Data of any other type or class. `EdnsOptions` gives the options of an OPT record in turn.
     Other(&'a [u8]),
 }
 

@@ -1,0 +1,170 @@
+-- The options in octets.
+use Rattle.std.proofs.Common.{◌≡◌, ℕ, zero, suc, ◌<◌, ◌≤◌, Bool, true, false, cond, leb, ◌&&◌, List, [], ◌∷◌}
+use Rattle.std.proofs.Common.{length, take, drop, Option, None, Some, Ok, Err, refl, sym, ap, ◌∙◌, subst, arith}
+use Rattle.std.proofs.Common.{length-drop}
+use Rattle.std.proofs.lemmas.Bool.{leb-true, le-leb}
+use Rattle.wirebase.specs.Bytes.{number_of}
+use Rattle.wirebase.specs.declared.error.Error.{Error}
+use Rattle.record_wire.specs.Edns.{OptionValue, IsOption, option_len, code_field, Answer, Tile}
+use Rattle.record_wire.specs.Edns.{option_at, answer_by, answer_at, answers_in}
+use Rattle.record_wire.proofs.Characters.{both}
+use Rattle.record_wire.proofs.Ahead.{Shrinks, Front, none, one, front, ahead_none, ahead_some}
+
+-- ---- an option at the front
+
+abbrev the_option : List ℕ → OptionValue
+the_option bytes = record { code = number_of code_field bytes; data_ = take (option_len bytes) (drop 4 bytes) }
+
+abbrev behind : List ℕ → List ℕ
+behind bytes = drop (option_len bytes) (drop 4 bytes)
+
+at_test : {A : Type 0} (b : Bool) (x y : A) → cond b (Some x) None ≡ Some y → (b ≡ true) × (x ≡ y)
+at_test true x y e = (refl, cc)
+at_test false x y e = cc
+
+at_true : {A : Type 0} (a b : Bool) (x y : A) → a ≡ true → b ≡ true → cond (a && b) x y ≡ x
+at_true a b x y e f = rw (e, f) refl
+
+pub option_is : (bytes rest : List ℕ) (option : OptionValue) → option_at bytes ≡ Some (option, rest)
+    → IsOption bytes option rest
+option_is bytes rest option e =
+    let t = at_test (leb 4 (length bytes) && leb (option_len bytes) (length (drop 4 bytes)))
+    (the_option bytes, behind bytes) (option, rest) e in
+    let h = both _ _ t.0 in
+    let same : the_option bytes ≡ option = ap (λ (p : OptionValue × List ℕ). p.0) t.1 in
+    record {
+      reaches = leb-true 4 (length bytes) h.0;
+      code_ = ap (λ (o : OptionValue). o.code) (sym same);
+      fits = leb-true (option_len bytes) (length (drop 4 bytes)) h.1;
+      data_is = ap (λ (o : OptionValue). o.data_) (sym same);
+      rest_ = sym (ap (λ (p : OptionValue × List ℕ). p.1) t.1);
+    }
+
+option_with : ℕ → List ℕ → OptionValue
+option_with code bytes = record { code = code; data_ = bytes }
+
+same_option : (o p : OptionValue) → o.code ≡ p.code → o.data_ ≡ p.data_ → o ≡ p
+unfolding option_with
+same_option o p e f =
+    ap (λ (c : ℕ). option_with c o.data_) e ∙ ap (λ (d : List ℕ). option_with p.code d) f
+
+pub option_first : (bytes rest : List ℕ) (option : OptionValue) → IsOption bytes option rest
+    → option_at bytes ≡ Some (option, rest)
+option_first bytes rest option is =
+    at_true (leb 4 (length bytes)) (leb (option_len bytes) (length (drop 4 bytes))) _ None
+    (le-leb _ _ is.reaches) (le-leb _ _ is.fits)
+    ∙ (ap (λ (o : OptionValue). Some (o, behind bytes))
+    (same_option (the_option bytes) option (sym is.code_) (sym is.data_is))
+    ∙ ap (λ (r : List ℕ). Some (option, r)) (sym is.rest_))
+
+pub option_shrinks : (bytes rest : List ℕ) (option : OptionValue) → IsOption bytes option rest
+    → length rest < length bytes
+option_shrinks bytes rest option is =
+    omega (arith, is.reaches, ap length is.rest_, length-drop (option_len bytes) (drop 4 bytes), length-drop 4 bytes)
+
+-- ---- answers
+
+-- how an answer came about
+pub data Given (bytes : List ℕ) (answer : Answer) (rest : List ℕ) : Type 0 where
+  read : (option : OptionValue) → answer ≡ Ok option → IsOption bytes option rest → Given bytes answer rest
+  broken : (refusal : Error) → answer ≡ Err refusal → rest ≡ [] → 1 ≤ length bytes → option_at bytes ≡ None
+      → Given bytes answer rest
+
+same_pair : (p q : Answer × List ℕ) → Some p ≡ Some q → p ≡ q
+same_pair p q e = cc
+
+given_by : (bytes rest : List ℕ) (answer : Answer) (o : Option (OptionValue × List ℕ)) → 1 ≤ length bytes
+    → option_at bytes ≡ o → answer_by o ≡ Some (answer, rest) → Given bytes answer rest
+given_by bytes rest answer None some e f =
+    let same = same_pair (answer, rest) (Err (record {}), []) (sym f) in
+    broken (record {}) (ap (λ (p : Answer × List ℕ). p.0) same) (ap (λ (p : Answer × List ℕ). p.1) same) some e
+given_by bytes rest answer (Some (option, after)) some e f =
+    let same = same_pair (answer, rest) (Ok option, after) (sym f) in
+    read option (ap (λ (p : Answer × List ℕ). p.0) same)
+    (subst (λ (r : List ℕ). IsOption bytes option r) (sym (ap (λ (p : Answer × List ℕ). p.1) same))
+    (option_is bytes after option e))
+
+pub given : (bytes rest : List ℕ) (answer : Answer) → answer_at bytes ≡ Some (answer, rest) → Given bytes answer rest
+given [] rest answer e = cc
+given (x ∷ xs) rest answer e = given_by (x ∷ xs) rest answer (option_at (x ∷ xs)) (omega arith) refl e
+
+pub answers_shrink : Shrinks answer_at
+answers_shrink bytes rest answer e = elim (given bytes rest answer e) [
+  | read option f is ↦ option_shrinks bytes rest option is
+  | broken refusal f none_ some g ↦ omega (arith, some, ap length none_)
+]
+
+some_answer : {A : Type 0} (o : Option (OptionValue × List ℕ)) → answer_by o ≡ None → A
+some_answer None e = cc
+some_answer (Some (option, rest)) e = cc
+
+pub nothing_left : (bytes : List ℕ) → answer_at bytes ≡ None → bytes ≡ []
+nothing_left [] e = refl
+nothing_left (x ∷ xs) e = some_answer (option_at (x ∷ xs)) e
+
+-- the next answer is of an option, or of none, or there is none
+answer_some : (bytes : List ℕ) → 1 ≤ length bytes → answer_at bytes ≡ answer_by (option_at bytes)
+answer_some [] some = absurd (omega (arith, some))
+answer_some (x ∷ xs) some = refl
+
+pub answers_option : (bytes rest : List ℕ) (option : OptionValue) → IsOption bytes option rest
+    → answers_in bytes ≡ Ok option ∷ answers_in rest
+answers_option bytes rest option is =
+    ahead_some answer_at answers_shrink bytes rest (Ok option)
+    (answer_some bytes (omega (arith, is.reaches)) ∙ ap answer_by (option_first bytes rest option is))
+
+pub answers_nothing : answers_in [] ≡ []
+answers_nothing = ahead_none answer_at answers_shrink [] refl
+
+pub no_option : (bytes : List ℕ) → ((option : OptionValue) (rest : List ℕ) → IsOption bytes option rest → ⊥)
+    → option_at bytes ≡ None
+no_option bytes none_ = elim (front option_at bytes) [
+  | none e ↦ e
+  | one option rest e ↦ absurd (none_ option rest (option_is bytes rest option e))
+]
+
+pub answers_broken : (bytes : List ℕ) (refusal : Error) → 1 ≤ length bytes
+    → ((option : OptionValue) (rest : List ℕ) → IsOption bytes option rest → ⊥)
+    → answers_in bytes ≡ Err refusal ∷ []
+answers_broken bytes refusal some none_ =
+    ahead_some answer_at answers_shrink bytes [] (Err refusal)
+    (answer_some bytes some ∙ ap answer_by (no_option bytes none_))
+    ∙ ap (λ (more : List Answer). Err refusal ∷ more) answers_nothing
+
+-- ---- the tiling
+
+pub tile_one : (bytes : List ℕ) (answers : List Answer) → Tile bytes answers → answers ≡ answers_in bytes
+tile_one bytes [] tile = sym (ap answers_in tile ∙ answers_nothing)
+tile_one bytes (Ok option ∷ answers) (rest, is, more) =
+    ap (λ (l : List Answer). Ok option ∷ l) (tile_one rest answers more) ∙ sym (answers_option bytes rest option is)
+tile_one bytes (Err refusal ∷ answers) (some, none_, last) =
+    ap (λ (l : List Answer). Err refusal ∷ l) last ∙ sym (answers_broken bytes refusal some none_)
+
+none_at : (bytes : List ℕ) → option_at bytes ≡ None → (option : OptionValue) (rest : List ℕ)
+    → IsOption bytes option rest → ⊥
+none_at bytes e option rest is = let f = sym e ∙ option_first bytes rest option is in cc
+
+tile_turn : (bytes rest : List ℕ) (answer : Answer) → Given bytes answer rest → Tile rest (answers_in rest)
+    → Tile bytes (answers_in bytes)
+tile_turn bytes rest answer (read option e is) more =
+    subst (Tile bytes) (sym (answers_option bytes rest option is)) (rest, is, more)
+tile_turn bytes rest answer (broken refusal e last some f) more =
+    subst (Tile bytes) (sym (answers_broken bytes refusal some (none_at bytes f))) (some, none_at bytes f, refl)
+
+tile_end : (bytes : List ℕ) → answer_at bytes ≡ None → Tile bytes (answers_in bytes)
+tile_end bytes e = subst (Tile bytes) (sym (ahead_none answer_at answers_shrink bytes e)) (nothing_left bytes e)
+
+tile_within : (most : ℕ) (bytes : List ℕ) → length bytes ≤ most → Tile bytes (answers_in bytes)
+tile_within zero bytes h = elim (front answer_at bytes) [
+  | none e ↦ tile_end bytes e
+  | one answer rest e ↦ absurd (omega (arith, h, answers_shrink bytes rest answer e))
+]
+tile_within (suc most) bytes h = elim (front answer_at bytes) [
+  | none e ↦ tile_end bytes e
+  | one answer rest e ↦
+      tile_turn bytes rest answer (given bytes rest answer e)
+      (tile_within most rest (omega (arith, h, answers_shrink bytes rest answer e)))
+]
+
+pub tile_of : (bytes : List ℕ) → Tile bytes (answers_in bytes)
+tile_of bytes = tile_within (length bytes) bytes (omega arith)

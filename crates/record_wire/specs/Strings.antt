@@ -1,0 +1,24 @@
+-- Strings of up to 255 bytes, each behind its length (RFC 1035 section 3.3).
+use Rattle.std.specs.Prelude.{◌≡◌, ℕ, nat_le, if◌then◌else◌, List, [], ◌∷◌, ◌++◌, length, take, drop, flat_map}
+use Rattle.std.specs.Prelude.{Option, None, Some}
+use Rattle.dns_wire.specs.DnsName.{written}
+use Rattle.record_wire.specs.Ahead.{ahead}
+
+-- no string stands at the front of octets
+abbrev pub HasNoString : List ℕ → Type 0
+HasNoString octets = (string rest : List ℕ) → octets ≡ written string ++ rest → ⊥
+
+-- these strings stand at the front of octets, and no other behind them
+pub record AreStringsAhead (octets : List ℕ) (strings : List (List ℕ)) : Type 0 where
+  pub rest : List ℕ
+  pub whole : octets ≡ flat_map written strings ++ rest
+  pub no_more : HasNoString rest
+
+-- ---- as they are computed
+
+abbrev pub first_string : List ℕ → Option (List ℕ × List ℕ)
+first_string [] = None
+first_string (n ∷ rest) = if nat_le n (length rest) then Some (take n rest, drop n rest) else None
+
+abbrev pub strings_in : List ℕ → List (List ℕ)
+strings_in octets = ahead first_string octets

@@ -1,0 +1,105 @@
+//! The options of OPT records in turn (RFC 6891 section 6.1.2).
+
+ghost use Rattle.std.specs.Prelude.{◌≡◌, List, ℕ, length, IfSome, IsSome};
+ghost use Rattle.wirebase.specs.Answers.{GivesFirst};
+ghost use Rattle.record_wire.specs.Edns.{OptionValue, option_of, IsOption, Answer, Tile};
+
+use std::marker::Model;
+use wirebase::{Error, Octets, Result};
+
+// The fields of an option; their picture is in specs/Edns.antt.
+mod field {
+    use wirebase::Field;
+
+    pub const CODE: Field = 0..2;
+
+    pub const LENGTH: Field = 2..4;
+
+    pub const DATA: usize = 4;
+}
+
+/// An option of an OPT record (RFC 6891 section 6.1.2).
+#[derive(Debug, PartialEq, Eq, Clone, Copy)]
+pub struct EdnsOption<'a> {
+    /// What the option is, by IANA's registry of EDNS option codes: 8 is a client's subnet, 10 a cookie.
+    pub code: u16,
+    /// The data, without the code and the length before it.
+    pub data: &'a [u8],
+}
+
+/// The options in the data of an OPT record in turn: each one while they read, one refusal where no whole option
+/// stands, and then the end for good.
+#[derive(Debug, Drop)]
+pub struct EdnsOptions<'a> {
+    // The octets behind the options that were given; none behind a refusal.
+    left: &'a [u8],
+}
+
+impl<'a> Model for EdnsOptions<'a> {
+    ghost use Rattle.std.specs.Prelude.{List};
+    ghost use Rattle.record_wire.specs.Edns.{Answer, answers_in};
+
+    ghost Value = { List Answer };
+
+    ghost view = { λ it. answers_in it.left.now };
+}
+
+impl<'a> EdnsOptions<'a> {
+    /// The options in these octets, the data of an OPT record.
+    pub fn new(octets: &'a [u8]) -> EdnsOptions<'a>
+        ensures tile { Tile octets.entry.now result }
+        ensures unique { (answers : List Answer) → Tile octets.entry.now answers → answers ≡ result }
+    {
+        EdnsOptions { left: octets }
+    }
+}
+
+impl<'a> Iterator for EdnsOptions<'a> {
+    ghost use Rattle.std.specs.Iterator.{at_most};
+
+    type Item = Result<EdnsOption<'a>>;
+
+    ghost next_gives = { GivesFirst option_of };
+
+    ghost remaining = { λ answers. at_most (length answers) };
+
+    fn next(&mut self) -> Option<Result<EdnsOption<'a>>> {
+        if self.left.is_empty() {
+            return None;
+        }
+        match split_option(self.left) {
+            Some((option, rest)) => {
+                self.left = rest;
+                Some(Ok(option))
+            }
+            None => {
+                self.left = &[];
+                Some(Err(Error))
+            }
+        }
+    }
+}
+
+// The option at the front of octets, and what stands behind it. None where no whole option stands.
+fn split_option(octets: &[u8]) -> Option<(EdnsOption<'_>, &[u8])>
+    ensures is { IfSome result (λ split. IsOption octets.now (option_of split.0) split.1.now) }
+    ensures whole { (option : OptionValue) (rest : List ℕ) → IsOption octets.now option rest
+        → IsSome result }
+{
+    if octets.len() < field::DATA {
+        return None;
+    }
+    let len = octets.u16_at(field::LENGTH) as usize;
+    let behind = &octets[field::DATA..];
+    if behind.len() < len {
+        return None;
+    }
+    let option = EdnsOption {
+        code: octets.u16_at(field::CODE),
+        data: &behind[..len],
+    };
+    Some((option, &behind[len..]))
+}
+
+#[cfg(test)]
+mod tests;

@@ -1,0 +1,34 @@
+//! The options of OPT records.
+
+use super::{EdnsOption, EdnsOptions};
+use crate::testing::same_of;
+use std::process::Abort;
+use wirebase::{Error, Result};
+
+// Ends the test unless these octets have these options and no more.
+fn check(rt: &impl Abort, octets: &[u8], options: &[Result<EdnsOption<'_>>]) {
+    let mut left = EdnsOptions::new(octets);
+    for &option in options {
+        same_of(rt, octets, left.next(), Some(option));
+    }
+    for _ in 0..2 {
+        same_of(rt, octets, left.next(), None);
+    }
+}
+
+#[test]
+fn options_of_opt_data(rt: HostRuntime) {
+    // A client's cookie of 8 bytes (RFC 7873 section 4), and padding of no bytes (RFC 7830).
+    let octets = b"\x00\x0a\x00\x08ABCDEFGH\x00\x0c\x00\x00";
+    let cookie = EdnsOption {
+        code: 10,
+        data: b"ABCDEFGH",
+    };
+    let padding = EdnsOption { code: 12, data: b"" };
+    check(&rt, octets, &[Ok(cookie), Ok(padding)]);
+    check(&rt, &octets[..15], &[Ok(cookie), Err(Error)]);
+    check(&rt, &octets[..12], &[Ok(cookie)]);
+    check(&rt, &octets[..11], &[Err(Error)]);
+    check(&rt, &octets[..3], &[Err(Error)]);
+    check(&rt, b"", &[]);
+}
