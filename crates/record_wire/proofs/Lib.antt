@@ -14,3 +14,5 @@ pub mod RDataParts
 pub mod Ahead
 pub mod StringLists
 pub mod EdnsTiles
+pub mod MnemonicTexts
+pub mod NameCases

@@ -12,7 +12,6 @@ use Rattle.record_wire.specs.Strings.{HasNoString, AreStringsAhead, first_string
 use Rattle.record_wire.proofs.LabelLists.{drop_seam}
 use Rattle.record_wire.proofs.Ahead.{Shrinks, Front, none, one, front, ahead_none, ahead_some}
 
-
 abbrev string_then : List ℕ → List ℕ → Option (List ℕ × List ℕ)
 string_then string rest = Some (string, rest)
 

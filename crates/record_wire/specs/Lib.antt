@@ -12,3 +12,5 @@ pub mod RData
 pub mod Ahead
 pub mod Strings
 pub mod Edns
+pub mod Mnemonics
+pub mod NameCase

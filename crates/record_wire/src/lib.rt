@@ -2,6 +2,7 @@
 //! resource records of any type and class.
 #![tactic(auto)]
 
+pub mod classes;
 pub mod edns;
 pub mod entries;
 pub mod multicast;
@@ -11,9 +12,12 @@ pub mod record;
 pub mod strings;
 #[cfg(test)]
 mod testing;
+pub mod types;
 
+pub use classes::ClassName;
 pub use edns::{EdnsOption, EdnsOptions};
 pub use entries::{Entries, Entry, Section};
 pub use name::Name;
 pub use record::{Question, Record};
 pub use strings::TxtStrings;
+pub use types::TypeName;

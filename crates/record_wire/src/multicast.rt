@@ -3,6 +3,7 @@
 ghost use Rattle.std.specs.Prelude.{◌≡◌};
 ghost use Rattle.record_wire.specs.Multicast as multicast;
 
+use crate::types;
 use dns_wire::dns::Type;
 
 // The bit of a class that is a flag in multicast DNS.
@@ -28,5 +29,5 @@ pub fn has_top_bit(class: u16) -> bool
 pub(crate) fn is_opt(type_: Type) -> bool
     ensures { result ≡ multicast.is_opt type_ }
 {
-    matches!(type_, Type::Unknown(41))
+    matches!(type_, types::OPT)
 }

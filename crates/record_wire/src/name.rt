@@ -5,20 +5,23 @@ mod label;
 mod part;
 mod text;
 
-ghost use Rattle.std.specs.Prelude.{◌≡◌, ℕ, List, [], IfOk, IsOk, IsOkAnd, OnOk};
+ghost use Rattle.std.specs.Prelude.{◌≡◌, ◌↔◌, ℕ, List, [], IfOk, IsOk, IsOkAnd, OnOk, IsTrue};
 ghost use Rattle.wirebase.specs.Bytes.{IsBytes};
 ghost use Rattle.dns_wire.specs.DnsName.{IsName};
 ghost use Rattle.dns_wire.specs.DnsPacket.{view_octets};
 ghost use Rattle.record_wire.specs.Labels.{wire, written_all, labels_in, AreOfName};
 ghost use Rattle.record_wire.specs.NameParts.{AreNamed};
+ghost use Rattle.record_wire.specs.NameCase.{lower_labels};
 
+pub use crate::name::label::Labels;
 use crate::name::label::{push_end, push_octets};
 use crate::name::part::read_labels;
 use crate::name::text::{fmt_labels, is_root, put_labels};
 use arrayvec::ArrayVec;
 use dns_wire::dns::Packet;
 use dns_wire::message::{Front, follow, octets_of};
-use std::fmt;
+use std::alloc::AllocError;
+use std::{fmt, result};
 use wirebase::{Error, Result};
 
 /// The most octets that a name has (RFC 1035 section 2.3.4).
@@ -79,6 +82,23 @@ impl Name {
         self.octets.as_slice()
     }
 
+    /// The labels in turn, each without its length; the root has none.
+    pub fn labels(&self) -> Labels<'_>
+        ensures { result ≡ labels_of self.now }
+    {
+        Labels::new(self.octets.as_slice())
+    }
+
+    /// Whether the names have the same labels, without regard to the case of ASCII letters (RFC 4343 section 3). So do
+    /// `==` and `!=`; the octets, compared by [`Name::octets`], differ where a case does.
+    pub fn eq_ignore_case(&self, other: &Name) -> bool
+        ensures { IsTrue result
+            ↔ (lower_labels (labels_of self.now) ≡ lower_labels (labels_of other.now)) }
+    {
+        let left = self.octets.as_slice();
+        left.eq_ignore_ascii_case(other.octets.as_slice())
+    }
+
     // The root, which has no labels.
     fn root() -> Name
         ensures { labels_of result ≡ [] }
@@ -121,6 +141,60 @@ fn put_name<'a>(
             Front::Label(..) | Front::Torn => return Err(Error),
         }
     }
+}
+
+/// Names are equal where they have the same labels, without regard to the case of ASCII letters (RFC 1035 section
+/// 2.3.3, RFC 4343 section 3).
+impl PartialEq for Name {
+    ghost use Rattle.std.specs.Prelude.{◌==◌, map};
+    ghost use Rattle.std.specs.Char.{to_ascii_lowercase};
+    ghost use Rattle.std.proofs.Common.{rules};
+    ghost use Rattle.std.specs.Cmp.Lexicographic.{pointwise};
+    ghost use Rattle.std.specs.Cmp.Rules.{comparing};
+    ghost use Rattle.std.specs.Ordering.{on};
+    ghost use Rattle.record_wire.specs.Name.{labels_of};
+
+    ghost eq = { on (λ name. map to_ascii_lowercase name.octets.items) (pointwise ◌==◌) };
+
+    ghost laws = { Prim.search (comparing, rules) };
+
+    fn eq(&self, other: &Name) -> bool
+        ensures { IsTrue result
+            ↔ (lower_labels (labels_of self.now) ≡ lower_labels (labels_of other.now)) }
+    {
+        self.eq_ignore_case(other)
+    }
+}
+
+impl Eq for Name {
+    ghost use Rattle.std.proofs.Common.{rules};
+    ghost use Rattle.std.specs.Cmp.Rules.{comparing};
+
+    ghost laws = { Prim.search (comparing, rules) };
+}
+
+/// A copy has the same labels, in the same case.
+impl Clone for Name {
+    ghost use Rattle.std.specs.Prelude.{⊤};
+    ghost use Rattle.record_wire.specs.Name.{labels_of};
+
+    ghost is_clone = { λ name copy. labels_of copy ≡ labels_of name };
+
+    ghost is_infallible = { λ _. ⊤ };
+
+    fn clone(&self) -> result::Result<Name, AllocError> {
+        let octets = cloned(&self.octets)?;
+        Ok(Name { octets })
+    }
+}
+
+// A copy of octets.
+fn cloned(
+    octets: &ArrayVec<u8, MAX_NAME_LEN>,
+) -> result::Result<ArrayVec<u8, MAX_NAME_LEN>, AllocError>
+    ensures { IsOkAnd result (λ copy. copy.items ≡ octets.now.items) }
+{
+    octets.clone()
 }
 
 /// Labels with dots between them, and a dot alone for the root.

@@ -7,7 +7,7 @@ ghost use Rattle.record_wire.specs.RData.{IsNameData, IsMail, IsService, IsAutho
 ghost use Rattle.record_wire.specs.RData.{string_rest, seen_rest};
 ghost use Rattle.record_wire.specs.Multicast.{class_of};
 
-use crate::multicast;
+use crate::{classes, multicast, types};
 use dns_wire::dns::{Type, split_name};
 use wirebase::{Error, Ipv4Address, Ipv6Address, Octets, Result};
 
@@ -39,17 +39,6 @@ mod field {
 
     pub const SOA_END: usize = 20;
 }
-
-// The class of the internet, and the types that have no name in the message's tables.
-const CLASS_IN: u16 = 1;
-
-const TYPE_PTR: u16 = 12;
-
-const TYPE_MX: u16 = 15;
-
-const TYPE_TXT: u16 = 16;
-
-const TYPE_SRV: u16 = 33;
 
 /// The data of a record. Names are as they are written: labels of 1 to 63 bytes, each after its length, and then byte 0
 /// or a pointer into the message.
@@ -155,15 +144,14 @@ fn find_layout(type_: Type, class: u16) -> Layout
     ensures { result ≡ layout_of type_ class }
 {
     match type_ {
-        Type::A if class == CLASS_IN => Layout::Ipv4,
-        Type::Aaaa if class == CLASS_IN => Layout::Ipv6,
-        Type::A | Type::Aaaa => Layout::Opaque,
-        Type::Cname | Type::Ns | Type::Unknown(TYPE_PTR) => Layout::Name,
-        Type::Soa => Layout::Authority,
-        Type::Unknown(TYPE_MX) => Layout::Mail,
-        Type::Unknown(TYPE_TXT) => Layout::Strings,
-        Type::Unknown(TYPE_SRV) => Layout::Service,
-        Type::Unknown(_) => Layout::Opaque,
+        types::A if class == classes::IN => Layout::Ipv4,
+        types::AAAA if class == classes::IN => Layout::Ipv6,
+        types::CNAME | types::NS | types::PTR => Layout::Name,
+        types::SOA => Layout::Authority,
+        types::MX => Layout::Mail,
+        types::TXT => Layout::Strings,
+        types::SRV => Layout::Service,
+        _ => Layout::Opaque,
     }
 }
 

@@ -24,7 +24,10 @@ fn options_of_opt_data(rt: HostRuntime) {
         code: 10,
         data: b"ABCDEFGH",
     };
-    let padding = EdnsOption { code: 12, data: b"" };
+    let padding = EdnsOption {
+        code: 12,
+        data: b"",
+    };
     check(&rt, octets, &[Ok(cookie), Ok(padding)]);
     check(&rt, &octets[..15], &[Ok(cookie), Err(Error)]);
     check(&rt, &octets[..12], &[Ok(cookie)]);

@@ -2,11 +2,13 @@
 
 ghost use Rattle.std.specs.Prelude.{◌≡◌, ◌↔◌, ◌+◌, ◌≤◌, ◌<◌, [], ◌∷◌, ◌++◌, length, IsOk, OnOk};
 ghost use Rattle.dns_wire.specs.DnsName.{written};
-ghost use Rattle.record_wire.specs.Labels.{first_label};
+ghost use Rattle.record_wire.specs.Ahead.{GivesBytes};
+ghost use Rattle.record_wire.specs.Labels.{first_label, labels_in};
 ghost use Rattle.record_wire.specs.NameReading.{seen_label};
 
 use crate::name::MAX_NAME_LEN;
 use arrayvec::ArrayVec;
+use std::marker::Model;
 use wirebase::{Error, Result};
 
 /// The most bytes that a label has (RFC 1035 section 2.3.4).
@@ -22,6 +24,51 @@ pub(super) fn split_label(octets: &[u8]) -> Option<(&[u8], &[u8])>
             Some((&rest[..len], &rest[len..]))
         }
         _ => None,
+    }
+}
+
+/// The labels of a name in turn, each without its length.
+#[derive(Debug, Drop)]
+pub struct Labels<'a> {
+    // The octets behind the labels that were given.
+    left: &'a [u8],
+}
+
+impl<'a> Model for Labels<'a> {
+    ghost use Rattle.std.specs.Prelude.{List, ℕ};
+    ghost use Rattle.record_wire.specs.Labels.{labels_in};
+
+    ghost Value = { List (List ℕ) };
+
+    ghost view = { λ it. labels_in it.left.now };
+}
+
+impl<'a> Labels<'a> {
+    // The labels at the front of these octets.
+    pub(super) fn new(octets: &'a [u8]) -> Labels<'a>
+        ensures { result ≡ labels_in octets.entry.now }
+    {
+        Labels { left: octets }
+    }
+}
+
+impl<'a> Iterator for Labels<'a> {
+    ghost use Rattle.std.specs.Iterator.{at_most};
+
+    type Item = &'a [u8];
+
+    ghost next_gives = { GivesBytes };
+
+    ghost remaining = { λ labels. at_most (length labels) };
+
+    fn next(&mut self) -> Option<&'a [u8]> {
+        match split_label(self.left) {
+            Some((label, rest)) => {
+                self.left = rest;
+                Some(label)
+            }
+            None => None,
+        }
     }
 }
 

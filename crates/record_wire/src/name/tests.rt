@@ -205,3 +205,64 @@ fn text_into_a_buffer_of_a_fixed_size(rt: HostRuntime) {
     same(&rt, written, true);
     same(&rt, text.as_str(), "www.Example.com");
 }
+
+// Ends the test unless these are texts of names that are equal, or not, whatever the case of their letters.
+fn check_equal(rt: &impl Abort, left: &[u8], right: &[u8], equal: bool) {
+    let (Ok(a), Ok(b)) = (Name::from_text(left), Name::from_text(right)) else {
+        panic!(rt; "no names");
+    };
+    same_of(rt, left, a.eq_ignore_case(&b), equal);
+    same_of(rt, right, b == a, equal);
+}
+
+#[test]
+fn names_that_differ_in_case_alone(rt: HostRuntime) {
+    // The first rows are of RFC 4343 sections 3 and 4; a letter beyond ASCII has no case there.
+    const ROWS: &[(&[u8], &[u8], bool)] = &[
+        (b"example.com", b"EXAMPLE.com.", true),
+        (b"ExAmPlE", b"eXaMpLe", true),
+        (b"\\228.example", b"\\196.example", false),
+        (b"a\\.b", b"a.b", false),
+        (b"a\\.b", b"A\\.B", true),
+        (b".", b".", true),
+        (b".", b"a", false),
+        (b"a.b", b"a", false),
+        (b"z[", b"Z\\123", false),
+        (b"\\@", b"`", false),
+    ];
+    for &(left, right, equal) in ROWS {
+        check_equal(&rt, left, right, equal);
+    }
+}
+
+#[test]
+fn labels_of_names(rt: HostRuntime) {
+    const ROWS: &[(&[u8], &[&[u8]])] = &[
+        (b".", &[]),
+        (b"isi.EDU.", &[b"isi", b"EDU"]),
+        (b"Action\\.domains.ISI", &[b"Action.domains", b"ISI"]),
+    ];
+    for &(text, labels) in ROWS {
+        check_labels(&rt, text, labels);
+    }
+}
+
+// Ends the test unless the name of a text, and a copy of it, have these labels and no more.
+fn check_labels(rt: &impl Abort, text: &[u8], labels: &[&[u8]]) {
+    let Ok(name) = Name::from_text(text) else {
+        panic!(rt; "no name");
+    };
+    let Ok(copy) = name.clone() else {
+        panic!(rt; "no copy");
+    };
+    let mut left = name.labels();
+    let mut of_copy = copy.labels();
+    for &label in labels {
+        same_of(rt, text, left.next(), Some(label));
+        same_of(rt, text, of_copy.next(), Some(label));
+    }
+    for _ in 0..2 {
+        same_of(rt, text, left.next(), None);
+    }
+    same_of(rt, text, copy == name, true);
+}
