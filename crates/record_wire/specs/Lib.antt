@@ -14,3 +14,4 @@ pub mod Strings
 pub mod Edns
 pub mod Mnemonics
 pub mod NameCase
+pub mod RecordDisplay

@@ -4,6 +4,7 @@ ghost use Rattle.std.specs.Prelude.{◌≡◌, List, ℕ, length, IfSome, IsSome
 ghost use Rattle.wirebase.specs.Answers.{GivesFirst};
 ghost use Rattle.record_wire.specs.Edns.{OptionValue, option_of, IsOption, Answer, Tile};
 
+use std::fmt;
 use std::marker::Model;
 use wirebase::{Error, Octets, Result};
 
@@ -25,6 +26,18 @@ pub struct EdnsOption<'a> {
     pub code: u16,
     /// The data, without the code and the length before it.
     pub data: &'a [u8],
+}
+
+/// The code and the length of the data.
+impl fmt::Display for EdnsOption<'_> {
+    ghost use Rattle.std.specs.Prelude.{Some};
+    ghost use Rattle.record_wire.specs.RecordDisplay.{option_display};
+
+    ghost output = { λ option. Some (option_display (option_of option)) };
+
+    fn fmt<W: fmt::Write>(&self, f: &mut fmt::Formatter<W>) -> fmt::Result {
+        write!(f, "option code={} len={}", self.code, self.data.len())
+    }
 }
 
 /// The options in the data of an OPT record in turn: each one while they read, one refusal where no whole option

@@ -7,6 +7,7 @@ ghost use Rattle.record_wire.specs.Entries.{EntryValue, entry_of, IsEntry};
 
 use crate::record::{Question, Record};
 use dns_wire::dns::Packet;
+use std::fmt;
 use std::marker::Model;
 use wirebase::Result;
 
@@ -23,6 +24,23 @@ pub enum Section {
     Additional,
 }
 
+/// The section's name.
+impl fmt::Display for Section {
+    ghost use Rattle.std.specs.Prelude.{Some};
+    ghost use Rattle.record_wire.specs.RecordDisplay.{section_display};
+
+    ghost output = { λ section. Some (section_display section) };
+
+    fn fmt<W: fmt::Write>(&self, f: &mut fmt::Formatter<W>) -> fmt::Result {
+        f.write_str(match self {
+            Section::Question => "question",
+            Section::Answer => "answer",
+            Section::Authority => "authority",
+            Section::Additional => "additional",
+        })
+    }
+}
+
 /// A question or a record of a message.
 #[derive(Debug, PartialEq, Eq, Clone, Copy)]
 pub enum Entry<'a> {
@@ -30,6 +48,21 @@ pub enum Entry<'a> {
     Question(Question<'a>),
     /// A record, of the section that it stands in.
     Record(Section, Record<'a>),
+}
+
+/// The question, or the section and the record.
+impl fmt::Display for Entry<'_> {
+    ghost use Rattle.std.specs.Prelude.{Some};
+    ghost use Rattle.record_wire.specs.RecordDisplay.{entry_display};
+
+    ghost output = { λ entry. Some (entry_display (entry_of entry)) };
+
+    fn fmt<W: fmt::Write>(&self, f: &mut fmt::Formatter<W>) -> fmt::Result {
+        match self {
+            Entry::Question(question) => write!(f, "{question}"),
+            Entry::Record(section, record) => write!(f, "{section} {record}"),
+        }
+    }
 }
 
 /// The questions and the records of a message in turn, as many as its header counts: each one while they read, one
@@ -70,7 +103,9 @@ impl<'a> Model for Entries<'a> {
 impl<'a> Entries<'a> {
     ghost use Rattle.record_wire.specs.Entries.{all_of, next_section};
 
-    /// The questions and the records of this message. Requires at least 12 bytes.
+    /// The questions and the records of this message. Requires at least 12 bytes, as `Packet::new_checked` sees to. The
+    /// entries keep parts of the octets, so the view is one of a slice: over a buffer of one's own, a `Vec<u8>` or an
+    /// array, it is `Packet::new_checked(&buffer[..])`.
     pub fn new(packet: &Packet<&'a [u8]>) -> Entries<'a>
         requires { Reaches header (view_octets packet.now) }
         ensures { result ≡ all_of (view_octets packet.entry.now) }

@@ -9,6 +9,7 @@ ghost use Rattle.record_wire.specs.Multicast.{class_of};
 
 use crate::{classes, multicast, types};
 use dns_wire::dns::{Type, split_name};
+use std::fmt;
 use wirebase::{Error, Ipv4Address, Ipv6Address, Octets, Result};
 
 // The data of MX and SRV in front of a name, and of SOA behind two names.
@@ -94,6 +95,63 @@ pub struct Authority<'a> {
     pub expire: u32,
     /// The least time to live of the zone's records; of answers that there is none (RFC 2308 section 4).
     pub minimum: u32,
+}
+
+/// Addresses as addresses, numbers by their names, names and strings by their length.
+impl fmt::Display for RData<'_> {
+    ghost use Rattle.std.specs.Prelude.{Some};
+    ghost use Rattle.record_wire.specs.RecordDisplay.{rdata_display};
+
+    ghost output = { λ read. Some (rdata_display (rdata_of read)) };
+
+    fn fmt<W: fmt::Write>(&self, f: &mut fmt::Formatter<W>) -> fmt::Result {
+        match self {
+            RData::A(address) => write!(f, "{address}"),
+            RData::Aaaa(address) => write!(f, "{address}"),
+            RData::Name(name) => write!(f, "name len={}", name.len()),
+            RData::Mx {
+                preference,
+                exchange,
+            } => {
+                let len = exchange.len();
+                write!(f, "MX preference={preference} exchange_len={len}")
+            }
+            RData::Srv {
+                priority,
+                weight,
+                port,
+                target,
+            } => {
+                let len = target.len();
+                write!(
+                    f,
+                    "SRV priority={priority} weight={weight} port={port} target_len={len}"
+                )
+            }
+            RData::Soa(authority) => write!(f, "{authority}"),
+            RData::Txt(octets) => write!(f, "TXT len={}", octets.len()),
+            RData::Other(octets) => write!(f, "data len={}", octets.len()),
+        }
+    }
+}
+
+/// The lengths of the names, and the numbers.
+impl fmt::Display for Authority<'_> {
+    ghost use Rattle.std.specs.Prelude.{Some};
+    ghost use Rattle.record_wire.specs.RData.{authority_of};
+    ghost use Rattle.record_wire.specs.RecordDisplay.{authority_display};
+
+    ghost output = { λ soa. Some (authority_display (authority_of soa)) };
+
+    fn fmt<W: fmt::Write>(&self, f: &mut fmt::Formatter<W>) -> fmt::Result {
+        let primary = self.primary.len();
+        let mailbox = self.mailbox.len();
+        write!(
+            f,
+            "SOA primary_len={primary} mailbox_len={mailbox} serial={} refresh={} retry={} expire={} minimum={}",
+            self.serial, self.refresh, self.retry, self.expire, self.minimum
+        )
+    }
 }
 
 // How the data of a type is laid out.

@@ -6,9 +6,12 @@ ghost use Rattle.record_wire.specs.Record.{IsBehindName};
 ghost use Rattle.record_wire.specs.RData.{RDataValue, rdata_of, IsRData};
 ghost use Rattle.record_wire.specs.Multicast.{class_of, has_top_bit, record_class_of, flushes};
 
+use crate::classes::ClassName;
 use crate::multicast;
 use crate::rdata::RData;
+use crate::types::TypeName;
 use dns_wire::dns::{Type, split_name};
+use std::fmt;
 use wirebase::{Error, Octets, Result};
 
 // What stands behind the name of a question and of a record; the picture is in specs/Record.antt.
@@ -73,6 +76,21 @@ impl<'a> Question<'a> {
         ensures { result ≡ class_of self.now.class }
     {
         multicast::class_of(self.class)
+    }
+}
+
+/// The length of the name, the type and the class.
+impl fmt::Display for Question<'_> {
+    ghost use Rattle.std.specs.Prelude.{Some};
+    ghost use Rattle.record_wire.specs.RecordDisplay.{question_display};
+
+    ghost output = { λ question. Some (question_display (question_of question)) };
+
+    fn fmt<W: fmt::Write>(&self, f: &mut fmt::Formatter<W>) -> fmt::Result {
+        let name_len = self.name.len();
+        let type_ = TypeName(self.type_);
+        let class = ClassName(self.class);
+        write!(f, "question name_len={name_len} type={type_} class={class}")
     }
 }
 
@@ -173,6 +191,26 @@ impl<'a> Record<'a> {
             data: &behind[..len],
         };
         Ok((&behind[len..], record))
+    }
+}
+
+/// The length of the name, the type, the class, the time to live and the length of the data.
+impl fmt::Display for Record<'_> {
+    ghost use Rattle.std.specs.Prelude.{Some};
+    ghost use Rattle.record_wire.specs.RecordDisplay.{record_display};
+
+    ghost output = { λ record_. Some (record_display (record_of record_)) };
+
+    fn fmt<W: fmt::Write>(&self, f: &mut fmt::Formatter<W>) -> fmt::Result {
+        let name_len = self.name.len();
+        let type_ = TypeName(self.type_);
+        let class = ClassName(self.class);
+        let len = self.data.len();
+        write!(
+            f,
+            "record name_len={name_len} type={type_} class={class} ttl={} len={len}",
+            self.ttl
+        )
     }
 }
 

@@ -1,7 +1,7 @@
 //! The options of OPT records.
 
 use super::{EdnsOption, EdnsOptions};
-use crate::testing::same_of;
+use crate::testing::{prints, same_of};
 use std::process::Abort;
 use wirebase::{Error, Result};
 
@@ -24,6 +24,7 @@ fn options_of_opt_data(rt: HostRuntime) {
         code: 10,
         data: b"ABCDEFGH",
     };
+    prints(&rt, rt.alloc(), &cookie, "option code=10 len=8");
     let padding = EdnsOption {
         code: 12,
         data: b"",

@@ -2,7 +2,7 @@
 
 use super::{Entries, Entry, Section};
 use crate::record::{Question, Record};
-use crate::testing::{same, same_of};
+use crate::testing::{prints, same, same_of};
 use dns_wire::dns::{Packet, Type};
 use std::process::Abort;
 use wirebase::{Error, Result};
@@ -143,4 +143,54 @@ fn a_query_with_options_of_its_message(rt: HostRuntime) {
         Ok(Entry::Record(Section::Additional, options)),
     ];
     check(&rt, &QUERY, &entries);
+}
+
+#[test]
+fn texts_of_entries(rt: HostRuntime) {
+    let question = Question {
+        name: &QUERY[12..25],
+        type_: Type::A,
+        class: 1,
+    };
+    prints(
+        &rt,
+        rt.alloc(),
+        &Entry::Question(question),
+        "question name_len=13 type=A class=IN",
+    );
+    let record = Record {
+        name: &RESPONSE[63..65],
+        type_: Type::A,
+        class: 1,
+        ttl: 5,
+        data: &[31, 13, 83, 36],
+    };
+    let rows = [
+        (
+            Section::Question,
+            "question record name_len=2 type=A class=IN ttl=5 len=4",
+        ),
+        (
+            Section::Answer,
+            "answer record name_len=2 type=A class=IN ttl=5 len=4",
+        ),
+        (
+            Section::Authority,
+            "authority record name_len=2 type=A class=IN ttl=5 len=4",
+        ),
+        (
+            Section::Additional,
+            "additional record name_len=2 type=A class=IN ttl=5 len=4",
+        ),
+    ];
+    for (section, text) in &rows {
+        prints(&rt, rt.alloc(), &Entry::Record(*section, record), text);
+    }
+}
+
+// The octets of a message in an array of its own.
+#[test]
+fn entries_of_an_owned_buffer(rt: HostRuntime) {
+    let buffer = QUERY;
+    check_sections(&rt, &buffer[..], &[Some(Section::Additional), None]);
 }

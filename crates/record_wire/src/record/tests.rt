@@ -1,9 +1,9 @@
-//! Questions and records of multicast DNS.
+//! What questions and records print, and those of multicast DNS.
 
 use super::{Question, Record};
 use crate::multicast::{class_of, has_top_bit};
 use crate::rdata::RData;
-use crate::testing::same_of;
+use crate::testing::{prints, same_of};
 use dns_wire::dns::Type;
 use std::process::Abort;
 use wirebase::{Ipv4Address, Result};
@@ -90,4 +90,32 @@ fn records_of_multicast_dns(rt: HostRuntime) {
         data: &[],
     };
     check_record(&rt, options, 0x8001, false, Ok(RData::Other(&[])));
+}
+
+#[test]
+fn texts_of_questions_and_records(rt: HostRuntime) {
+    let question = Question {
+        name: NAME,
+        type_: Type::Unknown(12),
+        class: 1,
+    };
+    prints(
+        &rt,
+        rt.alloc(),
+        &question,
+        "question name_len=10 type=PTR class=IN",
+    );
+    let record = Record {
+        name: NAME,
+        type_: Type::Unknown(9999),
+        class: 0x8001,
+        ttl: 120,
+        data: &[1, 2, 3],
+    };
+    prints(
+        &rt,
+        rt.alloc(),
+        &record,
+        "record name_len=10 type=TYPE9999 class=CLASS32769 ttl=120 len=3",
+    );
 }
