@@ -16,3 +16,4 @@ pub mod StringLists
 pub mod EdnsTiles
 pub mod MnemonicTexts
 pub mod NameCases
+pub mod TornNames

@@ -1,11 +1,13 @@
 -- What stands behind a name is one question and one record, and as many bytes are left.
-use Rattle.std.proofs.Common.{◌≡◌, ℕ, List, drop, sym, ap, ◌∙◌}
+use Rattle.std.proofs.Common.{◌≡◌, ℕ, ◌≤◌, List, length, take, drop, refl, sym, ap, ◌∙◌}
 use Rattle.dns_wire.specs.declared.dns.tables.Type.{«Type» as RecordType}
 use Rattle.wirebase.specs.Bytes.{number_of}
 use Rattle.dns_wire.specs.DnsTables.{type_of}
 use Rattle.dns_wire.specs.DnsQuestion.{type_field, class_field}
+use Rattle.dns_wire.specs.DnsRecord.{ttl_field}
 use Rattle.dns_wire.specs.DnsPart.{IsSplit}
-use Rattle.record_wire.specs.Record.{QuestionValue, IsQuestion, RecordValue, IsBehindName, IsRecord}
+use Rattle.record_wire.specs.Record.{QuestionValue, IsQuestion, RecordValue, IsBehindName, IsRecord, data_len}
+use Rattle.record_wire.specs.RecordRefusal.{HasQuestion, HasRecord}
 
 -- ---- questions
 
@@ -57,4 +59,43 @@ behind_one after r s rest more a b name = (
   same_record r s name (a.kind_ ∙ sym b.kind_) (a.class_ ∙ sym b.class_) (a.ttl_ ∙ sym b.ttl_)
       (a.data_is ∙ sym b.data_is),
   a.rest_ ∙ sym b.rest_,
+)
+
+-- ---- what begins with a name and has the fields behind it
+
+pub question_here : (bytes name after : List ℕ) → IsSplit bytes name after → 4 ≤ length after → HasQuestion bytes
+question_here bytes name after split fits = (
+  question_at name (type_of (number_of type_field after)) (number_of class_field after),
+  drop 4 after,
+  record {
+    after = after;
+    name_ = split.name_;
+    whole = split.whole;
+    reaches = fits;
+    kind_ = refl;
+    class_ = refl;
+    rest_ = refl;
+  },
+)
+
+pub record_here : (bytes name after : List ℕ) → IsSplit bytes name after → 10 ≤ length after
+    → data_len after ≤ length (drop 10 after) → HasRecord bytes
+record_here bytes name after split fits data_fits = (
+  record_at name (type_of (number_of type_field after)) (number_of class_field after) (number_of ttl_field after)
+      (take (data_len after) (drop 10 after)),
+  drop (data_len after) (drop 10 after),
+  record {
+    after = after;
+    name_ = split.name_;
+    whole = split.whole;
+    behind = record {
+      reaches = fits;
+      kind_ = refl;
+      class_ = refl;
+      ttl_ = refl;
+      fits = data_fits;
+      data_is = refl;
+      rest_ = refl;
+    };
+  },
 )

@@ -15,3 +15,4 @@ pub mod Edns
 pub mod Mnemonics
 pub mod NameCase
 pub mod RecordDisplay
+pub mod RecordRefusal

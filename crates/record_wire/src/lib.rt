@@ -9,6 +9,7 @@ pub mod multicast;
 pub mod name;
 pub mod rdata;
 pub mod record;
+pub mod refusal;
 pub mod strings;
 #[cfg(test)]
 mod testing;
@@ -19,5 +20,6 @@ pub use edns::{EdnsOption, EdnsOptions};
 pub use entries::{Entries, Entry, Section};
 pub use name::Name;
 pub use record::{Question, Record};
+pub use refusal::{PartRefusal, Refusal};
 pub use strings::TxtStrings;
 pub use types::TypeName;

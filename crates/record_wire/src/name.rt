@@ -159,8 +159,11 @@ impl PartialEq for Name {
     ghost laws = { Prim.search (comparing, rules) };
 
     fn eq(&self, other: &Name) -> bool
-        ensures { IsTrue result
+        ensures labels { IsTrue result
             ↔ (lower_labels (labels_of self.now) ≡ lower_labels (labels_of other.now)) }
+        ensures octets { IsTrue result
+            ↔ (map to_ascii_lowercase self.now.octets.items
+            ≡ map to_ascii_lowercase other.now.octets.items) }
     {
         self.eq_ignore_case(other)
     }

@@ -1,14 +1,16 @@
 //! Questions and resource records of any type and class (RFC 1035 sections 4.1.2 and 4.1.3).
 
-ghost use Rattle.std.specs.Prelude.{◌≡◌, ℕ, List, IfOk, IsOkAnd};
+ghost use Rattle.std.specs.Prelude.{◌≡◌, ◌↔◌, ℕ, List, IfOk, IsOkAnd, IfSome, IsNone};
 ghost use Rattle.record_wire.specs.Record.{QuestionValue, question_of, IsQuestion, RecordValue, record_of, IsRecord};
 ghost use Rattle.record_wire.specs.Record.{IsBehindName};
 ghost use Rattle.record_wire.specs.RData.{RDataValue, rdata_of, IsRData};
 ghost use Rattle.record_wire.specs.Multicast.{class_of, has_top_bit, record_class_of, flushes};
+ghost use Rattle.record_wire.specs.RecordRefusal.{RefusesQuestion, RefusesRecord, HasQuestion, HasRecord};
 
 use crate::classes::ClassName;
 use crate::multicast;
 use crate::rdata::RData;
+use crate::refusal::{Refusal, why_no_part};
 use crate::types::TypeName;
 use dns_wire::dns::{Type, split_name};
 use std::fmt;
@@ -61,6 +63,21 @@ impl<'a> Question<'a> {
             class: after.u16_at(field::CLASS),
         };
         Ok((&after[field::QUESTION_END..], question))
+    }
+
+    /// Why [`Question::parse`] refuses these octets, by the check that fails first; None where it reads them.
+    pub fn refusal(octets: &[u8]) -> Option<Refusal>
+        ensures told { IfSome result (λ refusal. RefusesQuestion octets.now refusal) }
+        ensures exact { IsNone result ↔ HasQuestion octets.now }
+    {
+        let (_, after) = match split_name(octets) {
+            Ok(split) => split,
+            Err(_) => return Some(Refusal::Name(why_no_part(octets))),
+        };
+        if after.len() < field::QUESTION_END {
+            return Some(Refusal::Fields);
+        }
+        None
     }
 
     /// Whether a question of multicast DNS wants its answer sent to the asker alone: the top bit of its class (RFC 6762
@@ -121,6 +138,25 @@ impl<'a> Record<'a> {
     {
         let (name, after) = split_name(octets)?;
         Record::read_behind(name, after)
+    }
+
+    /// Why [`Record::parse`] refuses these octets, by the check that fails first; None where it reads them.
+    pub fn refusal(octets: &[u8]) -> Option<Refusal>
+        ensures told { IfSome result (λ refusal. RefusesRecord octets.now refusal) }
+        ensures exact { IsNone result ↔ HasRecord octets.now }
+    {
+        let (_, after) = match split_name(octets) {
+            Ok(split) => split,
+            Err(_) => return Some(Refusal::Name(why_no_part(octets))),
+        };
+        if after.len() < field::RECORD_END {
+            return Some(Refusal::Fields);
+        }
+        let len = after.u16_at(field::LENGTH) as usize;
+        if after[field::RECORD_END..].len() < len {
+            return Some(Refusal::Data);
+        }
+        None
     }
 
     /// The data by the record's type and class. Refused where the bytes are not laid out as the type has it. Of a record

@@ -1,0 +1,103 @@
+//! Why octets begin with no question or record: the check that fails first.
+
+ghost use Rattle.std.specs.Prelude.{List, ℕ, ◌≡◌};
+ghost use Rattle.dns_wire.specs.DnsPart.{IsSplit, shown};
+ghost use Rattle.dns_wire.specs.DnsNameAhead.{front_of, torn};
+ghost use Rattle.record_wire.specs.RecordRefusal.{IsNoPart};
+
+use dns_wire::message::{Front, read_front};
+use std::fmt;
+
+// The first byte of a label is its length, below this; that of a pointer is the other or above.
+const LABEL_END: u8 = 0x40;
+
+const POINTER: u8 = 0xc0;
+
+/// Why octets begin with no name of one part: labels of 1 to 63 bytes, and then byte 0 or a pointer.
+#[derive(Debug, PartialEq, Eq, Clone, Copy)]
+pub enum PartRefusal {
+    /// The octets end before the name does.
+    Cut,
+    /// A label begins with this byte, 64 to 191, which is neither a length nor a pointer's (RFC 1035 section 4.1.4).
+    LabelType(u8),
+}
+
+/// Why octets begin with no question that [`crate::Question::parse`] reads, or with no record that
+/// [`crate::Record::parse`] reads: the check that fails first.
+#[derive(Debug, PartialEq, Eq, Clone, Copy)]
+pub enum Refusal {
+    /// There is no name.
+    Name(PartRefusal),
+    /// Fewer bytes than the fields behind the name have: 4 in a question, 10 in a record.
+    Fields,
+    /// Fewer bytes of data than a record's length says.
+    Data,
+}
+
+/// What is wrong with the name.
+impl fmt::Display for PartRefusal {
+    ghost use Rattle.std.specs.Prelude.{Some};
+    ghost use Rattle.record_wire.specs.RecordRefusal.{part_display};
+
+    ghost output = { λ refusal. Some (part_display refusal) };
+
+    fn fmt<W: fmt::Write>(&self, f: &mut fmt::Formatter<W>) -> fmt::Result {
+        match self {
+            PartRefusal::Cut => write!(f, "the name is cut"),
+            PartRefusal::LabelType(byte) => {
+                write!(f, "a label that begins with byte {byte} is not read")
+            }
+        }
+    }
+}
+
+/// What is wrong with the question or the record.
+impl fmt::Display for Refusal {
+    ghost use Rattle.std.specs.Prelude.{Some};
+    ghost use Rattle.record_wire.specs.RecordRefusal.{refusal_display};
+
+    ghost output = { λ refusal. Some (refusal_display refusal) };
+
+    fn fmt<W: fmt::Write>(&self, f: &mut fmt::Formatter<W>) -> fmt::Result {
+        match self {
+            Refusal::Name(refusal) => write!(f, "{refusal}"),
+            Refusal::Fields => write!(f, "the fields behind the name are cut"),
+            Refusal::Data => write!(f, "the data is cut"),
+        }
+    }
+}
+
+/// Why a text that begins with no name of one part does not.
+pub(crate) fn why_no_part(text: &[u8]) -> PartRefusal
+    requires { (name rest : List ℕ) → IsSplit text.now name rest → ⊥ }
+    ensures { IsNoPart text.now result }
+{
+    let mut left = text;
+    loop {
+        match read_front(left) {
+            Front::Label(_, rest) => left = rest,
+            Front::Pointer(_) | Front::End | Front::Torn => return why_torn(left),
+        }
+    }
+}
+
+// Why nothing whole stands at the front of octets.
+fn why_torn(octets: &[u8]) -> PartRefusal
+    requires { torn ≡ front_of octets.now }
+    ensures { IsNoPart octets.now result }
+{
+    if octets.is_empty() {
+        return PartRefusal::Cut;
+    }
+    let first = octets[0];
+    if first < LABEL_END {
+        return PartRefusal::Cut;
+    }
+    if first >= POINTER {
+        return PartRefusal::Cut;
+    }
+    PartRefusal::LabelType(first)
+}
+
+#[cfg(test)]
+mod tests;
