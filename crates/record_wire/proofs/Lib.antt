@@ -17,3 +17,4 @@ pub mod EdnsTiles
 pub mod MnemonicTexts
 pub mod NameCases
 pub mod TornNames
+pub mod NameRefusals

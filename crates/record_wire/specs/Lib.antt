@@ -16,3 +16,4 @@ pub mod Mnemonics
 pub mod NameCase
 pub mod RecordDisplay
 pub mod RecordRefusal
+pub mod NameRefusal

@@ -19,6 +19,7 @@ pub use classes::ClassName;
 pub use edns::{EdnsOption, EdnsOptions};
 pub use entries::{Entries, Entry, Section};
 pub use name::Name;
+pub use name::refusal::NameRefusal;
 pub use record::{Question, Record};
 pub use refusal::{PartRefusal, Refusal};
 pub use strings::TxtStrings;

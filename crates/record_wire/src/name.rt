@@ -3,19 +3,22 @@
 pub mod dotted;
 mod label;
 mod part;
+pub mod refusal;
 mod text;
 
-ghost use Rattle.std.specs.Prelude.{◌≡◌, ◌↔◌, ℕ, List, [], IfOk, IsOk, IsOkAnd, OnOk, IsTrue};
+ghost use Rattle.std.specs.Prelude.{◌≡◌, ◌↔◌, ℕ, List, [], IfOk, IsOk, IsOkAnd, OnOk, IsTrue, IfSome, IsNone};
 ghost use Rattle.wirebase.specs.Bytes.{IsBytes};
 ghost use Rattle.dns_wire.specs.DnsName.{IsName};
 ghost use Rattle.dns_wire.specs.DnsPacket.{view_octets};
 ghost use Rattle.record_wire.specs.Labels.{wire, written_all, labels_in, AreOfName};
 ghost use Rattle.record_wire.specs.NameParts.{AreNamed};
 ghost use Rattle.record_wire.specs.NameCase.{lower_labels};
+ghost use Rattle.record_wire.specs.NameRefusal.{RefusesName, HasName};
 
 pub use crate::name::label::Labels;
 use crate::name::label::{push_end, push_octets};
 use crate::name::part::read_labels;
+use crate::name::refusal::{NameRefusal, why_no_name};
 use crate::name::text::{fmt_labels, is_root, put_labels};
 use arrayvec::ArrayVec;
 use dns_wire::dns::Packet;
@@ -52,6 +55,18 @@ impl Name {
         put_name(&mut octets, octets_of(packet), bytes)?;
         push_end(&mut octets)?;
         Ok(Name { octets })
+    }
+
+    /// Why [`Name::read`] refuses this, by the check that fails first; None where it reads a name.
+    pub fn read_refusal<'a>(packet: &Packet<&'a [u8]>, bytes: &'a [u8]) -> Option<NameRefusal>
+        ensures told { IfSome result (λ refusal.
+            RefusesName bytes.entry.now (view_octets packet.entry.now) refusal) }
+        ensures exact { IsNone result ↔ HasName bytes.entry.now (view_octets packet.entry.now) }
+    {
+        match Name::read(packet, bytes) {
+            Ok(_) => None,
+            Err(_) => Some(why_no_name(octets_of(packet), bytes)),
+        }
     }
 
     /// The name of this text: labels with dots between them, a last dot allowed, and a dot alone for the root. A

@@ -81,8 +81,8 @@ pub(crate) fn why_no_part(text: &[u8]) -> PartRefusal
     }
 }
 
-// Why nothing whole stands at the front of octets.
-fn why_torn(octets: &[u8]) -> PartRefusal
+/// Why nothing whole stands at the front of octets.
+pub(crate) fn why_torn(octets: &[u8]) -> PartRefusal
     requires { torn ≡ front_of octets.now }
     ensures { IsNoPart octets.now result }
 {

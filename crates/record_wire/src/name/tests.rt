@@ -1,6 +1,8 @@
 //! Names read from messages and from text, and written as text.
 
 use super::Name;
+use super::refusal::NameRefusal;
+use crate::refusal::PartRefusal;
 use crate::testing::{prints, same, same_of, takes_writes};
 use arrayvec::ArrayString;
 use dns_wire::dns::Packet;
@@ -265,4 +267,74 @@ fn check_labels(rt: &impl Abort, text: &[u8], labels: &[&[u8]]) {
         same_of(rt, text, left.next(), None);
     }
     same_of(rt, text, copy == name, true);
+}
+
+#[test]
+fn names_that_are_refused(rt: HostRuntime) {
+    // A message, the place where a name begins in it, and why there is none.
+    const ROWS: &[(&[u8], usize, Option<NameRefusal>)] = &[
+        (b"\x01F\0", 0, None),
+        (b"\x01F\0", 3, Some(NameRefusal::Part(PartRefusal::Cut))),
+        (b"\x02F", 0, Some(NameRefusal::Part(PartRefusal::Cut))),
+        (b"\x01F", 0, Some(NameRefusal::Part(PartRefusal::Cut))),
+        (b"\x01F\xc0", 0, Some(NameRefusal::Part(PartRefusal::Cut))),
+        (
+            b"\x01F\x41",
+            0,
+            Some(NameRefusal::Part(PartRefusal::LabelType(0x41))),
+        ),
+        (
+            b"\x80\xc0\0",
+            1,
+            Some(NameRefusal::Part(PartRefusal::LabelType(0x80))),
+        ),
+        (b"\xc0\0", 0, Some(NameRefusal::Pointer(0))),
+        (b"\x01F\xc0\0", 0, Some(NameRefusal::Pointer(0))),
+        (b"\x01F\xc0\x04", 0, Some(NameRefusal::Pointer(4))),
+        (b"\xff\xff", 0, Some(NameRefusal::Pointer(16383))),
+        (b"\xc0\x02\xc0\0", 0, Some(NameRefusal::Pointer(2))),
+        (b"\0\xc0\0", 1, None),
+    ];
+    for &(message, place, refusal) in ROWS {
+        let bytes = message.get(place..).unwrap_or(&[]);
+        let packet = Packet::new_unchecked(message);
+        same_of(&rt, message, Name::read_refusal(&packet, bytes), refusal);
+        same_of(
+            &rt,
+            message,
+            Name::read(&packet, bytes).is_ok(),
+            refusal.is_none(),
+        );
+    }
+}
+
+#[test]
+fn a_name_of_more_than_255_octets_is_refused(rt: HostRuntime) {
+    // Labels of one byte: 127 of them and byte 0 have 255 octets, and 128 have 257.
+    let mut octets = [1; 257];
+    octets[256] = 0;
+    let longest = octets.get(2..).unwrap_or(&[]);
+    let packet = Packet::new_unchecked(longest);
+    same(&rt, Name::read_refusal(&packet, longest), None);
+    let packet = Packet::new_unchecked(octets.as_slice());
+    same(
+        &rt,
+        Name::read_refusal(&packet, octets.as_slice()),
+        Some(NameRefusal::TooLong),
+    );
+}
+
+#[test]
+fn texts_of_reasons_of_names(rt: HostRuntime) {
+    let rows = [
+        (NameRefusal::Part(PartRefusal::Cut), "the name is cut"),
+        (
+            NameRefusal::Pointer(300),
+            "a pointer to place 300 leads nowhere or round",
+        ),
+        (NameRefusal::TooLong, "the name has more than 255 octets"),
+    ];
+    for (refusal, text) in &rows {
+        prints(&rt, rt.alloc(), refusal, text);
+    }
 }
