@@ -42,6 +42,17 @@ impl fmt::Display for EdnsOption<'_> {
 
 /// The options in the data of an OPT record in turn: each one while they read, one refusal where no whole option
 /// stands, and then the end for good.
+///
+/// ```
+/// use record_wire::EdnsOptions;
+///
+/// // A cookie of a client (RFC 7873 section 4).
+/// let mut options = EdnsOptions::new(b"\0\x0a\0\x08cookie!!");
+/// let cookie = options.next().unwrap()?;
+/// assert_eq!((cookie.code, cookie.data), (10, &b"cookie!!"[..]));
+/// assert!(options.next().is_none());
+/// # Ok::<(), control_wire::Error>(())
+/// ```
 #[derive(Debug, Drop)]
 pub struct EdnsOptions<'a> {
     // The octets behind the options that were given; none behind a refusal.

@@ -67,6 +67,19 @@ impl fmt::Display for Entry<'_> {
 
 /// The questions and the records of a message in turn, as many as its header counts: each one while they read, one
 /// refusal where none stands, and then the end for good.
+///
+/// ```
+/// use record_wire::{Entries, Entry};
+/// use control_wire::dns::Packet;
+///
+/// // A buffer of the caller's own: a view of a slice of it is what is read.
+/// let message: Vec<u8> = b"\0\x01\0\0\0\x01\0\0\0\0\0\0\x03www\0\0\x01\0\x01".to_vec();
+/// let packet = Packet::new_checked(&message[..])?;
+/// let mut entries = Entries::new(&packet);
+/// assert!(matches!(entries.next(), Some(Ok(Entry::Question(_)))));
+/// assert!(entries.next().is_none());
+/// # Ok::<(), control_wire::Error>(())
+/// ```
 #[derive(Drop)]
 pub struct Entries<'a> {
     // How many there are up to the end of each section.

@@ -1,4 +1,17 @@
 //! The class in multicast DNS, whose top bit is a flag (RFC 6762 sections 5.4 and 10.2).
+//!
+//! ```
+//! use record_wire::rdata::RData;
+//! use record_wire::{Record, types};
+//! use control_wire::Ipv4Address;
+//!
+//! // An address of a host, which caches are to take in the place of those that they have.
+//! let (_, record) = Record::parse(b"\x04host\x05local\0\0\x01\x80\x01\0\0\0\x78\0\x04\xc0\0\x02\x01")?;
+//! assert_eq!((record.type_, record.multicast_class()), (types::A, 1));
+//! assert!(record.flushes_cache());
+//! assert_eq!(record.multicast_rdata()?, RData::A(Ipv4Address::new(192, 0, 2, 1)));
+//! # Ok::<(), control_wire::Error>(())
+//! ```
 
 ghost use Rattle.std.specs.Prelude.{◌≡◌};
 ghost use Rattle.record_wire.specs.Multicast as multicast;

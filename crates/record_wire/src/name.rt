@@ -31,6 +31,15 @@ use wirebase::{Error, Result};
 pub const MAX_NAME_LEN: usize = 255;
 
 /// A whole name, by its octets: each label of 1 to 63 bytes behind its length, and then byte 0; 255 octets at most.
+///
+/// ```
+/// use record_wire::Name;
+///
+/// let name = Name::from_text(b"www.example.com")?;
+/// assert_eq!(name.octets(), b"\x03www\x07example\x03com\0");
+/// assert_eq!(name.to_string(), "www.example.com");
+/// # Ok::<(), control_wire::Error>(())
+/// ```
 #[derive(Drop)]
 pub struct Name {
     octets: ArrayVec<u8, MAX_NAME_LEN>,

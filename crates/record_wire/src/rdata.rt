@@ -43,6 +43,17 @@ mod field {
 
 /// The data of a record. Names are as they are written: labels of 1 to 63 bytes, each after its length, and then byte 0
 /// or a pointer into the message.
+///
+/// ```
+/// use record_wire::rdata::RData;
+/// use control_wire::Ipv4Address;
+/// use control_wire::dns::Type;
+///
+/// let data = RData::parse(Type::A, 1, &[192, 0, 2, 1])?;
+/// assert_eq!(data, RData::A(Ipv4Address::new(192, 0, 2, 1)));
+/// assert!(RData::parse(Type::A, 1, &[192, 0, 2]).is_err());
+/// # Ok::<(), control_wire::Error>(())
+/// ```
 #[derive(Debug, PartialEq, Eq, Clone, Copy)]
 pub enum RData<'a> {
     /// An IPv4 address (RFC 1035 section 3.4.1), of type A and class 1.

@@ -34,6 +34,16 @@ mod field {
 }
 
 /// A question: the records of one type and class at a name (RFC 1035 section 4.1.2).
+///
+/// ```
+/// use record_wire::Question;
+/// use control_wire::dns::Type;
+///
+/// let (rest, question) = Question::parse(b"\x03www\0\0\x1c\0\x01rest")?;
+/// assert_eq!((question.type_, question.class), (Type::Aaaa, 1));
+/// assert_eq!(rest, b"rest");
+/// # Ok::<(), control_wire::Error>(())
+/// ```
 #[derive(Debug, PartialEq, Eq, Clone, Copy)]
 pub struct Question<'a> {
     /// The name as it is written: labels of 1 to 63 bytes, each after its length, and then byte 0 or a pointer.
@@ -113,6 +123,18 @@ impl fmt::Display for Question<'_> {
 
 /// A resource record of any type and class, also of one that belongs to the message and to no name, as OPT (RFC 6891
 /// section 6.1).
+///
+/// ```
+/// use record_wire::Record;
+/// use control_wire::dns::Type;
+///
+/// let octets = b"\x03www\0\0\x01\0\x01\0\0\0\x3c\0\x04\xc0\0\x02\x01";
+/// let (rest, record) = Record::parse(octets)?;
+/// assert_eq!((record.type_, record.ttl), (Type::A, 60));
+/// assert_eq!(record.data, [192, 0, 2, 1]);
+/// assert!(rest.is_empty());
+/// # Ok::<(), control_wire::Error>(())
+/// ```
 #[derive(Debug, PartialEq, Eq, Clone, Copy)]
 pub struct Record<'a> {
     /// The name as it is written: labels of 1 to 63 bytes, each after its length, and then byte 0 or a pointer.

@@ -10,6 +10,13 @@ use std::marker::Model;
 
 /// The strings of TXT data in turn, each without the byte of its length. They end where no whole string stands; in the
 /// data of `RData::Txt` they take up all the octets.
+///
+/// ```
+/// use record_wire::TxtStrings;
+///
+/// let strings: Vec<&[u8]> = TxtStrings::new(b"\x06path=/\x01x").collect();
+/// assert_eq!(strings, [&b"path=/"[..], b"x"]);
+/// ```
 #[derive(Debug, Drop)]
 pub struct TxtStrings<'a> {
     // The octets behind the strings that were given.

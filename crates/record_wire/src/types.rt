@@ -1,4 +1,13 @@
 //! Types of records, by IANA's registry of DNS parameters, and the text of a type.
+//!
+//! ```
+//! use record_wire::{TypeName, types};
+//! use control_wire::dns::Type;
+//!
+//! assert_eq!(types::MX, Type::from(15));
+//! assert_eq!(TypeName(types::MX).to_string(), "MX");
+//! assert_eq!(TypeName(Type::from(4711)).to_string(), "TYPE4711");
+//! ```
 
 ghost use Rattle.std.specs.Prelude.{◌≡◌};
 ghost use Rattle.std.specs.Option.{option_map};
