@@ -1,5 +1,4 @@
 pub mod Addresses
-pub mod Calendars
 pub mod Digits
 pub mod Entries
 pub mod FlagNames
@@ -12,6 +11,5 @@ pub mod Printing
 pub mod Reading
 pub mod Rooms
 pub mod Showing
-pub mod Times
 pub mod Walking
 pub mod ZoneTexts

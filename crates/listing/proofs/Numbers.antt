@@ -4,7 +4,7 @@ use Rattle.std.proofs.Common.{refl, ap, ◌∙◌, arith, append_assoc, length-a
 use Rattle.std.proofs.lemmas.Fmt.{decimal_digit, decimal_step, length-decimal-le}
 use Rattle.std.proofs.lemmas.List.{drop_at, drop-drop}
 use borrow.Rule.Slice.PartMut.{put_mid}
-use Rattle.listing.specs.TimeText.{last_digits}
+use Rattle.listing.specs.Digits.{last_digits}
 
 -- how many digits a number has: few
 pub digits_few : (n : ℕ) → n < 2 ^ 64 → length (decimal n) ≤ 20

@@ -1,4 +1,4 @@
-pub mod Calendar
+pub mod Digits
 pub mod EndpointText
 pub mod Indented
 pub mod Layout
@@ -23,4 +23,3 @@ pub mod ListingZone
 pub mod Output
 pub mod Page
 pub mod Ports
-pub mod TimeText

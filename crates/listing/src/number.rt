@@ -4,7 +4,7 @@
 
 ghost use Rattle.std.specs.Prelude.{◌≡◌, ◌+◌, ◌≤◌, ◌++◌, OnOk, decimal, drop};
 ghost use Rattle.listing.specs.Output.{Gains};
-ghost use Rattle.listing.specs.TimeText.{last_digits};
+ghost use Rattle.listing.specs.Digits.{last_digits};
 
 use std::io;
 use std::io::Write;

@@ -5,4 +5,5 @@ pub mod Printing
 pub mod Running
 pub mod Summaries
 pub mod Tallies
+pub mod Times
 pub mod Words

@@ -2,18 +2,20 @@
 use Rattle.std.specs.Prelude.{ℕ, ◌/◌, ◌%◌, List, [], ◌∷◌, ◌++◌, Option, None, Some, codes, decimal}
 use Rattle.std.specs.Option.{option_map}
 use Rattle.capture.specs.Packet.{PacketValue}
+use Rattle.capture.specs.Time.{TimeValue}
 use Rattle.frame_wire.specs.Link.{vlan_in}
 use Rattle.frame_wire.specs.declared.datagram.Addresses.{Addresses}
 use Rattle.frame_wire.specs.declared.datagram.Addresses.TheVariants.{V4, V6}
 use Rattle.listing.specs.EndpointText.{v4_text, v6_text}
 use Rattle.listing.specs.Layout.{line}
-use Rattle.listing.specs.TimeText.{time_text}
 use Rattle.pcapdump.specs.Kinds.{kind_text}
 use Rattle.pcapdump.specs.Sight.{HeadersValue}
+use Rattle.pcapdump.specs.TimeText.{time_text}
 
--- the time of a packet
-abbrev pub packet_time : PacketValue → List ℕ
-packet_time p = time_text (p.nanoseconds / 1000000000) (p.nanoseconds % 1000000000)
+-- the time of a packet, where one is told
+abbrev pub packet_time : Option TimeValue → List ℕ
+packet_time None = codes "-"
+packet_time (Some t) = time_text (t.nanoseconds / 1000000000) (t.nanoseconds % 1000000000)
 
 abbrev pub source_port : Option (ℕ × ℕ) → Option ℕ
 source_port ports = option_map (λ p. p.0) ports
@@ -45,5 +47,5 @@ hop_by_hop_text (Some options) = codes " hbh"
 -- the heading of the packet of a number
 unfoldable pub heading : ℕ → PacketValue → HeadersValue → List ℕ
 heading number p h =
-    decimal number ++ codes " " ++ packet_time p ++ addresses_text h.addresses h.ports ++ tags_text h.tags
+    decimal number ++ codes " " ++ packet_time p.time ++ addresses_text h.addresses h.ports ++ tags_text h.tags
     ++ hop_by_hop_text h.hop_by_hop ++ codes " " ++ line (kind_text h.kind)

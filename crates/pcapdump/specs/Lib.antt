@@ -8,3 +8,4 @@ pub mod Sight
 pub mod Summary
 pub mod Table
 pub mod Tally
+pub mod TimeText

@@ -16,10 +16,10 @@ use crate::kind::{Kind, Reason};
 use crate::messages::show_listing;
 use crate::options::Options;
 use crate::sight::{Headers, Sight, look};
+use crate::time::Clock;
 use crate::tally::{Outcome, Tally};
 use capture::{Capture, Ending, Next, Record};
 use listing::page::Page;
-use listing::time::Clock;
 use std::alloc::Global;
 use std::io;
 use std::io::{BufReader, BufWriter, Read, Write};
@@ -140,7 +140,7 @@ pub fn show_packet<W: Write>(
     captured: &Record,
     octets: &[u8],
 ) -> Result<Outcome, Fault>
-    requires { captured.now.time.nanoseconds < 1000000000 }
+    requires { IfSome captured.now.time (λ time. time.nanoseconds < 1000000000) }
     ensures { IfOk result (λ outcome. GainsSome (W.contents output.old) (W.contents output.new) (λ text.
         PacketPrints options.now captured.now.number (packet_of captured.now octets.now) text outcome)) }
 {
@@ -163,7 +163,7 @@ fn show_control<W: Write>(
     octets: &[u8],
     headers: &Headers<'_>,
 ) -> Result<Outcome, Fault>
-    requires time { captured.now.time.nanoseconds < 1000000000 }
+    requires time { IfSome captured.now.time (λ time. time.nanoseconds < 1000000000) }
     requires sight { IsSight (packet_of captured.now octets.now) (control (headers_of headers.now)) }
     ensures { IfOk result (λ outcome. GainsSome (W.contents output.old) (W.contents output.new) (λ text.
         PacketPrints options.now captured.now.number (packet_of captured.now octets.now) text outcome)) }

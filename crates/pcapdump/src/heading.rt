@@ -2,21 +2,22 @@
 
 #![tactic(auto, using(listing::proofs::Printing::gained, listing::proofs::Printing::gains_both))]
 
-ghost use Rattle.std.specs.Prelude.{◌≡◌, ◌<◌, ◌≤◌, OnOk, Some, length};
+ghost use Rattle.std.specs.Prelude.{◌≡◌, ◌<◌, ◌≤◌, IfSome, OnOk, Some, length};
 ghost use Rattle.std.specs.Option.{option_map};
 ghost use Rattle.frame_wire.specs.declared.datagram.Addresses.TheVariants.{V4, V6};
 ghost use Rattle.capture.specs.Capture.{packet_of};
+ghost use Rattle.capture.specs.Time.{value_of};
 ghost use Rattle.listing.specs.Output.{Gains};
-ghost use Rattle.pcapdump.specs.Heading.{heading, addresses_text, source_port as source_in};
+ghost use Rattle.pcapdump.specs.Heading.{heading, packet_time, addresses_text, source_port as source_in};
 ghost use Rattle.pcapdump.specs.Heading.{destination_port as destination_in, tag_text, tags_text, hop_by_hop_text};
 ghost use Rattle.pcapdump.specs.Sight.{headers_of};
 
 use crate::sight::Headers;
-use capture::Record;
+use crate::time::Clock;
+use capture::{Record, Time};
 use frame_wire::Addresses;
 use listing::endpoint::{write_v4, write_v6};
 use listing::printer::{Value, line};
-use listing::time::Clock;
 use std::io;
 use std::io::Write;
 use wirebase::{Field, Ipv4Address, Ipv6Address, Octets};
@@ -26,7 +27,7 @@ const TAG_LEN: usize = 4;
 
 const VLAN: Field = 0..2;
 
-/// Prints the heading of a control packet. Requires that the packet's time is in order.
+/// Prints the heading of a control packet. Requires that the packet's time, where it has one, is in order.
 pub fn show_heading<W: Write>(
     output: &mut W,
     clock: &mut Clock,
@@ -34,18 +35,30 @@ pub fn show_heading<W: Write>(
     octets: &[u8],
     headers: &Headers<'_>,
 ) -> io::Result<()>
-    requires { captured.now.time.nanoseconds < 1000000000 }
+    requires { IfSome captured.now.time (λ time. time.nanoseconds < 1000000000) }
     ensures { OnOk result (Gains (W.contents output.old) (W.contents output.new)
         (heading captured.now.number (packet_of captured.now octets.now) (headers_of headers.now))) }
 {
     captured.number.write_to(output)?;
     output.write_all(b" ")?;
-    clock.write(output, captured.time.seconds, captured.time.nanoseconds)?;
+    show_time(output, clock, captured.time)?;
     show_addresses(output, headers.addresses, headers.ports)?;
     show_tags(output, headers.tags)?;
     show_hop_by_hop(output, headers.hop_by_hop)?;
     output.write_all(b" ")?;
     line(output, headers.kind.name())
+}
+
+// Prints when a packet was captured, where that is told.
+fn show_time<W: Write>(output: &mut W, clock: &mut Clock, time: Option<Time>) -> io::Result<()>
+    requires { IfSome time (λ time. time.nanoseconds < 1000000000) }
+    ensures { OnOk result (Gains (W.contents output.old) (W.contents output.new)
+        (packet_time (option_map value_of time))) }
+{
+    match time {
+        Some(time) => clock.write(output, time.seconds, time.nanoseconds),
+        None => output.write_all(b"-"),
+    }
 }
 
 // Prints from where a packet comes and to where it goes, as far as that is known.

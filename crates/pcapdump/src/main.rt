@@ -17,6 +17,7 @@ mod tally;
 mod testing;
 #[cfg(test)]
 mod tests;
+mod time;
 
 use crate::arguments::{Task, Wrong, read_task};
 use crate::options::Options;

@@ -9,17 +9,16 @@ use frame_wire::{Addresses, Datagram, Frame, Network, UdpRepr};
 pub fn add_record(record: &Record, octets: &[u8], digest: &mut Digest) {
     let Record {
         number,
-        time: Time {
-            seconds,
-            nanoseconds,
-        },
+        time,
         link_type,
         captured_len,
         original_len,
     } = record;
+    // A packet without a time counts as one of 1970.
+    let time = time.unwrap_or(Time::ZERO);
     digest.add(*number);
-    digest.add(*seconds);
-    digest.add(*nanoseconds as u64);
+    digest.add(time.seconds);
+    digest.add(time.nanoseconds as u64);
     digest.add(*link_type as u64);
     digest.add(*captured_len as u64);
     digest.add(*original_len as u64);

@@ -1,15 +1,12 @@
 -- The words, one after another.
 use Rattle.listing.proofs.Printing.{◌then◌, gained, gains_last}
 use Rattle.pcapdump.specs.Heading.{heading}
-use Rattle.pcapdump.proofs.Headings.{seconds_in, nanoseconds_in}
 use Rattle.pcapdump.proofs.heading.show_heading.Goals as goal
 
 pub returns : goal.returns
 unfolding heading
 returns g c =
-    let time = c.args.captured.now.time in
-    rw (seconds_in time.seconds time.nanoseconds c.requires, nanoseconds_in time.seconds time.nanoseconds c.requires)
-    (gains_last _ _ _
-    (c.in_ok-write_to.ensures then gained _ _ _ c.in_ok-write_all.ensures.bytes then c.in_ok-write.ensures
+    gains_last _ _ _
+    (c.in_ok-write_to.ensures then gained _ _ _ c.in_ok-write_all.ensures.bytes then c.in_ok-show_time.ensures
     then c.in_ok-show_addresses.ensures then c.in_ok-show_tags.ensures then c.in_ok-show_hop_by_hop.ensures
-    then gained _ _ _ c.in_ok-write_all-2.ensures.bytes) (rw c.name.ensures at c.line.ensures))
+    then gained _ _ _ c.in_ok-write_all-2.ensures.bytes) (rw c.name.ensures at c.line.ensures)

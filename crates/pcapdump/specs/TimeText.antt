@@ -1,12 +1,8 @@
 -- Times as RFC 3339 writes them (section 5.6), in UTC and with nine digits of a second.
-use Rattle.std.specs.Prelude.{ℕ, zero, suc, ◌+◌, ◌/◌, ◌%◌, List, [], ◌∷◌, ◌++◌, codes, decimal}
-use Rattle.listing.specs.Calendar.{date_of}
-use Rattle.listing.specs.declared.time.date.Date.{Date}
-
--- the last digits of a number, so many of them: those of its tenth, and then its last
-abbrev pub last_digits : ℕ → ℕ → List ℕ
-last_digits zero number = []
-last_digits (suc count) number = last_digits count (number / 10) ++ (48 + number % 10) ∷ []
+use Rattle.std.specs.Prelude.{ℕ, ◌/◌, ◌%◌, List, ◌++◌, codes, decimal}
+use Rattle.capture.specs.Calendar.{date_of}
+use Rattle.capture.specs.declared.calendar.Date.{Date}
+use Rattle.listing.specs.Digits.{last_digits}
 
 abbrev pub month_and_day_text : Date → List ℕ
 month_and_day_text d = codes "-" ++ last_digits 2 d.month ++ codes "-" ++ last_digits 2 d.day

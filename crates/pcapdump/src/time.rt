@@ -1,16 +1,14 @@
 //! Times of packets, as RFC 3339 writes them in UTC.
 
-#![tactic(auto, using(crate::proofs::Printing::gained, crate::proofs::Printing::gains_both))]
-
-mod date;
+#![tactic(auto, using(listing::proofs::Printing::gained, listing::proofs::Printing::gains_both))]
 
 ghost use Rattle.std.specs.Prelude.{◌≡◌, ◌+◌, ◌/◌, ◌%◌, ◌++◌, OnOk, length};
-ghost use Rattle.listing.specs.Calendar.{date_of as date_after};
+ghost use Rattle.capture.specs.Calendar.{date_of as date_after};
 ghost use Rattle.listing.specs.Output.{Gains};
-ghost use Rattle.listing.specs.TimeText.{kept_text, time_of_day_text, time_text};
+ghost use Rattle.pcapdump.specs.TimeText.{kept_text, time_of_day_text, time_text};
 
-use crate::number::{two_digits, write_number};
-use crate::time::date::{Date, date_of};
+use listing::number::{two_digits, write_number};
+use capture::calendar::{Date, date_of};
 use std::io;
 use std::io::Write;
 

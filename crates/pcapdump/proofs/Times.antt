@@ -5,9 +5,10 @@ use Rattle.std.proofs.lemmas.Fmt.{decimal_digit, decimal_step}
 use Rattle.std.proofs.lemmas.List.{take-append-drop, append-nil, drop_all, take-append-le, take_all}
 use Rattle.std.proofs.lemmas.Slice.{take-put_mid, drop-put_mid}
 use borrow.Rule.Slice.PartMut.{put_mid}
-use Rattle.listing.specs.Calendar.{date_of}
-use Rattle.listing.specs.TimeText.{last_digits, kept_text, time_of_day_text, time_text}
-use Rattle.listing.proofs.Calendars.{year-least, year-most}
+use Rattle.capture.specs.Calendar.{date_of}
+use Rattle.listing.specs.Digits.{last_digits}
+use Rattle.pcapdump.specs.TimeText.{kept_text, time_of_day_text, time_text}
+use Rattle.capture.proofs.Calendars.{year-least, year-most}
 
 -- ---- octets side by side
 

@@ -1,7 +1,7 @@
 -- The date in front, and the time behind it.
 use Rattle.std.proofs.Common.{refl}
-use Rattle.listing.proofs.Times.{joined}
-use Rattle.listing.proofs.time.join.Goals as goal
+use Rattle.pcapdump.proofs.Times.{joined}
+use Rattle.pcapdump.proofs.time.join.Goals as goal
 
 pub returns : goal.returns
 returns c =

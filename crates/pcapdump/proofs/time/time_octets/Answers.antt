@@ -1,7 +1,7 @@
 -- The digits by two, and the hours by their seconds.
 use Rattle.std.proofs.Common.{◌≡◌, ◌/◌, refl, arith}
-use Rattle.listing.specs.TimeText.{time_of_day_text}
-use Rattle.listing.proofs.time.time_octets.Goals as goal
+use Rattle.pcapdump.specs.TimeText.{time_of_day_text}
+use Rattle.pcapdump.proofs.time.time_octets.Goals as goal
 
 pub returns : goal.returns
 unfolding time_of_day_text

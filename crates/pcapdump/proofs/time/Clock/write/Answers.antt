@@ -1,8 +1,8 @@
 -- The date that is kept and the time behind it, and in front of both the digits of a long year.
 use Rattle.std.proofs.Common.{◌++◌, ap, ◌∙◌}
 use Rattle.listing.proofs.Printing.{gains_last, gained_on_ok}
-use Rattle.listing.proofs.Times.{early, late}
-use Rattle.listing.proofs.time.Clock.write.Goals as goal
+use Rattle.pcapdump.proofs.Times.{early, late}
+use Rattle.pcapdump.proofs.time.Clock.write.Goals as goal
 
 pub returns-then-self-eq0 : goal.returns-then-self-eq0
 returns-then-self-eq0 g c =

@@ -1,7 +1,0 @@
--- What is left, and the days of the months that passed.
-use Rattle.std.proofs.Common.{◌≡◌, ◌+◌}
-use Rattle.listing.specs.Calendar.{days_of_months}
-use Rattle.listing.proofs.time.date.date_in_year.Given as goal
-
-abbrev pub invariant-loop-months : goal.invariant-loop-months
-invariant-loop-months l = l.left + days_of_months l.year l.months ≡ l.days

@@ -1,7 +1,0 @@
--- The leap days are what the quotients count.
-use Rattle.std.proofs.Common.{arith}
-use Rattle.listing.proofs.Calendars.{days_of_years-is}
-use Rattle.listing.proofs.time.date.days_in_years.Goals as goal
-
-pub returns : goal.returns
-returns c = omega (arith, days_of_years-is c.args.years)
