@@ -42,7 +42,7 @@ class Printed:
         self.unread = None
 
     def text(self, number, packet):
-        heading = " ".join([str(number), time(packet.nanoseconds)] + self.words + [self.kind])
+        heading = " ".join([str(number), "-" if packet.nanoseconds is None else time(packet.nanoseconds)] + self.words + [self.kind])
         lines = self.lines + (["refused=" + self.reason] if self.reason else [])
         return heading + "\n" + "".join("  %s\n" % line for line in lines)
 

@@ -24,7 +24,7 @@ READ_KINDS = (SECTION_KIND, INTERFACE, OBSOLETE, SIMPLE, ENHANCED)
 
 
 class Packet:
-    """A packet: when it was captured, of which link it is, how long it was, and what is kept of it."""
+    """A packet: when it was captured (None where nothing tells it), of which link it is, how long it was, and what is kept of it."""
 
     def __init__(self, nanoseconds, link_type, original_len, octets):
         self.nanoseconds = nanoseconds
@@ -193,7 +193,7 @@ def packet_of(kind, block, order, interfaces):
     if kind == SIMPLE:
         original_len = number(8)
         captured_len = min(original_len, of.snap_len) if of.snap_len else original_len
-        nanoseconds = 0
+        nanoseconds = None
     else:
         captured_len, original_len = number(20), number(24)
         nanoseconds = of.nanoseconds(number(12) * 2 ** 32 + number(16))
