@@ -24,8 +24,8 @@ REASONS = ("cut", "fragment", "short", "checksum", "type", "quote", "name", "mal
 # The status of each ending of a capture, and what is told of it.
 ENDINGS = {
     "whole": (0, None), "cut": (1, "it ends within a record"), "too large": (1, "a record is too large"),
-    "malformed": (1, "a record contradicts itself"), "version": (2, "its version is not read"),
-    "no capture": (2, "it is no capture"),
+    "too many": (1, "it describes too many interfaces"), "malformed": (1, "a record contradicts itself"),
+    "version": (2, "its version is not read"), "no capture": (2, "it is no capture"),
 }
 
 
@@ -42,7 +42,8 @@ class Printed:
         self.unread = None
 
     def text(self, number, packet):
-        heading = " ".join([str(number), "-" if packet.nanoseconds is None else time(packet.nanoseconds)] + self.words + [self.kind])
+        when = "-" if packet.nanoseconds is None else time(packet.nanoseconds)
+        heading = " ".join([str(number), when] + self.words + [self.kind])
         lines = self.lines + (["refused=" + self.reason] if self.reason else [])
         return heading + "\n" + "".join("  %s\n" % line for line in lines)
 
@@ -187,7 +188,9 @@ class Dumped:
 
     def __init__(self, text, ending, counts):
         self.text = text
-        self.status, self.ending = ENDINGS[ending]
+        kind, colon, check = ending.partition(": ")
+        self.status, said = ENDINGS[kind]
+        self.ending = said and said + colon + check
         self.counts = counts
 
     def said(self, name, count=False):

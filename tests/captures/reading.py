@@ -33,8 +33,13 @@ class Packet:
         self.octets = octets
 
 
+# What ends a capture behind a block with too few bytes.
+SHORT = "malformed: a block is too short for its kind"
+
+
 class Ended(Exception):
-    """What ends a capture where it is not whole: `cut`, `too large`, `malformed`, `version` or `no capture`."""
+    """What ends a capture where it is not whole: `cut`, `too large`, `too many`, `version`, `no capture`, or
+    `malformed: ` and the check that fails."""
 
 
 class Capture:
@@ -95,14 +100,14 @@ class Capture:
             if block is None:
                 continue
             if int.from_bytes(block[-4:], order) != len(block):
-                raise Ended("malformed")
+                raise Ended("malformed: a block ends with another length than it begins with")
             if kind == SECTION_KIND:
                 check_section(block, order)
                 interfaces = []
             elif kind == INTERFACE:
                 interfaces.append(interface(block, order))
                 if len(interfaces) > MOST_INTERFACES:
-                    raise Ended("too large")
+                    raise Ended("too many")
             else:
                 packet = packet_of(kind, block, order, interfaces)
                 self.end += len(block)
@@ -119,11 +124,11 @@ class Capture:
         kind = int.from_bytes(head[:4], order)
         if kind == SECTION_KIND:
             if head[8:] not in ORDERS:
-                raise Ended("malformed")
+                raise Ended("malformed: a section header tells no order of bytes")
             order = ORDERS[head[8:]]
         total = int.from_bytes(head[4:8], order)
         if total < 12 or total % 4:
-            raise Ended("malformed")
+            raise Ended("malformed: %d is not the length of a block" % total)
         if kind in READ_KINDS and total > MOST_BLOCK:
             raise Ended("too large")
         if len(self.data) - self.end < total:
@@ -136,7 +141,7 @@ class Capture:
 
 def check_section(block, order):
     if len(block) < 28:
-        raise Ended("malformed")
+        raise Ended(SHORT)
     if int.from_bytes(block[12:14], order) != 1 or int.from_bytes(block[14:16], order) not in (0, 2):
         raise Ended("version")
 
@@ -155,7 +160,7 @@ class Interface:
 
 def interface(block, order):
     if len(block) < 20:
-        raise Ended("malformed")
+        raise Ended(SHORT)
     units, offset = 10 ** 6, 0
     found = options(block[16:-4], order)
     # The first of each counts.
@@ -187,8 +192,10 @@ def packet_of(kind, block, order, interfaces):
 
     least, at = (16, 12) if kind == SIMPLE else (32, 28)
     place = 0 if kind == SIMPLE else number(8, 2) if kind == OBSOLETE else number(8)
-    if len(block) < least or place >= len(interfaces):
-        raise Ended("malformed")
+    if len(block) < least:
+        raise Ended(SHORT)
+    if place >= len(interfaces):
+        raise Ended("malformed: interface %d is not described" % place)
     of = interfaces[place]
     if kind == SIMPLE:
         original_len = number(8)
@@ -198,7 +205,7 @@ def packet_of(kind, block, order, interfaces):
         captured_len, original_len = number(20), number(24)
         nanoseconds = of.nanoseconds(number(12) * 2 ** 32 + number(16))
     if least + captured_len > len(block):
-        raise Ended("malformed")
+        raise Ended("malformed: a packet of %d bytes is longer than its block" % captured_len)
     if captured_len > MOST_OCTETS:
         raise Ended("too large")
     return Packet(nanoseconds, of.link_type, original_len, block[at:at + captured_len])
