@@ -107,9 +107,10 @@ abbrev pub early : PacketValue → Reason
 early p = if nat_lt (length p.octets) p.original_len then reason.Cut else reason.Short
 
 abbrev pub reason_of : PacketValue → Refusal → Reason
-reason_of p refusal.Cut = early p
-reason_of p refusal.Malformed = reason.Malformed
-reason_of p refusal.Fragment = reason.Fragment
+reason_of p refusal.Short = early p
+reason_of p (refusal.Cut head) = early p
+reason_of p (refusal.Fragment head) = reason.Fragment
+reason_of p _ = reason.Malformed
 
 abbrev pub refused_headers : List ℕ → Option Addresses → Option (ℕ × ℕ) → Reason → Kind → HeadersValue
 refused_headers tags addresses ports r kind = record {

@@ -169,9 +169,12 @@ fn reason_of(captured: &Record, octets: &[u8], refusal: Refusal) -> Reason
     ensures { result ≡ reason_of (packet_of captured.now octets.now) refusal }
 {
     match refusal {
-        Refusal::Cut => early(captured, octets),
-        Refusal::Malformed => Reason::Malformed,
-        Refusal::Fragment => Reason::Fragment,
+        Refusal::Short | Refusal::Cut(_) => early(captured, octets),
+        Refusal::Fragment(_) => Reason::Fragment,
+        Refusal::Version(_)
+        | Refusal::HeaderLen(_)
+        | Refusal::TotalLen(_)
+        | Refusal::Extension(_) => Reason::Malformed,
     }
 }
 
