@@ -164,7 +164,7 @@ def datagram6(octets):
             destination = routed(header, destination)
         number = header[0]
     if number == FRAGMENT:
-        raise Refused("fragment")
+        raise Refused("fragment" if len(payload) >= 8 else "malformed")
     return Datagram(octets[8:24], destination, number, payload, hop_by_hop)
 
 
