@@ -2,8 +2,8 @@
 
 use crate::digest::Digest;
 use crate::digest::ip::{add_ipv4_address, add_ipv6_address, add_protocol};
-use capture::{Record, Time};
-use frame_wire::{Addresses, Datagram, Frame, Network, UdpRepr};
+use capture::{Ending, Record, Time};
+use frame_wire::{Addresses, Datagram, Frame, Network, Refusal, UdpRepr};
 
 /// Adds a record of a capture and the bytes that it keeps.
 pub fn add_record(record: &Record, octets: &[u8], digest: &mut Digest) {
@@ -24,6 +24,30 @@ pub fn add_record(record: &Record, octets: &[u8], digest: &mut Digest) {
     digest.add(*original_len as u64);
     digest.add_front(octets);
     digest.add_ends(octets);
+}
+
+/// The number of what ends a capture.
+pub fn ending_number(ending: Ending) -> u64 {
+    match ending {
+        Ending::Whole => 0,
+        Ending::Cut => 1,
+        Ending::TooLarge | Ending::TooManyInterfaces => 2,
+        Ending::Malformed(_) => 3,
+        Ending::Version => 4,
+        Ending::NotACapture => 5,
+    }
+}
+
+/// The number of a reason why octets are no datagram.
+pub fn refusal_number(refusal: Refusal) -> u64 {
+    match refusal {
+        Refusal::Short | Refusal::Cut(_) => 0,
+        Refusal::Version(_)
+        | Refusal::HeaderLen(_)
+        | Refusal::TotalLen(_)
+        | Refusal::Extension(_) => 1,
+        Refusal::Fragment(_) => 2,
+    }
 }
 
 /// Adds what a frame holds.
