@@ -20,11 +20,11 @@ HERE = pathlib.Path(__file__).resolve().parent
 
 
 class Unit:
-    """A package that is written: its crates, the path that each crate of the repository has in it, its files by their
-    targets."""
+    """A package that is written: its crates, the path that each crate of the repository has in it and to its users, its
+    files by their targets."""
 
-    def __init__(self, folder, crates, paths, root):
-        self.folder, self.crates, self.paths, self.root = folder, crates, paths, root
+    def __init__(self, folder, crates, paths, root, users):
+        self.folder, self.crates, self.paths, self.root, self.users = folder, crates, paths, root, users
         self.files = {}
 
     def is_library(self):
@@ -97,14 +97,14 @@ def units_of(sources):
     [root], public = kinds["root"], kinds["module"]
     modules = {crate: "crate" if crate == root else f"crate::{public.get(crate, crate)}" for crate in library}
     outside = {crate: f"control_wire::{public[crate]}" if crate in public else "control_wire" for crate in library}
-    units = [Unit(pathlib.Path(), library, modules, root)]
+    units = [Unit(pathlib.Path(), library, modules, root, outside)]
     for crate in library:
         read_crate(sources, units[0], crate, public.get(crate, crate), False)
     for crate, name in kinds["package"].items():
-        units.append(Unit(pathlib.Path("packages") / name, [crate], outside, crate))
+        units.append(Unit(pathlib.Path("packages") / name, [crate], outside, crate, outside))
         read_crate(sources, units[-1], crate, crate, True)
     for crate, name in kinds["example"].items():
-        units.append(Unit(pathlib.Path("examples"), [crate], outside, crate))
+        units.append(Unit(pathlib.Path("examples"), [crate], outside, crate, outside))
         read(sources / f"crates/{crate}/src/main.rt", pathlib.Path(f"examples/{name}.rs"),
              pathlib.Path(f"crates/{crate}/src/main.rt"), units[-1].files, True)
     for unit in units:
@@ -179,11 +179,23 @@ def erase_rest(unit, file):
     file.rule = "prelude"
     if file.runtime:
         runtime.prelude(file)
-    rules.comments(file)
+    rules.comments(file, unit.users)
     rules.check(file)
 
 
 # ---------------------------------------------------------------- writing
+
+# The packages that may be published: their first page is by hand, and so is a part of them.
+PUBLISHED = {"capture"}
+
+README = """#![doc = include_str!("../README.md")]
+"""
+
+BY_HAND = """
+mod by_hand;
+
+pub use by_hand::*;
+"""
 
 LIB_HEAD = """#![doc = include_str!("../README.md")]
 #![no_std]
@@ -203,6 +215,8 @@ def text_of(unit, kinds, target, file):
     """What is written of a file: a line that says what made it, and its text. The root of the library has a head of its
     own in the place of its documentation."""
     made, text = f"// Made from {file.path} by rust/erase.\n", str(file)
+    if target == unit.folder / "src/lib.rs" and unit.root in PUBLISHED:
+        return made + README + "".join(re.split(r"^(?://!.*\n)+", text, maxsplit=1, flags=re.M)) + BY_HAND
     if not unit.is_library() or target.name != "lib.rs":
         return made + text
     public = kinds["module"]
@@ -212,16 +226,18 @@ def text_of(unit, kinds, target, file):
     return made + LIB_HEAD.format(modules=modules.strip()) + text[at:]
 
 
+# The version of all packages.
+VERSION = "0.14.0-1"
+
 MANIFEST = """# Made from {path} and the repository's crates.txt by rust/erase.
 [package]
 name = "{name}"
-version = "0.14.0-1"
+version = "{version}"
 edition.workspace = true
 rust-version.workspace = true
 license.workspace = true
 description = "{description}"
-publish = false
-
+{publish}
 [dependencies]
 {needs}
 
@@ -235,15 +251,16 @@ def manifest_of(unit, kinds, needs):
     root = next(iter(unit.files.values()))
     docs = re.match(r"(?://! .*\n)+", root.source).group()
     description = re.match(r"(.+?)\.( |$)", docs.replace("//! ", "").replace("\n", " ")).group(1)
-    lines = {"control_wire": 'control_wire = { path = "../.." }',
-             "rattle_std": 'rattle_std = { path = "../../rattle_std" }'}
+    lines = {"control_wire": f'control_wire = {{ path = "../..", version = "={VERSION}" }}',
+             "rattle_std": f'rattle_std = {{ path = "../../rattle_std", version = "={VERSION}" }}'}
     for need in needs[unit.root]:
         if need in kinds["package"]:
             lines[need] = f'{kinds["package"][need]} = {{ path = "../{kinds["package"][need]}" }}'
         elif need not in needs and need != "hex":
             lines[need] = f"{need}.workspace = true"
+    publish = "" if unit.root in PUBLISHED else "publish = false\n"
     return MANIFEST.format(path=root.path, name=unit.folder.name, description=description.replace('"', "'"),
-                           needs="\n".join(lines[need] for need in sorted(lines)))
+                           publish=publish, needs="\n".join(lines[need] for need in sorted(lines)), version=VERSION)
 
 
 def sets_test(sets):

@@ -100,11 +100,14 @@ def clone(file, i):
     for k in range(len(file.tokens)):
         if file.text(k) in ("struct", "enum") and file.text(k + 1) == name:
             start = file.start(k)
-            if not file.texts(start, "#", "[", "derive", "("):
-                break
-            file.insert(file.close(start + 3), ", Clone")
+            if file.texts(start, "#", "[", "derive", "("):
+                file.insert(file.close(start + 3), ", Clone")
+            else:
+                pre = file.tokens[start].pre
+                end = file.insert(start, "#[derive(Clone)]")
+                file.tokens[start].pre, file.tokens[end].pre = pre, "\n"
             return i
-    file.refuse(i, f"a Clone of {name}, which has no derive in this file")
+    file.refuse(i, f"a Clone of {name}, which is not in this file")
 
 
 @rule(VALUES)
@@ -318,12 +321,18 @@ COMMENTS = {
 PICTURE = re.compile(r"; (the|its|their) pictures?( of their header)? (is|are) in specs/\w+\.antt( of wirebase)?\.")
 
 
-def comments(file):
-    """Comments that are not true of the Rust crate are others; no token is touched."""
+# A crate that an example in a comment uses.
+USE = re.compile(r"^(\s*//[/!] (?:# )?use )(\w+)(?=::)", re.M)
+
+
+def comments(file, users):
+    """Comments that are not true of the Rust crate are others, and examples use what `users` has in the place of a crate;
+    no token is touched."""
     for token in file.tokens:
         for one, other in COMMENTS.items():
             token.pre = token.pre.replace(one, other)
         token.pre = PICTURE.sub(".", token.pre)
+        token.pre = USE.sub(lambda use: use[1] + users.get(use[2], use[2]), token.pre)
 
 
 def paths(file, crates, own):

@@ -30,7 +30,7 @@ SHAPES = {
     "final": (r"final", ""),
     "model": (r"impl [^{};]*Model for [^{};]*\{ \.\. \}", ""),
     "drop": (r"# \[ \.\. \]|, Drop|Drop ,|\+ Drop|Drop \+|: Drop", ""),
-    "clone": (r"impl Clone for [^{};]*\{ \.\. \}|", r"(, Clone)?"),
+    "clone": (r"impl Clone for [^{};]*\{ \.\. \}|", r"(, Clone|# \[ derive \( Clone \) \])?"),
     "cloned": (ATTRIBUTES + r"fn \w+ [^{};]*AllocError[^{};]*\{ \.\. \}", ""),
     "debug": (r"Debug ,", ""),
     "nothing": (ATTRIBUTES + r"fn \w+ [^{};]*\{ \.\. \}|(\w+ :: )*\w+ \( \.\. \) ;|, \w+|\w+ ,", ""),
@@ -155,7 +155,7 @@ CLOSER = {
 
 # Where something may be put in that stands for nothing: the token before it, `^`, and the one behind it.
 PLACES = {
-    "clone": r".+ \^ \)",
+    "clone": r".+ \^ \)|[;}] \^ (pub|struct|enum)",
     "lends_from_any": r"buffer \^ .+|.+ \^ >|impl \^ \w+",
     "reads_from_any": r"buffer \^ .+|.+ \^ >|\w+ \^ \(",
     "prelude": r" \^ .+",

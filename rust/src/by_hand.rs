@@ -1,6 +1,7 @@
 //! What is written by hand, and not proved: each file says what it has.
 
 mod addresses;
+mod names;
 mod octets;
 pub mod smoltcp;
 mod text;

@@ -29,6 +29,6 @@ pub use ip::IpProtocol;
 pub use ipv4::{Ipv4Address, Ipv4Packet, Ipv4Repr};
 pub use ipv6::{
     IPV6_HEADER_LEN, IPV6_LINK_LOCAL_ALL_NODES, IPV6_LINK_LOCAL_ALL_ROUTERS, IPV6_MIN_MTU,
-    Ipv6Address, Ipv6Packet, Ipv6Repr,
+    Ipv6Address, Ipv6Packet, Ipv6Refusal, Ipv6Repr,
 };
 pub use octets::{Field, Octets, OctetsMut};

@@ -2,6 +2,7 @@
 //! slice.
 
 use control_wire::icmpv4::{Packet, Repr};
+use control_wire::record::Name;
 use control_wire::{
     ChecksumCapabilities, Duration, Error, EthernetAddress, Ipv4Address, Ipv6Address,
     RawHardwareAddress, dns, igmp, ndisc,
@@ -260,4 +261,17 @@ fn sets_of_flags_have_the_calls_of_bitflags() {
     assert_eq!(flags.iter().count(), 2);
     assert_eq!(dns::Flags::all().bits(), 0x87b0);
     assert_eq!(!dns::Flags::empty(), dns::Flags::all());
+}
+
+#[test]
+fn names_have_the_traits_of_values() {
+    let name: Name = "www.example.com".parse().unwrap();
+    let other: Name = "WWW.Example.com.".parse().unwrap();
+    assert_eq!(name, other);
+    assert_eq!(name.clone(), name);
+    assert_eq!(format!("{name:?}"), "Name(www.example.com)");
+    let names = HashSet::from([name, "example.com".parse().unwrap()]);
+    assert!(names.contains(&other));
+    assert!(!names.contains(&"www.example.org".parse().unwrap()));
+    assert!("a..b".parse::<Name>().is_err());
 }

@@ -19,7 +19,8 @@ PATH = pathlib.Path("crates/one_wire/src/one.rt")
 def unit_of(source, runtime=False, above=""):
     """A package of one file, in the place of one_wire/src/one.rt."""
     paths = {"wirebase": "crate::wirebase", "one_wire": "crate::one"}
-    unit = erase.Unit(pathlib.Path(), list(paths), paths, "control_wire")
+    users = {"wirebase": "control_wire", "one_wire": "control_wire::one"}
+    unit = erase.Unit(pathlib.Path(), list(paths), paths, "control_wire", users)
     for name, text, runs in (("one.rs", source, runtime), ("base.rs", above, False)):
         file = File(PATH if name == "one.rs" else PATH.with_name("base.rt"), text, runs)
         file.crate = "one_wire"
@@ -197,6 +198,19 @@ class Rules(unittest.TestCase):
         file.crate = "one_wire"
         erase.erase([unit])
         self.assertEqual(str(file), "//! Docs.\n\n\n/// Of f.\nfn f() -> u8 { 1 }\n")
+
+    def test_a_clone_of_what_derives_nothing_else(self):
+        source = "use a::b; #[derive(Drop)] pub struct S(b); " \
+            "impl Clone for S { fn clone(&self) -> Result<S, AllocError> { Ok(S(self.0)) } }"
+        self.assertEqual(erased(source), words_of("use a::b; #[derive(Clone)] pub struct S(b);"))
+
+    def test_examples_use_the_modules_of_users(self):
+        file = File(PATH, "/// ```\n/// use one_wire::f;\n/// f(one_wire);\n/// ```\nfn f() -> u8 { 1 }\n")
+        unit = unit_of("")
+        unit.files[pathlib.Path("one.rs")] = file
+        file.crate = "one_wire"
+        erase.erase([unit])
+        self.assertEqual(str(file).splitlines()[1:3], ["/// use control_wire::one::f;", "/// f(one_wire);"])
 
     def test_each_comment_that_is_exchanged_stands_in_the_source(self):
         sources = [path.read_text() for path in (HERE.parents[1] / "crates").glob("*/src/**/*.rt")]

@@ -12,7 +12,7 @@ pub mod test;
 mod text;
 mod vec;
 
-pub use std::fs;
+pub use std::{fmt, fs};
 pub use vec::filled;
 
 /// The names that Rattle's prelude has otherwise than Rust's.

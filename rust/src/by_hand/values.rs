@@ -1,12 +1,43 @@
 //! What a Rust programmer expects of a value: errors are errors, and addresses have an order, a hash, and a Debug that
 //! can be read.
 
-use crate::{Error, EthernetAddress, Ipv4Address, Ipv6Address, RawHardwareAddress};
+use crate::{
+    Error, EthernetAddress, Ipv4Address, Ipv6Address, Ipv6Refusal, RawHardwareAddress, dhcpv4, dns,
+    frames, icmpv4, icmpv6, igmp, ipv6ext_header, ipv6hbh, ipv6option, mld, ndisc, ndiscoption,
+    record,
+};
 use core::cmp::Ordering;
 use core::fmt;
 use core::hash::{Hash, Hasher};
 
-impl core::error::Error for Error {}
+/// What a call answers that refuses, and why it does, are errors.
+macro_rules! errors {
+    ($($error:path),+ $(,)?) => { $( impl core::error::Error for $error {} )+ };
+}
+
+errors! {
+    Error,
+    Ipv6Refusal,
+    dhcpv4::Refusal,
+    dns::NameRefusal,
+    dns::Refusal,
+    frames::datagram::Refusal,
+    frames::link::Refusal,
+    frames::udp::Refusal,
+    icmpv4::Refusal,
+    icmpv6::Refusal,
+    igmp::Refusal,
+    ipv6ext_header::Refusal,
+    ipv6hbh::Refusal,
+    ipv6option::Refusal,
+    mld::RecordRefusal,
+    mld::Refusal,
+    ndisc::Refusal,
+    ndiscoption::Refusal,
+    record::NameRefusal,
+    record::PartRefusal,
+    record::Refusal,
+}
 
 /// Addresses are ordered and hashed as their octets are.
 macro_rules! by_octets {

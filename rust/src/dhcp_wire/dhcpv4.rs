@@ -1,5 +1,41 @@
 // Made from crates/dhcp_wire/src/dhcpv4.rt by rust/erase.
 //! The Dynamic Host Configuration Protocol (RFC 2131) with its options (RFC 2132).
+//!
+//! ```
+//! use control_wire::dhcpv4::{MessageType, Packet, Repr};
+//! use control_wire::{EthernetAddress, Ipv4Address};
+//!
+//! let discover = Repr {
+//!     message_type: MessageType::Discover,
+//!     transaction_id: 0x1234_5678,
+//!     secs: 0,
+//!     client_hardware_address: EthernetAddress([0x52, 0x54, 0, 0, 0, 1]),
+//!     client_ip: Ipv4Address::UNSPECIFIED,
+//!     your_ip: Ipv4Address::UNSPECIFIED,
+//!     server_ip: Ipv4Address::UNSPECIFIED,
+//!     router: None,
+//!     subnet_mask: None,
+//!     relay_agent_ip: Ipv4Address::UNSPECIFIED,
+//!     broadcast: false,
+//!     requested_ip: None,
+//!     client_identifier: None,
+//!     server_identifier: None,
+//!     parameter_request_list: Some(&[1, 3, 6]),
+//!     dns_servers: None,
+//!     max_size: None,
+//!     lease_duration: None,
+//!     renew_duration: None,
+//!     rebind_duration: None,
+//!     additional_options: &[],
+//! };
+//! let mut octets = [0; 576];
+//! let len = discover.buffer_len();
+//! discover.emit_into(&mut octets[..len])?;
+//!
+//! let packet = Packet::new_checked(&octets[..len])?;
+//! assert_eq!(Repr::parse(&packet)?, discover);
+//! # Ok::<(), control_wire::Error>(())
+//! ```
 
 mod data;
 mod emission;
@@ -8,6 +44,8 @@ mod kinds;
 mod names;
 mod options;
 mod packet;
+mod printing;
+mod refusal;
 mod repr;
 mod tables;
 
@@ -35,6 +73,7 @@ pub use kinds::{
 };
 pub use options::{DhcpOption, DhcpOptionWriter, OptionsIter};
 pub use packet::Packet;
+pub use refusal::Refusal;
 pub use repr::Repr;
 pub use tables::{Flags, MessageType, OpCode};
 

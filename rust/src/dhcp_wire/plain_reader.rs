@@ -209,6 +209,14 @@ fn compare(octets: &[u8]) {
     let plain = options_in(behind);
     compare_view(octets, plain.as_slice());
     compare_value(octets, plain.as_slice());
+    compare_refusal(octets);
+}
+
+// Compares whether a reason is told with whether the parser refuses.
+fn compare_refusal(octets: &[u8]) {
+    let packet = Packet::new_unchecked(octets);
+    let is_read = Repr::parse(&packet).is_ok();
+    same_of(octets, Repr::refusal(&packet).is_none(), is_read);
 }
 
 // Compares the iterator of a view with these options of the plain reader.

@@ -4,7 +4,9 @@
 // can't stand once in a library: the gate refuses a public function that may end the process.
 
 use crate::wirebase::Result;
-use std::fmt::Debug;
+#[allow(unused_imports)]
+use rattle_std::prelude::*;
+use std::fmt::{self, Debug, Display, Write};
 
 // Ends the test where the two differ.
 pub(crate) fn same<T: PartialEq + Debug>(left: T, right: T) {
@@ -25,6 +27,40 @@ pub(crate) fn holds_of(of: impl Debug, is_so: bool) {
 // what a message is, it looks into each of its values.
 pub(crate) fn agree<T: PartialEq + Debug>(octets: &[u8], read: &Result<T>, plain: &Option<T>) {
     same_of(octets, read.as_ref().ok(), plain.as_ref());
+}
+
+// Ends the test where the value prints another text, or where there is no memory for it.
+pub(crate) fn prints(value: &impl Display, text: &str) {
+    let printed = value.to_string_in().ok();
+    same(printed.as_deref(), Some(text));
+}
+
+// A writer that takes so many writes, and fails at the one after them.
+struct FailingWriter {
+    left: u32,
+}
+
+impl Write for FailingWriter {
+    fn write_str(&mut self, _text: &str) -> fmt::Result {
+        if self.left == 0 {
+            return Err(fmt::Error);
+        }
+        self.left -= 1;
+        Ok(())
+    }
+}
+
+// Whether the value is printed by a writer that takes so many writes.
+fn is_printed(value: &impl Display, writes: u32) -> bool {
+    let mut writer = FailingWriter { left: writes };
+    write!(writer, "{value}").is_ok()
+}
+
+// Ends the test unless the value is printed in so many writes, and fails where its writer refuses one of them.
+pub(crate) fn takes_writes(value: &impl Display, writes: u32) {
+    for left in 0..=writes {
+        same_of(left, is_printed(value, left), left == writes);
+    }
 }
 
 // Ends the test, for want of what should have been.

@@ -6,6 +6,11 @@ use crate::wirebase::{
     IPV6_HEADER_LEN, IpProtocol, Ipv4Address, Ipv4Packet, Ipv6Address, Ipv6Packet, Octets, checksum,
 };
 
+mod captured;
+mod display;
+
+pub use captured::{Captured, Extent};
+
 /// The two addresses of a datagram.
 #[derive(Debug, PartialEq, Eq, Clone, Copy)]
 pub enum Addresses {
@@ -35,18 +40,60 @@ impl Addresses {
     }
 }
 
-/// Why octets are no datagram that is read.
+/// Why octets are no datagram that is read: the check that fails first.
 #[derive(Debug, PartialEq, Eq, Clone, Copy)]
 pub enum Refusal {
-    /// They end before the datagram does by its own length, as where a capture kept less than there was.
-    Cut,
-    /// They are of another version, or their lengths contradict one another.
-    Malformed,
+    /// They end before the fixed header does: fewer than 20 bytes of IPv4, or 40 of IPv6.
+    Short,
+    /// They are of another version: this one.
+    Version(u8),
+    /// The header length of IPv4 is less than 20 bytes: this many.
+    HeaderLen(u8),
+    /// The total length of IPv4 is less than the header length: this many bytes.
+    TotalLen(u16),
+    /// They end before the datagram does by its own length, as where a capture kept less than there was;
+    /// `Captured` reads what is there.
+    Cut(Head),
+    /// A header that extends IPv6, of this protocol, ends behind the datagram.
+    Extension(IpProtocol),
     /// They are a fragment.
-    Fragment,
+    Fragment(Head),
+}
+
+/// What the headers tell of a datagram that is cut or a fragment.
+#[derive(Debug, PartialEq, Eq, Clone, Copy)]
+pub struct Head {
+    /// Where it comes from, and where it goes to: for a fragment of IPv6 at last, as its routing headers say.
+    pub addresses: Addresses,
+    /// The protocol of the payload. For an IPv6 datagram that is cut this is the next header of the fixed header, since
+    /// those that follow may be cut; `Captured::parse_v6` passes them.
+    pub protocol: IpProtocol,
+    /// The identification that the fragments of one datagram share; None for an IPv6 datagram that is cut, of which
+    /// only the fixed header is read.
+    pub ident: Option<u32>,
+    /// Where the payload stands in that of the datagram that was fragmented, in bytes: a multiple of 8.
+    pub frag_offset: u16,
+    /// Whether this is a fragment that others follow.
+    pub more_frags: bool,
 }
 
 /// A datagram, of which the headers of IP are read.
+///
+/// ```
+/// use control_wire::frames::{Addresses, Datagram};
+/// use control_wire::{IpProtocol, Ipv6Address};
+///
+/// // A datagram of IPv6 whose hop-by-hop header is passed; its options are handed out.
+/// let mut octets = [0; 49];
+/// octets[..8].copy_from_slice(&[0x60, 0, 0, 0, 0, 9, 0, 1]);
+/// octets[40..].copy_from_slice(&[58, 0, 5, 2, 0, 0, 1, 0, 143]);
+/// let datagram = Datagram::parse_v6(&octets).unwrap();
+/// let any = Ipv6Address::UNSPECIFIED;
+/// assert_eq!(datagram.addresses, Addresses::V6(any, any));
+/// assert_eq!(datagram.protocol, IpProtocol::Icmpv6);
+/// assert_eq!(datagram.hop_by_hop, Some(&[5, 2, 0, 0, 1, 0][..]));
+/// assert_eq!(datagram.payload, [143]);
+/// ```
 #[derive(Debug, PartialEq, Eq, Clone, Copy)]
 pub struct Datagram<'a> {
     /// Where it comes from, and where it goes to at last: a routing header that has segments left leads on.
@@ -66,6 +113,9 @@ pub struct Datagram<'a> {
 // The bytes of an IPv4 header without options.
 const IPV4_HEADER_LEN: usize = 20;
 
+// The bytes of a fragment header of IPv6.
+const FRAGMENT_HEADER_LEN: usize = 8;
+
 impl<'a> Datagram<'a> {
     /// The datagram of IPv4 at the front of the octets, by its total length; what stands behind it, as padding, is no
     /// part. The header's checksum is not verified, since machines that leave it to their network cards capture none; a
@@ -73,19 +123,19 @@ impl<'a> Datagram<'a> {
     #[inline]
     pub fn parse_v4(octets: &'a [u8]) -> Result<Datagram<'a>, Refusal> {
         if octets.len() < IPV4_HEADER_LEN {
-            return Err(Refusal::Cut);
+            return Err(Refusal::Short);
         }
         let packet = Ipv4Packet::new_unchecked(octets);
         let header_len = packet.header_len() as usize;
         let total_len = packet.total_len() as usize;
         if packet.version() != 4 || header_len < IPV4_HEADER_LEN || total_len < header_len {
-            return Err(Refusal::Malformed);
+            return Err(malformed_v4(octets));
         }
         if octets.len() < total_len {
-            return Err(Refusal::Cut);
+            return Err(Refusal::Cut(head_v4(octets)));
         }
         if packet.more_frags() || packet.frag_offset() != 0 {
-            return Err(Refusal::Fragment);
+            return Err(Refusal::Fragment(head_v4(octets)));
         }
         Ok(Datagram {
             addresses: Addresses::V4(packet.src_addr(), packet.dst_addr()),
@@ -100,26 +150,95 @@ impl<'a> Datagram<'a> {
     /// hop-by-hop, destination and routing headers are passed, and a hop-by-hop header in its place gives its options.
     pub fn parse_v6(octets: &'a [u8]) -> Result<Datagram<'a>, Refusal> {
         if octets.len() < IPV6_HEADER_LEN {
-            return Err(Refusal::Cut);
+            return Err(Refusal::Short);
         }
         let packet = Ipv6Packet::new_unchecked(octets);
         if packet.version() != 6 {
-            return Err(Refusal::Malformed);
+            return Err(Refusal::Version(packet.version()));
         }
         if octets.len() < IPV6_HEADER_LEN + packet.payload_len() as usize {
-            return Err(Refusal::Cut);
+            return Err(Refusal::Cut(head_v6(octets)));
         }
-        let next_header = packet.next_header();
-        let payload = packet.payload();
-        let upper = pass_headers(next_header, payload, packet.dst_addr())?;
-        Ok(Datagram {
-            addresses: Addresses::V6(packet.src_addr(), upper.dst_addr),
-            protocol: upper.protocol,
-            hop_limit: packet.hop_limit(),
-            hop_by_hop: options_of(next_header, payload),
-            payload: upper.payload,
-        })
+        read_v6(octets, packet.payload())
     }
+}
+
+// Which length or version of a header of IPv4 is wrong.
+#[inline(never)]
+fn malformed_v4(octets: &[u8]) -> Refusal {
+    let packet = Ipv4Packet::new_unchecked(octets);
+    if packet.version() != 4 {
+        return Refusal::Version(packet.version());
+    }
+    if (packet.header_len() as usize) < IPV4_HEADER_LEN {
+        return Refusal::HeaderLen(packet.header_len());
+    }
+    Refusal::TotalLen(packet.total_len())
+}
+
+// What the fixed header of IPv4 tells.
+#[inline(never)]
+fn head_v4(octets: &[u8]) -> Head {
+    let packet = Ipv4Packet::new_unchecked(octets);
+    Head {
+        addresses: Addresses::V4(packet.src_addr(), packet.dst_addr()),
+        protocol: packet.next_header(),
+        ident: Some(packet.ident() as u32),
+        frag_offset: packet.frag_offset(),
+        more_frags: packet.more_frags(),
+    }
+}
+
+// What the fixed header of IPv6 tells.
+#[inline(never)]
+fn head_v6(octets: &[u8]) -> Head {
+    let packet = Ipv6Packet::new_unchecked(octets);
+    Head {
+        addresses: Addresses::V6(packet.src_addr(), packet.dst_addr()),
+        protocol: packet.next_header(),
+        ident: None,
+        frag_offset: 0,
+        more_frags: false,
+    }
+}
+
+// The datagram of a fixed header of IPv6 and of what stands behind it.
+#[inline]
+fn read_v6<'a>(octets: &[u8], behind: &'a [u8]) -> Result<Datagram<'a>, Refusal> {
+    let packet = Ipv6Packet::new_unchecked(octets);
+    let next_header = packet.next_header();
+    let upper = match pass_headers(next_header, behind, packet.dst_addr()) {
+        Ok(upper) => upper,
+        Err(protocol) => return Err(Refusal::Extension(protocol)),
+    };
+    if is_fragment(upper.protocol) {
+        return Err(fragment_v6(octets, behind, upper));
+    }
+    Ok(Datagram {
+        addresses: Addresses::V6(packet.src_addr(), upper.dst_addr),
+        protocol: upper.protocol,
+        hop_limit: packet.hop_limit(),
+        hop_by_hop: options_of(next_header, behind),
+        payload: upper.payload,
+    })
+}
+
+// What the header of a fragment tells that the headers of IPv6 lead to (RFC 8200 section 4.5).
+#[inline(never)]
+fn fragment_v6(octets: &[u8], behind: &[u8], upper: Upper<'_>) -> Refusal {
+    let header = upper.payload;
+    if header.len() < FRAGMENT_HEADER_LEN {
+        return Refusal::Extension(upper.protocol);
+    }
+    let packet = Ipv6Packet::new_unchecked(octets);
+    let offset_and_flag = header.u16_at(2..4);
+    Refusal::Fragment(Head {
+        addresses: Addresses::V6(packet.src_addr(), upper.dst_addr),
+        protocol: IpProtocol::from(header[0]),
+        ident: Some(header.u32_at(4..8)),
+        frag_offset: 8 * (offset_and_flag / 8),
+        more_frags: offset_and_flag % 2 == 1,
+    })
 }
 
 // The options of a hop-by-hop header; other headers have none.
@@ -138,26 +257,23 @@ struct Upper<'a> {
     dst_addr: Ipv6Address,
 }
 
-// Passes the headers that extend IPv6.
+// Passes the headers that extend IPv6. Refused where one of them is not whole, with its protocol.
 fn pass_headers<'a>(
     next_header: IpProtocol,
     payload: &'a [u8],
     dst_addr: Ipv6Address,
-) -> Result<Upper<'a>, Refusal> {
+) -> Result<Upper<'a>, IpProtocol> {
     let mut protocol = next_header;
     let mut rest = payload;
     let mut dst_addr = dst_addr;
     while is_extension(protocol) {
         if !has_extension(rest) {
-            return Err(Refusal::Malformed);
+            return Err(protocol);
         }
         let end = 8 * rest[1] as usize + 8;
         dst_addr = behind_header(protocol, rest, dst_addr);
         protocol = IpProtocol::from(rest[0]);
         rest = behind(rest, end);
-    }
-    if is_fragment(protocol) {
-        return Err(Refusal::Fragment);
     }
     Ok(Upper {
         protocol,

@@ -4,7 +4,20 @@
 use crate::wirebase::{Error, Octets, Result};
 use byteorder::{ByteOrder, LittleEndian};
 
+mod display;
+
 /// The links whose frames are read.
+///
+/// ```
+/// use control_wire::frames::{Link, Network};
+///
+/// // The link type of a capture file, and a frame of that link: Linux cooked capture, version 1.
+/// let link = Link::of(113).unwrap();
+/// let frame = link.frame(&[0, 0, 0, 1, 0, 6, 2, 0, 0, 0, 0, 1, 0, 0, 0x86, 0xdd, 0x60])?;
+/// assert_eq!(frame.network, Network::Ipv6);
+/// assert_eq!(frame.payload, [0x60]);
+/// # Ok::<(), control_wire::Error>(())
+/// ```
 #[derive(Debug, PartialEq, Eq, Clone, Copy)]
 pub enum Link {
     /// The loopback of BSD: an address family, in the order of bytes of the machine or of the network.
@@ -52,6 +65,45 @@ impl Link {
             Link::LinuxSll2 => typed_at(octets, 0, 20),
         }
     }
+
+    /// Why [`Link::frame`] refuses these octets, by the check that fails first; None where it reads them.
+    pub fn refusal(self, octets: &[u8]) -> Option<Refusal> {
+        match self {
+            Link::Null => match family(octets) {
+                Ok(_) => None,
+                Err(_) => Some(Refusal::Short),
+            },
+            Link::Ethernet => why_not_typed(octets, 12, 14),
+            Link::Ppp => match ppp(octets) {
+                Ok(_) => None,
+                Err(_) => Some(Refusal::Protocol),
+            },
+            Link::PppEther => why_no_session(octets),
+            Link::Raw => match raw(octets) {
+                Ok(_) => None,
+                Err(_) => Some(Refusal::Short),
+            },
+            Link::LinuxSll => why_not_typed(octets, 14, 16),
+            Link::LinuxSll2 => why_not_typed(octets, 0, 20),
+        }
+    }
+}
+
+/// Why octets are no frame of a link that is read: the check that fails first.
+#[derive(Debug, PartialEq, Eq, Clone, Copy)]
+pub enum Refusal {
+    /// Fewer bytes than the header of the link has.
+    Short,
+    /// A VLAN tag of four bytes ends behind the octets.
+    Tag,
+    /// A protocol of PPP, of one byte where that is odd and else of two, ends behind the octets.
+    Protocol,
+    /// The PPPoE version is not 1 but this one (RFC 2516 section 4).
+    SessionVersion(u8),
+    /// The PPPoE type is not 1 but this one.
+    SessionType(u8),
+    /// The PPPoE code is not 0, which session data has, but this one.
+    SessionCode(u8),
 }
 
 /// The network that a frame is of.
@@ -66,6 +118,18 @@ pub enum Network {
 }
 
 /// What a frame holds.
+///
+/// ```
+/// use control_wire::frames::{Link, Network};
+///
+/// // A frame of Ethernet with the tag of VLAN 7.
+/// let octets = [2, 0, 0, 0, 0, 2, 2, 0, 0, 0, 0, 1, 0x81, 0x00, 0x00, 0x07, 0x08, 0x00, 0x45];
+/// let frame = Link::Ethernet.frame(&octets)?;
+/// assert_eq!(frame.network, Network::Ipv4);
+/// assert_eq!((frame.vlans(), frame.vlan(0)), (1, 7));
+/// assert_eq!(frame.payload, [0x45]);
+/// # Ok::<(), control_wire::Error>(())
+/// ```
 #[derive(Debug, PartialEq, Eq, Clone, Copy)]
 pub struct Frame<'a> {
     /// The network.
@@ -192,7 +256,7 @@ fn payload_of<'a>(typed: Typed<'a>) -> Result<Frame<'a>> {
     })
 }
 
-// A frame with a type at a place, and what it speaks of from another on. Refused where its headers are cut short.
+// A frame whose EtherType is at `place` and whose payload begins at `start`. Refused where its headers are cut short.
 fn typed_at(octets: &[u8], place: usize, start: usize) -> Result<Frame<'_>> {
     if octets.len() < start {
         return Err(Error);
@@ -212,6 +276,41 @@ fn session(octets: &[u8]) -> Result<Frame<'_>> {
         return Err(Error);
     }
     protocol(behind(octets, 6), &[])
+}
+
+// Why a frame whose EtherType is at `place` and whose payload begins at `start` is refused; None where it is read.
+fn why_not_typed(octets: &[u8], place: usize, start: usize) -> Option<Refusal> {
+    if octets.len() < start {
+        return Some(Refusal::Short);
+    }
+    let Ok(typed) = untagged(octets.u16_at(place..place + 2), behind(octets, start)) else {
+        return Some(Refusal::Tag);
+    };
+    match payload_of(typed) {
+        Ok(_) => None,
+        Err(_) => Some(Refusal::Protocol),
+    }
+}
+
+// Why octets are no data of a PPPoE session; None where they are.
+fn why_no_session(octets: &[u8]) -> Option<Refusal> {
+    if octets.len() < 6 {
+        return Some(Refusal::Short);
+    }
+    let word = octets.u16_at(0..2);
+    if word / 0x1000 != 1 {
+        return Some(Refusal::SessionVersion((word / 0x1000) as u8));
+    }
+    if word / 0x100 % 0x10 != 1 {
+        return Some(Refusal::SessionType((word / 0x100 % 0x10) as u8));
+    }
+    if word % 0x100 != 0 {
+        return Some(Refusal::SessionCode((word % 0x100) as u8));
+    }
+    match protocol(behind(octets, 6), &[]) {
+        Ok(_) => None,
+        Err(_) => Some(Refusal::Protocol),
+    }
 }
 
 // A datagram without a header of a link. Refused where there is nothing.

@@ -6,6 +6,8 @@ use crate::wirebase::{
     ChecksumCapabilities, Error, IpProtocol, Octets, OctetsMut, Result, checksum,
 };
 
+mod display;
+
 // The fields.
 mod field {
     use crate::wirebase::Field;
@@ -25,6 +27,19 @@ mod field {
 pub const HEADER_LEN: usize = field::PAYLOAD;
 
 /// A view of the octets of a UDP datagram.
+///
+/// ```
+/// use control_wire::frames::UdpPacket;
+///
+/// // A header before one byte; over IPv4 its checksum may be left out.
+/// let mut octets = [0, 0, 0, 0, 0, 0, 0, 0, b'x'];
+/// let mut packet = UdpPacket::new_unchecked(&mut octets);
+/// packet.set_src_port(68);
+/// packet.set_dst_port(67);
+/// packet.set_len(9);
+/// assert_eq!(UdpPacket::new_checked(&octets)?.payload(), b"x");
+/// # Ok::<(), control_wire::Error>(())
+/// ```
 #[derive(Debug, Clone)]
 pub struct UdpPacket<T: Octets> {
     buffer: T,
@@ -56,6 +71,22 @@ impl<T: Octets> UdpPacket<T> {
             return Err(Error);
         }
         Ok(())
+    }
+
+    /// Why [`UdpPacket::check_len`] refuses these octets, by the check that fails first; None where it accepts them.
+    pub fn refusal(&self) -> Option<Refusal> {
+        let len = self.buffer.octets().len();
+        if len < HEADER_LEN {
+            return Some(Refusal::Short);
+        }
+        let total = self.len();
+        if (total as usize) < HEADER_LEN {
+            return Some(Refusal::Length(total));
+        }
+        if len < total as usize {
+            return Some(Refusal::Cut(total));
+        }
+        None
     }
 
     /// What the view was made from, as it is now.
@@ -138,6 +169,23 @@ impl<T: Octets> PartialEq for UdpPacket<T> {
 
 impl<T: Octets> Eq for UdpPacket<T> {}
 
+/// Why octets are no UDP datagram that is read: the check that fails first.
+#[derive(Debug, PartialEq, Eq, Clone, Copy)]
+pub enum Refusal {
+    /// Fewer than 8 bytes.
+    Short,
+    /// The length field is below 8, the length of the header: this many bytes.
+    Length(u16),
+    /// Fewer bytes than the length field says: it says this many.
+    Cut(u16),
+    /// The port of the receiver is 0.
+    Port,
+    /// There is no checksum over IPv6, which requires one (RFC 8200 section 8.1).
+    NoChecksum,
+    /// The checksum does not hold.
+    Checksum,
+}
+
 /// The ports of a datagram.
 #[derive(Debug, PartialEq, Eq, Clone, Copy)]
 pub struct UdpRepr {
@@ -167,6 +215,30 @@ impl UdpRepr {
             src_port: packet.src_port(),
             dst_port,
         })
+    }
+
+    /// Why [`UdpRepr::parse`] refuses these octets, by the check that fails first; None where it reads them.
+    pub fn refusal<B: AsRef<[u8]> + ?Sized>(
+        packet: &UdpPacket<&B>,
+        addresses: &Addresses,
+        checksum_caps: &ChecksumCapabilities,
+    ) -> Option<Refusal> {
+        if let Some(refusal) = packet.refusal() {
+            return Some(refusal);
+        }
+        if packet.dst_port() == 0 {
+            return Some(Refusal::Port);
+        }
+        if !checksum_caps.udp.rx() {
+            return None;
+        }
+        if has_checksum(packet, addresses) {
+            return None;
+        }
+        if packet.checksum() == 0 {
+            return Some(Refusal::NoChecksum);
+        }
+        Some(Refusal::Checksum)
     }
 
     /// The bytes of the header: 8.

@@ -1,14 +1,34 @@
 // Made from crates/icmp6_wire/src/icmpv6.rt by rust/erase.
 //! The Internet Control Message Protocol of IPv6 (RFC 4443).
+//!
+//! ```
+//! use control_wire::icmpv6::{Packet, Repr};
+//! use control_wire::{ChecksumCapabilities, IPV6_LINK_LOCAL_ALL_NODES, Ipv6Address};
+//!
+//! let src_addr = Ipv6Address::new(0xfe80, 0, 0, 0, 0, 0, 0, 1);
+//! let dst_addr = IPV6_LINK_LOCAL_ALL_NODES;
+//! let checksums = ChecksumCapabilities::default();
+//! let message = Repr::EchoRequest { ident: 1, seq_no: 2, data: b"ping" };
+//! let mut octets = [0; 64];
+//! let octets = &mut octets[..message.packet_len()];
+//! message.emit_into(&src_addr, &dst_addr, octets, &checksums);
+//!
+//! let packet = Packet::new_checked(&*octets)?;
+//! assert_eq!(Repr::parse(&src_addr, &dst_addr, &packet, &checksums)?, message);
+//! # Ok::<(), control_wire::Error>(())
+//! ```
 
+mod display;
 mod packet;
 mod quote;
 mod reading;
+mod refusal;
 mod repr;
 mod tables;
 
 use crate::wirebase::{IPV6_HEADER_LEN, IPV6_MIN_MTU};
 pub use packet::Packet;
+pub use refusal::Refusal;
 pub use repr::Repr;
 pub use tables::{DstUnreachable, Message, ParamProblem, TimeExceeded};
 

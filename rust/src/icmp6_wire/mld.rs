@@ -1,12 +1,33 @@
 // Made from crates/icmp6_wire/src/mld.rt by rust/erase.
 //! Multicast listener discovery, version 2 (RFC 3810).
+//!
+//! ```
+//! use control_wire::Ipv6Address;
+//! use control_wire::icmpv6::Packet;
+//! use control_wire::mld::Repr;
+//!
+//! // A general query of a router.
+//! let mut octets = [0; 28];
+//! octets[0] = 130;
+//! let packet = Packet::new_checked(&octets)?;
+//! match Repr::parse(&packet)? {
+//!     Repr::Query { mcast_addr, .. } => assert_eq!(mcast_addr, Ipv6Address::UNSPECIFIED),
+//!     _ => panic!("not a query"),
+//! }
+//! # Ok::<(), control_wire::Error>(())
+//! ```
 
+mod display;
+mod iterators;
 mod packet;
 mod record;
+mod refusal;
 mod repr;
 mod tables;
 
+pub use iterators::{Records, Sources};
 pub use record::{AddressRecord, AddressRecordRepr};
+pub use refusal::{RecordRefusal, Refusal};
 pub use repr::Repr;
 pub(crate) use repr::{read_query, read_report};
 pub use tables::RecordType;

@@ -1,13 +1,38 @@
 // Made from crates/icmp6_wire/src/ndisc.rt by rust/erase.
 //! Neighbor discovery (RFC 4861): what its messages have behind the checksum.
+//!
+//! ```
+//! use control_wire::icmpv6::{Packet, Repr as Icmpv6Repr};
+//! use control_wire::ndisc::Repr;
+//! use control_wire::{
+//!     ChecksumCapabilities, EthernetAddress, IPV6_LINK_LOCAL_ALL_ROUTERS, Ipv6Address,
+//! };
+//!
+//! let src_addr = Ipv6Address::new(0xfe80, 0, 0, 0, 0, 0, 0, 1);
+//! let dst_addr = IPV6_LINK_LOCAL_ALL_ROUTERS;
+//! let checksums = ChecksumCapabilities::default();
+//! let ethernet = EthernetAddress([0x52, 0x54, 0, 0, 0, 1]);
+//! let solicit = Repr::RouterSolicit { lladdr: Some(ethernet.into()) };
+//! let message = Icmpv6Repr::Ndisc(solicit);
+//! let mut octets = [0; 64];
+//! let octets = &mut octets[..message.packet_len()];
+//! message.emit_into(&src_addr, &dst_addr, octets, &checksums);
+//! assert_eq!(octets.len(), 16);
+//!
+//! let packet = Packet::new_checked(&*octets)?;
+//! assert_eq!(Repr::parse(&packet)?, solicit);
+//! # Ok::<(), control_wire::Error>(())
+//! ```
 
 use crate::icmp6_wire::icmpv6::Packet;
 use crate::wirebase::{Duration, Ipv6Address, Octets, OctetsMut};
 
+mod display;
 mod flags;
 mod found;
 mod options;
 mod reading;
+mod refusal;
 mod repr;
 
 pub use flags::{NeighborFlags, RouterFlags};
@@ -15,6 +40,7 @@ pub(crate) use found::Found;
 pub(crate) use reading::{
     neighbor_advert, neighbor_solicit, redirect, router_advert, router_solicit,
 };
+pub use refusal::Refusal;
 pub use repr::Repr;
 
 // The fields behind the checksum (RFC 4861 section 4).

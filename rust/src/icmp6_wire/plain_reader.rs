@@ -56,7 +56,7 @@ fn split_ip_header(octets: &[u8]) -> Option<(Ipv6Repr, &[u8])> {
 const DAMAGE: &[u8] = &[0x00, 0x40, 0x7f, 0x80, 0xc0, 0xff];
 
 // Compares the crate with the plain reader over this message, over each shorter part of it from its start on, and over
-// each copy of it in which one byte is damaged.
+// each copy of it in which one byte is damaged. A reason is told just where a message is refused.
 pub(crate) fn compare_damaged<const N: usize>(message: &[u8; N]) {
     for len in 0..=N {
         compare(&message[..len]);
@@ -89,21 +89,30 @@ fn compare_header(octets: &[u8]) {
 }
 
 fn compare_neighbor(octets: &[u8]) {
-    let read = ndisc::Repr::parse(&Packet::new_unchecked(octets));
+    let packet = Packet::new_unchecked(octets);
+    let read = ndisc::Repr::parse(&packet);
     agree(octets, &read, &neighbor::message(octets));
+    let refusal = ndisc::Repr::refusal(&packet);
+    same_of(octets, refusal.is_some(), read.is_err());
 }
 
 fn compare_listener(octets: &[u8]) {
-    let read = mld::Repr::parse(&Packet::new_unchecked(octets));
+    let packet = Packet::new_unchecked(octets);
+    let read = mld::Repr::parse(&packet);
     agree(octets, &read, &listener::message(octets));
+    let refusal = mld::Repr::refusal(&packet);
+    same_of(octets, refusal.is_some(), read.is_err());
 }
 
 // The checksum is not looked at.
 fn compare_control(octets: &[u8]) {
     let nobody = Ipv6Address::UNSPECIFIED;
     let caps = ChecksumCapabilities::ignored();
-    let read = icmpv6::Repr::parse(&nobody, &nobody, &Packet::new_unchecked(octets), &caps);
+    let packet = Packet::new_unchecked(octets);
+    let read = icmpv6::Repr::parse(&nobody, &nobody, &packet, &caps);
     agree(octets, &read, &control::message(octets));
+    let refusal = icmpv6::Repr::refusal(&nobody, &nobody, &packet, &caps);
+    same_of(octets, refusal.is_some(), read.is_err());
 }
 
 // Ends the test where the two readers differ. Over any type, for the prover looks into each value of a message.

@@ -1,7 +1,23 @@
 // Made from crates/opt_wire/src/ipv6ext_header.rt by rust/erase.
 //! The header that the extension headers of IPv6 with options have in common (RFC 8200 sections 4.3 and 4.6).
+//!
+//! ```
+//! use control_wire::IpProtocol;
+//! use control_wire::ipv6ext_header::{Header, Repr};
+//!
+//! // A hop-by-hop header before a message of ICMPv6.
+//! let header = Header::new_checked(&[58, 0, 5, 2, 0, 0, 1, 0])?;
+//! let header = Repr::parse(&header)?;
+//! assert_eq!(header.next_header, IpProtocol::Icmpv6);
+//! assert_eq!(header.data, [5, 2, 0, 0, 1, 0]);
+//! # Ok::<(), control_wire::Error>(())
+//! ```
 
 use crate::wirebase::{ByteWriter, Error, IpProtocol, Octets, OctetsMut, Result};
+
+mod refusal;
+
+pub use refusal::Refusal;
 
 // The fields of a header.
 mod field {

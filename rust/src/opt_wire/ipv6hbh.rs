@@ -1,10 +1,25 @@
 // Made from crates/opt_wire/src/ipv6hbh.rt by rust/erase.
 //! Hop-by-hop options headers (RFC 8200 section 4.3), from their options on.
+//!
+//! ```
+//! use control_wire::ipv6hbh::{Header, Repr};
+//! use control_wire::ipv6option;
+//!
+//! // The options of the header before a report of multicast listener discovery: a router alert, and padding.
+//! let header = Header::new_checked(&[5, 2, 0, 0, 1, 0])?;
+//! let options = Repr::parse(&header)?.options;
+//! assert!(matches!(options[0], ipv6option::Repr::RouterAlert(_)));
+//! # Ok::<(), control_wire::Error>(())
+//! ```
 
 use crate::opt_wire::ipv6option;
 use crate::opt_wire::ipv6option::{Ipv6OptionsIterator, RouterAlert};
 use crate::wirebase::{ByteWriter, Error, IPV6_HBH_MAX_OPTIONS, Octets, OctetsMut, Result};
 use arrayvec::ArrayVec;
+
+mod refusal;
+
+pub use refusal::Refusal;
 
 /// A view of the options of a hop-by-hop header: all that stands after its first two bytes.
 pub struct Header<T: Octets> {

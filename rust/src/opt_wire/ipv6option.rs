@@ -1,14 +1,27 @@
 // Made from crates/opt_wire/src/ipv6option.rt by rust/erase.
 //! Options of IPv6 extension headers (RFC 8200 section 4.2).
+//!
+//! ```
+//! use control_wire::ipv6option::{Ipv6OptionsIterator, Repr, RouterAlert};
+//!
+//! // A router alert, and two bytes of padding.
+//! let options = [5, 2, 0, 0, 1, 0];
+//! let options: Vec<Repr> = Ipv6OptionsIterator::new(&options).collect::<Result<_, _>>()?;
+//! let alert = Repr::RouterAlert(RouterAlert::MulticastListenerDiscovery);
+//! assert_eq!(options, [alert, Repr::PadN(0)]);
+//! # Ok::<(), control_wire::Error>(())
+//! ```
 
 use crate::wirebase::{ByteWriter, Error, Octets, OctetsMut, Result};
 use byteorder::{BigEndian, ByteOrder};
 use core::fmt;
 
 mod options;
+pub(crate) mod refusal;
 mod tables;
 
 pub use options::Ipv6OptionsIterator;
+pub use refusal::Refusal;
 use tables::AlertName;
 pub use tables::{FailureType, RouterAlert, Type};
 

@@ -1,5 +1,19 @@
 // Made from crates/opt_wire/src/ndiscoption.rt by rust/erase.
 //! Options of neighbor discovery (RFC 4861 section 4.6).
+//!
+//! ```
+//! use control_wire::ndiscoption::{NdiscOption, Repr};
+//! use control_wire::{EthernetAddress, RawHardwareAddress};
+//!
+//! let octets = [1, 1, 0x52, 0x54, 0, 0, 0, 1];
+//! let option = NdiscOption::new_checked(&octets)?;
+//! let address = EthernetAddress([0x52, 0x54, 0, 0, 0, 1]);
+//! assert_eq!(
+//!     Repr::parse(&option)?,
+//!     Repr::SourceLinkLayerAddr(RawHardwareAddress::from(address)),
+//! );
+//! # Ok::<(), control_wire::Error>(())
+//! ```
 
 use crate::opt_wire::writing::UNIT;
 use crate::wirebase::{
@@ -7,9 +21,11 @@ use crate::wirebase::{
 };
 use core::fmt;
 
+mod refusal;
 mod repr;
 mod tables;
 
+pub use refusal::Refusal;
 pub use repr::{PrefixInformation, RedirectedHeader, Repr};
 pub use tables::{PrefixInfoFlags, Type};
 

@@ -5,7 +5,7 @@
 
 use crate::opt_wire::ipv6hbh;
 use crate::opt_wire::ipv6hbh::Header;
-use crate::opt_wire::ipv6option::{Ipv6OptionsIterator, Repr};
+use crate::opt_wire::ipv6option::{Ipv6Option, Ipv6OptionsIterator, Repr};
 use crate::opt_wire::testing::{holds_of, same_of};
 use crate::wirebase::{Error, IPV6_HBH_MAX_OPTIONS};
 
@@ -74,10 +74,14 @@ pub(crate) fn compare_damaged(packet: &[u8]) {
     }
 }
 
-// Compares the iterator and the header's reader with the plain reader.
+// Compares the iterator and the header's reader with the plain reader, and where reasons are told.
 fn compare(octets: &[u8]) {
     compare_options(octets);
     compare_header(octets);
+    let option = Repr::refusal(&Ipv6Option::new_unchecked(octets));
+    same_of(octets, option.is_none(), first_option(octets).is_some());
+    let header = ipv6hbh::Repr::refusal(&Header::new_unchecked(octets));
+    same_of(octets, header.is_none(), is_header(octets));
 }
 
 fn compare_options(octets: &[u8]) {

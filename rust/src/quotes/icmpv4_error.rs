@@ -1,10 +1,14 @@
 // Made from crates/quote_wire/src/icmpv4_error.rt by rust/erase.
 //! ICMPv4 errors with the bytes that they quote (RFC 792), and the error about a datagram.
 
+mod reason;
+mod refusal;
+
 use super::field;
 use super::writing::write_error;
 use crate::wirebase::{ChecksumCapabilities, Error, Octets, Result, checksum};
 use core::fmt;
+pub use refusal::Refusal;
 
 /// The bytes of a datagram that an error quotes at most: with the error's own headers they are 576, which every host
 /// takes (RFC 1812 section 4.3.2.3).
@@ -57,6 +61,22 @@ impl Kind {
 }
 
 /// An error about a datagram (RFC 792).
+///
+/// ```
+/// use control_wire::quotes::icmpv4_error::{Kind, Repr};
+/// use control_wire::ChecksumCapabilities;
+///
+/// // A datagram that must not be fragmented was too big for the next link, which takes 1400 bytes.
+/// let mut datagram = [0; 28];
+/// datagram[0] = 0x45;
+/// let error = Repr { kind: Kind::DstUnreachable, code: 4, rest: 1400, quoted: &datagram };
+/// let checksums = ChecksumCapabilities::default();
+/// let mut octets = [0; 64];
+/// let octets = &mut octets[..error.buffer_len()];
+/// error.emit_into(octets, &checksums);
+/// assert_eq!(Repr::parse(octets, &checksums)?.next_hop_mtu(), Some(1400));
+/// # Ok::<(), control_wire::Error>(())
+/// ```
 #[derive(Debug, PartialEq, Eq, Clone, Copy)]
 pub struct Repr<'a> {
     /// The type.
@@ -143,24 +163,30 @@ impl<'a> Repr<'a> {
     }
 }
 
-/// The type by its name, the code, and the number of bytes that are quoted.
+/// The type by its name, the code and what it says, and the number of bytes that are quoted.
 impl fmt::Display for Repr<'_> {
     fn fmt(&self, f: &mut fmt::Formatter<'_>) -> fmt::Result {
-        let name = kind_name(self.kind);
+        let kind = self.kind;
         let code = self.code;
         let len = self.quoted.len();
-        write!(f, "ICMPv4 {name} code={code} quoted={len}")
+        match self.reason() {
+            Some(reason) => write!(f, "ICMPv4 {kind} code={code} ({reason}) quoted={len}"),
+            None => write!(f, "ICMPv4 {kind} code={code} quoted={len}"),
+        }
     }
 }
 
-// The name of a type.
-fn kind_name(kind: Kind) -> &'static str {
-    match kind {
-        Kind::DstUnreachable => "destination unreachable",
-        Kind::SourceQuench => "source quench",
-        Kind::Redirect => "redirect",
-        Kind::TimeExceeded => "time exceeded",
-        Kind::ParamProblem => "parameter problem",
+/// The name of the type.
+impl fmt::Display for Kind {
+    fn fmt(&self, f: &mut fmt::Formatter<'_>) -> fmt::Result {
+        let name = match self {
+            Kind::DstUnreachable => "destination unreachable",
+            Kind::SourceQuench => "source quench",
+            Kind::Redirect => "redirect",
+            Kind::TimeExceeded => "time exceeded",
+            Kind::ParamProblem => "parameter problem",
+        };
+        f.write_str(name)
     }
 }
 

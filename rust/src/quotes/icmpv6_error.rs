@@ -1,12 +1,16 @@
 // Made from crates/quote_wire/src/icmpv6_error.rt by rust/erase.
 //! ICMPv6 errors with the bytes that they quote (RFC 4443 section 3), and the error about a packet.
 
+mod reason;
+mod refusal;
+
 use super::field;
 use super::writing::write_error;
 use crate::wirebase::{
     ChecksumCapabilities, Error, IPV6_HEADER_LEN, IpProtocol, Ipv6Address, Octets, Result, checksum,
 };
 use core::fmt;
+pub use refusal::Refusal;
 
 /// The bytes of a packet that an error quotes at most: with the error's own headers they are 1,280, which every link
 /// carries (RFC 4443 section 2.4(c)).
@@ -49,6 +53,26 @@ impl Kind {
 }
 
 /// An error about a packet (RFC 4443 section 3).
+///
+/// ```
+/// use control_wire::quotes::icmpv6_error::{Kind, Repr};
+/// use control_wire::{ChecksumCapabilities, Ipv6Address};
+///
+/// // A packet was too big for the next link, which takes 1280 bytes.
+/// let (router, host) = (
+///     Ipv6Address::new(0x2001, 0xdb8, 0, 0, 0, 0, 0, 1),
+///     Ipv6Address::new(0x2001, 0xdb8, 0, 0, 0, 0, 0, 2),
+/// );
+/// let mut packet = [0; 40];
+/// packet[0] = 0x60;
+/// let error = Repr { kind: Kind::PktTooBig, code: 0, rest: 1280, quoted: &packet };
+/// let checksums = ChecksumCapabilities::default();
+/// let mut octets = [0; 64];
+/// let octets = &mut octets[..error.buffer_len()];
+/// error.emit_into(&router, &host, octets, &checksums);
+/// assert_eq!(Repr::parse(&router, &host, octets, &checksums)?.mtu(), Some(1280));
+/// # Ok::<(), control_wire::Error>(())
+/// ```
 #[derive(Debug, PartialEq, Eq, Clone, Copy)]
 pub struct Repr<'a> {
     /// The type.
@@ -150,23 +174,29 @@ impl<'a> Repr<'a> {
     }
 }
 
-/// The type by its name, the code, and the number of bytes that are quoted.
+/// The type by its name, the code and what it says, and the number of bytes that are quoted.
 impl fmt::Display for Repr<'_> {
     fn fmt(&self, f: &mut fmt::Formatter<'_>) -> fmt::Result {
-        let name = kind_name(self.kind);
+        let kind = self.kind;
         let code = self.code;
         let len = self.quoted.len();
-        write!(f, "ICMPv6 {name} code={code} quoted={len}")
+        match self.reason() {
+            Some(reason) => write!(f, "ICMPv6 {kind} code={code} ({reason}) quoted={len}"),
+            None => write!(f, "ICMPv6 {kind} code={code} quoted={len}"),
+        }
     }
 }
 
-// The name of a type.
-fn kind_name(kind: Kind) -> &'static str {
-    match kind {
-        Kind::DstUnreachable => "destination unreachable",
-        Kind::PktTooBig => "packet too big",
-        Kind::TimeExceeded => "time exceeded",
-        Kind::ParamProblem => "parameter problem",
+/// The name of the type.
+impl fmt::Display for Kind {
+    fn fmt(&self, f: &mut fmt::Formatter<'_>) -> fmt::Result {
+        let name = match self {
+            Kind::DstUnreachable => "destination unreachable",
+            Kind::PktTooBig => "packet too big",
+            Kind::TimeExceeded => "time exceeded",
+            Kind::ParamProblem => "parameter problem",
+        };
+        f.write_str(name)
     }
 }
 

@@ -1,12 +1,17 @@
 // Made from crates/quote_wire/src/quote.rt by rust/erase.
 //! What an error quotes of a datagram: the fields of its header, and as much of its payload as is quoted.
 
+mod refusal;
+
 use super::icmpv4_error::is_datagram;
 use super::icmpv6_error::is_packet_front;
 use crate::wirebase::{
     Error, Field, IPV6_HEADER_LEN, IpProtocol, Ipv4Address, Ipv4Packet, Ipv6Address, Ipv6Packet,
     Octets, Result,
 };
+use core::fmt;
+pub use refusal::Refusal;
+pub(crate) use refusal::{why_no_datagram, why_no_packet};
 
 // The type of service of an IPv4 header, and the end of its fixed fields.
 const TYPE_OF_SERVICE: Field = 1..2;
@@ -72,8 +77,56 @@ impl<'a> Ipv4Quote<'a> {
     }
 }
 
+/// The fields in the order of the header, the protocol by its number, and the bytes of the options and of the payload.
+impl fmt::Display for Ipv4Quote<'_> {
+    fn fmt(&self, f: &mut fmt::Formatter<'_>) -> fmt::Result {
+        fmt_front(f, self)?;
+        fmt_back(f, self)
+    }
+}
+
+// What is printed of the fields up to the fragment offset.
+fn fmt_front(f: &mut fmt::Formatter<'_>, header: &Ipv4Quote<'_>) -> fmt::Result {
+    write!(
+        f,
+        "IPv4 quote type_of_service={} total_len={} ident={} dont_frag={} more_frags={} frag_offset={}",
+        header.type_of_service,
+        header.total_len,
+        header.ident,
+        header.dont_frag,
+        header.more_frags,
+        header.frag_offset
+    )
+}
+
+// What is printed of the others.
+fn fmt_back(f: &mut fmt::Formatter<'_>, header: &Ipv4Quote<'_>) -> fmt::Result {
+    write!(
+        f,
+        " hop_limit={} next_header={} src_addr={} dst_addr={} options={} payload={}",
+        header.hop_limit,
+        u8::from(header.next_header),
+        header.src_addr,
+        header.dst_addr,
+        header.options.len(),
+        header.payload.len()
+    )
+}
+
 /// What an ICMPv6 error quotes (RFC 4443 section 3): the header of the packet that it is about (RFC 8200 section 3), and
 /// as much of its payload as is quoted, extension headers included.
+///
+/// ```
+/// use control_wire::quotes::quote::Ipv6Quote;
+/// use control_wire::IpProtocol;
+///
+/// let mut quoted = [0; 44];
+/// quoted[..8].copy_from_slice(&[0x60, 0, 0, 0, 0, 20, 58, 64]);
+/// let quote = Ipv6Quote::parse(&quoted)?;
+/// assert_eq!((quote.next_header, quote.payload_len), (IpProtocol::Icmpv6, 20));
+/// assert_eq!(quote.payload.len(), 4);
+/// # Ok::<(), control_wire::Error>(())
+/// ```
 #[derive(Debug, PartialEq, Eq, Clone, Copy)]
 pub struct Ipv6Quote<'a> {
     /// The traffic class: the differentiated services field and the congestion notification (RFC 2474, RFC 3168).
@@ -113,5 +166,24 @@ impl<'a> Ipv6Quote<'a> {
             dst_addr: packet.dst_addr(),
             payload: &octets[IPV6_HEADER_LEN..],
         })
+    }
+}
+
+/// The fields in the order of the header, the protocol by its number, and the bytes of the payload.
+impl fmt::Display for Ipv6Quote<'_> {
+    fn fmt(&self, f: &mut fmt::Formatter<'_>) -> fmt::Result {
+        write!(
+            f,
+            "IPv6 quote traffic_class={} flow_label={} payload_len={} next_header={} hop_limit={} src_addr={} \
+             dst_addr={} payload={}",
+            self.traffic_class,
+            self.flow_label,
+            self.payload_len,
+            u8::from(self.next_header),
+            self.hop_limit,
+            self.src_addr,
+            self.dst_addr,
+            self.payload.len()
+        )
     }
 }

@@ -4,6 +4,7 @@
 use crate::dns_wire::dns::Packet;
 use crate::record::record::{Question, Record};
 use crate::wirebase::Result;
+use core::fmt;
 
 /// A section of a message.
 #[derive(Debug, PartialEq, Eq, Clone, Copy)]
@@ -18,6 +19,18 @@ pub enum Section {
     Additional,
 }
 
+/// The section's name.
+impl fmt::Display for Section {
+    fn fmt(&self, f: &mut fmt::Formatter<'_>) -> fmt::Result {
+        f.write_str(match self {
+            Section::Question => "question",
+            Section::Answer => "answer",
+            Section::Authority => "authority",
+            Section::Additional => "additional",
+        })
+    }
+}
+
 /// A question or a record of a message.
 #[derive(Debug, PartialEq, Eq, Clone, Copy)]
 pub enum Entry<'a> {
@@ -27,8 +40,31 @@ pub enum Entry<'a> {
     Record(Section, Record<'a>),
 }
 
+/// The question, or the section and the record.
+impl fmt::Display for Entry<'_> {
+    fn fmt(&self, f: &mut fmt::Formatter<'_>) -> fmt::Result {
+        match self {
+            Entry::Question(question) => write!(f, "{question}"),
+            Entry::Record(section, record) => write!(f, "{section} {record}"),
+        }
+    }
+}
+
 /// The questions and the records of a message in turn, as many as its header counts: each one while they read, one
 /// refusal where none stands, and then the end for good.
+///
+/// ```
+/// use control_wire::record::{Entries, Entry};
+/// use control_wire::dns::Packet;
+///
+/// // A buffer of the caller's own: a view of a slice of it is what is read.
+/// let message: Vec<u8> = b"\0\x01\0\0\0\x01\0\0\0\0\0\0\x03www\0\0\x01\0\x01".to_vec();
+/// let packet = Packet::new_checked(&message[..])?;
+/// let mut entries = Entries::new(&packet);
+/// assert!(matches!(entries.next(), Some(Ok(Entry::Question(_)))));
+/// assert!(entries.next().is_none());
+/// # Ok::<(), control_wire::Error>(())
+/// ```
 pub struct Entries<'a> {
     // How many there are up to the end of each section.
     questions: u32,
@@ -42,7 +78,9 @@ pub struct Entries<'a> {
 }
 
 impl<'a> Entries<'a> {
-    /// The questions and the records of this message. Requires at least 12 bytes.
+    /// The questions and the records of this message. Requires at least 12 bytes, as `Packet::new_checked` sees to. The
+    /// entries keep parts of the octets, so the view is one of a slice: over a buffer of one's own, a `Vec<u8>` or an
+    /// array, it is `Packet::new_checked(&buffer[..])`.
     pub fn new<B: AsRef<[u8]> + ?Sized>(packet: &Packet<&'a B>) -> Entries<'a> {
         let questions = packet.question_count() as u32;
         let answers = questions + packet.answer_record_count() as u32;

@@ -4,12 +4,15 @@
 pub mod dotted;
 mod label;
 mod part;
+pub mod refusal;
 mod text;
 
 use crate::dns_wire::dns::Packet;
 use crate::dns_wire::message::{Front, follow, octets_of};
+pub use crate::record::name::label::Labels;
 use crate::record::name::label::{push_end, push_octets};
 use crate::record::name::part::read_labels;
+use crate::record::name::refusal::{NameRefusal, why_no_name};
 use crate::record::name::text::{fmt_labels, is_root, put_labels};
 use crate::wirebase::{Error, Result};
 use arrayvec::ArrayVec;
@@ -19,6 +22,16 @@ use core::fmt;
 pub const MAX_NAME_LEN: usize = 255;
 
 /// A whole name, by its octets: each label of 1 to 63 bytes behind its length, and then byte 0; 255 octets at most.
+///
+/// ```
+/// use control_wire::record::Name;
+///
+/// let name = Name::from_text(b"www.example.com")?;
+/// assert_eq!(name.octets(), b"\x03www\x07example\x03com\0");
+/// assert_eq!(name.to_string(), "www.example.com");
+/// # Ok::<(), control_wire::Error>(())
+/// ```
+#[derive(Clone)]
 pub struct Name {
     octets: ArrayVec<u8, MAX_NAME_LEN>,
 }
@@ -34,6 +47,17 @@ impl Name {
         put_name(&mut octets, octets_of(packet), bytes)?;
         push_end(&mut octets)?;
         Ok(Name { octets })
+    }
+
+    /// Why [`Name::read`] refuses this, by the check that fails first; None where it reads a name.
+    pub fn read_refusal<'a, B: AsRef<[u8]> + ?Sized>(
+        packet: &Packet<&'a B>,
+        bytes: &'a [u8],
+    ) -> Option<NameRefusal> {
+        match Name::read(packet, bytes) {
+            Ok(_) => None,
+            Err(_) => Some(why_no_name(octets_of(packet), bytes)),
+        }
     }
 
     /// The name of this text: labels with dots between them, a last dot allowed, and a dot alone for the root. A
@@ -53,6 +77,18 @@ impl Name {
     /// The octets: each label behind its length, and then byte 0.
     pub fn octets(&self) -> &[u8] {
         self.octets.as_slice()
+    }
+
+    /// The labels in turn, each without its length; the root has none.
+    pub fn labels(&self) -> Labels<'_> {
+        Labels::new(self.octets.as_slice())
+    }
+
+    /// Whether the names have the same labels, without regard to the case of ASCII letters (RFC 4343 section 3). So do
+    /// `==` and `!=`; the octets, compared by [`Name::octets`], differ where a case does.
+    pub fn eq_ignore_case(&self, other: &Name) -> bool {
+        let left = self.octets.as_slice();
+        left.eq_ignore_ascii_case(other.octets.as_slice())
     }
 
     // The root, which has no labels.
@@ -91,6 +127,16 @@ fn put_name<'a>(
         }
     }
 }
+
+/// Names are equal where they have the same labels, without regard to the case of ASCII letters (RFC 1035 section
+/// 2.3.3, RFC 4343 section 3).
+impl PartialEq for Name {
+    fn eq(&self, other: &Name) -> bool {
+        self.eq_ignore_case(other)
+    }
+}
+
+impl Eq for Name {}
 
 /// Labels with dots between them, and a dot alone for the root.
 impl fmt::Display for Name {

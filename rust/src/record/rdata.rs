@@ -2,7 +2,9 @@
 //! The data of resource records by their type (RFC 1035 sections 3.3 and 3.4, RFC 2782, RFC 3596).
 
 use crate::dns_wire::dns::{Type, split_name};
+use crate::record::{classes, multicast, types};
 use crate::wirebase::{Error, Ipv4Address, Ipv6Address, Octets, Result};
+use core::fmt;
 
 // The data of MX and SRV in front of a name, and of SOA behind two names.
 mod field {
@@ -33,19 +35,19 @@ mod field {
     pub const SOA_END: usize = 20;
 }
 
-// The class of the internet, and the types that have no name in the message's tables.
-const CLASS_IN: u16 = 1;
-
-const TYPE_PTR: u16 = 12;
-
-const TYPE_MX: u16 = 15;
-
-const TYPE_TXT: u16 = 16;
-
-const TYPE_SRV: u16 = 33;
-
 /// The data of a record. Names are as they are written: labels of 1 to 63 bytes, each after its length, and then byte 0
 /// or a pointer into the message.
+///
+/// ```
+/// use control_wire::record::rdata::RData;
+/// use control_wire::Ipv4Address;
+/// use control_wire::dns::Type;
+///
+/// let data = RData::parse(Type::A, 1, &[192, 0, 2, 1])?;
+/// assert_eq!(data, RData::A(Ipv4Address::new(192, 0, 2, 1)));
+/// assert!(RData::parse(Type::A, 1, &[192, 0, 2]).is_err());
+/// # Ok::<(), control_wire::Error>(())
+/// ```
 #[derive(Debug, PartialEq, Eq, Clone, Copy)]
 pub enum RData<'a> {
     /// An IPv4 address (RFC 1035 section 3.4.1), of type A and class 1.
@@ -74,9 +76,10 @@ pub enum RData<'a> {
     },
     /// Who is responsible for a zone (RFC 1035 section 3.3.13).
     Soa(Authority<'a>),
-    /// Strings of up to 255 bytes, each behind its length, one at least (RFC 1035 section 3.3.14).
+    /// Strings of up to 255 bytes, each behind its length, one at least (RFC 1035 section 3.3.14): `TxtStrings` gives
+    /// them in turn.
     Txt(&'a [u8]),
-    /// Data of any other type or class.
+    /// Data of any other type or class. `EdnsOptions` gives the options of an OPT record in turn.
     Other(&'a [u8]),
 }
 
@@ -99,46 +102,98 @@ pub struct Authority<'a> {
     pub minimum: u32,
 }
 
-/// How the data of a type is laid out.
+/// Addresses as addresses, numbers by their names, names and strings by their length.
+impl fmt::Display for RData<'_> {
+    fn fmt(&self, f: &mut fmt::Formatter<'_>) -> fmt::Result {
+        match self {
+            RData::A(address) => write!(f, "{address}"),
+            RData::Aaaa(address) => write!(f, "{address}"),
+            RData::Name(name) => write!(f, "name len={}", name.len()),
+            RData::Mx {
+                preference,
+                exchange,
+            } => {
+                let len = exchange.len();
+                write!(f, "MX preference={preference} exchange_len={len}")
+            }
+            RData::Srv {
+                priority,
+                weight,
+                port,
+                target,
+            } => {
+                let len = target.len();
+                write!(
+                    f,
+                    "SRV priority={priority} weight={weight} port={port} target_len={len}"
+                )
+            }
+            RData::Soa(authority) => write!(f, "{authority}"),
+            RData::Txt(octets) => write!(f, "TXT len={}", octets.len()),
+            RData::Other(octets) => write!(f, "data len={}", octets.len()),
+        }
+    }
+}
+
+/// The lengths of the names, and the numbers.
+impl fmt::Display for Authority<'_> {
+    fn fmt(&self, f: &mut fmt::Formatter<'_>) -> fmt::Result {
+        let primary = self.primary.len();
+        let mailbox = self.mailbox.len();
+        write!(
+            f,
+            "SOA primary_len={primary} mailbox_len={mailbox} serial={} refresh={} retry={} expire={} minimum={}",
+            self.serial, self.refresh, self.retry, self.expire, self.minimum
+        )
+    }
+}
+
+// How the data of a type is laid out.
 #[derive(Debug, PartialEq, Eq, Clone, Copy)]
-pub enum Layout {
-    /// An IPv4 address.
+enum Layout {
+    // An IPv4 address.
     Ipv4,
-    /// An IPv6 address.
+    // An IPv6 address.
     Ipv6,
-    /// A name.
+    // A name.
     Name,
-    /// A preference and a name.
+    // A preference and a name.
     Mail,
-    /// A priority, a weight, a port and a name.
+    // A priority, a weight, a port and a name.
     Service,
-    /// Two names and five numbers.
+    // Two names and five numbers.
     Authority,
-    /// Strings.
+    // Strings.
     Strings,
-    /// Any bytes.
+    // Any bytes.
     Opaque,
 }
 
 impl<'a> RData<'a> {
-    /// The data of a record of this type and class. Refused where the bytes are not laid out as the type has it.
+    /// The data of a record of this type and class. Refused where the bytes are not laid out as the type has it. Of a
+    /// record of multicast DNS, [`RData::parse_multicast`] reads it.
     pub fn parse(type_: Type, class: u16, octets: &'a [u8]) -> Result<RData<'a>> {
         read(find_layout(type_, class), octets)
+    }
+
+    /// The data of a record of multicast DNS: by its type and its class without the top bit, which is a flag there (RFC
+    /// 6762 section 10.2). Refused where the bytes are not laid out as the type has it.
+    pub fn parse_multicast(type_: Type, class: u16, octets: &'a [u8]) -> Result<RData<'a>> {
+        RData::parse(type_, multicast::class_of(class), octets)
     }
 }
 
 // How the data of this type and class is laid out.
 fn find_layout(type_: Type, class: u16) -> Layout {
     match type_ {
-        Type::A if class == CLASS_IN => Layout::Ipv4,
-        Type::Aaaa if class == CLASS_IN => Layout::Ipv6,
-        Type::A | Type::Aaaa => Layout::Opaque,
-        Type::Cname | Type::Ns | Type::Unknown(TYPE_PTR) => Layout::Name,
-        Type::Soa => Layout::Authority,
-        Type::Unknown(TYPE_MX) => Layout::Mail,
-        Type::Unknown(TYPE_TXT) => Layout::Strings,
-        Type::Unknown(TYPE_SRV) => Layout::Service,
-        Type::Unknown(_) => Layout::Opaque,
+        types::A if class == classes::IN => Layout::Ipv4,
+        types::AAAA if class == classes::IN => Layout::Ipv6,
+        types::CNAME | types::NS | types::PTR => Layout::Name,
+        types::SOA => Layout::Authority,
+        types::MX => Layout::Mail,
+        types::TXT => Layout::Strings,
+        types::SRV => Layout::Service,
+        _ => Layout::Opaque,
     }
 }
 

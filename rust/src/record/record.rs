@@ -2,7 +2,13 @@
 //! Questions and resource records of any type and class (RFC 1035 sections 4.1.2 and 4.1.3).
 
 use crate::dns_wire::dns::{Type, split_name};
+use crate::record::classes::ClassName;
+use crate::record::multicast;
+use crate::record::rdata::RData;
+use crate::record::refusal::{Refusal, why_no_part};
+use crate::record::types::TypeName;
 use crate::wirebase::{Error, Octets, Result};
+use core::fmt;
 
 // What stands behind the name of a question and of a record.
 mod field {
@@ -22,13 +28,24 @@ mod field {
 }
 
 /// A question: the records of one type and class at a name (RFC 1035 section 4.1.2).
+///
+/// ```
+/// use control_wire::record::Question;
+/// use control_wire::dns::Type;
+///
+/// let (rest, question) = Question::parse(b"\x03www\0\0\x1c\0\x01rest")?;
+/// assert_eq!((question.type_, question.class), (Type::Aaaa, 1));
+/// assert_eq!(rest, b"rest");
+/// # Ok::<(), control_wire::Error>(())
+/// ```
 #[derive(Debug, PartialEq, Eq, Clone, Copy)]
 pub struct Question<'a> {
     /// The name as it is written: labels of 1 to 63 bytes, each after its length, and then byte 0 or a pointer.
     pub name: &'a [u8],
     /// The type of the records.
     pub type_: Type,
-    /// The class of the records: 1 is the internet, 255 any.
+    /// The class of the records: 1 is the internet, 255 any. In multicast DNS its top bit is a flag:
+    /// [`Question::multicast_class`] is the class, [`Question::wants_unicast`] the flag.
     pub class: u16,
 }
 
@@ -47,17 +64,63 @@ impl<'a> Question<'a> {
         };
         Ok((&after[field::QUESTION_END..], question))
     }
+
+    /// Why [`Question::parse`] refuses these octets, by the check that fails first; None where it reads them.
+    pub fn refusal(octets: &[u8]) -> Option<Refusal> {
+        let (_, after) = match split_name(octets) {
+            Ok(split) => split,
+            Err(_) => return Some(Refusal::Name(why_no_part(octets))),
+        };
+        if after.len() < field::QUESTION_END {
+            return Some(Refusal::Fields);
+        }
+        None
+    }
+
+    /// Whether a question of multicast DNS wants its answer sent to the asker alone: the top bit of its class (RFC 6762
+    /// section 5.4).
+    pub fn wants_unicast(&self) -> bool {
+        multicast::has_top_bit(self.class)
+    }
+
+    /// The class of a question of multicast DNS, without the top bit (RFC 6762 section 5.4): 1 is the internet.
+    pub fn multicast_class(&self) -> u16 {
+        multicast::class_of(self.class)
+    }
+}
+
+/// The length of the name, the type and the class.
+impl fmt::Display for Question<'_> {
+    fn fmt(&self, f: &mut fmt::Formatter<'_>) -> fmt::Result {
+        let name_len = self.name.len();
+        let type_ = TypeName(self.type_);
+        let class = ClassName(self.class);
+        write!(f, "question name_len={name_len} type={type_} class={class}")
+    }
 }
 
 /// A resource record of any type and class, also of one that belongs to the message and to no name, as OPT (RFC 6891
 /// section 6.1).
+///
+/// ```
+/// use control_wire::record::Record;
+/// use control_wire::dns::Type;
+///
+/// let octets = b"\x03www\0\0\x01\0\x01\0\0\0\x3c\0\x04\xc0\0\x02\x01";
+/// let (rest, record) = Record::parse(octets)?;
+/// assert_eq!((record.type_, record.ttl), (Type::A, 60));
+/// assert_eq!(record.data, [192, 0, 2, 1]);
+/// assert!(rest.is_empty());
+/// # Ok::<(), control_wire::Error>(())
+/// ```
 #[derive(Debug, PartialEq, Eq, Clone, Copy)]
 pub struct Record<'a> {
     /// The name as it is written: labels of 1 to 63 bytes, each after its length, and then byte 0 or a pointer.
     pub name: &'a [u8],
     /// The type of the data.
     pub type_: Type,
-    /// The class: 1 is the internet. An OPT record has the sender's payload size here.
+    /// The class: 1 is the internet. An OPT record has the sender's payload size here. In multicast DNS its top bit is
+    /// a flag: [`Record::multicast_class`] is the class, [`Record::flushes_cache`] the flag.
     pub class: u16,
     /// How long the record may be kept, in seconds. An OPT record has flags here.
     pub ttl: u32,
@@ -71,6 +134,49 @@ impl<'a> Record<'a> {
     pub fn parse(octets: &'a [u8]) -> Result<(&'a [u8], Record<'a>)> {
         let (name, after) = split_name(octets)?;
         Record::read_behind(name, after)
+    }
+
+    /// Why [`Record::parse`] refuses these octets, by the check that fails first; None where it reads them.
+    pub fn refusal(octets: &[u8]) -> Option<Refusal> {
+        let (_, after) = match split_name(octets) {
+            Ok(split) => split,
+            Err(_) => return Some(Refusal::Name(why_no_part(octets))),
+        };
+        if after.len() < field::RECORD_END {
+            return Some(Refusal::Fields);
+        }
+        let len = after.u16_at(field::LENGTH) as usize;
+        if after[field::RECORD_END..].len() < len {
+            return Some(Refusal::Data);
+        }
+        None
+    }
+
+    /// The data by the record's type and class. Refused where the bytes are not laid out as the type has it. Of a record
+    /// of multicast DNS, [`Record::multicast_rdata`] gives it.
+    pub fn rdata(&self) -> Result<RData<'a>> {
+        RData::parse(self.type_, self.class, self.data)
+    }
+
+    /// The data of a record of multicast DNS, by its type and its class without the top bit. Refused where the bytes
+    /// are not laid out as the type has it.
+    pub fn multicast_rdata(&self) -> Result<RData<'a>> {
+        RData::parse_multicast(self.type_, self.class, self.data)
+    }
+
+    /// Whether a record of multicast DNS tells caches to drop the older records of its name, type and class: the top
+    /// bit of its class (RFC 6762 section 10.2). An OPT record has no such bit, and does not.
+    pub fn flushes_cache(&self) -> bool {
+        !multicast::is_opt(self.type_) && multicast::has_top_bit(self.class)
+    }
+
+    /// The class of a record of multicast DNS, without the top bit (RFC 6762 section 10.2): 1 is the internet. The
+    /// payload size of an OPT record is left as it is.
+    pub fn multicast_class(&self) -> u16 {
+        if multicast::is_opt(self.type_) {
+            return self.class;
+        }
+        multicast::class_of(self.class)
     }
 
     // What stands behind the record of this name, and the record; the octets begin behind its name.
@@ -93,3 +199,21 @@ impl<'a> Record<'a> {
         Ok((&behind[len..], record))
     }
 }
+
+/// The length of the name, the type, the class, the time to live and the length of the data.
+impl fmt::Display for Record<'_> {
+    fn fmt(&self, f: &mut fmt::Formatter<'_>) -> fmt::Result {
+        let name_len = self.name.len();
+        let type_ = TypeName(self.type_);
+        let class = ClassName(self.class);
+        let len = self.data.len();
+        write!(
+            f,
+            "record name_len={name_len} type={type_} class={class} ttl={} len={len}",
+            self.ttl
+        )
+    }
+}
+
+#[cfg(test)]
+mod tests;

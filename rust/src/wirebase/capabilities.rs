@@ -38,9 +38,9 @@ impl Checksum {
 pub struct ChecksumCapabilities {
     /// The header's checksum of IPv4.
     pub ipv4: Checksum,
-    /// That of UDP, which no call here reads or writes.
+    /// That of UDP, with the pseudo header of IPv4 or IPv6.
     pub udp: Checksum,
-    /// That of TCP, which no call here reads or writes.
+    /// That of TCP, which nothing here reads or writes: the field is smoltcp's.
     pub tcp: Checksum,
     /// That of ICMPv4.
     pub icmpv4: Checksum,

@@ -25,6 +25,12 @@ impl EthernetAddress {
     }
 }
 
+impl From<[u8; 6]> for EthernetAddress {
+    fn from(octets: [u8; 6]) -> EthernetAddress {
+        EthernetAddress(octets)
+    }
+}
+
 /// Addresses are equal exactly when their octets are.
 impl PartialEq for EthernetAddress {
     fn eq(&self, other: &EthernetAddress) -> bool {
@@ -90,7 +96,7 @@ impl fmt::Display for RawHardwareAddress {
 
 // A byte as two digits.
 #[derive(Clone, Copy)]
-struct HexByte(u8);
+pub(crate) struct HexByte(pub(crate) u8);
 
 impl fmt::Display for HexByte {
     fn fmt(&self, f: &mut fmt::Formatter<'_>) -> fmt::Result {

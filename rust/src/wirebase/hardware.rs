@@ -1,6 +1,8 @@
 // Made from crates/wirebase/src/hardware.rt by rust/erase.
 //! The kinds of hardware that a protocol of one hardware type or another speaks of.
 
+use core::fmt;
+
 /// A kind of hardware, by its assigned number (RFC 826, RFC 2131 section 2). DHCP has it in one byte.
 #[derive(Debug, PartialEq, Eq, PartialOrd, Ord, Clone, Copy)]
 pub enum Hardware {
@@ -24,6 +26,16 @@ impl From<Hardware> for u16 {
         match hardware {
             Hardware::Ethernet => 1,
             Hardware::Unknown(other) => other,
+        }
+    }
+}
+
+/// The name, or the number where there is none.
+impl fmt::Display for Hardware {
+    fn fmt(&self, f: &mut fmt::Formatter<'_>) -> fmt::Result {
+        match *self {
+            Hardware::Ethernet => f.write_str("Ethernet"),
+            Hardware::Unknown(number) => write!(f, "{number}"),
         }
     }
 }

@@ -1,6 +1,9 @@
 // Made from crates/wirebase/src/ip.rt by rust/erase.
 //! What both versions of IP have in common.
 
+use crate::wirebase::ethernet::HexByte;
+use core::fmt;
+
 /// What follows an IP header, one byte: the protocol of IPv4 (RFC 791 section 3.1), the next header of IPv6
 /// (RFC 8200 section 3).
 #[derive(Debug, PartialEq, Eq, PartialOrd, Ord, Clone, Copy)]
@@ -75,6 +78,28 @@ impl From<IpProtocol> for u8 {
             IpProtocol::Ipv6Opts => 60,
             IpProtocol::Unknown(other) => other,
         }
+    }
+}
+
+/// The name, as `UDP`, or the number in hexadecimal where there is none, as `0x03`.
+impl fmt::Display for IpProtocol {
+    fn fmt(&self, f: &mut fmt::Formatter<'_>) -> fmt::Result {
+        let words = match *self {
+            IpProtocol::HopByHop => "Hop-by-Hop",
+            IpProtocol::Icmp => "ICMP",
+            IpProtocol::Igmp => "IGMP",
+            IpProtocol::Tcp => "TCP",
+            IpProtocol::Udp => "UDP",
+            IpProtocol::Ipv6Route => "IPv6-Route",
+            IpProtocol::Ipv6Frag => "IPv6-Frag",
+            IpProtocol::IpSecEsp => "IPsec-ESP",
+            IpProtocol::IpSecAh => "IPsec-AH",
+            IpProtocol::Icmpv6 => "ICMPv6",
+            IpProtocol::Ipv6NoNxt => "IPv6-NoNxt",
+            IpProtocol::Ipv6Opts => "IPv6-Opts",
+            IpProtocol::Unknown(number) => return write!(f, "0x{}", HexByte(number)),
+        };
+        f.write_str(words)
     }
 }
 

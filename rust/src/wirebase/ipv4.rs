@@ -56,6 +56,12 @@ impl Ipv4Address {
     }
 }
 
+impl From<[u8; 4]> for Ipv4Address {
+    fn from(octets: [u8; 4]) -> Ipv4Address {
+        Ipv4Address::from_octets(octets)
+    }
+}
+
 /// The unspecified address.
 impl Default for Ipv4Address {
     fn default() -> Ipv4Address {

@@ -8,8 +8,10 @@ use crate::wirebase::octets::{Octets, OctetsMut};
 use core::fmt;
 
 mod address;
+mod refusal;
 
 pub use address::{IPV6_LINK_LOCAL_ALL_NODES, IPV6_LINK_LOCAL_ALL_ROUTERS, Ipv6Address};
+pub use refusal::Ipv6Refusal;
 
 /// The bytes of a header.
 pub const IPV6_HEADER_LEN: usize = field::DST_ADDR.end;
@@ -165,6 +167,21 @@ impl Ipv6Repr {
             payload_len: packet.payload_len() as usize,
             hop_limit: packet.hop_limit(),
         })
+    }
+
+    /// Why [`Ipv6Repr::parse`] refuses these octets, by the check that fails first; None where it reads them.
+    pub fn refusal<B: AsRef<[u8]> + ?Sized>(packet: &Ipv6Packet<&B>) -> Option<Ipv6Refusal> {
+        if packet.buffer.as_ref().len() < IPV6_HEADER_LEN {
+            return Some(Ipv6Refusal::Short);
+        }
+        if packet.check_len().is_err() {
+            return Some(Ipv6Refusal::Cut);
+        }
+        let version = packet.version();
+        if version != 6 {
+            return Some(Ipv6Refusal::Version(version));
+        }
+        None
     }
 
     /// The bytes that the header takes: 40.

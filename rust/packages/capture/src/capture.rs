@@ -1,7 +1,7 @@
 // Made from crates/capture/src/capture.rt by rust/erase.
 //! The records of a capture, read one after another in bounded memory.
 
-use crate::ending::{Ending, Fault};
+use crate::ending::{Ending, Fault, Refusal};
 use crate::order::Order;
 use crate::packet::Packet;
 use crate::pcap::{self, FileHeader, RecordHeader};
@@ -24,8 +24,8 @@ pub const MOST_INTERFACES: usize = 65_536;
 pub struct Record {
     /// The number of the packet; the first is 1.
     pub number: u64,
-    /// When it was captured.
-    pub time: Time,
+    /// When it was captured. A simple packet of a pcapng file (draft-ietf-opsawg-pcapng section 4.4) has no time.
+    pub time: Option<Time>,
     /// The type of the link.
     pub link_type: u16,
     /// How many of its bytes are kept: at most `MOST_OCTETS`.
@@ -203,7 +203,7 @@ impl Capture {
         let order = head.order;
         self.stage = Stage::Section(section);
         if !pcapng::is_closed(order, self.octets.as_slice()) {
-            return Ok(Step::Ended(Ending::Malformed));
+            return Ok(Step::Ended(Ending::Malformed(Refusal::ClosingLength)));
         }
         if head.kind == pcapng::SECTION {
             return Ok(self.take_section(order));
@@ -228,11 +228,12 @@ impl Capture {
 
     // Takes an interface description.
     fn take_interface(&mut self, order: Order) -> Result<Step, Fault> {
-        let Ok(interface) = Interface::parse(order, self.octets.as_slice()) else {
-            return Ok(Step::Ended(Ending::Malformed));
+        let interface = match Interface::parse(order, self.octets.as_slice()) {
+            Ok(interface) => interface,
+            Err(refusal) => return Ok(Step::Ended(Ending::Malformed(refusal))),
         };
         if self.interfaces.as_slice().len() >= MOST_INTERFACES {
-            return Ok(Step::Ended(Ending::TooLarge));
+            return Ok(Step::Ended(Ending::TooManyInterfaces));
         }
         match self.interfaces.push(interface) {
             Ok(()) => Ok(Step::Passed),
@@ -246,7 +247,7 @@ impl Capture {
         match pcapng::parse_packet(order, kind, interfaces, self.octets.as_slice()) {
             Ok(packet) if packet.captured_len > MOST_OCTETS => Step::Ended(Ending::TooLarge),
             Ok(packet) => Step::Packet(packet),
-            Err(_) => Step::Ended(Ending::Malformed),
+            Err(refusal) => Step::Ended(Ending::Malformed(refusal)),
         }
     }
 }

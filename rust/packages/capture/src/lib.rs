@@ -1,6 +1,7 @@
 // Made from crates/capture/src/lib.rt by rust/erase.
-//! Capture files: what a pcap or a pcapng file holds, read as records in bounded memory.
+#![doc = include_str!("../README.md")]
 
+pub mod calendar;
 mod capture;
 mod ending;
 mod order;
@@ -10,11 +11,16 @@ pub mod pcapng;
 mod reader;
 #[cfg(test)]
 mod testing;
+mod text;
 mod time;
 mod unit;
 
 pub use capture::{Capture, MOST_INTERFACES, MOST_OCTETS, Next, Record};
-pub use ending::{Ending, Fault};
+pub use ending::{Ending, Fault, Refusal};
 pub use order::Order;
 pub use packet::Packet;
 pub use time::Time;
+
+mod by_hand;
+
+pub use by_hand::*;

@@ -6,8 +6,8 @@ use crate::time::Time;
 /// A packet, by its place in a record or a block.
 #[derive(Debug, PartialEq, Eq, Clone, Copy)]
 pub struct Packet {
-    /// When it was captured.
-    pub time: Time,
+    /// When it was captured. A simple packet of a pcapng file has no time.
+    pub time: Option<Time>,
     /// The type of the link.
     pub link_type: u16,
     /// The bytes that it had.

@@ -155,7 +155,11 @@ impl UnitHead for RecordHeader {
 /// The packet of a record with this header, whose bytes stand behind it.
 pub fn packet(file: &FileHeader, head: &RecordHeader) -> Packet {
     Packet {
-        time: Time::of_fraction(head.seconds, head.fraction, file.precision),
+        time: Some(Time::of_fraction(
+            head.seconds,
+            head.fraction,
+            file.precision,
+        )),
         link_type: file.link_type,
         original_len: head.original_len,
         start: RECORD_HEADER_LEN,

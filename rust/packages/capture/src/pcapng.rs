@@ -1,12 +1,12 @@
 // Made from crates/capture/src/pcapng.rt by rust/erase.
 //! The blocks of a pcapng file (draft-ietf-opsawg-pcapng sections 3 and 4).
 
-use crate::ending::Ending;
+use crate::ending::{Ending, Refusal};
 use crate::order::Order;
 use crate::packet::Packet;
 use crate::time::Time;
 use crate::unit::UnitHead;
-use control_wire::{Error, Octets};
+use control_wire::Octets;
 
 // The fields of the blocks.
 mod field {
@@ -111,8 +111,8 @@ pub struct Head {
 
 impl Head {
     /// The head at the front of the octets, in a section of this order. Refused where there are no octets (`Whole`),
-    /// fewer than 12 (`Cut`), where the order or the length can't be (`Malformed`), and where a block that is read has
-    /// more than `MOST_BLOCK_OCTETS` (`TooLarge`).
+    /// fewer than 12 (`Cut`), where a section header tells no order of bytes or the length is no block's (`Malformed`,
+    /// with `ByteOrder` or `Length`), and where a block that is read has more than `MOST_BLOCK_OCTETS` (`TooLarge`).
     pub fn parse(section: Order, octets: &[u8]) -> Result<Head, Ending> {
         if octets.is_empty() {
             return Err(Ending::Whole);
@@ -122,11 +122,11 @@ impl Head {
         }
         let kind = section.u32_at(octets, field::KIND);
         let Some(order) = order_of(section, kind, octets) else {
-            return Err(Ending::Malformed);
+            return Err(Ending::Malformed(Refusal::ByteOrder));
         };
         let total_len = order.u32_at(octets, field::TOTAL_LEN);
         if total_len < 12 || total_len % 4 != 0 {
-            return Err(Ending::Malformed);
+            return Err(Ending::Malformed(Refusal::Length(total_len)));
         }
         if is_read(kind) && total_len > MOST_BLOCK_OCTETS {
             return Err(Ending::TooLarge);
@@ -205,11 +205,11 @@ pub fn is_closed(order: Order, block: &[u8]) -> bool {
     order.u32_at(block, len - field::TRAILER..len) as usize == len
 }
 
-/// Accepts a section header of version 1.0 or 1.2. Refused where it is shorter than 28 bytes (`Malformed`) or of
-/// another version (`Version`).
+/// Accepts a section header of version 1.0 or 1.2. Refused where it is shorter than 28 bytes (`Malformed`, with
+/// `Short`) or of another version (`Version`).
 pub fn check_section(order: Order, block: &[u8]) -> Result<(), Ending> {
     if block.len() < field::SECTION_END {
-        return Err(Ending::Malformed);
+        return Err(Ending::Malformed(Refusal::Short));
     }
     let minor = order.u16_at(block, field::MINOR);
     if order.u16_at(block, field::MAJOR) != 1 || (minor != 0 && minor != 2) {
@@ -232,11 +232,12 @@ pub struct Interface {
 }
 
 impl Interface {
-    /// The interface that a block describes. Refused where the block is shorter than 20 bytes.
-    pub fn parse(order: Order, block: &[u8]) -> control_wire::Result<Interface> {
+    /// The interface that a block describes. Refused where the block is shorter than 20 bytes (`Short`). Options that
+    /// are cut short are not looked at.
+    pub fn parse(order: Order, block: &[u8]) -> Result<Interface, Refusal> {
         let len = block.len();
         if len < field::OPTIONS + field::TRAILER {
-            return Err(Error);
+            return Err(Refusal::Short);
         }
         let options = block.range(field::OPTIONS, len - field::TRAILER);
         Ok(Interface {
@@ -285,50 +286,51 @@ fn first_option(order: Order, options: &[u8], code: u16, len: u16) -> Option<&[u
     None
 }
 
-/// The packet that a block of a kind holds, in a section with these interfaces. Refused where the block is too
-/// short for it, names an interface that is not described, or is of no kind of packet.
+/// The packet that a block of a kind holds, in a section with these interfaces. Refused where the block is too short
+/// (`Short`), is of no kind of packet (`Kind`), names an interface that is not described (`Interface`), or is shorter
+/// than its packet (`CapturedLength`).
 #[inline]
 pub fn parse_packet(
     order: Order,
     kind: u32,
     interfaces: &[Interface],
     block: &[u8],
-) -> control_wire::Result<Packet> {
+) -> Result<Packet, Refusal> {
     if block.len() < field::HEAD_END {
-        return Err(Error);
+        return Err(Refusal::Short);
     }
     match kind {
         OBSOLETE_PACKET => {
-            let place = order.u16_at(block, field::SHORT_INTERFACE) as usize;
-            timed(order, interfaces, place, block)
+            let number = order.u16_at(block, field::SHORT_INTERFACE) as u32;
+            timed(order, interfaces, number, block)
         }
         SIMPLE_PACKET => simple(order, interfaces, block),
         ENHANCED_PACKET => {
-            let place = order.u32_at(block, field::INTERFACE) as usize;
-            timed(order, interfaces, place, block)
+            let number = order.u32_at(block, field::INTERFACE);
+            timed(order, interfaces, number, block)
         }
-        _ => Err(Error),
+        _ => Err(Refusal::Kind(kind)),
     }
 }
 
-// An enhanced or an obsolete packet, of the interface at a place.
+// An enhanced or an obsolete packet, of the interface of a number.
 #[inline]
 fn timed(
     order: Order,
     interfaces: &[Interface],
-    place: usize,
+    number: u32,
     block: &[u8],
-) -> control_wire::Result<Packet> {
-    let Some(interface) = interfaces.get(place) else {
-        return Err(Error);
-    };
+) -> Result<Packet, Refusal> {
     let len = block.len();
     if len < field::PACKET + field::TRAILER {
-        return Err(Error);
+        return Err(Refusal::Short);
     }
+    let Some(interface) = interfaces.get(number as usize) else {
+        return Err(Refusal::Interface(number));
+    };
     let captured_len = order.u32_at(block, field::CAPTURED_LEN);
     if captured_len as u64 > (len - field::PACKET - field::TRAILER) as u64 {
-        return Err(Error);
+        return Err(Refusal::CapturedLength(captured_len));
     }
     let high = order.u32_at(block, field::TICKS_HIGH);
     let low = order.u32_at(block, field::TICKS_LOW);
@@ -337,7 +339,7 @@ fn timed(
         interface.resolution,
     );
     Ok(Packet {
-        time: told.moved(interface.offset),
+        time: Some(told.moved(interface.offset)),
         link_type: interface.link_type,
         original_len: order.u32_at(block, field::ORIGINAL_LEN),
         start: field::PACKET,
@@ -346,21 +348,21 @@ fn timed(
 }
 
 // A simple packet, which belongs to the first interface and has no time.
-fn simple(order: Order, interfaces: &[Interface], block: &[u8]) -> control_wire::Result<Packet> {
-    let Some(interface) = interfaces.get(0) else {
-        return Err(Error);
-    };
+fn simple(order: Order, interfaces: &[Interface], block: &[u8]) -> Result<Packet, Refusal> {
     let len = block.len();
     if len < field::SIMPLE_PACKET + field::TRAILER {
-        return Err(Error);
+        return Err(Refusal::Short);
     }
+    let Some(interface) = interfaces.get(0) else {
+        return Err(Refusal::Interface(0));
+    };
     let original_len = order.u32_at(block, field::SIMPLE_ORIGINAL_LEN);
     let captured_len = kept_len(interface.snap_len, original_len);
     if captured_len as u64 > (len - field::SIMPLE_PACKET - field::TRAILER) as u64 {
-        return Err(Error);
+        return Err(Refusal::CapturedLength(captured_len));
     }
     Ok(Packet {
-        time: Time::ZERO,
+        time: None,
         link_type: interface.link_type,
         original_len,
         start: field::SIMPLE_PACKET,

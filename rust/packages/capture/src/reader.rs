@@ -69,6 +69,6 @@ pub fn look<R: BufRead>(input: &mut R) -> Result<Option<&[u8]>, Fault> {
     match input.fill_buf() {
         Ok(shown) => Ok(Some(shown)),
         Err(error) if error.kind() == ErrorKind::Interrupted => Ok(None),
-        Err(_) => Err(Fault::Read),
+        Err(error) => Err(Fault::from(error)),
     }
 }

@@ -1,7 +1,11 @@
 // Made from crates/capture/src/time.rt by rust/erase.
 //! The times of packets.
 
+mod text;
+
 use crate::pcap::Precision;
+use std::cmp::Ordering;
+use std::time::Duration;
 
 // The nanoseconds and the microseconds in a second.
 const NANOS_A_SECOND: u64 = 1_000_000_000;
@@ -11,20 +15,31 @@ const MICROS_A_SECOND: u64 = 1_000_000;
 // The nanoseconds in a second, among those of any resolution.
 const NANOS: u128 = 1_000_000_000;
 
+// The digits of a second in microseconds and in nanoseconds, which are the most that are kept.
+const MICRO_DIGITS: u8 = 6;
+
+const NANO_DIGITS: u8 = 9;
+
 /// A time, since 1970-01-01 00:00:00 UTC.
-#[derive(Debug, PartialEq, Eq, Clone, Copy)]
+///
+/// Times are equal, and one is less than another, as their nanoseconds since then are, whatever their digits. A time
+/// prints as RFC 3339 writes it, in UTC and with its own digits.
+#[derive(Debug, Clone, Copy)]
 pub struct Time {
     /// The whole seconds.
     pub seconds: u64,
     /// The nanoseconds past them, fewer than 1,000,000,000.
     pub nanoseconds: u32,
+    /// To how many decimal digits of a second its file tells it, 0 to 9: 6 where the file counts microseconds.
+    pub digits: u8,
 }
 
 impl Time {
-    /// 1970-01-01 00:00:00 UTC, the time of a packet of which none is told.
+    /// 1970-01-01 00:00:00 UTC, in whole seconds.
     pub const ZERO: Time = Time {
         seconds: 0,
         nanoseconds: 0,
+        digits: 0,
     };
 
     /// The time of a second and a fraction behind it, which may be more than a second.
@@ -42,8 +57,13 @@ impl Time {
         match resolution {
             6 => Time::of_micros(ticks),
             9 => Time::of_nanos(ticks),
-            _ => Time::of_nanoseconds(nanoseconds(ticks, resolution)),
+            _ => Time::of_nanoseconds(nanoseconds(ticks, resolution), digits(resolution)),
         }
+    }
+
+    /// The nanoseconds since 1970-01-01 00:00:00 UTC.
+    pub fn as_nanos(&self) -> u128 {
+        self.seconds as u128 * NANOS + self.nanoseconds as u128
     }
 
     // The time so many seconds later, or earlier where they are negative. One before 1970 is 1970-01-01, and the
@@ -70,6 +90,7 @@ impl Time {
         Time {
             seconds: self.seconds.saturating_add(seconds),
             nanoseconds: self.nanoseconds,
+            digits: self.digits,
         }
     }
 
@@ -79,8 +100,13 @@ impl Time {
             Some(seconds) => Time {
                 seconds,
                 nanoseconds: self.nanoseconds,
+                digits: self.digits,
             },
-            None => Time::ZERO,
+            None => Time {
+                seconds: 0,
+                nanoseconds: 0,
+                digits: self.digits,
+            },
         }
     }
 
@@ -89,6 +115,7 @@ impl Time {
         Time {
             seconds: micros / MICROS_A_SECOND,
             nanoseconds: (micros % MICROS_A_SECOND) as u32 * 1000,
+            digits: MICRO_DIGITS,
         }
     }
 
@@ -97,16 +124,53 @@ impl Time {
         Time {
             seconds: nanos / NANOS_A_SECOND,
             nanoseconds: (nanos % NANOS_A_SECOND) as u32,
+            digits: NANO_DIGITS,
         }
     }
 
-    // The time of so many nanoseconds.
-    fn of_nanoseconds(nanoseconds: u128) -> Time {
+    // The time of so many nanoseconds, told to so many digits.
+    fn of_nanoseconds(nanoseconds: u128, digits: u8) -> Time {
         Time {
             seconds: (nanoseconds / NANOS) as u64,
             nanoseconds: (nanoseconds % NANOS) as u32,
+            digits,
         }
     }
+}
+
+/// Times are equal exactly where their nanoseconds since 1970 are.
+impl PartialEq for Time {
+    fn eq(&self, other: &Time) -> bool {
+        self.as_nanos() == other.as_nanos()
+    }
+}
+
+impl Eq for Time {}
+
+/// The earlier of two times is the lesser.
+impl Ord for Time {
+    fn cmp(&self, other: &Time) -> Ordering {
+        self.as_nanos().cmp(&other.as_nanos())
+    }
+}
+
+impl PartialOrd for Time {
+    fn partial_cmp(&self, other: &Time) -> Option<Ordering> {
+        Some(self.cmp(other))
+    }
+}
+
+/// The span since 1970-01-01 00:00:00 UTC, the longest where that would be longer.
+impl From<Time> for Duration {
+    fn from(time: Time) -> Duration {
+        let past = Duration::from_nanos(time.nanoseconds as u64);
+        Duration::from_secs(time.seconds).saturating_add(past)
+    }
+}
+
+// The digits of a second that a resolution tells.
+fn digits(resolution: u8) -> u8 {
+    (resolution % 128).min(NANO_DIGITS)
 }
 
 // The whole nanoseconds in so many units of a resolution.

@@ -17,7 +17,7 @@ pub mod mld;
 pub mod name;
 pub mod ndisc;
 pub mod ndopt;
-mod number;
+pub mod number;
 pub mod page;
 mod pairs;
 pub mod ports;
@@ -28,5 +28,4 @@ pub mod quote;
 mod testing;
 #[cfg(test)]
 mod tests;
-pub mod time;
 mod zone;

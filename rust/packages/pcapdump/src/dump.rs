@@ -8,9 +8,9 @@ use crate::messages::show_listing;
 use crate::options::Options;
 use crate::sight::{Headers, Sight, look};
 use crate::tally::{Outcome, Tally};
+use crate::time::Clock;
 use capture::{Capture, Ending, Next, Record};
 use listing::page::Page;
-use listing::time::Clock;
 use rattle_std::io;
 use rattle_std::io::{BufReader, BufWriter, Read, Write};
 

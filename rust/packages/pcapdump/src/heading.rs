@@ -2,12 +2,12 @@
 //! The heading of a control packet.
 
 use crate::sight::Headers;
-use capture::Record;
+use crate::time::Clock;
+use capture::{Record, Time};
 use control_wire::frames::Addresses;
 use control_wire::{Field, Ipv4Address, Ipv6Address, Octets};
 use listing::endpoint::{write_v4, write_v6};
 use listing::printer::{Value, line};
-use listing::time::Clock;
 use rattle_std::io;
 use rattle_std::io::Write;
 
@@ -16,7 +16,7 @@ const TAG_LEN: usize = 4;
 
 const VLAN: Field = 0..2;
 
-/// Prints the heading of a control packet. Requires that the packet's time is in order.
+/// Prints the heading of a control packet. Requires that the packet's time, where it has one, is in order.
 pub fn show_heading<W: Write>(
     output: &mut W,
     clock: &mut Clock,
@@ -26,12 +26,20 @@ pub fn show_heading<W: Write>(
 ) -> io::Result<()> {
     captured.number.write_to(output)?;
     output.write_all(b" ")?;
-    clock.write(output, captured.time.seconds, captured.time.nanoseconds)?;
+    show_time(output, clock, captured.time)?;
     show_addresses(output, headers.addresses, headers.ports)?;
     show_tags(output, headers.tags)?;
     show_hop_by_hop(output, headers.hop_by_hop)?;
     output.write_all(b" ")?;
     line(output, headers.kind.name())
+}
+
+// Prints when a packet was captured, where that is told.
+fn show_time<W: Write>(output: &mut W, clock: &mut Clock, time: Option<Time>) -> io::Result<()> {
+    match time {
+        Some(time) => clock.write(output, time.seconds, time.nanoseconds),
+        None => output.write_all(b"-"),
+    }
 }
 
 // Prints from where a packet comes and to where it goes, as far as that is known.

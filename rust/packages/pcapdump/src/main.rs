@@ -19,6 +19,7 @@ mod tally;
 mod testing;
 #[cfg(test)]
 mod tests;
+mod time;
 
 use crate::arguments::{Task, Wrong, read_task};
 use crate::options::Options;
@@ -176,17 +177,14 @@ fn report_counts(name: Option<&str>, tally: &Tally) -> Result<(), Fault> {
 
 // Says what ended a capture if it did not end behind a whole record, and answers the status.
 fn report_ending(file: &str, ending: Ending, packets: u64) -> u8 {
-    let (what, status) = match ending {
+    let status = match ending {
         Ending::Whole => return WHOLE,
-        Ending::Cut => ("it ends within a record", BROKEN),
-        Ending::TooLarge => ("a record is too large", BROKEN),
-        Ending::Malformed => ("a record contradicts itself", BROKEN),
-        Ending::Version => ("its version is not read", WRONG),
-        Ending::NotACapture => ("it is no capture", WRONG),
+        Ending::Version | Ending::NotACapture => WRONG,
+        _ => BROKEN,
     };
     let _ = match packets {
-        0 => rattle_std::eprintln!("pcapdump: {file}: {what}"),
-        last => rattle_std::eprintln!("pcapdump: {file}: {what}, after packet {last}"),
+        0 => rattle_std::eprintln!("pcapdump: {file}: {ending}"),
+        last => rattle_std::eprintln!("pcapdump: {file}: {ending}, after packet {last}"),
     };
     status
 }

@@ -148,9 +148,12 @@ fn early(captured: &Record, octets: &[u8]) -> Reason {
 // Why a datagram is refused.
 fn reason_of(captured: &Record, octets: &[u8], refusal: Refusal) -> Reason {
     match refusal {
-        Refusal::Cut => early(captured, octets),
-        Refusal::Malformed => Reason::Malformed,
-        Refusal::Fragment => Reason::Fragment,
+        Refusal::Short | Refusal::Cut(_) => early(captured, octets),
+        Refusal::Fragment(_) => Reason::Fragment,
+        Refusal::Version(_)
+        | Refusal::HeaderLen(_)
+        | Refusal::TotalLen(_)
+        | Refusal::Extension(_) => Reason::Malformed,
     }
 }
 

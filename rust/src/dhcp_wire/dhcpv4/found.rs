@@ -69,9 +69,9 @@ fn set<T: Copy>(field: &mut Option<T>, said: Option<T>) {
 
 // The length of a client identifier that is an address of Ethernet, and the number of that hardware, which stands
 // first.
-const IDENTIFIER_LEN: usize = 7;
+pub(super) const IDENTIFIER_LEN: usize = 7;
 
-const ETHERNET: u8 = 1;
+pub(super) const ETHERNET: u8 = 1;
 
 // Whether this is no client identifier of another hardware.
 fn is_of_ethernet(option: DhcpOption<'_>) -> bool {

@@ -82,7 +82,7 @@ impl<'a> Repr<'a> {
     }
 
     // The value of a packet of which no option was read; its type of message is none that a packet has.
-    fn of<B: AsRef<[u8]> + ?Sized>(packet: &Packet<&'a B>) -> Repr<'a> {
+    pub(super) fn of<B: AsRef<[u8]> + ?Sized>(packet: &Packet<&'a B>) -> Repr<'a> {
         Repr {
             message_type: MessageType::Unknown(0),
             transaction_id: packet.transaction_id(),

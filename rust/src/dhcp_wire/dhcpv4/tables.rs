@@ -1,6 +1,8 @@
 // Made from crates/dhcp_wire/src/dhcpv4/tables.rt by rust/erase.
 //! The numbers of DHCP: operations, types of message, flags, and kinds of option (RFC 2131, RFC 2132).
 
+use core::fmt;
+
 /// What a packet is, one byte (RFC 2131 section 2).
 #[derive(Debug, PartialEq, Eq, PartialOrd, Ord, Clone, Copy)]
 pub enum OpCode {
@@ -28,6 +30,17 @@ impl From<OpCode> for u8 {
             OpCode::Request => 1,
             OpCode::Reply => 2,
             OpCode::Unknown(other) => other,
+        }
+    }
+}
+
+/// The name of an operation, as `BOOTREQUEST`; one without a name prints its number, as `unknown 3`.
+impl fmt::Display for OpCode {
+    fn fmt(&self, f: &mut fmt::Formatter<'_>) -> fmt::Result {
+        match self {
+            OpCode::Request => f.write_str("BOOTREQUEST"),
+            OpCode::Reply => f.write_str("BOOTREPLY"),
+            OpCode::Unknown(other) => write!(f, "unknown {other}"),
         }
     }
 }
@@ -89,6 +102,24 @@ impl From<MessageType> for u8 {
             MessageType::Inform => 8,
             MessageType::Unknown(other) => other,
         }
+    }
+}
+
+/// The name of a type, as `DISCOVER`; one without a name prints its number, as `unknown 34`.
+impl fmt::Display for MessageType {
+    fn fmt(&self, f: &mut fmt::Formatter<'_>) -> fmt::Result {
+        let name = match self {
+            MessageType::Discover => "DISCOVER",
+            MessageType::Offer => "OFFER",
+            MessageType::Request => "REQUEST",
+            MessageType::Decline => "DECLINE",
+            MessageType::Ack => "ACK",
+            MessageType::Nak => "NAK",
+            MessageType::Release => "RELEASE",
+            MessageType::Inform => "INFORM",
+            MessageType::Unknown(other) => return write!(f, "unknown {other}"),
+        };
+        f.write_str(name)
     }
 }
 

@@ -17,10 +17,10 @@ pub enum Front<'a> {
 }
 
 // The first byte of a label is its length, below this.
-const LABEL_END: u8 = 0x40;
+pub(crate) const LABEL_END: u8 = 0x40;
 
 // The first byte of a pointer is this or above, and its other six bits are the higher ones of the place.
-const POINTER: u8 = 0xc0;
+pub(crate) const POINTER: u8 = 0xc0;
 
 /// Reads what stands at the front of a text (RFC 1035 section 4.1.4).
 #[inline]

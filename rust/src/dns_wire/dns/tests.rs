@@ -5,6 +5,8 @@ use crate::dns_wire::testing::{fail, same, same_of};
 use crate::wirebase::{Ipv4Address, Ipv6Address};
 
 pub(super) mod damaged;
+mod printing;
+mod refusals;
 mod written;
 
 #[test]

@@ -1,5 +1,5 @@
 // Made from crates/frame_wire/src/datagram/tests.rt by rust/erase.
-use super::{Addresses, Datagram, Refusal};
+use super::{Addresses, Captured, Datagram, Extent, Head, Refusal};
 use crate::frames::testing::same_of;
 use crate::wirebase::{IpProtocol, Ipv4Address, Ipv6Address};
 
@@ -24,7 +24,26 @@ fn a_datagram_of_ipv4() {
     };
     same_of(V4, Datagram::parse_v4(V4), Ok(want));
     for len in 0..25 {
-        same_of(len, Datagram::parse_v4(&V4[..len]), Err(Refusal::Cut));
+        let refusal = if len < 20 {
+            Refusal::Short
+        } else {
+            Refusal::Cut(head_v4(0, false))
+        };
+        same_of(len, Datagram::parse_v4(&V4[..len]), Err(refusal));
+    }
+}
+
+// What its header tells, as of a fragment at this offset.
+fn head_v4(frag_offset: u16, more_frags: bool) -> Head {
+    Head {
+        addresses: Addresses::V4(
+            Ipv4Address::new(192, 0, 2, 1),
+            Ipv4Address::new(224, 0, 0, 1),
+        ),
+        protocol: IpProtocol::Icmp,
+        ident: Some(1),
+        frag_offset,
+        more_frags,
     }
 }
 
@@ -40,17 +59,18 @@ fn changed(place: usize, byte: u8) -> [u8; 27] {
 
 #[test]
 fn datagrams_of_ipv4_that_are_refused() {
-    const ROWS: &[(usize, u8, Refusal)] = &[
+    let rows = [
         // Of version 6, with a header of 16 bytes, with one longer than the datagram, longer than there is, with more
         // fragments, and at an offset.
-        (0, 0x66, Refusal::Malformed),
-        (0, 0x44, Refusal::Malformed),
-        (0, 0x47, Refusal::Malformed),
-        (3, 0x1c, Refusal::Cut),
-        (6, 0x20, Refusal::Fragment),
-        (7, 0x01, Refusal::Fragment),
+        (0, 0x66, Refusal::Version(6)),
+        (0, 0x44, Refusal::HeaderLen(16)),
+        (0, 0x47, Refusal::TotalLen(25)),
+        (3, 0x00, Refusal::TotalLen(0)),
+        (3, 0x1c, Refusal::Cut(head_v4(0, false))),
+        (6, 0x20, Refusal::Fragment(head_v4(0, true))),
+        (7, 0x01, Refusal::Fragment(head_v4(8, false))),
     ];
-    for &(place, byte, refusal) in ROWS {
+    for (place, byte, refusal) in rows {
         let octets = changed(place, byte);
         same_of(place, Datagram::parse_v4(&octets), Err(refusal));
     }
@@ -80,7 +100,37 @@ fn a_datagram_of_ipv6() {
     };
     same_of(V6, Datagram::parse_v6(V6), Ok(want));
     for len in 0..73 {
-        same_of(len, Datagram::parse_v6(&V6[..len]), Err(Refusal::Cut));
+        let refusal = if len < 40 {
+            Refusal::Short
+        } else {
+            Refusal::Cut(head_v6())
+        };
+        same_of(len, Datagram::parse_v6(&V6[..len]), Err(refusal));
+    }
+}
+
+// What its fixed header tells.
+fn head_v6() -> Head {
+    Head {
+        addresses: Addresses::V6(
+            Ipv6Address::new(0x2001, 0x0db8, 0, 0, 0, 0, 0, 1),
+            Ipv6Address::new(0x2001, 0x0db8, 0, 0, 0, 0, 0, 2),
+        ),
+        protocol: IpProtocol::HopByHop,
+        ident: None,
+        frag_offset: 0,
+        more_frags: false,
+    }
+}
+
+// What the header of a fragment tells that stands behind the fixed one.
+fn fragment_v6(protocol: IpProtocol, ident: u32, frag_offset: u16, more_frags: bool) -> Head {
+    Head {
+        protocol,
+        ident: Some(ident),
+        frag_offset,
+        more_frags,
+        ..head_v6()
     }
 }
 
@@ -99,13 +149,35 @@ fn answer_of(place: usize, byte: u8) -> (Option<Addresses>, Option<Refusal>) {
 
 #[test]
 fn headers_that_extend_ipv6() {
-    const ROWS: &[(usize, u8, Option<u16>, Option<Refusal>)] = &[
+    let rows = [
         // Of version 4; a fragment instead of options and behind them; a header longer than the datagram.
-        (0, 0x40, None, Some(Refusal::Malformed)),
-        (6, 44, None, Some(Refusal::Fragment)),
-        (40, 44, None, Some(Refusal::Fragment)),
-        (41, 4, None, Some(Refusal::Malformed)),
-        (49, 3, None, Some(Refusal::Malformed)),
+        (0, 0x40, None, Some(Refusal::Version(4))),
+        (
+            6,
+            44,
+            None,
+            Some(Refusal::Fragment(fragment_v6(
+                IpProtocol::Ipv6Route,
+                0x0000_0100,
+                0x0500,
+                false,
+            ))),
+        ),
+        (
+            40,
+            44,
+            None,
+            Some(Refusal::Fragment(fragment_v6(
+                IpProtocol::Icmpv6,
+                0,
+                0,
+                true,
+            ))),
+        ),
+        (41, 4, None, Some(Refusal::Extension(IpProtocol::HopByHop))),
+        (49, 3, None, Some(Refusal::Extension(IpProtocol::Ipv6Route))),
+        // No room is left for the header of a fragment.
+        (48, 44, None, Some(Refusal::Extension(IpProtocol::Ipv6Frag))),
         // No segments are left; of types 2 and 4 the address is the same one, of type 1 none is known.
         (51, 0, Some(2), None),
         (50, 2, Some(3), None),
@@ -114,7 +186,7 @@ fn headers_that_extend_ipv6() {
         // Destination options behind the hop-by-hop ones lead nowhere else.
         (40, 60, Some(2), None),
     ];
-    for &(place, byte, last, refusal) in ROWS {
+    for (place, byte, last, refusal) in rows {
         let want = match last {
             Some(last) => Some(Addresses::V6(
                 Ipv6Address::new(0x2001, 0x0db8, 0, 0, 0, 0, 0, 1),
@@ -178,4 +250,81 @@ fn hop_by_hop_options_stand_behind_the_fixed_header_alone() {
         };
         same_of(len, read, Some((IpProtocol::Icmpv6, options, len)));
     }
+}
+
+// The datagram of IPv4 as far as it is there, with this payload.
+fn captured_v4(payload: &'static [u8], extent: Extent) -> Captured<'static> {
+    Captured {
+        datagram: Datagram {
+            addresses: head_v4(0, false).addresses,
+            protocol: IpProtocol::Icmp,
+            hop_limit: 1,
+            hop_by_hop: None,
+            payload,
+        },
+        extent,
+    }
+}
+
+#[test]
+fn a_datagram_of_ipv4_that_is_captured_in_part() {
+    let head = head_v4(0, false);
+    for len in 0..28 {
+        let want = match len {
+            0..=19 => Err(Refusal::Short),
+            20..=23 => Err(Refusal::Cut(head)),
+            24 => Ok(captured_v4(&[], Extent::Cut { missing: 1 })),
+            _ => Ok(captured_v4(&[0x08], Extent::Whole)),
+        };
+        let end = if len < 27 { len } else { 27 };
+        same_of(len, Captured::parse_v4(&V4[..end]), want);
+    }
+    let rows = [
+        // No length is stated; more is than the octets have; a fragment, whole and cut; of version 6.
+        (
+            3,
+            0x00,
+            27,
+            Ok(captured_v4(&[0x08, 0, 0], Extent::Unstated)),
+        ),
+        (3, 0x00, 22, Err(Refusal::Cut(head))),
+        (3, 0x17, 27, Err(Refusal::TotalLen(23))),
+        (
+            3,
+            0x1c,
+            27,
+            Ok(captured_v4(&[0x08, 0, 0], Extent::Cut { missing: 1 })),
+        ),
+        (6, 0x20, 27, Err(Refusal::Fragment(head_v4(0, true)))),
+        (7, 0x02, 24, Err(Refusal::Fragment(head_v4(16, false)))),
+        (0, 0x66, 24, Err(Refusal::Version(6))),
+    ];
+    for (place, byte, len, want) in rows {
+        let octets = changed(place, byte);
+        same_of((place, byte), Captured::parse_v4(&octets[..len]), want);
+    }
+}
+
+#[test]
+fn a_datagram_of_ipv6_that_is_captured_in_part() {
+    for len in 0..75 {
+        let want = match len {
+            0..=39 => Err(Refusal::Short),
+            40..=71 => Err(Refusal::Cut(head_v6())),
+            72 => Ok((0, Extent::Cut { missing: 1 })),
+            _ => Ok((1, Extent::Whole)),
+        };
+        let end = if len < 74 { len } else { 74 };
+        let read = match Captured::parse_v6(&V6[..end]) {
+            Ok(captured) => Ok((captured.datagram.payload.len(), captured.extent)),
+            Err(refusal) => Err(refusal),
+        };
+        same_of(len, read, want);
+    }
+    let mut octets = [0; 74];
+    octets.copy_from_slice(V6);
+    octets[6] = 44;
+    let fragment = fragment_v6(IpProtocol::Ipv6Route, 0x0000_0100, 0x0500, false);
+    let read = Captured::parse_v6(&octets[..48]);
+    same_of(48, read, Err(Refusal::Fragment(fragment)));
 }

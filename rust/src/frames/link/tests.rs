@@ -1,5 +1,5 @@
 // Made from crates/frame_wire/src/link/tests.rt by rust/erase.
-use super::{Frame, Link, Network};
+use super::{Frame, Link, Network, Refusal};
 use crate::frames::testing::same_of;
 
 // A frame of a link, and what it holds.
@@ -204,5 +204,92 @@ fn link_types() {
     ];
     for &(link_type, link) in TYPES {
         same_of(link_type, Link::of(link_type), link);
+    }
+}
+
+// A reason is told exactly where a frame is refused: of each front of a frame, and with each of its bytes changed.
+#[test]
+fn refusals_of_damaged_frames() {
+    for &(link, octets, ..) in ROWS {
+        for len in 0..=octets.len() {
+            let front = &octets[..len];
+            same_of(
+                (octets, len),
+                link.refusal(front).is_none(),
+                link.frame(front).is_ok(),
+            );
+        }
+        let mut changed = [0; 32];
+        if octets.len() <= 32 {
+            changed[..octets.len()].copy_from_slice(octets);
+            for place in 0..octets.len() {
+                changed[place] ^= 0x55;
+                let frame = &changed[..octets.len()];
+                same_of(
+                    (octets, place),
+                    link.refusal(frame).is_none(),
+                    link.frame(frame).is_ok(),
+                );
+                changed[place] ^= 0x55;
+            }
+        }
+    }
+}
+
+#[test]
+fn refusals_of_frames() {
+    const REFUSED: &[(Link, &[u8], Option<Refusal>)] = &[
+        (Link::Null, &[2, 0, 0], Some(Refusal::Short)),
+        (Link::Raw, &[], Some(Refusal::Short)),
+        (Link::Raw, &[0x45], None),
+        (
+            Link::Ethernet,
+            &[2, 0, 0, 0, 0, 2, 2, 0, 0, 0, 0, 1, 8],
+            Some(Refusal::Short),
+        ),
+        // The second tag of two has three bytes.
+        (
+            Link::Ethernet,
+            &[
+                2, 0, 0, 0, 0, 2, 2, 0, 0, 0, 0, 1, 0x88, 0xa8, 0, 100, 0x81, 0, 0, 1, 8,
+            ],
+            Some(Refusal::Tag),
+        ),
+        // A session of PPPoE with one byte of an even protocol.
+        (
+            Link::LinuxSll,
+            &[
+                0, 0, 0, 1, 0, 6, 2, 0, 0, 0, 0, 1, 0, 0, 0x88, 0x64, 0x11, 0, 0, 7, 0, 1, 0,
+            ],
+            Some(Refusal::Protocol),
+        ),
+        (Link::LinuxSll2, &[0x86, 0xdd, 0], Some(Refusal::Short)),
+        (Link::Ppp, &[0xff, 0x03], Some(Refusal::Protocol)),
+        (Link::Ppp, &[], Some(Refusal::Protocol)),
+        (Link::Ppp, &[0x21], None),
+        (Link::PppEther, &[0x11, 0, 0, 7, 0], Some(Refusal::Short)),
+        (
+            Link::PppEther,
+            &[0x21, 0, 0, 7, 0, 0],
+            Some(Refusal::SessionVersion(2)),
+        ),
+        (
+            Link::PppEther,
+            &[0x13, 0, 0, 7, 0, 0],
+            Some(Refusal::SessionType(3)),
+        ),
+        (
+            Link::PppEther,
+            &[0x11, 0xa7, 0, 7, 0, 0],
+            Some(Refusal::SessionCode(0xa7)),
+        ),
+        (
+            Link::PppEther,
+            &[0x11, 0, 0, 7, 0, 0],
+            Some(Refusal::Protocol),
+        ),
+    ];
+    for &(link, octets, refusal) in REFUSED {
+        same_of((link, octets), link.refusal(octets), refusal);
     }
 }

@@ -1,5 +1,5 @@
 // Made from crates/frame_wire/src/udp/tests.rt by rust/erase.
-use super::{UdpPacket, UdpRepr};
+use super::{Refusal, UdpPacket, UdpRepr};
 use crate::frames::datagram::Addresses;
 use crate::frames::testing::same_of;
 use crate::wirebase::{ChecksumCapabilities, Ipv4Address, Ipv6Address};
@@ -99,4 +99,61 @@ fn a_datagram_that_is_written_by_its_setters() {
             0xc0, 0x00, 0x00, 0x35, 0x00, 0x0b, 0xa8, 0x37, 0x12, 0x12, 0x12, 0xa5,
         ],
     );
+}
+
+#[test]
+fn refusals_of_datagrams() {
+    let both = ChecksumCapabilities::default();
+    let ignored = ChecksumCapabilities::ignored();
+    let rows = [
+        (V4, over_v4(), both, None),
+        (NONE, over_v4(), both, None),
+        (NONE, over_v6(), ignored, None),
+        (V4, over_v6(), both, Some(Refusal::Checksum)),
+        (NONE, over_v6(), both, Some(Refusal::NoChecksum)),
+        (&V4[..10], over_v4(), both, Some(Refusal::Cut(11))),
+        (&V4[..7], over_v4(), ignored, Some(Refusal::Short)),
+        (
+            &[0xc0, 0, 0, 0, 0, 8, 0, 0],
+            over_v4(),
+            both,
+            Some(Refusal::Port),
+        ),
+        (
+            &[0xc0, 0, 0, 53, 0, 7, 0, 0],
+            over_v4(),
+            both,
+            Some(Refusal::Length(7)),
+        ),
+    ];
+    for (octets, addresses, capabilities, want) in rows {
+        let packet = UdpPacket::new_unchecked(octets);
+        let refusal = UdpRepr::refusal(&packet, &addresses, &capabilities);
+        same_of(octets, refusal, want);
+        same_of(
+            octets,
+            packet.refusal().is_none(),
+            packet.check_len().is_ok(),
+        );
+    }
+}
+
+// A reason is told exactly where a datagram is refused: of each front of one, and with each of its bytes changed.
+#[test]
+fn refusals_of_damaged_datagrams() {
+    let both = ChecksumCapabilities::default();
+    let addresses = over_v4();
+    for place in 0..11 {
+        let mut octets = [0; 11];
+        octets.copy_from_slice(V4);
+        octets[place] ^= 0x55;
+        for end in [place, 11] {
+            let packet = UdpPacket::new_unchecked(&octets[..end]);
+            same_of(
+                (place, end),
+                UdpRepr::refusal(&packet, &addresses, &both).is_none(),
+                UdpRepr::parse(&packet, &addresses, &both).is_ok(),
+            );
+        }
+    }
 }

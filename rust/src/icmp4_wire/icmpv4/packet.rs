@@ -2,9 +2,9 @@
 //! The view of a message (RFC 792).
 
 use super::field;
-use super::refusal::Refusal;
 use super::repr::Repr;
 use super::tables::Message;
+use super::unread::Unread;
 use crate::wirebase::{ChecksumCapabilities, Error, Octets, OctetsMut, Result, checksum};
 use core::fmt;
 
@@ -143,21 +143,21 @@ impl<T: Octets> fmt::Display for Packet<T> {
         let packet = Packet::new_unchecked(self.buffer.octets());
         match Repr::parse(&packet, &ChecksumCapabilities::default()) {
             Ok(repr) => write!(f, "{repr}"),
-            Err(_) => packet.fmt_refusal(f),
+            Err(_) => packet.fmt_unread(f),
         }
     }
 }
 
 impl<B: AsRef<[u8]> + ?Sized> Packet<&B> {
     // What is printed of octets that are refused.
-    fn fmt_refusal(&self, f: &mut fmt::Formatter<'_>) -> fmt::Result {
+    fn fmt_unread(&self, f: &mut fmt::Formatter<'_>) -> fmt::Result {
         if self.buffer.as_ref().len() < field::CODE.end {
             return write!(f, "ICMPv4 (wire::Error)");
         }
-        let refusal = Refusal {
+        let unread = Unread {
             kind: self.msg_type(),
             code: self.msg_code(),
         };
-        write!(f, "{refusal}")
+        write!(f, "{unread}")
     }
 }

@@ -1,102 +1,103 @@
 // Made from crates/icmp4_wire/src/icmpv4/refusal.rt by rust/erase.
-//! What is printed of octets that are refused: their type and their code, by the names of their cases.
+//! Why octets are no message (RFC 792).
 
-use super::{DstUnreachable, Message, TimeExceeded};
+use super::packet::Packet;
+use super::repr::Repr;
+use super::tables::Message;
+use crate::wirebase::{ChecksumCapabilities, Ipv4Packet};
 use core::fmt;
 
-// The type and the code of a message that is refused.
-#[derive(Clone, Copy)]
-pub(super) struct Refusal {
-    pub(super) kind: Message,
-    pub(super) code: u8,
+// The bytes of an IPv4 header without options.
+const IPV4_HEADER_LEN: usize = 20;
+
+/// Why octets are no message that [`Repr::parse`] reads: the check that fails first.
+#[derive(Debug, PartialEq, Eq, Clone, Copy)]
+pub enum Refusal {
+    /// Fewer than 8 bytes.
+    Short,
+    /// The checksum is to be verified, and does not hold.
+    Checksum,
+    /// A type that is not read, by its number: none of echo reply (0), destination unreachable (3), echo request (8)
+    /// and time exceeded (11).
+    UnknownType(u8),
+    /// An echo whose code is not 0, by its code.
+    UnknownCode(u8),
+    /// An error that does not quote a whole IPv4 header: fewer than 20 bytes, or fewer than the header's own length.
+    QuotedHeader,
+    /// An error whose quoted header is longer than the total length that stands in it.
+    QuotedLength,
+    /// An error that quotes fewer bytes than the total length in the quoted header, as routers may. The errors of the
+    /// crate `quote_wire` read those.
+    QuoteCut,
+    /// An error that quotes fewer than 8 bytes behind the header (RFC 792).
+    QuotedData,
 }
 
-impl fmt::Display for Refusal {
-    fn fmt(&self, f: &mut fmt::Formatter<'_>) -> fmt::Result {
-        let kind = MessageName(self.kind);
-        let code = self.code;
-        match self.kind {
-            Message::DstUnreachable => {
-                let reason = UnreachableName(code.into());
-                write!(f, "ICMPv4 (wire::Error) type={kind} code={reason}")
-            }
-            Message::TimeExceeded => {
-                let reason = TimeExceededName(code.into());
-                write!(f, "ICMPv4 (wire::Error) type={kind} code={reason}")
-            }
-            _ => write!(f, "ICMPv4 (wire::Error) type={kind} code={code}"),
+impl Repr<'_> {
+    /// Why [`Repr::parse`] refuses these octets, by the check that fails first; None exactly where it reads them.
+    pub fn refusal<B: AsRef<[u8]> + ?Sized>(
+        packet: &Packet<&B>,
+        checksum_caps: &ChecksumCapabilities,
+    ) -> Option<Refusal> {
+        match Repr::parse(packet, checksum_caps) {
+            Ok(_) => None,
+            Err(_) => Some(why(packet, checksum_caps)),
         }
     }
 }
 
-// The name of a type.
-#[derive(Clone, Copy)]
-struct MessageName(Message);
-
-impl fmt::Display for MessageName {
-    fn fmt(&self, f: &mut fmt::Formatter<'_>) -> fmt::Result {
-        let words = match self.0 {
-            Message::EchoReply => "EchoReply",
-            Message::DstUnreachable => "DstUnreachable",
-            Message::Redirect => "Redirect",
-            Message::EchoRequest => "EchoRequest",
-            Message::RouterAdvert => "RouterAdvert",
-            Message::RouterSolicit => "RouterSolicit",
-            Message::TimeExceeded => "TimeExceeded",
-            Message::ParamProblem => "ParamProblem",
-            Message::Timestamp => "Timestamp",
-            Message::TimestampReply => "TimestampReply",
-            Message::Unknown(number) => return fmt_unknown(f, number),
-        };
-        f.write_str(words)
+// The check that fails first in octets that are not read.
+fn why<B: AsRef<[u8]> + ?Sized>(
+    packet: &Packet<&B>,
+    checksum_caps: &ChecksumCapabilities,
+) -> Refusal {
+    if packet.check_len().is_err() {
+        return Refusal::Short;
+    }
+    if checksum_caps.icmpv4.rx() && !packet.verify_checksum() {
+        return Refusal::Checksum;
+    }
+    match packet.msg_type() {
+        Message::EchoRequest | Message::EchoReply => Refusal::UnknownCode(packet.msg_code()),
+        Message::DstUnreachable | Message::TimeExceeded => why_no_quote(packet.data()),
+        other => Refusal::UnknownType(other.into()),
     }
 }
 
-// The name of a reason.
-#[derive(Clone, Copy)]
-struct UnreachableName(DstUnreachable);
+// The check that fails first in what an error quotes.
+fn why_no_quote(octets: &[u8]) -> Refusal {
+    let len = octets.len();
+    if len < IPV4_HEADER_LEN {
+        return Refusal::QuotedHeader;
+    }
+    let quoted = Ipv4Packet::new_unchecked(octets);
+    let header_len = quoted.header_len() as usize;
+    let total_len = quoted.total_len() as usize;
+    if len < header_len {
+        return Refusal::QuotedHeader;
+    }
+    if total_len < header_len {
+        return Refusal::QuotedLength;
+    }
+    if len < total_len {
+        return Refusal::QuoteCut;
+    }
+    Refusal::QuotedData
+}
 
-impl fmt::Display for UnreachableName {
+/// The reason as a phrase.
+impl fmt::Display for Refusal {
     fn fmt(&self, f: &mut fmt::Formatter<'_>) -> fmt::Result {
-        let words = match self.0 {
-            DstUnreachable::NetUnreachable => "NetUnreachable",
-            DstUnreachable::HostUnreachable => "HostUnreachable",
-            DstUnreachable::ProtoUnreachable => "ProtoUnreachable",
-            DstUnreachable::PortUnreachable => "PortUnreachable",
-            DstUnreachable::FragRequired => "FragRequired",
-            DstUnreachable::SrcRouteFailed => "SrcRouteFailed",
-            DstUnreachable::DstNetUnknown => "DstNetUnknown",
-            DstUnreachable::DstHostUnknown => "DstHostUnknown",
-            DstUnreachable::SrcHostIsolated => "SrcHostIsolated",
-            DstUnreachable::NetProhibited => "NetProhibited",
-            DstUnreachable::HostProhibited => "HostProhibited",
-            DstUnreachable::NetUnreachToS => "NetUnreachToS",
-            DstUnreachable::HostUnreachToS => "HostUnreachToS",
-            DstUnreachable::CommProhibited => "CommProhibited",
-            DstUnreachable::HostPrecedViol => "HostPrecedViol",
-            DstUnreachable::PrecedCutoff => "PrecedCutoff",
-            DstUnreachable::Unknown(number) => return fmt_unknown(f, number),
+        let words = match self {
+            Refusal::Short => "fewer than 8 bytes",
+            Refusal::Checksum => "the checksum does not hold",
+            Refusal::UnknownType(number) => return write!(f, "type {number} is not read"),
+            Refusal::UnknownCode(code) => return write!(f, "an echo of code {code} is not read"),
+            Refusal::QuotedHeader => "the quoted header is cut",
+            Refusal::QuotedLength => "the quoted header is longer than its packet",
+            Refusal::QuoteCut => "the quoted packet is cut",
+            Refusal::QuotedData => "fewer than 8 bytes stand behind the quoted header",
         };
         f.write_str(words)
     }
-}
-
-// The name of a reason.
-#[derive(Clone, Copy)]
-struct TimeExceededName(TimeExceeded);
-
-impl fmt::Display for TimeExceededName {
-    fn fmt(&self, f: &mut fmt::Formatter<'_>) -> fmt::Result {
-        let words = match self.0 {
-            TimeExceeded::TtlExpired => "TtlExpired",
-            TimeExceeded::FragExpired => "FragExpired",
-            TimeExceeded::Unknown(number) => return fmt_unknown(f, number),
-        };
-        f.write_str(words)
-    }
-}
-
-// What a number without a name prints.
-fn fmt_unknown(f: &mut fmt::Formatter<'_>, number: u8) -> fmt::Result {
-    write!(f, "Unknown({number})")
 }

@@ -14,6 +14,19 @@ use core::fmt;
 const MIN_QUOTED_DATA: usize = 8;
 
 /// A message (RFC 792).
+///
+/// ```
+/// use control_wire::ChecksumCapabilities;
+/// use control_wire::icmpv4::{Packet, Repr};
+///
+/// let checksums = ChecksumCapabilities::default();
+/// let message = Repr::EchoRequest { ident: 1, seq_no: 2, data: b"ping" };
+/// let mut octets = [0; 64];
+/// let octets = &mut octets[..message.buffer_len()];
+/// message.emit_into(octets, &checksums);
+/// assert_eq!(*octets, [8, 0, 0x19, 0x2c, 0, 1, 0, 2, b'p', b'i', b'n', b'g']);
+/// assert_eq!(Repr::parse(&Packet::new_unchecked(&*octets), &checksums), Ok(message));
+/// ```
 #[derive(Debug, PartialEq, Eq, Clone, Copy)]
 pub enum Repr<'a> {
     /// An echo request.

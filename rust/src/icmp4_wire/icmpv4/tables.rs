@@ -249,6 +249,20 @@ impl From<Redirect> for u8 {
     }
 }
 
+/// The reason in words, or its number.
+impl fmt::Display for Redirect {
+    fn fmt(&self, f: &mut fmt::Formatter<'_>) -> fmt::Result {
+        let words = match self {
+            Redirect::Net => "redirect for the network",
+            Redirect::Host => "redirect for the host",
+            Redirect::NetToS => "redirect for the ToS and network",
+            Redirect::HostToS => "redirect for the ToS and host",
+            Redirect::Unknown(number) => return write!(f, "{number}"),
+        };
+        f.write_str(words)
+    }
+}
+
 /// Which time was exceeded: the code of such a message, one byte (RFC 792).
 #[derive(Debug, PartialEq, Eq, PartialOrd, Ord, Clone, Copy)]
 pub enum TimeExceeded {
@@ -324,5 +338,18 @@ impl From<ParamProblem> for u8 {
             ParamProblem::BadLength => 2,
             ParamProblem::Unknown(other) => other,
         }
+    }
+}
+
+/// The reason in words, or its number.
+impl fmt::Display for ParamProblem {
+    fn fmt(&self, f: &mut fmt::Formatter<'_>) -> fmt::Result {
+        let words = match self {
+            ParamProblem::AtPointer => "pointer indicates the error",
+            ParamProblem::MissingOption => "missing a required option",
+            ParamProblem::BadLength => "bad length",
+            ParamProblem::Unknown(number) => return write!(f, "{number}"),
+        };
+        f.write_str(words)
     }
 }

@@ -8,6 +8,7 @@ use crate::wirebase::{ChecksumCapabilities, IpProtocol, Ipv4Address, Ipv4Repr, R
 mod damaged;
 mod printing;
 mod reading;
+mod refusing;
 mod writing;
 
 const ALL: ChecksumCapabilities = ChecksumCapabilities {

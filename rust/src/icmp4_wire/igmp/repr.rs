@@ -20,6 +20,19 @@ pub enum IgmpVersion {
 }
 
 /// A message (RFC 1112 appendix I, RFC 2236).
+///
+/// ```
+/// use control_wire::Ipv4Address;
+/// use control_wire::igmp::{IgmpVersion, Repr};
+///
+/// let report = Repr::MembershipReport {
+///     group_addr: Ipv4Address::new(224, 0, 0, 251),
+///     version: IgmpVersion::Version2,
+/// };
+/// let mut octets = [0; 8];
+/// report.emit_into(&mut octets);
+/// assert_eq!(octets, [0x16, 0, 0x09, 0x04, 224, 0, 0, 251]);
+/// ```
 #[derive(Debug, PartialEq, Eq, Clone, Copy)]
 pub enum Repr {
     /// A router asks which groups have members, or whether this one has.
@@ -127,7 +140,7 @@ impl Repr {
     }
 }
 
-/// The message and its fields. That of a leave message ends in a bracket which nothing opens.
+/// The message and its fields.
 impl fmt::Display for Repr {
     fn fmt(&self, f: &mut fmt::Formatter<'_>) -> fmt::Result {
         match self {
@@ -136,7 +149,6 @@ impl fmt::Display for Repr {
                 group_addr,
                 version,
             } => {
-                let version = version_name(*version);
                 write!(
                     f,
                     "IGMP membership query max_resp_time={max_resp_time} group_addr={group_addr} version={version}"
@@ -146,24 +158,26 @@ impl fmt::Display for Repr {
                 group_addr,
                 version,
             } => {
-                let version = version_name(*version);
                 write!(
                     f,
                     "IGMP membership report group_addr={group_addr} version={version}"
                 )
             }
             Repr::LeaveGroup { group_addr } => {
-                write!(f, "IGMP leave group group_addr={group_addr})")
+                write!(f, "IGMP leave group group_addr={group_addr}")
             }
         }
     }
 }
 
-// The name of a version.
-fn version_name(version: IgmpVersion) -> &'static str {
-    match version {
-        IgmpVersion::Version1 => "Version1",
-        IgmpVersion::Version2 => "Version2",
+/// The name of the version.
+impl fmt::Display for IgmpVersion {
+    fn fmt(&self, f: &mut fmt::Formatter<'_>) -> fmt::Result {
+        let name = match self {
+            IgmpVersion::Version1 => "Version1",
+            IgmpVersion::Version2 => "Version2",
+        };
+        f.write_str(name)
     }
 }
 
@@ -174,7 +188,7 @@ fn put_message(w: &mut ByteWriter<'_>, message: Message, code: u8, group: Ipv4Ad
 
 // Whether a message may speak of this group: of none, 0.0.0.0, or of a multicast address.
 #[inline]
-fn is_group(address: Ipv4Address) -> bool {
+pub(super) fn is_group(address: Ipv4Address) -> bool {
     address.is_unspecified() || address.is_multicast()
 }
 

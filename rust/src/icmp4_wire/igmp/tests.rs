@@ -1,7 +1,7 @@
 // Made from crates/icmp4_wire/src/igmp/tests.rt by rust/erase.
 use super::IgmpVersion::{Version1, Version2};
 use super::code::{code_of_duration, duration_of_code};
-use super::{IgmpVersion, Message, Packet, Repr};
+use super::{IgmpVersion, Message, Packet, Refusal, Repr};
 use crate::icmp4_wire::testing::{prints, prints_each, same, same_of, takes_writes};
 use crate::wirebase::{Duration, Ipv4Address};
 
@@ -317,7 +317,7 @@ fn packets_print_their_message_or_that_they_are_refused() {
     const ROWS: &[(&[u8], &str)] = &[
         (
             &[0x17, 0x00, 0x02, 0x69, 0xe0, 0x00, 0x06, 0x96],
-            "IGMP leave group group_addr=224.0.6.150)",
+            "IGMP leave group group_addr=224.0.6.150",
         ),
         (
             &[0x11, 0x80, 0xee, 0x7f, 0, 0, 0, 0],
@@ -340,11 +340,38 @@ fn packets_print_their_message_or_that_they_are_refused() {
     }
 }
 
+// Ends the test where the octets are refused for another reason, or where it prints another text.
+fn check_refusal(octets: &[u8], refusal: Refusal, text: &str) {
+    let told = Repr::refusal(&Packet::new_unchecked(octets));
+    same_of(octets, told, Some(refusal));
+    prints(&refusal, text);
+}
+
+#[test]
+fn messages_that_are_refused() {
+    const SHORT: &[u8] = &[0x22, 0, 0, 0, 0xe0, 0, 0x06];
+    check_refusal(SHORT, Refusal::Short, "fewer than 8 bytes");
+    let group = Refusal::Group(Ipv4Address::new(10, 0, 0, 1));
+    let text = "group 10.0.0.1 is neither 0.0.0.0 nor multicast";
+    check_refusal(&[0x22, 0, 0, 0, 10, 0, 0, 1], group, text);
+    let octets: &[u8] = &[0x22, 0, 0, 0, 0xe0, 0, 0x06, 0x96];
+    let kind = Refusal::UnknownType(34);
+    check_refusal(octets, kind, "type 34 is not read");
+    let leave: &[u8] = &[0x17, 0, 0, 0, 0xe0, 0, 0x06, 0x96];
+    same(Repr::refusal(&Packet::new_unchecked(leave)), None);
+}
+
+#[test]
+fn versions_print_their_names() {
+    prints(&Version1, "Version1");
+    prints(&Version2, "Version2");
+}
+
 #[test]
 fn printing_fails_only_with_its_writer() {
     const ROWS: &[(&[u8], u32)] = &[
         (&[0x11, 0x80, 0xee, 0x7f, 0, 0, 0, 0], 17),
-        (&[0x17, 0x00, 0x02, 0x69, 0xe0, 0x00, 0x06, 0x96], 9),
+        (&[0x17, 0x00, 0x02, 0x69, 0xe0, 0x00, 0x06, 0x96], 8),
         (&[], 1),
     ];
     for &(octets, calls) in ROWS {

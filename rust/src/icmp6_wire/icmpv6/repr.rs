@@ -16,6 +16,25 @@ use crate::wirebase::{
 };
 
 /// A message (RFC 4443).
+///
+/// ```
+/// use control_wire::icmpv6::{Packet, Repr};
+/// use control_wire::ndisc::{self, NeighborFlags};
+/// use control_wire::{ChecksumCapabilities, Ipv6Address};
+///
+/// /// What a neighbor advertisement says of its sender.
+/// fn neighbor(src: &Ipv6Address, dst: &Ipv6Address, octets: &[u8]) -> Option<(Ipv6Address, bool)> {
+///     let checksums = ChecksumCapabilities::default();
+///     let packet = Packet::new_checked(octets).ok()?;
+///     match Repr::parse(src, dst, &packet, &checksums).ok()? {
+///         Repr::Ndisc(ndisc::Repr::NeighborAdvert { flags, target_addr, .. }) => {
+///             Some((target_addr, flags.contains(NeighborFlags::ROUTER)))
+///         }
+///         _ => None,
+///     }
+/// }
+/// # assert_eq!(neighbor(&Ipv6Address::UNSPECIFIED, &Ipv6Address::UNSPECIFIED, &[]), None);
+/// ```
 #[derive(Debug, PartialEq, Eq, Clone, Copy)]
 pub enum Repr<'a> {
     /// An error: the destination of the quoted packet is unreachable.

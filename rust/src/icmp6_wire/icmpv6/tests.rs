@@ -8,6 +8,8 @@ use crate::wirebase::{ChecksumCapabilities, Ipv6Address};
 
 mod errors;
 mod fields;
+mod refusals;
+mod texts;
 mod types;
 
 // The octets that stand in a buffer before it is written into.

@@ -122,7 +122,8 @@ pub struct AddressRecordRepr<'a> {
     pub num_srcs: u16,
     /// The group.
     pub mcast_addr: Ipv6Address,
-    /// What stands after the fields: sources and auxiliary data. It is not written.
+    /// What stands after the fields: sources, which [`AddressRecordRepr::sources`] gives in turn, and auxiliary data.
+    /// It is not written.
     pub payload: &'a [u8],
 }
 
@@ -147,7 +148,9 @@ impl<'a> AddressRecordRepr<'a> {
     }
 
     // The record at the front of the octets.
-    fn read<B: AsRef<[u8]> + ?Sized>(view: &AddressRecord<&'a B>) -> Result<AddressRecordRepr<'a>> {
+    pub(super) fn read<B: AsRef<[u8]> + ?Sized>(
+        view: &AddressRecord<&'a B>,
+    ) -> Result<AddressRecordRepr<'a>> {
         view.check_len()?;
         Ok(AddressRecordRepr {
             record_type: view.record_type(),

@@ -8,6 +8,28 @@ use crate::icmp6_wire::writing::put_address;
 use crate::wirebase::{ByteWriter, Error, Ipv6Address, OctetsMut, Result, icmp};
 
 /// A message (RFC 3810 section 5).
+///
+/// ```
+/// use control_wire::icmpv6::{Packet, Repr as Icmpv6Repr};
+/// use control_wire::mld::{AddressRecordRepr, RecordType, Repr};
+/// use control_wire::{ChecksumCapabilities, Ipv6Address};
+///
+/// // A host that joins a group reports it to all routers that speak the protocol, ff02::16.
+/// let src_addr = Ipv6Address::new(0xfe80, 0, 0, 0, 0, 0, 0, 1);
+/// let dst_addr = Ipv6Address::new(0xff02, 0, 0, 0, 0, 0, 0, 0x16);
+/// let join = [AddressRecordRepr {
+///     record_type: RecordType::ChangeToExclude,
+///     aux_data_len: 0,
+///     num_srcs: 0,
+///     mcast_addr: Ipv6Address::new(0xff02, 0, 0, 0, 0, 0, 0, 0xfb),
+///     payload: &[],
+/// }];
+/// let report = Icmpv6Repr::Mld(Repr::ReportRecordReprs(&join));
+/// let mut octets = [0; 64];
+/// let octets = &mut octets[..report.packet_len()];
+/// report.emit_into(&src_addr, &dst_addr, octets, &ChecksumCapabilities::default());
+/// assert_eq!(octets.len(), 28);
+/// ```
 #[derive(Debug, PartialEq, Eq, Clone, Copy)]
 pub enum Repr<'a> {
     /// A router asks which groups have listeners, or whether this one has.
@@ -31,7 +53,7 @@ pub enum Repr<'a> {
     Report {
         /// The number of records.
         nr_mcast_addr_rcrds: u16,
-        /// The records, and what stands behind them.
+        /// The records, which [`Records`](super::Records) gives in turn, and what stands behind them.
         data: &'a [u8],
     },
     /// A report to be written, by its records.
@@ -46,7 +68,7 @@ impl<'a> Repr<'a> {
     }
 
     // The message in the octets.
-    fn read<B: AsRef<[u8]> + ?Sized>(packet: &Packet<&'a B>) -> Result<Repr<'a>> {
+    pub(super) fn read<B: AsRef<[u8]> + ?Sized>(packet: &Packet<&'a B>) -> Result<Repr<'a>> {
         match packet.checked_type()? {
             Message::MldQuery => return Ok(read_query(packet)),
             Message::MldReport => return Ok(read_report(packet)),

@@ -1,6 +1,8 @@
 // Made from crates/icmp6_wire/src/mld/tables.rt by rust/erase.
 //! The numbers of multicast listener discovery (RFC 3810 section 5.2.12).
 
+use core::fmt;
+
 /// What a record tells of the sources that a listener asks of a group, one byte (RFC 3810 section 5.2.12).
 #[derive(Debug, PartialEq, Eq, PartialOrd, Ord, Clone, Copy)]
 pub enum RecordType {
@@ -50,5 +52,21 @@ impl From<RecordType> for u8 {
             RecordType::BlockOldSources => 6,
             RecordType::Unknown(other) => other,
         }
+    }
+}
+
+/// The name of the type, as `MODE_IS_INCLUDE`, and of any other its number, as `unknown 7`.
+impl fmt::Display for RecordType {
+    fn fmt(&self, f: &mut fmt::Formatter<'_>) -> fmt::Result {
+        let words = match self {
+            RecordType::ModeIsInclude => "MODE_IS_INCLUDE",
+            RecordType::ModeIsExclude => "MODE_IS_EXCLUDE",
+            RecordType::ChangeToInclude => "CHANGE_TO_INCLUDE_MODE",
+            RecordType::ChangeToExclude => "CHANGE_TO_EXCLUDE_MODE",
+            RecordType::AllowNewSources => "ALLOW_NEW_SOURCES",
+            RecordType::BlockOldSources => "BLOCK_OLD_SOURCES",
+            RecordType::Unknown(number) => return write!(f, "unknown {number}"),
+        };
+        f.write_str(words)
     }
 }

@@ -7,6 +7,9 @@ use crate::icmp6_wire::testing::{holds_of, reads, same, same_of};
 use crate::wirebase::{IPV6_LINK_LOCAL_ALL_NODES, IPV6_LINK_LOCAL_ALL_ROUTERS, Ipv6Address};
 
 mod inside_icmpv6;
+mod iterators;
+mod refusals;
+mod texts;
 
 // The octets that stand in a buffer before it is written into.
 const FILLS: &[u8] = &[0x00, 0xff, 0x2a, 0xa5];

@@ -63,7 +63,7 @@ impl<'a> Found<'a> {
 }
 
 // The block at the front, and what stands behind it. Refused where the octets don't begin with a block.
-fn split_block(octets: &[u8]) -> Result<(&[u8], &[u8])> {
+pub(super) fn split_block(octets: &[u8]) -> Result<(&[u8], &[u8])> {
     let Ok(option) = NdiscOption::new_checked(octets) else {
         return Err(Error);
     };

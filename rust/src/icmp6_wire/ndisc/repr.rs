@@ -17,6 +17,24 @@ use crate::wirebase::{
 };
 
 /// A message (RFC 4861 section 4). Its options are there or not; of several of one kind the last is read.
+///
+/// ```
+/// use control_wire::icmpv6::Packet;
+/// use control_wire::ndisc::Repr;
+///
+/// /// The lifetime of the default router, in seconds, that a router advertisement tells.
+/// fn lifetime(octets: &[u8]) -> Option<u64> {
+///     let packet = Packet::new_checked(octets).ok()?;
+///     match Repr::parse(&packet).ok()? {
+///         Repr::RouterAdvert { router_lifetime, .. } => Some(router_lifetime.secs()),
+///         _ => None,
+///     }
+/// }
+///
+/// let advert = [134, 0, 0, 0, 64, 0, 0x07, 0x08, 0, 0, 0, 0, 0, 0, 0, 0];
+/// assert_eq!(lifetime(&advert), Some(1800));
+/// assert_eq!(lifetime(&advert[..12]), None);
+/// ```
 #[derive(Debug, PartialEq, Eq, Clone, Copy)]
 pub enum Repr<'a> {
     /// A host asks the routers to advertise themselves.
@@ -81,7 +99,7 @@ impl<'a> Repr<'a> {
     }
 
     // The message in the octets.
-    fn read<B: AsRef<[u8]> + ?Sized>(packet: &Packet<&'a B>) -> Result<Repr<'a>> {
+    pub(super) fn read<B: AsRef<[u8]> + ?Sized>(packet: &Packet<&'a B>) -> Result<Repr<'a>> {
         let kind = packet.checked_type()?;
         let mut found = Found::nothing();
         found.note_all(packet.behind(kind))?;

@@ -12,6 +12,8 @@ use crate::wirebase::{
 
 mod fields;
 mod options;
+mod refusals;
+mod texts;
 
 fn here() -> Ipv6Address {
     Ipv6Address::new(0xfe80, 0, 0, 0, 0, 0, 0, 1)

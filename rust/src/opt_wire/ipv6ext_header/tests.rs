@@ -1,10 +1,10 @@
 // Made from crates/opt_wire/src/ipv6ext_header/tests.rt by rust/erase.
 
-use super::{Header, Repr};
+use super::{Header, Refusal, Repr};
 use crate::opt_wire::ipv6option;
 use crate::opt_wire::ipv6option::RouterAlert;
 use crate::opt_wire::plain_reader::{DAMAGE, LONGEST, check_kept, damaged};
-use crate::opt_wire::testing::{FILLERS, holds_of, same, same_of};
+use crate::opt_wire::testing::{FILLERS, holds_of, prints, same, same_of, takes_writes};
 use crate::wirebase::IpProtocol;
 
 // A header, and a router alert with padding behind it.
@@ -72,6 +72,43 @@ fn compare(octets: &[u8]) {
     same_of(octets, checked, plain.is_some());
     let read = Repr::parse(&Header::new_unchecked(octets)).ok();
     same_of(octets, read, plain);
+    let told = Repr::refusal(&Header::new_unchecked(octets));
+    same_of(octets, told.is_none(), plain.is_some());
+}
+
+#[test]
+fn reasons_of_refused_headers() {
+    const ROWS: &[(&[u8], Refusal, &str)] = &[
+        (&[], Refusal::Short, "fewer than 8 bytes"),
+        (
+            &[0x3a, 0xff, 0, 0, 0, 0, 0],
+            Refusal::Short,
+            "fewer than 8 bytes",
+        ),
+        (
+            &[0x06, 0x02, 0, 0, 0, 0, 0, 0],
+            Refusal::Cut(24),
+            "fewer than the 24 bytes that the header counts",
+        ),
+    ];
+    for &(octets, refusal, text) in ROWS {
+        let told = Repr::refusal(&Header::new_unchecked(octets));
+        same_of(octets, told, Some(refusal));
+        prints(&refusal, text);
+    }
+    takes_writes(&Refusal::Cut(24), 3);
+}
+
+#[test]
+fn what_a_header_prints() {
+    let header = Repr {
+        next_header: IpProtocol::Icmpv6,
+        length: 0,
+        data: &[0x05, 0x02, 0x00, 0x00, 0x01, 0x00],
+    };
+    const TEXT: &str = "IPv6 Extension Header next_header=58 length=0 len=6";
+    prints(&header, TEXT);
+    takes_writes(&header, 6);
 }
 
 // Compares the crate with the plain reader over these octets, over each shorter part of them from their start on, and

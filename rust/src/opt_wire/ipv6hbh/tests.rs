@@ -1,10 +1,10 @@
 // Made from crates/opt_wire/src/ipv6hbh/tests.rt by rust/erase.
 
-use super::{Header, Repr};
+use super::{Header, Refusal, Repr};
 use crate::opt_wire::ipv6option;
 use crate::opt_wire::ipv6option::{RouterAlert, Type};
 use crate::opt_wire::plain_reader::{check_kept, compare_damaged};
-use crate::opt_wire::testing::{FILLERS, holds_of, same, same_of};
+use crate::opt_wire::testing::{FILLERS, holds_of, prints, same, same_of, takes_writes};
 use arrayvec::ArrayVec;
 #[allow(unused_imports)]
 use rattle_std::prelude::*;
@@ -77,6 +77,53 @@ fn headers_refused() {
         holds_of(octets, Repr::parse(&header).is_err());
         compare_damaged(octets);
     }
+}
+
+#[test]
+fn reasons_of_refused_headers() {
+    const THREE: ipv6option::Refusal = ipv6option::Refusal::Length(Type::RouterAlert, 3);
+    const ROWS: &[(&[u8], usize, ipv6option::Refusal)] = &[
+        (&[0x11], 0, ipv6option::Refusal::Short),
+        (&[0x00, 0x00, 0x05, 0x03, 0, 0, 0], 2, THREE),
+        (
+            &[0x01, 0x02, 0, 0, 0x11, 0x02, 0x00],
+            1,
+            ipv6option::Refusal::Cut(4),
+        ),
+        // A bad ninth option, after as many as are kept.
+        (
+            &[0, 0, 0, 0, 0, 0, 0, 0, 0x11],
+            8,
+            ipv6option::Refusal::Short,
+        ),
+        (&[0, 0, 0, 0, 0, 0, 0, 0, 0x05, 0x03, 0, 0, 0], 8, THREE),
+    ];
+    let none = Repr::refusal(&Header::new_unchecked(&[]));
+    same(none, Some(Refusal::Empty));
+    for &(octets, index, refusal) in ROWS {
+        let told = Repr::refusal(&Header::new_unchecked(octets));
+        same_of(octets, told, Some(Refusal::Option { index, refusal }));
+    }
+}
+
+#[test]
+fn what_reasons_print() {
+    let refusal = Refusal::Option {
+        index: 2,
+        refusal: ipv6option::Refusal::Length(Type::RouterAlert, 3),
+    };
+    const TEXT: &str = "option 2: a length of 3 is not allowed for RouterAlert";
+    prints(&refusal, TEXT);
+    takes_writes(&refusal, 7);
+    prints(&Refusal::Empty, "no options");
+}
+
+#[test]
+fn what_a_header_prints() {
+    const TEXT: &str = "IPv6 Hop-by-Hop Options count=2 \
+        (IPv6 Option RouterAlert value=MulticastListenerDiscovery) (IPv6 Option PadN length=0 )";
+    prints(&report(), TEXT);
+    takes_writes(&report(), 11);
 }
 
 #[test]

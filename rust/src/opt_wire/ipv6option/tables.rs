@@ -96,6 +96,19 @@ impl From<RouterAlert> for u16 {
     }
 }
 
+/// What the router alert tells of, or its number.
+impl fmt::Display for RouterAlert {
+    fn fmt(&self, f: &mut fmt::Formatter<'_>) -> fmt::Result {
+        let words = match *self {
+            RouterAlert::MulticastListenerDiscovery => "multicast listener discovery",
+            RouterAlert::Rsvp => "RSVP",
+            RouterAlert::ActiveNetworks => "active networks",
+            RouterAlert::Unknown(number) => return write!(f, "{number}"),
+        };
+        f.write_str(words)
+    }
+}
+
 // A router alert as it prints in an option.
 pub(super) struct AlertName(pub(super) RouterAlert);
 

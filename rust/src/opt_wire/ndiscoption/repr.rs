@@ -35,6 +35,24 @@ impl PrefixInformation {
     }
 }
 
+/// All fields in their order, with times in seconds.
+impl fmt::Display for PrefixInformation {
+    fn fmt(&self, f: &mut fmt::Formatter<'_>) -> fmt::Result {
+        let PrefixInformation {
+            prefix_len,
+            flags,
+            valid_lifetime,
+            preferred_lifetime,
+            prefix,
+        } = *self;
+        write!(
+            f,
+            "PrefixInformation prefix_len={prefix_len} flags={flags} valid_lifetime={valid_lifetime} \
+             preferred_lifetime={preferred_lifetime} prefix={prefix}"
+        )
+    }
+}
+
 /// The packet that a redirect speaks of (RFC 4861 section 4.6.3).
 #[derive(Debug, PartialEq, Eq, Clone, Copy)]
 pub struct RedirectedHeader<'a> {
@@ -42,6 +60,14 @@ pub struct RedirectedHeader<'a> {
     pub header: Ipv6Repr,
     /// The payload, all the bytes that the header counts.
     pub data: &'a [u8],
+}
+
+/// The header, and the bytes of the payload.
+impl fmt::Display for RedirectedHeader<'_> {
+    fn fmt(&self, f: &mut fmt::Formatter<'_>) -> fmt::Result {
+        let len = self.data.len();
+        write!(f, "RedirectedHeader header={} len={len}", self.header)
+    }
 }
 
 /// An option (RFC 4861 section 4.6).
@@ -178,7 +204,7 @@ impl<'a> Repr<'a> {
 
 impl<'a, B: AsRef<[u8]> + ?Sized> NdiscOption<&'a B> {
     // The redirected packet.
-    fn redirected(&self) -> &'a [u8] {
+    pub(super) fn redirected(&self) -> &'a [u8] {
         let octets: &'a [u8] = self.buffer.as_ref();
         &octets[field::redirected(self.data_len())]
     }

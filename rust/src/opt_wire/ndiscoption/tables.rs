@@ -1,6 +1,7 @@
 // Made from crates/opt_wire/src/ndiscoption/tables.rt by rust/erase.
 //! The types of neighbor discovery options, and the flags of a prefix (RFC 4861 section 4.6).
 
+use bitflags::Flags as _;
 use core::fmt;
 
 /// The type of an option, one byte (RFC 4861 section 4.6).
@@ -74,5 +75,19 @@ bitflags::bitflags! {
 
         /// Hosts may make themselves addresses of the prefix.
         const ADDRCONF = 0x40;
+    }
+}
+
+/// The names of the flags that are set, as `on_link,addrconf`; `-` where none is. Bits without a name are not told.
+impl fmt::Display for PrefixInfoFlags {
+    fn fmt(&self, f: &mut fmt::Formatter<'_>) -> fmt::Result {
+        let on_link = self.bits() & 0x80 != 0;
+        let addrconf = self.bits() & 0x40 != 0;
+        f.write_str(match (on_link, addrconf) {
+            (false, false) => "-",
+            (false, true) => "addrconf",
+            (true, false) => "on_link",
+            (true, true) => "on_link,addrconf",
+        })
     }
 }

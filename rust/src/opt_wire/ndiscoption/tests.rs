@@ -5,6 +5,7 @@ use crate::opt_wire::testing::{FILLERS, holds_of, prints, same, same_of};
 use crate::wirebase::{Duration, Error, IpProtocol, Ipv6Address, Ipv6Repr, RawHardwareAddress};
 
 mod plain_reader;
+mod refusals;
 mod types;
 mod views;
 
@@ -369,6 +370,16 @@ fn options_in_words() {
     for &(bytes, text) in ROWS {
         check_printed(bytes, text);
     }
+}
+
+#[test]
+fn prefixes_and_redirected_headers_in_words() {
+    const PREFIX_TEXT: &str = "PrefixInformation prefix_len=64 flags=on_link,addrconf \
+        valid_lifetime=900.000s preferred_lifetime=1000.000s prefix=fe80::1";
+    prints(&prefix_information(), PREFIX_TEXT);
+    const PACKET_TEXT: &str =
+        "RedirectedHeader header=IPv6 src=fe80::1 dst=fe80::2 nxt_hdr=17 hop_limit=64 len=4";
+    prints(&redirected_header(), PACKET_TEXT);
 }
 
 #[test]

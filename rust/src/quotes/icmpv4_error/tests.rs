@@ -1,7 +1,8 @@
 // Made from crates/quote_wire/src/icmpv4_error/tests.rt by rust/erase.
 //! Errors of ICMPv4: what a traceroute and a path MTU discovery get, and what they send.
 
-use super::{Kind, MAX_QUOTED, Repr};
+use super::{Kind, MAX_QUOTED, Refusal, Repr};
+use crate::quotes::quote;
 use crate::quotes::quote::Ipv4Quote;
 use crate::quotes::testing::{prints, same, same_of};
 use crate::wirebase::capabilities::Checksum;
@@ -173,28 +174,241 @@ fn options_of_a_quoted_header() {
 }
 
 #[test]
+fn errors_that_are_refused() {
+    const ROWS: &[(&[u8], Option<Refusal>)] = &[
+        (&[], Some(Refusal::Short)),
+        (&[0x0b, 0, 0, 0, 0, 0, 0], Some(Refusal::Short)),
+        (&[0x08, 0, 0, 0, 0, 0, 0, 0], Some(Refusal::UnknownType(8))),
+        (
+            &[0x0b, 0, 0, 0, 0, 0, 0, 0],
+            Some(Refusal::Quote(quote::Refusal::Short)),
+        ),
+        (TIME_EXCEEDED, None),
+    ];
+    let caps = ChecksumCapabilities::ignored();
+    for row in ROWS {
+        same_of(row.0, Repr::refusal(row.0, &caps), row.1);
+    }
+    let mut octets = [0; 36];
+    octets.copy_from_slice(TIME_EXCEEDED);
+    octets[0] = 8;
+    same(Repr::refusal(&octets, &ALL), Some(Refusal::Checksum));
+}
+
+#[test]
+fn quotes_that_are_refused() {
+    // How many bytes are quoted, and the first of them.
+    const ROWS: &[(usize, u8, Option<quote::Refusal>)] = &[
+        (28, 0x45, None),
+        (68, 0x4f, None),
+        (19, 0x65, Some(quote::Refusal::Short)),
+        (59, 0x4f, Some(quote::Refusal::Short)),
+        (20, 0x64, Some(quote::Refusal::Version(6))),
+        (28, 0x44, Some(quote::Refusal::Length(16))),
+        (27, 0x45, Some(quote::Refusal::Data)),
+        (67, 0x4f, Some(quote::Refusal::Data)),
+    ];
+    let caps = ChecksumCapabilities::ignored();
+    for row in ROWS {
+        let mut octets = [0; 76];
+        octets[0] = 11;
+        octets[8] = row.1;
+        let octets = &octets[..row.0.saturating_add(8).min(76)];
+        let quoted = &octets[8.min(octets.len())..];
+        same_of(row.1, Ipv4Quote::refusal(quoted), row.2);
+        same_of(
+            row.1,
+            Repr::refusal(octets, &caps),
+            row.2.map(Refusal::Quote),
+        );
+    }
+}
+
+// Ends the test where a reason is told of an error that is read, or none of another.
+fn check_told(octets: &[u8]) {
+    let caps = ChecksumCapabilities::ignored();
+    let told = Repr::refusal(octets, &caps).is_some();
+    same_of(octets, told, Repr::parse(octets, &caps).is_err());
+    let told = Repr::refusal(octets, &ALL).is_some();
+    same_of(octets, told, Repr::parse(octets, &ALL).is_err());
+}
+
+#[test]
+fn a_reason_is_told_of_just_the_damaged_errors_that_are_refused() {
+    for len in 0..=PARAMETER_PROBLEM.len() {
+        check_told(&PARAMETER_PROBLEM[..len]);
+    }
+    for at in 0..PARAMETER_PROBLEM.len() {
+        for value in 0..=255u8 {
+            let mut octets = [0; 40];
+            octets.copy_from_slice(PARAMETER_PROBLEM);
+            octets[at] = value;
+            check_told(&octets);
+        }
+    }
+}
+
+#[test]
+fn reasons_print_a_phrase() {
+    const ROWS: &[(Refusal, &str)] = &[
+        (Refusal::Short, "fewer than 8 bytes"),
+        (Refusal::Checksum, "the checksum does not hold"),
+        (Refusal::UnknownType(8), "type 8 is not that of an error"),
+        (
+            Refusal::Quote(quote::Refusal::Short),
+            "the quoted header is cut",
+        ),
+        (
+            Refusal::Quote(quote::Refusal::Version(6)),
+            "the quoted header is of version 6",
+        ),
+        (
+            Refusal::Quote(quote::Refusal::Length(16)),
+            "the quoted header has 16 bytes by its own length",
+        ),
+        (
+            Refusal::Quote(quote::Refusal::Data),
+            "fewer than 8 bytes stand behind the quoted header",
+        ),
+    ];
+    for row in ROWS {
+        prints(&row.0, row.1);
+    }
+}
+
+#[test]
+fn what_a_quote_prints() {
+    let quote = Ipv4Quote::parse(DATAGRAM).ok();
+    let text = "IPv4 quote type_of_service=0 total_len=60 ident=4660 dont_frag=true more_frags=false \
+                frag_offset=0 hop_limit=1 next_header=17 src_addr=192.0.2.1 dst_addr=198.51.100.2 \
+                options=0 payload=8";
+    same(quote.is_some(), true);
+    if let Some(quote) = quote {
+        prints(&quote, text);
+    }
+}
+
+#[test]
+fn what_codes_say() {
+    // Up to the first code that says nothing.
+    const ROWS: &[(Kind, u8, Option<&str>)] = &[
+        (
+            Kind::DstUnreachable,
+            0,
+            Some("destination network unreachable"),
+        ),
+        (
+            Kind::DstUnreachable,
+            1,
+            Some("destination host unreachable"),
+        ),
+        (
+            Kind::DstUnreachable,
+            2,
+            Some("destination protocol unreachable"),
+        ),
+        (
+            Kind::DstUnreachable,
+            3,
+            Some("destination port unreachable"),
+        ),
+        (
+            Kind::DstUnreachable,
+            4,
+            Some("fragmentation required, and DF flag set"),
+        ),
+        (Kind::DstUnreachable, 5, Some("source route failed")),
+        (Kind::DstUnreachable, 6, Some("destination network unknown")),
+        (Kind::DstUnreachable, 7, Some("destination host unknown")),
+        (Kind::DstUnreachable, 8, Some("source host isolated")),
+        (
+            Kind::DstUnreachable,
+            9,
+            Some("network administratively prohibited"),
+        ),
+        (
+            Kind::DstUnreachable,
+            10,
+            Some("host administratively prohibited"),
+        ),
+        (
+            Kind::DstUnreachable,
+            11,
+            Some("network unreachable for ToS"),
+        ),
+        (Kind::DstUnreachable, 12, Some("host unreachable for ToS")),
+        (
+            Kind::DstUnreachable,
+            13,
+            Some("communication administratively prohibited"),
+        ),
+        (Kind::DstUnreachable, 14, Some("host precedence violation")),
+        (
+            Kind::DstUnreachable,
+            15,
+            Some("precedence cutoff in effect"),
+        ),
+        (Kind::DstUnreachable, 16, None),
+        (Kind::SourceQuench, 0, None),
+        (Kind::Redirect, 0, Some("redirect for the network")),
+        (Kind::Redirect, 1, Some("redirect for the host")),
+        (Kind::Redirect, 2, Some("redirect for the ToS and network")),
+        (Kind::Redirect, 3, Some("redirect for the ToS and host")),
+        (Kind::Redirect, 4, None),
+        (
+            Kind::TimeExceeded,
+            0,
+            Some("time-to-live exceeded in transit"),
+        ),
+        (
+            Kind::TimeExceeded,
+            1,
+            Some("fragment reassembly time exceeded"),
+        ),
+        (Kind::TimeExceeded, 2, None),
+        (Kind::ParamProblem, 0, Some("pointer indicates the error")),
+        (Kind::ParamProblem, 1, Some("missing a required option")),
+        (Kind::ParamProblem, 2, Some("bad length")),
+        (Kind::ParamProblem, 3, None),
+    ];
+    for row in ROWS {
+        let error = about(row.0, row.1, 0, DATAGRAM);
+        same_of((row.0, row.1), error.reason(), row.2);
+    }
+}
+
+#[test]
 fn what_errors_print() {
     let rows: &[(Kind, u8, &str)] = &[
         (
             Kind::DstUnreachable,
             3,
-            "ICMPv4 destination unreachable code=3 quoted=28",
+            "ICMPv4 destination unreachable code=3 (destination port unreachable) quoted=28",
         ),
         (
             Kind::SourceQuench,
             0,
             "ICMPv4 source quench code=0 quoted=28",
         ),
-        (Kind::Redirect, 1, "ICMPv4 redirect code=1 quoted=28"),
+        (
+            Kind::Redirect,
+            1,
+            "ICMPv4 redirect code=1 (redirect for the host) quoted=28",
+        ),
         (
             Kind::TimeExceeded,
             1,
-            "ICMPv4 time exceeded code=1 quoted=28",
+            "ICMPv4 time exceeded code=1 (fragment reassembly time exceeded) quoted=28",
         ),
         (
             Kind::ParamProblem,
             2,
-            "ICMPv4 parameter problem code=2 quoted=28",
+            "ICMPv4 parameter problem code=2 (bad length) quoted=28",
+        ),
+        (
+            Kind::TimeExceeded,
+            2,
+            "ICMPv4 time exceeded code=2 quoted=28",
         ),
     ];
     for &(kind, code, text) in rows {

@@ -1,7 +1,8 @@
 // Made from crates/quote_wire/src/icmpv6_error/tests.rt by rust/erase.
 //! Errors of ICMPv6: what a path MTU discovery gets, and what a host sends.
 
-use super::{Kind, MAX_QUOTED, Repr};
+use super::{Kind, MAX_QUOTED, Refusal, Repr};
+use crate::quotes::quote;
 use crate::quotes::quote::Ipv6Quote;
 use crate::quotes::testing::{prints, same, same_of};
 use crate::wirebase::capabilities::Checksum;
@@ -115,24 +116,164 @@ fn error_quotes_at_most_1_232_bytes() {
     same(Repr::parse(&from(), &to(), &octets, &ALL), Ok(written));
 }
 
+// Why the octets are refused as an error between these two, with these checksums verified.
+fn why(octets: &[u8], caps: &ChecksumCapabilities) -> Option<Refusal> {
+    Repr::refusal(&from(), &to(), octets, caps)
+}
+
+#[test]
+fn errors_that_are_refused() {
+    // How many octets there are, the type, the first octet that is quoted.
+    const ROWS: &[(usize, u8, u8, Option<Refusal>)] = &[
+        (52, 2, 0x6b, None),
+        (48, 2, 0x60, None),
+        (7, 2, 0x6b, Some(Refusal::Short)),
+        (47, 128, 0x6b, Some(Refusal::UnknownType(128))),
+        (47, 2, 0x4b, Some(Refusal::Quote(quote::Refusal::Short))),
+        (
+            48,
+            2,
+            0x4b,
+            Some(Refusal::Quote(quote::Refusal::Version(4))),
+        ),
+    ];
+    let caps = ChecksumCapabilities::ignored();
+    for row in ROWS {
+        let mut octets = [0; 52];
+        octets.copy_from_slice(PACKET_TOO_BIG);
+        octets[0] = row.1;
+        octets[8] = row.2;
+        same_of(row.0, why(&octets[..row.0.min(52)], &caps), row.3);
+    }
+    let told = Repr::refusal(&from(), &from(), PACKET_TOO_BIG, &ALL);
+    same(told, Some(Refusal::Checksum));
+    same(why(PACKET_TOO_BIG, &ALL), None);
+    same(Ipv6Quote::refusal(&PACKET_TOO_BIG[8..]), None);
+    same(
+        Ipv6Quote::refusal(&PACKET_TOO_BIG[8..47]),
+        Some(quote::Refusal::Short),
+    );
+}
+
+// Ends the test where a reason is told of an error that is read, or none of another.
+fn check_told(octets: &[u8]) {
+    let caps = ChecksumCapabilities::ignored();
+    let read = Repr::parse(&from(), &to(), octets, &caps).is_ok();
+    same_of(octets, why(octets, &caps).is_none(), read);
+    let read = Repr::parse(&from(), &to(), octets, &ALL).is_ok();
+    same_of(octets, why(octets, &ALL).is_none(), read);
+}
+
+#[test]
+fn a_reason_is_told_of_just_the_damaged_errors_that_are_refused() {
+    for len in 0..=PACKET_TOO_BIG.len() {
+        check_told(&PACKET_TOO_BIG[..len]);
+    }
+    for at in 0..PACKET_TOO_BIG.len() {
+        for value in 0..=255u8 {
+            let mut octets = [0; 52];
+            octets.copy_from_slice(PACKET_TOO_BIG);
+            octets[at] = value;
+            check_told(&octets);
+        }
+    }
+}
+
+#[test]
+fn reasons_print_a_phrase() {
+    const ROWS: &[(Refusal, &str)] = &[
+        (Refusal::Short, "fewer than 8 bytes"),
+        (Refusal::Checksum, "the checksum does not hold"),
+        (
+            Refusal::UnknownType(128),
+            "type 128 is not that of an error",
+        ),
+        (
+            Refusal::Quote(quote::Refusal::Version(4)),
+            "the quoted header is of version 4",
+        ),
+    ];
+    for row in ROWS {
+        prints(&row.0, row.1);
+    }
+}
+
+#[test]
+fn what_a_quote_prints() {
+    let quote = Ipv6Quote::parse(&PACKET_TOO_BIG[8..]).ok();
+    let text = "IPv6 quote traffic_class=187 flow_label=74565 payload_len=1460 next_header=6 hop_limit=63 \
+                src_addr=fe80::2 dst_addr=fe80::1 payload=4";
+    same(quote.is_some(), true);
+    if let Some(quote) = quote {
+        prints(&quote, text);
+    }
+}
+
+#[test]
+fn what_codes_say() {
+    // Up to the first code that says nothing.
+    const ROWS: &[(Kind, u8, Option<&str>)] = &[
+        (Kind::DstUnreachable, 0, Some("no route to destination")),
+        (
+            Kind::DstUnreachable,
+            1,
+            Some("communication with destination administratively prohibited"),
+        ),
+        (
+            Kind::DstUnreachable,
+            2,
+            Some("beyond scope of source address"),
+        ),
+        (Kind::DstUnreachable, 3, Some("address unreachable")),
+        (Kind::DstUnreachable, 4, Some("port unreachable")),
+        (
+            Kind::DstUnreachable,
+            5,
+            Some("source address failed ingress/egress policy"),
+        ),
+        (Kind::DstUnreachable, 6, Some("reject route to destination")),
+        (Kind::DstUnreachable, 7, None),
+        (Kind::PktTooBig, 0, None),
+        (Kind::TimeExceeded, 0, Some("hop limit exceeded in transit")),
+        (
+            Kind::TimeExceeded,
+            1,
+            Some("fragment reassembly time exceeded"),
+        ),
+        (Kind::TimeExceeded, 2, None),
+        (Kind::ParamProblem, 0, Some("erroneous header field.")),
+        (
+            Kind::ParamProblem,
+            1,
+            Some("unrecognized next header type."),
+        ),
+        (Kind::ParamProblem, 2, Some("unrecognized IPv6 option.")),
+        (Kind::ParamProblem, 3, None),
+    ];
+    for row in ROWS {
+        let error = about(row.0, row.1, 0, &PACKET_TOO_BIG[8..]);
+        same_of((row.0, row.1), error.reason(), row.2);
+    }
+}
+
 #[test]
 fn what_errors_print() {
     let rows: &[(Kind, u8, &str)] = &[
         (
             Kind::DstUnreachable,
             4,
-            "ICMPv6 destination unreachable code=4 quoted=44",
+            "ICMPv6 destination unreachable code=4 (port unreachable) quoted=44",
         ),
         (Kind::PktTooBig, 0, "ICMPv6 packet too big code=0 quoted=44"),
         (
             Kind::TimeExceeded,
             1,
-            "ICMPv6 time exceeded code=1 quoted=44",
+            "ICMPv6 time exceeded code=1 (fragment reassembly time exceeded) quoted=44",
         ),
         (
             Kind::ParamProblem,
             2,
-            "ICMPv6 parameter problem code=2 quoted=44",
+            "ICMPv6 parameter problem code=2 (unrecognized IPv6 option.) quoted=44",
         ),
     ];
     for &(kind, code, text) in rows {

@@ -4,7 +4,7 @@
 use super::{Entries, Entry, Section};
 use crate::dns_wire::dns::{Packet, Type};
 use crate::record::record::{Question, Record};
-use crate::record::testing::{same, same_of};
+use crate::record::testing::{prints, same, same_of};
 use crate::wirebase::{Error, Result};
 
 // A response of a real server for www.facebook.com: its canonical name, and the address of that.
@@ -143,4 +143,52 @@ fn a_query_with_options_of_its_message() {
         Ok(Entry::Record(Section::Additional, options)),
     ];
     check(&QUERY, &entries);
+}
+
+#[test]
+fn texts_of_entries() {
+    let question = Question {
+        name: &QUERY[12..25],
+        type_: Type::A,
+        class: 1,
+    };
+    prints(
+        &Entry::Question(question),
+        "question name_len=13 type=A class=IN",
+    );
+    let record = Record {
+        name: &RESPONSE[63..65],
+        type_: Type::A,
+        class: 1,
+        ttl: 5,
+        data: &[31, 13, 83, 36],
+    };
+    let rows = [
+        (
+            Section::Question,
+            "question record name_len=2 type=A class=IN ttl=5 len=4",
+        ),
+        (
+            Section::Answer,
+            "answer record name_len=2 type=A class=IN ttl=5 len=4",
+        ),
+        (
+            Section::Authority,
+            "authority record name_len=2 type=A class=IN ttl=5 len=4",
+        ),
+        (
+            Section::Additional,
+            "additional record name_len=2 type=A class=IN ttl=5 len=4",
+        ),
+    ];
+    for (section, text) in &rows {
+        prints(&Entry::Record(*section, record), text);
+    }
+}
+
+// The octets of a message in an array of its own.
+#[test]
+fn entries_of_an_owned_buffer() {
+    let buffer = QUERY;
+    check_sections(&buffer[..], &[Some(Section::Additional), None]);
 }

@@ -19,6 +19,34 @@ pub(super) fn split_label(octets: &[u8]) -> Option<(&[u8], &[u8])> {
     }
 }
 
+/// The labels of a name in turn, each without its length.
+#[derive(Debug)]
+pub struct Labels<'a> {
+    // The octets behind the labels that were given.
+    left: &'a [u8],
+}
+
+impl<'a> Labels<'a> {
+    // The labels at the front of these octets.
+    pub(super) fn new(octets: &'a [u8]) -> Labels<'a> {
+        Labels { left: octets }
+    }
+}
+
+impl<'a> Iterator for Labels<'a> {
+    type Item = &'a [u8];
+
+    fn next(&mut self) -> Option<&'a [u8]> {
+        match split_label(self.left) {
+            Some((label, rest)) => {
+                self.left = rest;
+                Some(label)
+            }
+            None => None,
+        }
+    }
+}
+
 /// Writes a label behind its length. Refused where there is no room; then less may be written.
 pub(super) fn push_label(octets: &mut ArrayVec<u8, MAX_NAME_LEN>, label: &[u8]) -> Result<()> {
     if octets.try_push(label.len() as u8).is_err() {

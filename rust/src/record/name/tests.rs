@@ -2,9 +2,13 @@
 //! Names read from messages and from text, and written as text.
 
 use super::Name;
+use super::refusal::NameRefusal;
 use crate::dns_wire::dns::Packet;
+use crate::record::refusal::PartRefusal;
 use crate::record::testing::{prints, same, same_of, takes_writes};
 use arrayvec::ArrayString;
+#[allow(unused_imports)]
+use rattle_std::prelude::*;
 use std::fmt::Write;
 
 // The message of RFC 1035 section 4.1.4: F.ISI.ARPA at 20, FOO.F.ISI.ARPA at 40, ARPA at 64, the root at 92.
@@ -202,4 +206,133 @@ fn text_into_a_buffer_of_a_fixed_size() {
     };
     same(written, true);
     same(text.as_str(), "www.Example.com");
+}
+
+// Ends the test unless these are texts of names that are equal, or not, whatever the case of their letters.
+fn check_equal(left: &[u8], right: &[u8], equal: bool) {
+    let (Ok(a), Ok(b)) = (Name::from_text(left), Name::from_text(right)) else {
+        panic!("no names");
+    };
+    same_of(left, a.eq_ignore_case(&b), equal);
+    same_of(right, b == a, equal);
+}
+
+#[test]
+fn names_that_differ_in_case_alone() {
+    // The first rows are of RFC 4343 sections 3 and 4; a letter beyond ASCII has no case there.
+    const ROWS: &[(&[u8], &[u8], bool)] = &[
+        (b"example.com", b"EXAMPLE.com.", true),
+        (b"ExAmPlE", b"eXaMpLe", true),
+        (b"\\228.example", b"\\196.example", false),
+        (b"a\\.b", b"a.b", false),
+        (b"a\\.b", b"A\\.B", true),
+        (b".", b".", true),
+        (b".", b"a", false),
+        (b"a.b", b"a", false),
+        (b"z[", b"Z\\123", false),
+        (b"\\@", b"`", false),
+    ];
+    for &(left, right, equal) in ROWS {
+        check_equal(left, right, equal);
+    }
+}
+
+#[test]
+fn labels_of_names() {
+    const ROWS: &[(&[u8], &[&[u8]])] = &[
+        (b".", &[]),
+        (b"isi.EDU.", &[b"isi", b"EDU"]),
+        (b"Action\\.domains.ISI", &[b"Action.domains", b"ISI"]),
+    ];
+    for &(text, labels) in ROWS {
+        check_labels(text, labels);
+    }
+}
+
+// Ends the test unless the name of a text, and a copy of it, have these labels and no more.
+fn check_labels(text: &[u8], labels: &[&[u8]]) {
+    let Ok(name) = Name::from_text(text) else {
+        panic!("no name");
+    };
+    let Ok(copy) = name.try_clone() else {
+        panic!("no copy");
+    };
+    let mut left = name.labels();
+    let mut of_copy = copy.labels();
+    for &label in labels {
+        same_of(text, left.next(), Some(label));
+        same_of(text, of_copy.next(), Some(label));
+    }
+    for _ in 0..2 {
+        same_of(text, left.next(), None);
+    }
+    same_of(text, copy == name, true);
+}
+
+#[test]
+fn names_that_are_refused() {
+    // A message, the place where a name begins in it, and why there is none.
+    const ROWS: &[(&[u8], usize, Option<NameRefusal>)] = &[
+        (b"\x01F\0", 0, None),
+        (b"\x01F\0", 3, Some(NameRefusal::Part(PartRefusal::Cut))),
+        (b"\x02F", 0, Some(NameRefusal::Part(PartRefusal::Cut))),
+        (b"\x01F", 0, Some(NameRefusal::Part(PartRefusal::Cut))),
+        (b"\x01F\xc0", 0, Some(NameRefusal::Part(PartRefusal::Cut))),
+        (
+            b"\x01F\x41",
+            0,
+            Some(NameRefusal::Part(PartRefusal::LabelType(0x41))),
+        ),
+        (
+            b"\x80\xc0\0",
+            1,
+            Some(NameRefusal::Part(PartRefusal::LabelType(0x80))),
+        ),
+        (b"\xc0\0", 0, Some(NameRefusal::Pointer(0))),
+        (b"\x01F\xc0\0", 0, Some(NameRefusal::Pointer(0))),
+        (b"\x01F\xc0\x04", 0, Some(NameRefusal::Pointer(4))),
+        (b"\xff\xff", 0, Some(NameRefusal::Pointer(16383))),
+        (b"\xc0\x02\xc0\0", 0, Some(NameRefusal::Pointer(2))),
+        (b"\0\xc0\0", 1, None),
+    ];
+    for &(message, place, refusal) in ROWS {
+        let bytes = message.get(place..).unwrap_or(&[]);
+        let packet = Packet::new_unchecked(message);
+        same_of(message, Name::read_refusal(&packet, bytes), refusal);
+        same_of(
+            message,
+            Name::read(&packet, bytes).is_ok(),
+            refusal.is_none(),
+        );
+    }
+}
+
+#[test]
+fn a_name_of_more_than_255_octets_is_refused() {
+    // Labels of one byte: 127 of them and byte 0 have 255 octets, and 128 have 257.
+    let mut octets = [1; 257];
+    octets[256] = 0;
+    let longest = octets.get(2..).unwrap_or(&[]);
+    let packet = Packet::new_unchecked(longest);
+    same(Name::read_refusal(&packet, longest), None);
+    let packet = Packet::new_unchecked(octets.as_slice());
+    same(
+        Name::read_refusal(&packet, octets.as_slice()),
+        Some(NameRefusal::TooLong),
+    );
+}
+
+#[test]
+fn texts_of_reasons_of_names() {
+    let rows = [
+        (NameRefusal::Part(PartRefusal::Cut), "the name is cut"),
+        (
+            NameRefusal::Pointer(300),
+            "a pointer to place 300 leads nowhere or round",
+        ),
+        (NameRefusal::TooLong, "the name has more than 255 octets"),
+    ];
+    for (refusal, text) in &rows {
+        prints(refusal, text);
+    }
 }

@@ -3,7 +3,7 @@
 
 use super::{Authority, RData};
 use crate::dns_wire::dns::Type;
-use crate::record::testing::same_of;
+use crate::record::testing::{prints, same_of};
 use crate::wirebase::{Error, Ipv4Address, Ipv6Address, Result};
 
 // The types that have no name in the tables (RFC 1035 section 3.2.2, RFC 2782).
@@ -101,4 +101,52 @@ fn strings() {
     let other = Type::Unknown(41);
     is(other, b"\x01", Ok(RData::Other(b"\x01")));
     is(other, b"", Ok(RData::Other(b"")));
+}
+
+#[test]
+fn texts_of_data() {
+    let authority = Authority {
+        primary: b"\x06VENERA\xc0\x0c",
+        mailbox: b"\x0eAction.domains\xc0\x0c",
+        serial: 20,
+        refresh: 7200,
+        retry: 600,
+        expire: 3600000,
+        minimum: 60,
+    };
+    let rows = [
+        (RData::A(Ipv4Address::new(10, 1, 0, 52)), "10.1.0.52"),
+        (
+            RData::Aaaa(Ipv6Address::from_octets([
+                0x20, 1, 0xd, 0xb8, 0, 0, 0, 0, 0, 0, 0, 0, 0, 0, 0, 1,
+            ])),
+            "2001:db8::1",
+        ),
+        (RData::Name(b"\x01A\0"), "name len=3"),
+        (
+            RData::Mx {
+                preference: 10,
+                exchange: b"\x06VENERA\xc0\x0c",
+            },
+            "MX preference=10 exchange_len=9",
+        ),
+        (
+            RData::Srv {
+                priority: 1,
+                weight: 3,
+                port: 21,
+                target: b"\x06server\0",
+            },
+            "SRV priority=1 weight=3 port=21 target_len=8",
+        ),
+        (
+            RData::Soa(authority),
+            "SOA primary_len=9 mailbox_len=17 serial=20 refresh=7200 retry=600 expire=3600000 minimum=60",
+        ),
+        (RData::Txt(b"\x01a\x00"), "TXT len=3"),
+        (RData::Other(b""), "data len=0"),
+    ];
+    for (data, text) in &rows {
+        prints(data, text);
+    }
 }

@@ -1,6 +1,6 @@
 // Made from crates/wirebase/src/hardware/tests.rt by rust/erase.
 use super::Hardware;
-use crate::wirebase::testing::{same, same_of};
+use crate::wirebase::testing::{prints, same, same_of};
 
 #[test]
 fn hardware_by_its_number() {
@@ -16,4 +16,10 @@ fn hardware_by_its_number() {
     }
     same(Hardware::Ethernet < Hardware::Unknown(0), true);
     same(Hardware::Unknown(0) < Hardware::Unknown(2), true);
+}
+
+#[test]
+fn hardware_by_its_name() {
+    prints(&Hardware::Ethernet, "Ethernet");
+    prints(&Hardware::Unknown(32), "32");
 }

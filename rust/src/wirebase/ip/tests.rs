@@ -1,6 +1,6 @@
 // Made from crates/wirebase/src/ip/tests.rt by rust/erase.
 use super::IpProtocol;
-use crate::wirebase::testing::same;
+use crate::wirebase::testing::{prints, same};
 
 #[test]
 fn protocols_and_their_numbers() {
@@ -31,4 +31,27 @@ fn order_of_protocols() {
     same(IpProtocol::HopByHop < IpProtocol::Icmp, true);
     same(IpProtocol::Ipv6Opts < IpProtocol::Unknown(3), true);
     same(IpProtocol::Unknown(3) < IpProtocol::Unknown(4), true);
+}
+
+#[test]
+fn protocols_by_their_names() {
+    const ROWS: &[(u8, &str)] = &[
+        (0, "Hop-by-Hop"),
+        (1, "ICMP"),
+        (2, "IGMP"),
+        (6, "TCP"),
+        (17, "UDP"),
+        (43, "IPv6-Route"),
+        (44, "IPv6-Frag"),
+        (50, "IPsec-ESP"),
+        (51, "IPsec-AH"),
+        (58, "ICMPv6"),
+        (59, "IPv6-NoNxt"),
+        (60, "IPv6-Opts"),
+        (3, "0x03"),
+        (255, "0xff"),
+    ];
+    for &(number, text) in ROWS {
+        prints(&IpProtocol::from(number), text);
+    }
 }

@@ -65,6 +65,12 @@ impl Ipv6Address {
     }
 }
 
+impl From<[u8; 16]> for Ipv6Address {
+    fn from(octets: [u8; 16]) -> Ipv6Address {
+        Ipv6Address::from_octets(octets)
+    }
+}
+
 /// All nodes of a link, `ff02::1` (RFC 4291 section 2.7.1).
 pub const IPV6_LINK_LOCAL_ALL_NODES: Ipv6Address = Ipv6Address {
     octets: [0xff, 0x02, 0, 0, 0, 0, 0, 0, 0, 0, 0, 0, 0, 0, 0, 1],

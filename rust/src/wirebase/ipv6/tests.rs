@@ -2,7 +2,7 @@
 
 use super::{
     IPV6_HEADER_LEN, IPV6_LINK_LOCAL_ALL_NODES, IPV6_LINK_LOCAL_ALL_ROUTERS, IPV6_MIN_MTU,
-    Ipv6Address, Ipv6Packet, Ipv6Repr,
+    Ipv6Address, Ipv6Packet, Ipv6Refusal, Ipv6Repr,
 };
 use crate::wirebase::checksum;
 use crate::wirebase::ip::IpProtocol;
@@ -236,6 +236,12 @@ fn packets_are_whole_by_their_own_length() {
         same_of(len, Ipv6Packet::new_checked(octets).is_ok(), whole);
         let packet = Ipv6Packet::new_unchecked(octets);
         same_of(len, Ipv6Repr::parse(&packet).is_ok(), whole);
+        let refusal = match len {
+            0..40 => Some(Ipv6Refusal::Short),
+            40..52 => Some(Ipv6Refusal::Cut),
+            _ => None,
+        };
+        same_of(len, Ipv6Repr::refusal(&packet), refusal);
     }
     same(IPV6_HEADER_LEN, 40);
     same(IPV6_MIN_MTU, 1280);
@@ -254,6 +260,20 @@ fn the_version_is_looked_at_by_the_parser_alone() {
         "the version is looked at",
         Ipv6Repr::parse(&packet).is_err(),
     );
+    let refusal = Ipv6Repr::refusal(&packet);
+    same(refusal, Some(Ipv6Refusal::Version(4)));
+}
+
+#[test]
+fn refusals_in_words() {
+    const ROWS: &[(Ipv6Refusal, &str)] = &[
+        (Ipv6Refusal::Short, "fewer than 40 bytes"),
+        (Ipv6Refusal::Cut, "the payload is cut"),
+        (Ipv6Refusal::Version(4), "version 4, not 6"),
+    ];
+    for (refusal, words) in ROWS {
+        prints(refusal, words);
+    }
 }
 
 #[test]

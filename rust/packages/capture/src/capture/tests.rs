@@ -2,17 +2,21 @@
 #[allow(unused_imports)]
 use rattle_std::prelude::*;
 mod faults;
+mod many;
 mod offsets;
+mod printing;
 mod shown;
+mod times;
 
 use super::{Capture, Next, Record};
-use crate::ending::Ending;
+use crate::ending::{Ending, Fault, Refusal};
 use crate::testing::same_of;
 use crate::time::Time;
 use rattle_std::io;
 
-// A record by what a table has of it: its number, seconds, nanoseconds, link type, original length and bytes.
-type Row = (u64, u64, u32, u16, u32, &'static [u8]);
+// A record by what a table has of it: its number, its seconds, nanoseconds and digits, link type, original length and
+// bytes.
+type Row = (u64, Option<(u64, u32, u8)>, u16, u32, &'static [u8]);
 
 // A pcap file of a machine with the lowest byte first, in microseconds: two packets of Ethernet, the second cut.
 const LITTLE_MICRO: &[u8] = &[
@@ -23,8 +27,14 @@ const LITTLE_MICRO: &[u8] = &[
 ];
 
 const LITTLE_MICRO_ROWS: &[Row] = &[
-    (1, 1_000_000_000, 123_456_000, 1, 3, &[0xa1, 0xa2, 0xa3]),
-    (2, 1_000_000_001, 1_000, 1, 60, &[0xb1, 0xb2]),
+    (
+        1,
+        Some((1_000_000_000, 123_456_000, 6)),
+        1,
+        3,
+        &[0xa1, 0xa2, 0xa3],
+    ),
+    (2, Some((1_000_000_001, 1_000, 6)), 1, 60, &[0xb1, 0xb2]),
 ];
 
 // A pcap file of a machine with the highest byte first, in nanoseconds, of Linux cooked packets; the upper bits of its
@@ -35,7 +45,7 @@ const BIG_NANO: &[u8] = &[
     0x3b, 0x9a, 0xca, 0x00, 0x07, 0x5b, 0xcd, 0x15, 0, 0, 0, 1, 0, 0, 0, 1, 0xc1,
 ];
 
-const BIG_NANO_ROWS: &[Row] = &[(1, 1_000_000_000, 123_456_789, 113, 1, &[0xc1])];
+const BIG_NANO_ROWS: &[Row] = &[(1, Some((1_000_000_000, 123_456_789, 9)), 113, 1, &[0xc1])];
 
 // A section of a machine with the lowest byte first, of unknown length. Its interfaces count milliseconds, by an option
 // behind one that is skipped, and microseconds. It holds an enhanced packet of each, a block that is passed over, a
@@ -57,10 +67,16 @@ const LITTLE_SECTION: &[u8] = &[
 ];
 
 const LITTLE_SECTION_ROWS: &[Row] = &[
-    (1, 1, 234_000_000, 101, 9, &[0xd1]),
-    (2, 4294, 967_298_000, 1, 4, &[0xe1, 0xe2, 0xe3, 0xe4]),
-    (3, 0, 0, 101, 5, &[0xf1, 0xf2, 0xf3, 0xf4]),
-    (4, 0, 3_000, 1, 2, &[0x91, 0x92]),
+    (1, Some((1, 234_000_000, 3)), 101, 9, &[0xd1]),
+    (
+        2,
+        Some((4294, 967_298_000, 6)),
+        1,
+        4,
+        &[0xe1, 0xe2, 0xe3, 0xe4],
+    ),
+    (3, None, 101, 5, &[0xf1, 0xf2, 0xf3, 0xf4]),
+    (4, Some((0, 3_000, 6)), 1, 2, &[0x91, 0x92]),
 ];
 
 // A section of a machine with the highest byte first, with the time in units of a 1024th of a second.
@@ -73,27 +89,44 @@ const BIG_SECTION: &[u8] = &[
     0x82, 0, 0, 0, 0, 0, 36,
 ];
 
-const BIG_SECTION_ROWS: &[Row] = &[(1, 1, 500_000_000, 276, 2, &[0x81, 0x82])];
+const BIG_SECTION_ROWS: &[Row] = &[(1, Some((1, 500_000_000, 9)), 276, 2, &[0x81, 0x82])];
 
 fn row(number: u64, row: &Row) -> Record {
-    let &(_, seconds, nanoseconds, link_type, original_len, octets) = row;
-    Record {
-        number,
-        time: Time {
+    let &(_, time, link_type, original_len, octets) = row;
+    let time = match time {
+        Some((seconds, nanoseconds, digits)) => Some(Time {
             seconds,
             nanoseconds,
-        },
+            digits,
+        }),
+        None => None,
+    };
+    Record {
+        number,
+        time,
         link_type,
         captured_len: octets.len().min(262_144) as u32,
         original_len,
     }
 }
 
+// The digits of the time that was read, which two times may have differently and be equal.
+fn digits(read: Result<Next, Fault>) -> Option<u8> {
+    match read {
+        Ok(Next::Record(Record {
+            time: Some(time), ..
+        })) => Some(time.digits),
+        _ => None,
+    }
+}
+
 // Reads the record of a row.
 fn check_record<R: io::BufRead>(of: &[u8], capture: &mut Capture, input: &mut R, want: &Row) {
     let read = capture.next(input);
-    same_of(of, read, Ok(Next::Record(row(want.0, want))));
-    same_of(of, capture.octets(), want.5);
+    let record = Ok(Next::Record(row(want.0, want)));
+    same_of(of, read, record);
+    same_of(of, digits(read), digits(record));
+    same_of(of, capture.octets(), want.4);
 }
 
 // The input holds the records of these rows, and then ends so, again and again.
@@ -236,18 +269,18 @@ fn what_ends_a_capture() {
         // and of too few bytes.
         (
             &[0x0a, 0x0d, 0x0d, 0x0a, 28, 0, 0, 0, 0x4d, 0x3c, 0x2b, 0x1b],
-            Ending::Malformed,
+            Ending::Malformed(Refusal::ByteOrder),
         ),
         (
             &[0x0a, 0x0d, 0x0d, 0x0a, 30, 0, 0, 0, 0x4d, 0x3c, 0x2b, 0x1a],
-            Ending::Malformed,
+            Ending::Malformed(Refusal::Length(30)),
         ),
         (
             &[
                 0x0a, 0x0d, 0x0d, 0x0a, 28, 0, 0, 0, 0x4d, 0x3c, 0x2b, 0x1a, 1, 0, 0, 0, 255, 255,
                 255, 255, 255, 255, 255, 255, 24, 0, 0, 0,
             ],
-            Ending::Malformed,
+            Ending::Malformed(Refusal::ClosingLength),
         ),
         (
             &[
@@ -260,12 +293,16 @@ fn what_ends_a_capture() {
             &[
                 0x0a, 0x0d, 0x0d, 0x0a, 16, 0, 0, 0, 0x4d, 0x3c, 0x2b, 0x1a, 16, 0, 0, 0,
             ],
-            Ending::Malformed,
+            Ending::Malformed(Refusal::Short),
         ),
-        // A section header of 524,292 bytes.
+        // A section header of 524,292 bytes, and one of 524,293, which is no block's length.
         (
             &[0x0a, 0x0d, 0x0d, 0x0a, 4, 0, 8, 0, 0x4d, 0x3c, 0x2b, 0x1a],
             Ending::TooLarge,
+        ),
+        (
+            &[0x0a, 0x0d, 0x0d, 0x0a, 5, 0, 8, 0, 0x4d, 0x3c, 0x2b, 0x1a],
+            Ending::Malformed(Refusal::Length(524_293)),
         ),
     ];
     for &(octets, ending) in ROWS {
@@ -278,32 +315,56 @@ fn what_ends_a_capture() {
 fn blocks_that_end_a_section() {
     const ROWS: &[(&[u8], Ending)] = &[
         // A block of a kind that is passed over: of a length that is no block's, and longer than what is left.
-        (&[5, 0, 0, 0, 8, 0, 0, 0, 8, 0, 0, 0], Ending::Malformed),
+        (
+            &[5, 0, 0, 0, 8, 0, 0, 0, 8, 0, 0, 0],
+            Ending::Malformed(Refusal::Length(8)),
+        ),
         (&[5, 0, 0, 0, 0, 0, 0, 16, 1, 2, 3, 4], Ending::Cut),
         // A description of too few bytes.
         (
             &[1, 0, 0, 0, 16, 0, 0, 0, 1, 0, 0, 0, 16, 0, 0, 0],
-            Ending::Malformed,
+            Ending::Malformed(Refusal::Short),
         ),
-        // An enhanced packet of the second interface, and one with more bytes than its block.
+        // A description of another length at its end, and an enhanced packet and a simple one of too few bytes.
+        (
+            &[1, 0, 0, 0, 20, 0, 0, 0, 1, 0, 0, 0, 0, 0, 0, 0, 24, 0, 0, 0],
+            Ending::Malformed(Refusal::ClosingLength),
+        ),
+        (
+            &[6, 0, 0, 0, 16, 0, 0, 0, 9, 0, 0, 0, 16, 0, 0, 0],
+            Ending::Malformed(Refusal::Short),
+        ),
+        (
+            &[3, 0, 0, 0, 12, 0, 0, 0, 12, 0, 0, 0],
+            Ending::Malformed(Refusal::Short),
+        ),
+        // An obsolete packet of interface 513, an enhanced packet of the second interface, and one with more bytes than
+        // its block.
+        (
+            &[
+                2, 0, 0, 0, 32, 0, 0, 0, 1, 2, 0, 0, 0, 0, 0, 0, 0, 0, 0, 0, 0, 0, 0, 0, 0, 0, 0,
+                0, 32, 0, 0, 0,
+            ],
+            Ending::Malformed(Refusal::Interface(513)),
+        ),
         (
             &[
                 6, 0, 0, 0, 32, 0, 0, 0, 1, 0, 0, 0, 0, 0, 0, 0, 0, 0, 0, 0, 0, 0, 0, 0, 0, 0, 0,
                 0, 32, 0, 0, 0,
             ],
-            Ending::Malformed,
+            Ending::Malformed(Refusal::Interface(1)),
         ),
         (
             &[
                 6, 0, 0, 0, 32, 0, 0, 0, 0, 0, 0, 0, 0, 0, 0, 0, 0, 0, 0, 0, 1, 0, 0, 0, 1, 0, 0,
                 0, 32, 0, 0, 0,
             ],
-            Ending::Malformed,
+            Ending::Malformed(Refusal::CapturedLength(1)),
         ),
         // A simple packet with more bytes than its block.
         (
             &[3, 0, 0, 0, 16, 0, 0, 0, 1, 0, 0, 0, 16, 0, 0, 0],
-            Ending::Malformed,
+            Ending::Malformed(Refusal::CapturedLength(1)),
         ),
     ];
     for &(block, ending) in ROWS {

@@ -3,7 +3,7 @@
 
 use super::options::PACKET_LEN;
 use crate::digest::Digest;
-use crate::digest::frames::{add_datagram, add_frame, add_record};
+use crate::digest::frames::{add_datagram, add_frame, add_record, ending_number, refusal_number};
 use crate::random::Pool;
 use byteorder::{BigEndian, ByteOrder, LittleEndian};
 use capture::{Capture, Next};
@@ -68,7 +68,7 @@ fn parse_frame(octets: &[u8], digest: &mut Digest) {
             add_datagram(&datagram, digest);
             parse_udp(datagram.payload, digest);
         }
-        Err(refusal) => digest.add(refusal as u64),
+        Err(refusal) => digest.add(refusal_number(refusal)),
     }
 }
 
@@ -108,7 +108,7 @@ fn read_blocks<R: BufRead>(input: &mut R, digest: &mut Digest) {
                 add_record(&record, capture.octets(), digest);
             }
             Ok(Next::Ended(ending)) => {
-                digest.add(ending as u64);
+                digest.add(ending_number(ending));
                 break;
             }
             Err(fault) => digest.add(16 + fault as u64),

@@ -3,29 +3,52 @@
 
 use crate::digest::Digest;
 use crate::digest::ip::{add_ipv4_address, add_ipv6_address, add_protocol};
-use capture::{Record, Time};
-use control_wire::frames::{Addresses, Datagram, Frame, Network, UdpRepr};
+use capture::{Ending, Record, Time};
+use control_wire::frames::{Addresses, Datagram, Frame, Network, Refusal, UdpRepr};
 
 /// Adds a record of a capture and the bytes that it keeps.
 pub fn add_record(record: &Record, octets: &[u8], digest: &mut Digest) {
     let Record {
         number,
-        time: Time {
-            seconds,
-            nanoseconds,
-        },
+        time,
         link_type,
         captured_len,
         original_len,
     } = record;
+    // A packet without a time counts as one of 1970.
+    let time = time.unwrap_or(Time::ZERO);
     digest.add(*number);
-    digest.add(*seconds);
-    digest.add(*nanoseconds as u64);
+    digest.add(time.seconds);
+    digest.add(time.nanoseconds as u64);
     digest.add(*link_type as u64);
     digest.add(*captured_len as u64);
     digest.add(*original_len as u64);
     digest.add_front(octets);
     digest.add_ends(octets);
+}
+
+/// The number of what ends a capture.
+pub fn ending_number(ending: Ending) -> u64 {
+    match ending {
+        Ending::Whole => 0,
+        Ending::Cut => 1,
+        Ending::TooLarge | Ending::TooManyInterfaces => 2,
+        Ending::Malformed(_) => 3,
+        Ending::Version => 4,
+        Ending::NotACapture => 5,
+    }
+}
+
+/// The number of a reason why octets are no datagram.
+pub fn refusal_number(refusal: Refusal) -> u64 {
+    match refusal {
+        Refusal::Short | Refusal::Cut(_) => 0,
+        Refusal::Version(_)
+        | Refusal::HeaderLen(_)
+        | Refusal::TotalLen(_)
+        | Refusal::Extension(_) => 1,
+        Refusal::Fragment(_) => 2,
+    }
 }
 
 /// Adds what a frame holds.

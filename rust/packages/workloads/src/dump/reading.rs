@@ -2,7 +2,9 @@
 //! What an analyst reads in a capture.
 
 use crate::digest::Digest;
-use crate::digest::frames::{add_datagram, add_frame, add_ports, add_record};
+use crate::digest::frames::{
+    add_datagram, add_frame, add_ports, add_record, ending_number, refusal_number,
+};
 use crate::digest::groups::add_igmp;
 use crate::digest::icmp::{add_icmpv4, add_icmpv6};
 use crate::digest::lease::add_lease;
@@ -25,7 +27,7 @@ pub fn read<R: BufRead>(input: &mut R, most: usize, digest: &mut Digest) {
                 read_frame(record.link_type, capture.octets(), digest);
             }
             Ok(Next::Ended(ending)) => {
-                digest.add(ending as u64);
+                digest.add(ending_number(ending));
                 return;
             }
             Err(fault) => {
@@ -57,7 +59,7 @@ fn read_frame(link_type: u16, octets: &[u8], digest: &mut Digest) {
     };
     match datagram {
         Ok(datagram) => read_datagram(&datagram, digest),
-        Err(refusal) => digest.add(4 + refusal as u64),
+        Err(refusal) => digest.add(4 + refusal_number(refusal)),
     }
 }
 

@@ -8,6 +8,7 @@ use crate::wirebase::{EthernetAddress, Ipv4Address};
 use arrayvec::ArrayVec;
 
 mod lengths;
+mod printing;
 mod reading;
 mod writing;
 

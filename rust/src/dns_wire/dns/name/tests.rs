@@ -160,6 +160,12 @@ fn plain_step<'a>(message: &'a [u8], window: &'a [u8], above: usize) -> Step<'a>
     }
 }
 
+// It is told why the name that begins in a slice breaks, exactly where it does.
+fn check_told(message: &[u8], slice: &[u8], broken: bool) {
+    let refusal = Packet::new_unchecked(message).name_refusal(slice);
+    same_of((slice, message), refusal.is_some(), broken);
+}
+
 // Compares the walk over the name that begins in a slice with one along the falling path, a window after another. Each
 // turn is one step.
 fn compare_walk(message: &[u8], slice: &[u8]) {
@@ -178,10 +184,12 @@ fn compare_walk(message: &[u8], slice: &[u8]) {
             }
             Step::End => {
                 check_next((slice, message), &mut walk, None, turn);
+                check_told(message, slice, false);
                 return;
             }
             Step::Broken => {
                 check_next((slice, message), &mut walk, Some(Err(Error)), turn);
+                check_told(message, slice, true);
                 return;
             }
         }

@@ -85,14 +85,20 @@ fn read_record(octets: &[u8]) -> Option<(&[u8], Record<'_>)> {
     Some((behind.get(len..)?, Record { name, ttl, data }))
 }
 
-// Compares the reader of questions with the plain one over these octets.
+// Compares the reader of questions with the plain one over these octets, and with what is told of a refusal.
 fn compare_question(octets: &[u8]) {
     agree(octets, &Question::parse(octets), &read_question(octets));
+    same_of(
+        octets,
+        Question::refusal(octets).is_none(),
+        is_question(octets),
+    );
 }
 
-// Compares the reader of records with the plain one over these octets.
+// Compares the reader of records with the plain one over these octets, and with what is told of a refusal.
 fn compare_record(octets: &[u8]) {
     agree(octets, &Record::parse(octets), &read_record(octets));
+    same_of(octets, Record::refusal(octets).is_none(), is_record(octets));
 }
 
 // Compares a number of a header with the two octets from this place on.

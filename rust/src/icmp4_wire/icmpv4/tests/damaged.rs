@@ -112,6 +112,11 @@ fn compare(octets: &[u8]) {
     agree(octets, &Repr::parse(&packet, &ignored), &plain);
     let verified = if is_good(octets) { plain } else { None };
     agree(octets, &Repr::parse(&packet, &ALL), &verified);
+    same_of(
+        octets,
+        Repr::refusal(&packet, &ALL).is_none(),
+        verified.is_some(),
+    );
 }
 
 // Compares the fields of the view with the octets at their places.

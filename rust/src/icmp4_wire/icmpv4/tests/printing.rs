@@ -2,7 +2,9 @@
 //! What is printed.
 
 use super::{ECHO_REQUEST, PORT_UNREACHABLE, QUOTED_DATA, quoted};
-use crate::icmp4_wire::icmpv4::{DstUnreachable, Message, Packet, Repr, TimeExceeded};
+use crate::icmp4_wire::icmpv4::{
+    DstUnreachable, Message, Packet, ParamProblem, Redirect, Repr, TimeExceeded,
+};
 use crate::icmp4_wire::testing::{prints, prints_each, takes_writes};
 
 #[test]
@@ -55,6 +57,25 @@ fn reasons_of_exceeded_times_print_their_words() {
         (2, "2"),
     ];
     prints_each::<TimeExceeded>(TIMES);
+}
+
+#[test]
+fn reasons_of_redirects_and_of_problems_print_their_words() {
+    const REDIRECTS: &[(u8, &str)] = &[
+        (0, "redirect for the network"),
+        (1, "redirect for the host"),
+        (2, "redirect for the ToS and network"),
+        (3, "redirect for the ToS and host"),
+        (4, "4"),
+    ];
+    prints_each::<Redirect>(REDIRECTS);
+    const PROBLEMS: &[(u8, &str)] = &[
+        (0, "pointer indicates the error"),
+        (1, "missing a required option"),
+        (2, "bad length"),
+        (3, "3"),
+    ];
+    prints_each::<ParamProblem>(PROBLEMS);
 }
 
 #[test]

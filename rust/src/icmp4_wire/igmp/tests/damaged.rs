@@ -70,7 +70,10 @@ fn compare(octets: &[u8]) {
     let is_long = octets.len() >= 8;
     same_of(octets, packet.check_len().is_ok(), is_long);
     same_of(octets, Packet::new_checked(octets).is_ok(), is_long);
-    agree(octets, &Repr::parse(&packet), &read(octets));
+    let plain = read(octets);
+    agree(octets, &Repr::parse(&packet), &plain);
+    let refusal = Repr::refusal(&packet);
+    same_of(octets, refusal.is_none(), plain.is_some());
     compare_fields(octets);
 }
 

@@ -1,8 +1,8 @@
 // Made from crates/opt_wire/src/ipv6option/tests/printing.rt by rust/erase.
 //! What options and their parts print.
 
-use crate::opt_wire::ipv6option::{FailureType, Ipv6Option, Repr, Type};
-use crate::opt_wire::testing::{prints, takes_writes};
+use crate::opt_wire::ipv6option::{FailureType, Ipv6Option, Refusal, Repr, RouterAlert, Type};
+use crate::opt_wire::testing::{prints, same_of, takes_writes};
 
 #[test]
 fn what_types_print() {
@@ -31,6 +31,57 @@ fn what_failure_types_print() {
     ];
     for (failure, text) in ROWS {
         prints(failure, text);
+    }
+}
+
+#[test]
+fn what_router_alerts_print() {
+    const ROWS: &[(RouterAlert, &str)] = &[
+        (
+            RouterAlert::MulticastListenerDiscovery,
+            "multicast listener discovery",
+        ),
+        (RouterAlert::Rsvp, "RSVP"),
+        (RouterAlert::ActiveNetworks, "active networks"),
+        (RouterAlert::Unknown(0xbeef), "48879"),
+    ];
+    for (alert, text) in ROWS {
+        prints(alert, text);
+    }
+}
+
+#[test]
+fn reasons_of_refused_options() {
+    const ROWS: &[(&[u8], Refusal, &str)] = &[
+        (&[], Refusal::Empty, "no bytes"),
+        (&[0x01], Refusal::Short, "a type without a length"),
+        (&[0x05], Refusal::Short, "a type without a length"),
+        // The length is told to be cut before it is told not to fit.
+        (
+            &[0x05, 0x03, 0x00, 0x00],
+            Refusal::Cut(5),
+            "fewer than the 5 bytes that the option counts",
+        ),
+        (
+            &[0xc5, 0xff],
+            Refusal::Cut(257),
+            "fewer than the 257 bytes that the option counts",
+        ),
+        (
+            &[0x05, 0x03, 0x00, 0x00, 0x00],
+            Refusal::Length(Type::RouterAlert, 3),
+            "a length of 3 is not allowed for RouterAlert",
+        ),
+        (
+            &[0x05, 0x00, 0x00, 0x00],
+            Refusal::Length(Type::RouterAlert, 0),
+            "a length of 0 is not allowed for RouterAlert",
+        ),
+    ];
+    for &(octets, refusal, text) in ROWS {
+        let told = Repr::refusal(&Ipv6Option::new_unchecked(octets));
+        same_of(octets, told, Some(refusal));
+        prints(&refusal, text);
     }
 }
 
@@ -81,4 +132,6 @@ fn printing_fails_only_with_its_writer() {
     }
     takes_writes(&Type::Unknown(7), 1);
     takes_writes(&FailureType::Skip, 1);
+    takes_writes(&RouterAlert::Unknown(7), 1);
+    takes_writes(&Refusal::Length(Type::RouterAlert, 3), 4);
 }

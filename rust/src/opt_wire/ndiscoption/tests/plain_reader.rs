@@ -134,4 +134,6 @@ fn compare(octets: &[u8]) {
         Ok(read) => same_of(octets, &Some(read), &plain),
         Err(_) => holds_of(octets, plain.is_none()),
     }
+    let told = Repr::refusal(&NdiscOption::new_unchecked(octets));
+    same_of(octets, told.is_none(), plain.is_some());
 }

@@ -52,6 +52,21 @@ fn sets_of_flags() {
 }
 
 #[test]
+fn flags_in_words() {
+    const ROWS: &[(u8, &str)] = &[
+        (0x00, "-"),
+        (0x3f, "-"),
+        (0x40, "addrconf"),
+        (0x80, "on_link"),
+        (0xff, "on_link,addrconf"),
+    ];
+    for &(bits, text) in ROWS {
+        let flags = PrefixInfoFlags::from_bits_retain(bits);
+        prints(&flags, text);
+    }
+}
+
+#[test]
 fn flags_are_joined_and_parted() {
     let both = PrefixInfoFlags::all();
     let others = [

@@ -18,9 +18,9 @@ const EMPTY_RECORDS: &[u8] = &[
 ];
 
 const EMPTY_RECORDS_ROWS: &[Row] = &[
-    (1, 1_000_000_000, 123_456_000, 1, 60, &[]),
-    (2, 1_000_000_001, 1_000, 1, 60, &[0xa1]),
-    (3, 1_000_000_002, 2_000, 1, 60, &[]),
+    (1, Some((1_000_000_000, 123_456_000, 6)), 1, 60, &[]),
+    (2, Some((1_000_000_001, 1_000, 6)), 1, 60, &[0xa1]),
+    (3, Some((1_000_000_002, 2_000, 6)), 1, 60, &[]),
 ];
 
 // A section of an interface of Ethernet, with blocks of 12 and of 16 bytes that are passed over before and behind a
@@ -36,7 +36,7 @@ const PASSED_BLOCKS: &[u8] = &[
     0, 0, 0, 5, 0, 0, 0, 12, 0, 0, 0, 12,
 ];
 
-const PASSED_BLOCKS_ROWS: &[Row] = &[(1, 0, 0, 1, 4, &[0xe1, 0xe2, 0xe3, 0xe4])];
+const PASSED_BLOCKS_ROWS: &[Row] = &[(1, None, 1, 4, &[0xe1, 0xe2, 0xe3, 0xe4])];
 
 // Each with the ends of its units, and how many records there are up to each.
 const MORE_FILES: &[File] = &[

@@ -66,8 +66,9 @@ fn check(octets: &[u8], seconds: u64, nanoseconds: u32) {
     let time = Time {
         seconds,
         nanoseconds,
+        digits: 6,
     };
-    for want in [time, time, Time::ZERO] {
+    for want in [Some(time), Some(time), None] {
         let read = match capture.next(&mut input) {
             Ok(Next::Record(record)) => Some(record.time),
             _ => None,
@@ -177,10 +178,12 @@ fn times_at_the_end_of_64_bits() {
         let time = Time {
             seconds,
             nanoseconds: 7,
+            digits: 9,
         };
         let moved = Time {
             seconds: want,
             nanoseconds: 7,
+            digits: 9,
         };
         same_of((seconds, offset), time.moved(offset), moved);
     }

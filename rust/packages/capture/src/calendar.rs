@@ -1,4 +1,4 @@
-// Made from crates/listing/src/time/date.rt by rust/erase.
+// Made from crates/capture/src/calendar.rt by rust/erase.
 //! Days as dates of the calendar.
 
 // The calendar begins anew after so many years, of so many days.
@@ -6,8 +6,8 @@ const CYCLE_YEARS: u64 = 400;
 
 const CYCLE_DAYS: u64 = 146_097;
 
-/// A day of the calendar.
-#[derive(Clone, Copy)]
+/// A day of the Gregorian calendar.
+#[derive(Debug, PartialEq, Eq, Clone, Copy)]
 pub struct Date {
     /// The year, 1970 or later.
     pub year: u64,

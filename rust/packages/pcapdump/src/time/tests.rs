@@ -1,4 +1,4 @@
-// Made from crates/listing/src/time/tests.rt by rust/erase.
+// Made from crates/pcapdump/src/time/tests.rt by rust/erase.
 //! Times as text.
 
 use crate::testing::{holds_of, same_of};

@@ -1,10 +1,8 @@
-// Made from crates/listing/src/time.rt by rust/erase.
+// Made from crates/pcapdump/src/time.rt by rust/erase.
 //! Times of packets, as RFC 3339 writes them in UTC.
 
-mod date;
-
-use crate::number::{two_digits, write_number};
-use crate::time::date::{Date, date_of};
+use capture::calendar::{Date, date_of};
+use listing::number::{two_digits, write_number};
 use rattle_std::io;
 use rattle_std::io::Write;
 

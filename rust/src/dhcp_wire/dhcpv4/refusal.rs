@@ -1,0 +1,174 @@
+// Made from crates/dhcp_wire/src/dhcpv4/refusal.rt by rust/erase.
+//! Why octets are refused.
+
+use super::found::{ETHERNET, Found, IDENTIFIER_LEN};
+use super::kinds::{OPT_CLIENT_ID, OPT_DHCP_MESSAGE_TYPE, OPT_END, OPT_PAD};
+use super::options::DhcpOption;
+use super::packet::{Packet, field};
+use super::repr::{ETHERNET_LEN, MAGIC_NUMBER, Repr};
+use super::tables::{MessageType, OpCode};
+use crate::wirebase::Octets;
+use core::fmt;
+
+/// Why octets are no packet that [`Repr::parse`] reads: the check that fails first.
+#[derive(Debug, PartialEq, Eq, Clone, Copy)]
+pub enum Refusal {
+    /// Fewer than 240 bytes.
+    Short,
+    /// The type of hardware, by its number, is not that of Ethernet, 1 (RFC 2131 section 2).
+    HardwareType(u8),
+    /// A hardware address has so many bytes, and not the 6 of Ethernet (RFC 2131 section 2).
+    HardwareLen(u8),
+    /// The magic cookie of DHCP does not stand before the options (RFC 2131 section 3).
+    MagicCookie,
+    /// The first client identifier of 7 bytes that is not of Ethernet is of this type of hardware (RFC 2132 section
+    /// 9.14).
+    ClientIdentifier(u8),
+    /// No type of message has the operation of the packet, and the last one does not go with this operation (RFC 2131
+    /// section 3).
+    Operation(MessageType, OpCode),
+    /// No type of message has the operation of the packet, and the last one has so many bytes, and not 1 (RFC 2132
+    /// section 9.6).
+    MessageTypeLen(usize),
+    /// There is no type of message, and the options end within an option of this kind (RFC 2132 section 2).
+    OptionCut(u8),
+    /// There is no type of message (RFC 2132 section 9.6).
+    NoMessageType,
+}
+
+impl fmt::Display for Refusal {
+    fn fmt(&self, f: &mut fmt::Formatter<'_>) -> fmt::Result {
+        match self {
+            Refusal::Short => f.write_str("fewer than 240 bytes"),
+            Refusal::HardwareType(n) => write!(f, "hardware type {n} is not Ethernet"),
+            Refusal::HardwareLen(n) => write!(f, "a hardware address has {n} bytes, not 6"),
+            Refusal::MagicCookie => f.write_str("the magic cookie is missing"),
+            Refusal::ClientIdentifier(n) => {
+                write!(
+                    f,
+                    "the client identifier is of hardware type {n}, not Ethernet"
+                )
+            }
+            Refusal::Operation(message_type, opcode) => {
+                write!(f, "message type {message_type} does not go with {opcode}")
+            }
+            Refusal::MessageTypeLen(n) => write!(f, "the message type has {n} bytes, not 1"),
+            Refusal::OptionCut(kind) => write!(f, "option {kind} is cut"),
+            Refusal::NoMessageType => f.write_str("there is no message type"),
+        }
+    }
+}
+
+impl<'a> Repr<'a> {
+    /// Why [`Repr::parse`] refuses this packet, by the check that fails first; None where it reads it.
+    pub fn refusal<B: AsRef<[u8]> + ?Sized>(packet: &Packet<&'a B>) -> Option<Refusal> {
+        if let Some(refusal) = header_refusal(packet) {
+            return Some(refusal);
+        }
+        let mut found = Found {
+            message_type: None,
+            repr: Repr::of(packet),
+        };
+        if found.note_all(packet).is_err() {
+            return identifier_refusal(packet);
+        }
+        if found.message_type.is_some() {
+            return None;
+        }
+        Some(type_refusal(packet))
+    }
+}
+
+// Why a packet has no header that is read.
+fn header_refusal<B: AsRef<[u8]> + ?Sized>(packet: &Packet<&B>) -> Option<Refusal> {
+    if packet.check_len().is_err() {
+        return Some(Refusal::Short);
+    }
+    let hardware = packet.buffer.u8_at(field::HTYPE);
+    if hardware != ETHERNET {
+        return Some(Refusal::HardwareType(hardware));
+    }
+    let len = packet.hardware_len();
+    if len != ETHERNET_LEN {
+        return Some(Refusal::HardwareLen(len));
+    }
+    if packet.magic_number() != MAGIC_NUMBER {
+        return Some(Refusal::MagicCookie);
+    }
+    None
+}
+
+// Which client identifier refuses a packet.
+fn identifier_refusal<B: AsRef<[u8]> + ?Sized>(packet: &Packet<&B>) -> Option<Refusal> {
+    for option in packet.options() {
+        if let Some(hardware) = other_hardware(option) {
+            return Some(Refusal::ClientIdentifier(hardware));
+        }
+    }
+    None
+}
+
+// The hardware of a client identifier that is not of Ethernet.
+fn other_hardware(option: DhcpOption<'_>) -> Option<u8> {
+    let data = option.data;
+    if option.kind == OPT_CLIENT_ID && data.len() == IDENTIFIER_LEN && data[0] != ETHERNET {
+        return Some(data[0]);
+    }
+    None
+}
+
+// Why a packet has no type of message that has its operation.
+fn type_refusal<B: AsRef<[u8]> + ?Sized>(packet: &Packet<&B>) -> Refusal {
+    let Some(data) = last_type_in(packet) else {
+        return end_refusal(packet);
+    };
+    let [number] = data else {
+        return Refusal::MessageTypeLen(data.len());
+    };
+    Refusal::Operation(MessageType::from(*number), packet.opcode())
+}
+
+// The data of the last type of message.
+fn last_type_in<'a, B: AsRef<[u8]> + ?Sized>(packet: &Packet<&'a B>) -> Option<&'a [u8]> {
+    let mut last = None;
+    for option in packet.options() {
+        if option.kind == OPT_DHCP_MESSAGE_TYPE {
+            last = Some(option.data);
+        }
+    }
+    last
+}
+
+// Why a packet has no type of message at all.
+fn end_refusal<B: AsRef<[u8]> + ?Sized>(packet: &Packet<&B>) -> Refusal {
+    match cut_kind(&packet.buffer.as_ref()[field::OPTIONS..]) {
+        Some(kind) => Refusal::OptionCut(kind),
+        None => Refusal::NoMessageType,
+    }
+}
+
+// The kind of the option that is cut, where the options in these octets end within one.
+fn cut_kind(octets: &[u8]) -> Option<u8> {
+    let mut rest = octets;
+    while let Some((first, behind)) = rest.split_first() {
+        let kind = *first;
+        if kind == OPT_END {
+            return None;
+        }
+        if kind == OPT_PAD {
+            rest = behind;
+            continue;
+        }
+        let Some((count, body)) = behind.split_first() else {
+            return Some(kind);
+        };
+        let Some((_, after)) = body.split_at_checked(*count as usize) else {
+            return Some(kind);
+        };
+        rest = after;
+    }
+    None
+}
+
+#[cfg(test)]
+mod tests;

@@ -1,0 +1,173 @@
+// Made from crates/dns_wire/src/dns/display.rt by rust/erase.
+//! What messages and their parts print, by the names of IANA's registry of DNS parameters.
+
+use super::{Flags, Opcode, Question, Rcode, Record, RecordData, Repr, Type};
+use core::fmt;
+
+/// The name of the type, as `AAAA`, or its number where it has none here, as `TYPE34` (RFC 3597 section 5). A number
+/// that is kept as [`Type::Unknown`] has its name too, as `MX`.
+impl fmt::Display for Type {
+    fn fmt(&self, f: &mut fmt::Formatter<'_>) -> fmt::Result {
+        let name = match u16::from(*self) {
+            1 => "A",
+            2 => "NS",
+            5 => "CNAME",
+            6 => "SOA",
+            12 => "PTR",
+            13 => "HINFO",
+            15 => "MX",
+            16 => "TXT",
+            28 => "AAAA",
+            33 => "SRV",
+            35 => "NAPTR",
+            39 => "DNAME",
+            41 => "OPT",
+            43 => "DS",
+            44 => "SSHFP",
+            46 => "RRSIG",
+            47 => "NSEC",
+            48 => "DNSKEY",
+            50 => "NSEC3",
+            52 => "TLSA",
+            64 => "SVCB",
+            65 => "HTTPS",
+            99 => "SPF",
+            251 => "IXFR",
+            252 => "AXFR",
+            255 => "ANY",
+            257 => "CAA",
+            number => return write!(f, "TYPE{number}"),
+        };
+        f.write_str(name)
+    }
+}
+
+/// The name of the kind of query, or its number where it has none here, as `OPCODE6`. It goes by the number: of
+/// [`Opcode::Status`], which is 1, it is `IQUERY`, and of `Opcode::Unknown(2)` it is `STATUS` (RFC 1035 section 4.1.1).
+impl fmt::Display for Opcode {
+    fn fmt(&self, f: &mut fmt::Formatter<'_>) -> fmt::Result {
+        let name = match u8::from(*self) {
+            0 => "QUERY",
+            1 => "IQUERY",
+            2 => "STATUS",
+            number => return write!(f, "OPCODE{number}"),
+        };
+        f.write_str(name)
+    }
+}
+
+/// The name of the outcome, as `NXDOMAIN`, or its number where it has none, as `RCODE15`.
+impl fmt::Display for Rcode {
+    fn fmt(&self, f: &mut fmt::Formatter<'_>) -> fmt::Result {
+        let name = match u8::from(*self) {
+            0 => "NOERROR",
+            1 => "FORMERR",
+            2 => "SERVFAIL",
+            3 => "NXDOMAIN",
+            4 => "NOTIMP",
+            5 => "REFUSED",
+            6 => "YXDOMAIN",
+            7 => "YXRRSET",
+            8 => "NXRRSET",
+            9 => "NOTAUTH",
+            10 => "NOTZONE",
+            number => return write!(f, "RCODE{number}"),
+        };
+        f.write_str(name)
+    }
+}
+
+/// The question, as `DNS question name_len=12 type=A`. Its name is told by the bytes that it takes where it stands.
+impl fmt::Display for Question<'_> {
+    fn fmt(&self, f: &mut fmt::Formatter<'_>) -> fmt::Result {
+        let name_len = self.name.len();
+        let type_ = self.type_;
+        write!(f, "DNS question name_len={name_len} type={type_}")
+    }
+}
+
+/// The type of the record, and its address or the bytes that its data take, as `A addr=192.0.2.1` or `SOA len=38`.
+impl fmt::Display for RecordData<'_> {
+    fn fmt(&self, f: &mut fmt::Formatter<'_>) -> fmt::Result {
+        match self {
+            RecordData::A(address) => write!(f, "A addr={address}"),
+            RecordData::Aaaa(address) => write!(f, "AAAA addr={address}"),
+            RecordData::Cname(name) => {
+                let name_len = name.len();
+                write!(f, "CNAME name_len={name_len}")
+            }
+            RecordData::Other(type_, data) => {
+                let len = data.len();
+                write!(f, "{type_} len={len}")
+            }
+        }
+    }
+}
+
+/// The record, as `DNS record name_len=2 ttl=202 A addr=192.0.2.1`. Its name is told by the bytes that it takes where
+/// it stands, and its time to live is in seconds.
+impl fmt::Display for Record<'_> {
+    fn fmt(&self, f: &mut fmt::Formatter<'_>) -> fmt::Result {
+        let name_len = self.name.len();
+        let ttl = self.ttl;
+        let data = self.data;
+        write!(f, "DNS record name_len={name_len} ttl={ttl} {data}")
+    }
+}
+
+/// The names of the flags that are set, with commas between them, as `rd,ad`; `-` where none is set. Bits that have no
+/// name are not told.
+impl fmt::Display for Flags {
+    fn fmt(&self, f: &mut fmt::Formatter<'_>) -> fmt::Result {
+        fmt_flags(f, "", "-", FLAG_NAMES, self.bits())
+    }
+}
+
+// Each flag's short name and bit.
+const FLAG_NAMES: &[(&str, u16)] = &[
+    ("qr", 0x8000),
+    ("aa", 0x0400),
+    ("tc", 0x0200),
+    ("rd", 0x0100),
+    ("ra", 0x0080),
+    ("ad", 0x0020),
+    ("cd", 0x0010),
+];
+
+// Prints the names of the flags that are set, behind this text and with commas between them; another text where none
+// is set.
+fn fmt_flags(
+    f: &mut fmt::Formatter<'_>,
+    front: &str,
+    none: &str,
+    names: &[(&str, u16)],
+    bits: u16,
+) -> fmt::Result {
+    let [(name, bit), rest @ ..] = names else {
+        return f.write_str(none);
+    };
+    if bits & *bit == 0 {
+        return fmt_flags(f, front, none, rest, bits);
+    }
+    write!(f, "{front}{name}")?;
+    fmt_flags(f, ",", "", rest, bits)
+}
+
+/// The query, as `DNS query id=4660 opcode=QUERY flags=rd name_len=12 type=A`. The name of its question is told by the
+/// bytes that it takes.
+impl fmt::Display for Repr<'_> {
+    fn fmt(&self, f: &mut fmt::Formatter<'_>) -> fmt::Result {
+        let Repr {
+            transaction_id,
+            opcode,
+            flags,
+            question,
+        } = self;
+        let name_len = question.name.len();
+        let type_ = question.type_;
+        write!(
+            f,
+            "DNS query id={transaction_id} opcode={opcode} flags={flags} name_len={name_len} type={type_}"
+        )
+    }
+}

@@ -1,0 +1,113 @@
+// Made from crates/frame_wire/src/datagram/captured.rt by rust/erase.
+//! Datagrams as far as a capture has them.
+
+use super::{Addresses, Datagram, Head, Refusal, head_v4, read_v6};
+use crate::frames::link::behind;
+use crate::wirebase::{IPV6_HEADER_LEN, Ipv4Packet, Ipv6Packet};
+
+/// How much of a datagram is there.
+#[derive(Debug, PartialEq, Eq, Clone, Copy)]
+pub enum Extent {
+    /// All of it.
+    Whole,
+    /// Its front.
+    Cut {
+        /// How many bytes its own length counts that are not there, 1 or more.
+        missing: usize,
+    },
+    /// A datagram of IPv4 whose total length is 0, as a machine captures it that leaves segmentation to its network
+    /// card: the payload is all that the octets have, and whether they have all of it is not known.
+    Unstated,
+}
+
+/// A datagram as far as a capture has it.
+#[derive(Debug, PartialEq, Eq, Clone, Copy)]
+pub struct Captured<'a> {
+    /// The datagram. Its payload ends early where it is cut.
+    pub datagram: Datagram<'a>,
+    /// How much of it is there.
+    pub extent: Extent,
+}
+
+impl<'a> Captured<'a> {
+    /// The datagram of IPv4 at the front of the octets, as far as it is there. A whole one is what `Datagram::parse_v4`
+    /// reads. One that ends behind the octets has the payload that is there, and it is told how many bytes are missing.
+    /// One with a total length of 0 is taken to end where the octets do. Refused with `Cut` where the header itself,
+    /// with its options, is cut, and where `Datagram::parse_v4` refuses for another reason; a fragment is a `Fragment`,
+    /// also where it is cut.
+    pub fn parse_v4(octets: &'a [u8]) -> Result<Captured<'a>, Refusal> {
+        match Datagram::parse_v4(octets) {
+            Ok(datagram) => Ok(Captured {
+                datagram,
+                extent: Extent::Whole,
+            }),
+            Err(Refusal::Cut(head)) => {
+                let datagram = open_v4(octets, head)?;
+                let total_len = Ipv4Packet::new_unchecked(octets).total_len() as usize;
+                Ok(Captured {
+                    datagram,
+                    extent: Extent::Cut {
+                        missing: total_len - octets.len(),
+                    },
+                })
+            }
+            Err(Refusal::TotalLen(0)) => {
+                let datagram = open_v4(octets, head_v4(octets))?;
+                Ok(Captured {
+                    datagram,
+                    extent: Extent::Unstated,
+                })
+            }
+            Err(refusal) => Err(refusal),
+        }
+    }
+
+    /// The datagram of IPv6 at the front of the octets, as far as it is there. A whole one is what `Datagram::parse_v6`
+    /// reads. One that ends behind the octets has the payload that is there, and it is told how many bytes are missing.
+    /// Refused with `Cut` where a header that extends IPv6 is cut, and where `Datagram::parse_v6` refuses for another
+    /// reason; a fragment is a `Fragment`, also where it is cut.
+    pub fn parse_v6(octets: &'a [u8]) -> Result<Captured<'a>, Refusal> {
+        match Datagram::parse_v6(octets) {
+            Ok(datagram) => Ok(Captured {
+                datagram,
+                extent: Extent::Whole,
+            }),
+            Err(Refusal::Cut(head)) => cut_v6(octets, head),
+            Err(refusal) => Err(refusal),
+        }
+    }
+}
+
+// A datagram of IPv4 of which all octets behind the header are payload.
+fn open_v4<'a>(octets: &'a [u8], head: Head) -> Result<Datagram<'a>, Refusal> {
+    let packet = Ipv4Packet::new_unchecked(octets);
+    let header_len = packet.header_len() as usize;
+    if octets.len() < header_len {
+        return Err(Refusal::Cut(head));
+    }
+    if head.more_frags || head.frag_offset != 0 {
+        return Err(Refusal::Fragment(head));
+    }
+    Ok(Datagram {
+        addresses: head.addresses,
+        protocol: head.protocol,
+        hop_limit: packet.hop_limit(),
+        hop_by_hop: None,
+        payload: behind(octets, header_len),
+    })
+}
+
+// A datagram of IPv6 that lacks some of its bytes.
+fn cut_v6<'a>(octets: &'a [u8], head: Head) -> Result<Captured<'a>, Refusal> {
+    let payload_len = Ipv6Packet::new_unchecked(octets).payload_len() as usize;
+    match read_v6(octets, behind(octets, IPV6_HEADER_LEN)) {
+        Ok(datagram) => Ok(Captured {
+            datagram,
+            extent: Extent::Cut {
+                missing: IPV6_HEADER_LEN + payload_len - octets.len(),
+            },
+        }),
+        Err(Refusal::Fragment(head)) => Err(Refusal::Fragment(head)),
+        Err(_) => Err(Refusal::Cut(head)),
+    }
+}

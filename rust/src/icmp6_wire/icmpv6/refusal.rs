@@ -1,0 +1,114 @@
+// Made from crates/icmp6_wire/src/icmpv6/refusal.rt by rust/erase.
+//! Why octets are no message: the check that fails first.
+
+use super::field;
+use super::packet::Packet;
+use super::reading::{read_echo_reply, read_echo_request, read_error};
+use super::repr::Repr;
+use super::tables::Message;
+use crate::icmp6_wire::mld::{read_query, read_report};
+use crate::icmp6_wire::ndisc;
+use crate::wirebase::{ChecksumCapabilities, IPV6_HEADER_LEN, Ipv6Address};
+use core::fmt;
+
+/// Why octets are no message that [`Repr::parse`] reads: the check that fails first.
+#[derive(Debug, PartialEq, Eq, Clone, Copy)]
+pub enum Refusal {
+    /// Fewer than 8 bytes.
+    Short,
+    /// The type, by its number, is none of those that are read.
+    UnknownType(u8),
+    /// Fewer bytes than the header of the type has.
+    Length,
+    /// The checksum does not hold (RFC 4443 section 2.3).
+    Checksum,
+    /// An error quotes fewer bytes than an IPv6 header has, 40.
+    Quote,
+    /// The code, by its number, is not 0 in a message of a type that has no other.
+    Code(u8),
+    /// What follows the header of a message of neighbor discovery is not whole options: one of the reasons that tell of
+    /// an option.
+    Ndisc(ndisc::Refusal),
+}
+
+impl fmt::Display for Refusal {
+    fn fmt(&self, f: &mut fmt::Formatter<'_>) -> fmt::Result {
+        match self {
+            Refusal::Short => f.write_str("fewer than 8 bytes"),
+            Refusal::UnknownType(number) => write!(f, "type {number} is not read"),
+            Refusal::Length => f.write_str("fewer bytes than the header of its type"),
+            Refusal::Checksum => f.write_str("the checksum does not hold"),
+            Refusal::Quote => f.write_str("an error that quotes fewer than 40 bytes"),
+            Refusal::Code(number) => write!(f, "code {number} is not read"),
+            Refusal::Ndisc(reason) => write!(f, "{reason}"),
+        }
+    }
+}
+
+impl Repr<'_> {
+    /// Why [`Repr::parse`] refuses these octets, by the check that fails first; None where it reads them.
+    pub fn refusal<B: AsRef<[u8]> + ?Sized>(
+        src_addr: &Ipv6Address,
+        dst_addr: &Ipv6Address,
+        packet: &Packet<&B>,
+        checksum_caps: &ChecksumCapabilities,
+    ) -> Option<Refusal> {
+        let octets = packet.buffer.as_ref();
+        if octets.len() < field::HEADER_END {
+            return Some(Refusal::Short);
+        }
+        let kind = packet.msg_type();
+        if let Message::RplControl | Message::Unknown(_) = kind {
+            return Some(Refusal::UnknownType(octets[field::TYPE.start]));
+        }
+        if octets.len() < packet.header_len() {
+            return Some(Refusal::Length);
+        }
+        if checksum_caps.icmpv6.rx() && !packet.verify_checksum(src_addr, dst_addr) {
+            return Some(Refusal::Checksum);
+        }
+        if kind.is_error() {
+            return error_refusal(packet, kind);
+        }
+        other_refusal(packet, kind)
+    }
+}
+
+// Why octets with the header of an error are none.
+fn error_refusal<B: AsRef<[u8]> + ?Sized>(packet: &Packet<&B>, kind: Message) -> Option<Refusal> {
+    match read_error(packet, kind) {
+        Ok(_) => None,
+        Err(_) => {
+            if packet.buffer.as_ref().len() < field::HEADER_END + IPV6_HEADER_LEN {
+                return Some(Refusal::Quote);
+            }
+            Some(Refusal::Code(packet.msg_code()))
+        }
+    }
+}
+
+// Why octets with the header of another message are none.
+fn other_refusal<B: AsRef<[u8]> + ?Sized>(packet: &Packet<&B>, kind: Message) -> Option<Refusal> {
+    let code = packet.msg_code();
+    if code != 0 {
+        return Some(Refusal::Code(code));
+    }
+    if kind.is_ndisc() {
+        return match ndisc::Repr::refusal(packet) {
+            Some(reason) => Some(Refusal::Ndisc(reason)),
+            None => None,
+        };
+    }
+    let _read = read_other(packet, kind);
+    None
+}
+
+// The message of code 0 in octets with such a header, which is neither an error nor one of neighbor discovery.
+fn read_other<'a, B: AsRef<[u8]> + ?Sized>(packet: &Packet<&'a B>, kind: Message) -> Repr<'a> {
+    match kind {
+        Message::EchoRequest => read_echo_request(packet),
+        Message::EchoReply => read_echo_reply(packet),
+        Message::MldQuery => Repr::Mld(read_query(packet)),
+        _ => Repr::Mld(read_report(packet)),
+    }
+}

@@ -1,0 +1,83 @@
+// Made from crates/icmp6_wire/src/mld/tests/iterators.rt by rust/erase.
+use super::short_record;
+use crate::icmp6_wire::mld::{AddressRecordRepr, RecordType, Records};
+use crate::icmp6_wire::testing::same;
+use crate::wirebase::{Error, IPV6_LINK_LOCAL_ALL_NODES, IPV6_LINK_LOCAL_ALL_ROUTERS};
+
+// A record of ff02::1 with the source ff02::2 and a word of auxiliary data, and one of ff02::2 with neither.
+const RECORDS: [u8; 60] = [
+    0x01, 0x01, 0x00, 0x01, 0xff, 0x02, 0, 0, 0, 0, 0, 0, 0, 0, 0, 0, 0, 0, 0, 0x01, 0xff, 0x02, 0,
+    0, 0, 0, 0, 0, 0, 0, 0, 0, 0, 0, 0, 0x02, 0xaa, 0xbb, 0xcc, 0xdd, 0x04, 0x00, 0x00, 0x00, 0xff,
+    0x02, 0, 0, 0, 0, 0, 0, 0, 0, 0, 0, 0, 0, 0, 0x02,
+];
+
+fn with_source() -> AddressRecordRepr<'static> {
+    AddressRecordRepr {
+        record_type: RecordType::ModeIsInclude,
+        aux_data_len: 1,
+        num_srcs: 1,
+        mcast_addr: IPV6_LINK_LOCAL_ALL_NODES,
+        payload: &RECORDS[20..40],
+    }
+}
+
+fn bare() -> AddressRecordRepr<'static> {
+    AddressRecordRepr::new(RecordType::ChangeToExclude, IPV6_LINK_LOCAL_ALL_ROUTERS)
+}
+
+#[test]
+fn records_of_a_report_in_turn() {
+    let mut records = Records::new(2, &RECORDS);
+    same(records.next(), Some(Ok(with_source())));
+    same(records.next(), Some(Ok(bare())));
+    same(records.next(), None);
+    same(records.next(), None);
+}
+
+#[test]
+fn what_stands_behind_the_last_record_is_left_out() {
+    let mut records = Records::new(1, &RECORDS);
+    same(records.next(), Some(Ok(with_source())));
+    same(records.next(), None);
+    same(Records::new(0, &RECORDS).next(), None);
+}
+
+#[test]
+fn a_record_that_is_cut_is_refused_once() {
+    for len in 0..40 {
+        let mut records = Records::new(2, &RECORDS[..len]);
+        same(records.next(), Some(Err(Error)));
+        same(records.next(), None);
+    }
+    let mut records = Records::new(3, &RECORDS);
+    same(records.next(), Some(Ok(with_source())));
+    same(records.next(), Some(Ok(bare())));
+    same(records.next(), Some(Err(Error)));
+    same(records.next(), None);
+}
+
+#[test]
+fn sources_of_a_record_in_turn() {
+    let mut sources = with_source().sources();
+    same(sources.next(), Some(IPV6_LINK_LOCAL_ALL_ROUTERS));
+    same(sources.next(), None);
+    same(sources.next(), None);
+    same(bare().sources().next(), None);
+}
+
+#[test]
+fn sources_are_as_many_as_are_counted_and_whole() {
+    same(short_record().sources().next(), None);
+    let cut = AddressRecordRepr {
+        num_srcs: 2,
+        ..with_source()
+    };
+    let mut sources = cut.sources();
+    same(sources.next(), Some(IPV6_LINK_LOCAL_ALL_ROUTERS));
+    same(sources.next(), None);
+    let uncounted = AddressRecordRepr {
+        num_srcs: 0,
+        ..with_source()
+    };
+    same(uncounted.sources().next(), None);
+}

@@ -1,0 +1,51 @@
+// Made from crates/icmp6_wire/src/mld/tests/texts.rt by rust/erase.
+use super::{query, report_of, short_record};
+use crate::icmp6_wire::mld::{AddressRecordRepr, RecordType, Repr};
+use crate::icmp6_wire::testing::{prints, takes_writes};
+use crate::wirebase::IPV6_LINK_LOCAL_ALL_ROUTERS;
+
+#[test]
+fn texts_of_messages() {
+    prints(
+        &query(),
+        "MLD query max_resp_code=1024 mcast_addr=ff02::1 s_flag=true qrv=2 qqic=18 num_srcs=1 len=16",
+    );
+    prints(&report_of(1), "MLD report nr_mcast_addr_rcrds=1 len=20");
+    takes_writes(&report_of(1), 4);
+}
+
+#[test]
+fn a_list_of_records_prints_how_many_they_are() {
+    let records = [AddressRecordRepr::new(
+        RecordType::ChangeToExclude,
+        IPV6_LINK_LOCAL_ALL_ROUTERS,
+    )];
+    let list = Repr::ReportRecordReprs(&records);
+    prints(&list, "MLD report nr_mcast_addr_rcrds=1");
+}
+
+#[test]
+fn texts_of_records() {
+    prints(
+        &short_record(),
+        "MLD record record_type=CHANGE_TO_EXCLUDE_MODE aux_data_len=1 num_srcs=2 mcast_addr=ff02::2 len=2",
+    );
+}
+
+// The types of records, with their names.
+const NAMES: &[(RecordType, &str)] = &[
+    (RecordType::ModeIsInclude, "MODE_IS_INCLUDE"),
+    (RecordType::ModeIsExclude, "MODE_IS_EXCLUDE"),
+    (RecordType::ChangeToInclude, "CHANGE_TO_INCLUDE_MODE"),
+    (RecordType::ChangeToExclude, "CHANGE_TO_EXCLUDE_MODE"),
+    (RecordType::AllowNewSources, "ALLOW_NEW_SOURCES"),
+    (RecordType::BlockOldSources, "BLOCK_OLD_SOURCES"),
+    (RecordType::Unknown(7), "unknown 7"),
+];
+
+#[test]
+fn texts_of_the_types_of_records() {
+    for (record_type, name) in NAMES {
+        prints(record_type, name);
+    }
+}

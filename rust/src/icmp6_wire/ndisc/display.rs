@@ -1,0 +1,167 @@
+// Made from crates/icmp6_wire/src/ndisc/display.rt by rust/erase.
+//! What messages print, each in one line.
+
+use super::Repr;
+use crate::opt_wire::ndiscoption::{PrefixInformation, RedirectedHeader};
+use crate::wirebase::{Duration, RawHardwareAddress};
+use core::fmt;
+
+/// The message with its fields and the options that are there, flags as the number of their bits, as
+/// `NDISC neighbor solicitation target_addr=fe80::2 lladdr=52:54:00:12:34:56`.
+impl fmt::Display for Repr<'_> {
+    fn fmt(&self, f: &mut fmt::Formatter<'_>) -> fmt::Result {
+        match self {
+            Repr::RouterSolicit { lladdr } => {
+                write!(f, "NDISC router solicitation{}", LinkAddress(*lladdr))
+            }
+            Repr::RouterAdvert {
+                hop_limit,
+                flags,
+                router_lifetime,
+                reachable_time,
+                retrans_time,
+                lladdr,
+                mtu,
+                prefix_info,
+            } => {
+                let times = Times {
+                    router_lifetime: *router_lifetime,
+                    reachable_time: *reachable_time,
+                    retrans_time: *retrans_time,
+                };
+                let options = RouterOptions(*lladdr, *mtu, *prefix_info);
+                let bits = flags.bits();
+                write!(
+                    f,
+                    "NDISC router advertisement hop_limit={hop_limit} flags={bits}{times}{options}"
+                )
+            }
+            Repr::NeighborSolicit {
+                target_addr,
+                lladdr,
+            } => {
+                let lladdr = LinkAddress(*lladdr);
+                write!(
+                    f,
+                    "NDISC neighbor solicitation target_addr={target_addr}{lladdr}"
+                )
+            }
+            Repr::NeighborAdvert {
+                flags,
+                target_addr,
+                lladdr,
+            } => {
+                let bits = flags.bits();
+                let lladdr = LinkAddress(*lladdr);
+                write!(
+                    f,
+                    "NDISC neighbor advertisement flags={bits} target_addr={target_addr}{lladdr}"
+                )
+            }
+            Repr::Redirect {
+                target_addr,
+                dest_addr,
+                lladdr,
+                redirected_hdr,
+            } => {
+                write!(
+                    f,
+                    "NDISC redirect target_addr={target_addr} dest_addr={dest_addr}{}{}",
+                    LinkAddress(*lladdr),
+                    Redirected(*redirected_hdr)
+                )
+            }
+        }
+    }
+}
+
+// The times of a router advertisement.
+#[derive(Clone, Copy)]
+struct Times {
+    router_lifetime: Duration,
+    reachable_time: Duration,
+    retrans_time: Duration,
+}
+
+impl fmt::Display for Times {
+    fn fmt(&self, f: &mut fmt::Formatter<'_>) -> fmt::Result {
+        write!(
+            f,
+            " router_lifetime={} reachable_time={} retrans_time={}",
+            self.router_lifetime, self.reachable_time, self.retrans_time
+        )
+    }
+}
+
+// The options of a router advertisement.
+#[derive(Clone, Copy)]
+struct RouterOptions(
+    Option<RawHardwareAddress>,
+    Option<u32>,
+    Option<PrefixInformation>,
+);
+
+impl fmt::Display for RouterOptions {
+    fn fmt(&self, f: &mut fmt::Formatter<'_>) -> fmt::Result {
+        write!(
+            f,
+            "{}{}{}",
+            LinkAddress(self.0),
+            Mtu(self.1),
+            Prefix(self.2)
+        )
+    }
+}
+
+// Fields that are there or not, with their names in front: nothing where they are not.
+
+#[derive(Clone, Copy)]
+struct LinkAddress(Option<RawHardwareAddress>);
+
+impl fmt::Display for LinkAddress {
+    fn fmt(&self, f: &mut fmt::Formatter<'_>) -> fmt::Result {
+        match self.0 {
+            Some(address) => write!(f, " lladdr={address}"),
+            None => Ok(()),
+        }
+    }
+}
+
+#[derive(Clone, Copy)]
+struct Mtu(Option<u32>);
+
+impl fmt::Display for Mtu {
+    fn fmt(&self, f: &mut fmt::Formatter<'_>) -> fmt::Result {
+        match self.0 {
+            Some(mtu) => write!(f, " mtu={mtu}"),
+            None => Ok(()),
+        }
+    }
+}
+
+#[derive(Clone, Copy)]
+struct Prefix(Option<PrefixInformation>);
+
+impl fmt::Display for Prefix {
+    fn fmt(&self, f: &mut fmt::Formatter<'_>) -> fmt::Result {
+        match self.0 {
+            Some(info) => write!(f, " prefix_info={}/{}", info.prefix, info.prefix_len),
+            None => Ok(()),
+        }
+    }
+}
+
+#[derive(Clone, Copy)]
+struct Redirected<'a>(Option<RedirectedHeader<'a>>);
+
+impl fmt::Display for Redirected<'_> {
+    fn fmt(&self, f: &mut fmt::Formatter<'_>) -> fmt::Result {
+        match self.0 {
+            Some(packet) => {
+                let len = packet.data.len();
+                write!(f, " redirected_hdr=({} len={len})", packet.header)
+            }
+            None => Ok(()),
+        }
+    }
+}

@@ -1,0 +1,68 @@
+// Made from crates/opt_wire/src/ipv6option/refusal.rt by rust/erase.
+//! Why octets begin with no option, check by check (RFC 8200 section 4.2, RFC 2711 section 2.1).
+
+use super::{Ipv6Option, Repr, RouterAlert, Type, field};
+use core::fmt;
+
+/// Why octets begin with no option that [`Repr::parse`] reads: the check that fails first.
+#[derive(Debug, PartialEq, Eq, Clone, Copy)]
+pub enum Refusal {
+    /// No bytes.
+    Empty,
+    /// A type that is not a Pad1, and no length behind it.
+    Short,
+    /// Fewer bytes than the length counts, which is this many with the type and the length.
+    Cut(usize),
+    /// A length, in bytes, that the type does not allow: a router alert of other than 2 bytes of data.
+    Length(Type, u8),
+}
+
+impl<'a> Repr<'a> {
+    /// Why [`Repr::parse`] refuses these octets, by the check that fails first; None exactly where it reads them.
+    pub fn refusal<B: AsRef<[u8]> + ?Sized>(opt: &Ipv6Option<&'a B>) -> Option<Refusal> {
+        match Repr::parse(opt) {
+            Ok(_) => None,
+            Err(_) => Some(why_none(opt)),
+        }
+    }
+}
+
+// Why the octets, which begin with no option, don't.
+fn why_none<B: AsRef<[u8]> + ?Sized>(opt: &Ipv6Option<&B>) -> Refusal {
+    let len = opt.buffer.as_ref().len();
+    if len == 0 {
+        return Refusal::Empty;
+    }
+    if len < field::LENGTH.end {
+        return Refusal::Short;
+    }
+    let end = field::data(opt.data_len()).end;
+    if len < end {
+        return Refusal::Cut(end);
+    }
+    Refusal::Length(Type::RouterAlert, opt.data_len())
+}
+
+// The octets behind the option at the front of these, or why none stands there.
+
+pub(crate) fn behind_first(octets: &[u8]) -> Result<&[u8], Refusal> {
+    let opt = Ipv6Option::new_unchecked(octets);
+    match Repr::parse(&opt) {
+        Ok(repr) => Ok(&octets[repr.buffer_len()..]),
+        Err(_) => Err(why_none(&opt)),
+    }
+}
+
+/// A short phrase, as `a length of 3 is not allowed for RouterAlert`.
+impl fmt::Display for Refusal {
+    fn fmt(&self, f: &mut fmt::Formatter<'_>) -> fmt::Result {
+        match *self {
+            Refusal::Empty => f.write_str("no bytes"),
+            Refusal::Short => f.write_str("a type without a length"),
+            Refusal::Cut(len) => write!(f, "fewer than the {len} bytes that the option counts"),
+            Refusal::Length(type_, length) => {
+                write!(f, "a length of {length} is not allowed for {type_}")
+            }
+        }
+    }
+}

@@ -1,0 +1,93 @@
+// Made from crates/opt_wire/src/ndiscoption/refusal.rt by rust/erase.
+//! Why octets begin with no option of neighbor discovery, check by check (RFC 4861 section 4.6).
+
+use super::{NdiscOption, Repr, Type};
+use crate::opt_wire::writing::UNIT;
+use crate::wirebase::{IPV6_HEADER_LEN, Ipv6Packet};
+use core::fmt;
+
+/// Why octets begin with no option that [`Repr::parse`] reads: the check that fails first.
+#[derive(Debug, PartialEq, Eq, Clone, Copy)]
+pub enum Refusal {
+    /// Fewer than 8 bytes.
+    Short,
+    /// A length of 0, whatever the type.
+    Zero,
+    /// Fewer bytes than the length counts, which is this many.
+    Cut(usize),
+    /// A length, in units of 8 bytes, that the type does not allow: a prefix of other than 4 units, a redirected header
+    /// of fewer than 6, or an MTU of other than 1.
+    Length(Type, u8),
+    /// A redirected packet of fewer bytes than it counts, which is this many with its header.
+    PacketCut(usize),
+    /// A redirected packet of this version, and not of 6.
+    PacketVersion(u8),
+}
+
+impl<'a> Repr<'a> {
+    /// Why [`Repr::parse`] refuses these octets, by the check that fails first; None exactly where it reads them. A
+    /// length of 0 is told before a length that the type does not allow.
+    pub fn refusal<B: AsRef<[u8]> + ?Sized>(opt: &NdiscOption<&'a B>) -> Option<Refusal> {
+        match Repr::parse(opt) {
+            Ok(_) => None,
+            Err(_) => Some(why_none(opt)),
+        }
+    }
+}
+
+// Why the octets, which begin with no option, don't.
+fn why_none<B: AsRef<[u8]> + ?Sized>(opt: &NdiscOption<&B>) -> Refusal {
+    let len = opt.buffer.as_ref().len();
+    if len < UNIT {
+        return Refusal::Short;
+    }
+    let units = opt.data_len();
+    if units == 0 {
+        return Refusal::Zero;
+    }
+    let end = UNIT * units as usize;
+    if len < end {
+        return Refusal::Cut(end);
+    }
+    match opt.option_type() {
+        Type::RedirectedHeader => why_not_redirected(opt),
+        type_ => Refusal::Length(type_, units),
+    }
+}
+
+// Why a redirected header is none.
+fn why_not_redirected<B: AsRef<[u8]> + ?Sized>(opt: &NdiscOption<&B>) -> Refusal {
+    let units = opt.data_len();
+    if units < 6 {
+        return Refusal::Length(Type::RedirectedHeader, units);
+    }
+    let packet = Ipv6Packet::new_unchecked(opt.redirected());
+    let end = IPV6_HEADER_LEN + packet.payload_len() as usize;
+    if packet.as_ref().len() < end {
+        return Refusal::PacketCut(end);
+    }
+    Refusal::PacketVersion(packet.version())
+}
+
+/// A short phrase, as `a length of 3 is not allowed for prefix information`.
+impl fmt::Display for Refusal {
+    fn fmt(&self, f: &mut fmt::Formatter<'_>) -> fmt::Result {
+        match *self {
+            Refusal::Short => f.write_str("fewer than 8 bytes"),
+            Refusal::Zero => f.write_str("a length of 0"),
+            Refusal::Cut(len) => write!(f, "fewer than the {len} bytes that the option counts"),
+            Refusal::Length(type_, length) => {
+                write!(f, "a length of {length} is not allowed for {type_}")
+            }
+            Refusal::PacketCut(len) => {
+                write!(
+                    f,
+                    "fewer than the {len} bytes that the redirected packet counts"
+                )
+            }
+            Refusal::PacketVersion(version) => {
+                write!(f, "version {version} of the redirected packet")
+            }
+        }
+    }
+}

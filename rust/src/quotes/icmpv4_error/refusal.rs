@@ -1,0 +1,58 @@
+// Made from crates/quote_wire/src/icmpv4_error/refusal.rt by rust/erase.
+//! Why octets are no error (RFC 792).
+
+use super::{Kind, Repr};
+use crate::quotes::quote::why_no_datagram;
+use crate::quotes::{field, quote};
+use crate::wirebase::{ChecksumCapabilities, Octets, checksum};
+use core::fmt;
+
+/// Why octets are no error that [`Repr::parse`] reads: the check that fails first.
+#[derive(Debug, PartialEq, Eq, Clone, Copy)]
+pub enum Refusal {
+    /// Fewer than 8 bytes.
+    Short,
+    /// The checksum is to be verified, and does not hold.
+    Checksum,
+    /// The type is not that of an error; this is its number.
+    UnknownType(u8),
+    /// What stands behind the header is not the front of an IPv4 datagram, for this reason.
+    Quote(quote::Refusal),
+}
+
+impl Repr<'_> {
+    /// Why [`Repr::parse`] refuses these octets, by the check that fails first; None exactly where it reads them.
+    pub fn refusal(octets: &[u8], checksum_caps: &ChecksumCapabilities) -> Option<Refusal> {
+        match Repr::parse(octets, checksum_caps) {
+            Ok(_) => None,
+            Err(_) => Some(why(octets, checksum_caps)),
+        }
+    }
+}
+
+// The check that fails first in octets that are not read.
+fn why(octets: &[u8], checksum_caps: &ChecksumCapabilities) -> Refusal {
+    if octets.len() < field::HEADER_END {
+        return Refusal::Short;
+    }
+    if checksum_caps.icmpv4.rx() && !checksum::is_good(octets, 0) {
+        return Refusal::Checksum;
+    }
+    let number = octets.u8_at(field::TYPE);
+    if Kind::from_number(number).is_none() {
+        return Refusal::UnknownType(number);
+    }
+    Refusal::Quote(why_no_datagram(&octets[field::HEADER_END..]))
+}
+
+/// The reason as a phrase.
+impl fmt::Display for Refusal {
+    fn fmt(&self, f: &mut fmt::Formatter<'_>) -> fmt::Result {
+        match self {
+            Refusal::Short => f.write_str("fewer than 8 bytes"),
+            Refusal::Checksum => f.write_str("the checksum does not hold"),
+            Refusal::UnknownType(number) => write!(f, "type {number} is not that of an error"),
+            Refusal::Quote(why) => write!(f, "{why}"),
+        }
+    }
+}

@@ -1,0 +1,47 @@
+// Made from crates/record_wire/src/classes.rt by rust/erase.
+//! Classes of records, by IANA's registry of DNS parameters, and the text of a class.
+
+use core::fmt;
+
+/// The internet (RFC 1035 section 3.2.4).
+pub const IN: u16 = 1;
+
+/// The Chaos network, today for questions about servers (RFC 1035 section 3.2.4).
+pub const CH: u16 = 3;
+
+/// Hesiod (RFC 1035 section 3.2.4).
+pub const HS: u16 = 4;
+
+/// No class, in updates (RFC 2136 section 2.4).
+pub const NONE: u16 = 254;
+
+/// Any class, in a question alone (RFC 1035 section 3.2.5).
+pub const ANY: u16 = 255;
+
+/// A class that prints its mnemonic, as `IN`, or `CLASS` and its number where it has none here (RFC 3597 section 5).
+#[derive(Debug, PartialEq, Eq, Clone, Copy)]
+pub struct ClassName(pub u16);
+
+impl fmt::Display for ClassName {
+    fn fmt(&self, f: &mut fmt::Formatter<'_>) -> fmt::Result {
+        match mnemonic(self.0) {
+            Some(mnemonic) => f.write_str(mnemonic),
+            None => write!(f, "CLASS{}", self.0),
+        }
+    }
+}
+
+// The mnemonic of the class of this number.
+fn mnemonic(number: u16) -> Option<&'static str> {
+    match number {
+        IN => Some("IN"),
+        CH => Some("CH"),
+        HS => Some("HS"),
+        NONE => Some("NONE"),
+        ANY => Some("ANY"),
+        _ => None,
+    }
+}
+
+#[cfg(test)]
+mod tests;

@@ -1,0 +1,22 @@
+// Made from crates/record_wire/src/classes/tests.rt by rust/erase.
+//! Classes by their mnemonics.
+
+use super::{ANY, CH, ClassName, HS, IN, NONE};
+use crate::record::testing::{prints, same_of};
+
+#[test]
+fn classes_of_the_registry() {
+    const ROWS: &[(u16, &str, u16)] = &[
+        (IN, "IN", 1),
+        (CH, "CH", 3),
+        (HS, "HS", 4),
+        (NONE, "NONE", 254),
+        (ANY, "ANY", 255),
+        (2, "CLASS2", 2),
+        (65535, "CLASS65535", 65535),
+    ];
+    for &(class, mnemonic, number) in ROWS {
+        prints(&ClassName(class), mnemonic);
+        same_of(mnemonic, class, number);
+    }
+}

@@ -1,0 +1,52 @@
+// Made from crates/record_wire/src/strings.rt by rust/erase.
+//! The strings of TXT data in turn (RFC 1035 sections 3.3 and 3.3.14).
+
+/// The strings of TXT data in turn, each without the byte of its length. They end where no whole string stands; in the
+/// data of `RData::Txt` they take up all the octets.
+///
+/// ```
+/// use control_wire::record::TxtStrings;
+///
+/// let strings: Vec<&[u8]> = TxtStrings::new(b"\x06path=/\x01x").collect();
+/// assert_eq!(strings, [&b"path=/"[..], b"x"]);
+/// ```
+#[derive(Debug)]
+pub struct TxtStrings<'a> {
+    // The octets behind the strings that were given.
+    left: &'a [u8],
+}
+
+impl<'a> TxtStrings<'a> {
+    /// The strings in these octets, from their front on.
+    pub fn new(octets: &'a [u8]) -> TxtStrings<'a> {
+        TxtStrings { left: octets }
+    }
+}
+
+impl<'a> Iterator for TxtStrings<'a> {
+    type Item = &'a [u8];
+
+    fn next(&mut self) -> Option<&'a [u8]> {
+        match split_string(self.left) {
+            Some((string, rest)) => {
+                self.left = rest;
+                Some(string)
+            }
+            None => None,
+        }
+    }
+}
+
+// The string at the front of octets, and what stands behind it. None where no whole string stands.
+fn split_string(octets: &[u8]) -> Option<(&[u8], &[u8])> {
+    match octets {
+        [len, rest @ ..] if *len as usize <= rest.len() => {
+            let len = *len as usize;
+            Some((&rest[..len], &rest[len..]))
+        }
+        _ => None,
+    }
+}
+
+#[cfg(test)]
+mod tests;

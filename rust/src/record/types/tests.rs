@@ -1,0 +1,62 @@
+// Made from crates/record_wire/src/types/tests.rt by rust/erase.
+//! Types by their mnemonics.
+
+use super::{
+    A, AAAA, ANY, AXFR, CAA, CNAME, DNAME, DNSKEY, DS, HINFO, HTTPS, IXFR, MX, NAPTR, NS, NSEC,
+    NSEC3, OPT, PTR, RRSIG, SOA, SPF, SRV, SSHFP, SVCB, TLSA, TXT, TypeName,
+};
+use crate::dns_wire::dns::Type;
+use crate::record::testing::{prints, same_of};
+
+// The types of IANA's registry, their mnemonics and numbers.
+const ROWS: &[(Type, &str, u16)] = &[
+    (A, "A", 1),
+    (NS, "NS", 2),
+    (CNAME, "CNAME", 5),
+    (SOA, "SOA", 6),
+    (PTR, "PTR", 12),
+    (HINFO, "HINFO", 13),
+    (MX, "MX", 15),
+    (TXT, "TXT", 16),
+    (AAAA, "AAAA", 28),
+    (SRV, "SRV", 33),
+    (NAPTR, "NAPTR", 35),
+    (DNAME, "DNAME", 39),
+    (OPT, "OPT", 41),
+    (DS, "DS", 43),
+    (SSHFP, "SSHFP", 44),
+    (RRSIG, "RRSIG", 46),
+    (NSEC, "NSEC", 47),
+    (DNSKEY, "DNSKEY", 48),
+    (NSEC3, "NSEC3", 50),
+    (TLSA, "TLSA", 52),
+    (SVCB, "SVCB", 64),
+    (HTTPS, "HTTPS", 65),
+    (SPF, "SPF", 99),
+    (IXFR, "IXFR", 251),
+    (AXFR, "AXFR", 252),
+    (ANY, "ANY", 255),
+    (CAA, "CAA", 257),
+    (Type::Unknown(11), "TYPE11", 11),
+    (Type::Unknown(65535), "TYPE65535", 65535),
+    (Type::Unknown(1), "A", 1),
+];
+
+#[test]
+fn types_of_the_registry() {
+    for &(type_, mnemonic, number) in ROWS {
+        prints(&TypeName(type_), mnemonic);
+        same_of(mnemonic, u16::from(type_), number);
+    }
+}
+
+// Whether the records of this type are of zones that are signed.
+fn is_of_signatures(type_: Type) -> bool {
+    matches!(type_, DS | RRSIG | NSEC | DNSKEY | NSEC3)
+}
+
+#[test]
+fn types_in_patterns() {
+    same_of("DS", is_of_signatures(Type::from(43)), true);
+    same_of("A", is_of_signatures(Type::from(1)), false);
+}

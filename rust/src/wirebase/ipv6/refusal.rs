@@ -1,0 +1,25 @@
+// Made from crates/wirebase/src/ipv6/refusal.rt by rust/erase.
+//! Why octets are no packet of IPv6.
+
+use core::fmt;
+
+/// Why octets are no packet that [`Ipv6Repr::parse`](crate::Ipv6Repr::parse) reads: the check that fails first.
+#[derive(Debug, PartialEq, Eq, Clone, Copy)]
+pub enum Ipv6Refusal {
+    /// Fewer than the 40 bytes of the header.
+    Short,
+    /// The octets end before the payload does, by the length in the header.
+    Cut,
+    /// Another version than 6.
+    Version(u8),
+}
+
+impl fmt::Display for Ipv6Refusal {
+    fn fmt(&self, f: &mut fmt::Formatter<'_>) -> fmt::Result {
+        match *self {
+            Ipv6Refusal::Short => f.write_str("fewer than 40 bytes"),
+            Ipv6Refusal::Cut => f.write_str("the payload is cut"),
+            Ipv6Refusal::Version(version) => write!(f, "version {version}, not 6"),
+        }
+    }
+}
