@@ -3,7 +3,8 @@
 ghost use Rattle.std.specs.Prelude.{◌≡◌, Some};
 ghost use Rattle.capture.specs.Ending.{ending_text, refusal_text, fault_text};
 
-use std::{fmt, io};
+use std::fmt;
+use std::io::Error;
 
 /// What ends the records of a capture.
 #[derive(Debug, PartialEq, Eq, Clone, Copy)]
@@ -53,12 +54,12 @@ pub enum Fault {
 }
 
 /// What an input tells that could not be read.
-impl From<io::Error> for Fault {
+impl From<Error> for Fault {
     ghost use Rattle.capture.specs.declared.ending.Fault.TheVariants.{Read};
 
     ghost from_gives = { λ error fault. fault ≡ Read };
 
-    fn from(_error: io::Error) -> Fault
+    fn from(_error: Error) -> Fault
         ensures { result ≡ Fault.Read }
     {
         Fault::Read
