@@ -43,11 +43,11 @@ pub data IsCaptured4 (bytes : List ℕ) (v : CapturedValue) : Type 0 where
       → IsOpen4 bytes v.datagram → v.extent ≡ extent.Cut missing → IsCaptured4 bytes v
   unstated : HasUnstated4 bytes → IsOpen4 bytes v.datagram → v.extent ≡ extent.Unstated → IsCaptured4 bytes v
 
--- a header that one of these has which is not whole
+-- the header of a datagram that is cut, or of one that states no length
 abbrev pub IsOpening4 : List ℕ → Type 0
 IsOpening4 bytes = (HasHeader4 bytes × (length bytes < ipv4.total_len_in bytes)) ⊎ HasUnstated4 bytes
 
--- what is told where it is none: its header is cut, or it is a fragment
+-- what is told of such bytes otherwise: the header itself, with its options, is cut, or they are a fragment
 abbrev pub RefusesOpen4 : List ℕ → Refusal → Type 0
 RefusesOpen4 bytes (Cut head) =
     IsOpening4 bytes × (length bytes < ipv4.header_len_in bytes) × IsHead4 bytes head
