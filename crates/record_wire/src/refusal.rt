@@ -1,7 +1,7 @@
 //! Why octets begin with no question or record: the check that fails first.
 
 ghost use Rattle.std.specs.Prelude.{List, ℕ, ◌≡◌};
-ghost use Rattle.dns_wire.specs.DnsPart.{IsSplit, shown};
+ghost use Rattle.dns_wire.specs.DnsPart.{IsSplit};
 ghost use Rattle.dns_wire.specs.DnsNameAhead.{front_of, torn};
 ghost use Rattle.record_wire.specs.RecordRefusal.{IsNoPart};
 

@@ -1,7 +1,6 @@
 //! The strings of TXT data in turn (RFC 1035 sections 3.3 and 3.3.14).
 
 ghost use Rattle.std.specs.Prelude.{◌≡◌, List, ℕ, length};
-ghost use Rattle.std.specs.Option.{option_map};
 ghost use Rattle.record_wire.specs.Ahead.{GivesBytes};
 ghost use Rattle.record_wire.specs.Strings.{AreStringsAhead, first_string};
 ghost use Rattle.record_wire.specs.NameReading.{seen_label};
