@@ -1,6 +1,7 @@
 -- The texts of types and classes, with a mnemonic and without.
 use Rattle.std.proofs.Common.{◌≡◌, ℕ, List, ◌++◌, Option, None, Some, sym, ap, codes, decimal}
-use Rattle.record_wire.specs.Mnemonics.{type_mnemonics, class_mnemonics, mnemonic_in, mnemonic_or, type_text, class_text}
+use Rattle.record_wire.specs.Mnemonics.{type_mnemonics, class_mnemonics, mnemonic_in, mnemonic_or}
+use Rattle.record_wire.specs.Mnemonics.{type_text, class_text}
 
 pub type_some : (n : ℕ) (mnemonic : List ℕ) → Some mnemonic ≡ mnemonic_in type_mnemonics n → type_text n ≡ mnemonic
 unfolding type_text

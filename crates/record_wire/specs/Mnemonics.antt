@@ -1,4 +1,5 @@
--- The mnemonics of types and classes, of IANA's registry of DNS parameters, and what is written where there is none (RFC
+-- The mnemonics of types and classes, of IANA's registry of DNS parameters, and what is written where there
+-- is none (RFC
 -- 3597 section 5).
 use Rattle.std.specs.Prelude.{ℕ, ◌==◌, if◌then◌else◌, List, [], ◌∷◌, ◌++◌, Option, None, Some, codes, decimal}
 

@@ -1,6 +1,7 @@
 -- The class in multicast DNS: its top bit is a flag, and the other fifteen bits are the class. In a question the flag
 -- asks for an answer to the asker alone (RFC 6762 section 5.4); in a record it says that older records of the name,
--- type and class are to be dropped (RFC 6762 section 10.2). OPT has a payload size in the place of a class, and no flag.
+-- type and class are to be dropped (RFC 6762 section 10.2). OPT has a payload size in the place of a class,
+-- and no flag.
 use Rattle.std.specs.Prelude.{ℕ, ◌%◌, ◌==◌, ◌&&◌, not, nat_le, Bool, false, if◌then◌else◌}
 use Rattle.dns_wire.specs.declared.dns.tables.Type.{«Type» as RecordType}
 use Rattle.dns_wire.specs.declared.dns.tables.Type.TheVariants as kind

@@ -13,7 +13,8 @@ abbrev pub PointsTo : List ℕ → ℕ → Type 0
 PointsTo text place =
     (x : ℕ) × (y : ℕ) × (rest : List ℕ) × (text ≡ x ∷ y ∷ rest) × (192 ≤ x) × (place ≡ 256 * (x % 64) + y)
 
--- Reading a name comes to what is left of it, while these bytes of the message are open: it begins with the text and all
+-- Reading a name comes to what is left of it, while these bytes of the message are open: it begins with the
+-- text and all
 -- the message; a label is passed over; a pointer leads to an open byte, and leaves those before it open.
 pub data ComesTo (text message : List ℕ) : List ℕ → List ℕ → Type 0 where
   begins : ComesTo text message text message
@@ -23,7 +24,8 @@ pub data ComesTo (text message : List ℕ) : List ℕ → List ℕ → Type 0 wh
       → PointsTo rest place → place < length opened → left ≡ drop place opened → below ≡ take place opened
       → ComesTo text message left below
 
--- reading comes to octets that are cut, to a label of another kind, or to a pointer to no open byte; or there is a name,
+-- reading comes to octets that are cut, to a label of another kind, or to a pointer to no open byte; or
+-- there is a name,
 -- and it is too long
 abbrev pub RefusesName : List ℕ → List ℕ → NameRefusal → Type 0
 RefusesName text message (refusal.Part part.Cut) =
