@@ -7,8 +7,8 @@ ghost use Rattle.capture.specs.Calendar.{date_of as date_after};
 ghost use Rattle.listing.specs.Output.{Gains};
 ghost use Rattle.pcapdump.specs.TimeText.{kept_text, time_of_day_text, time_text};
 
-use listing::number::{two_digits, write_number};
 use capture::calendar::{Date, date_of};
+use listing::number::{two_digits, write_number};
 use std::io;
 use std::io::Write;
 
