@@ -21,7 +21,7 @@ pub use opt_wire::{ipv6ext_header, ipv6hbh, ipv6option, ndiscoption};
 pub use wirebase::{
     ByteWriter, Checksum, ChecksumCapabilities, Duration, Error, EthernetAddress, Field, Hardware,
     IPV6_HBH_MAX_OPTIONS, IPV6_HEADER_LEN, IPV6_LINK_LOCAL_ALL_NODES, IPV6_LINK_LOCAL_ALL_ROUTERS,
-    IPV6_MIN_MTU, IpProtocol, Ipv4Address, Ipv4Packet, Ipv4Repr, Ipv6Address, Ipv6Packet, Ipv6Refusal, Ipv6Repr,
-    MAX_HARDWARE_ADDRESS_LEN, Octets, OctetsMut, RawHardwareAddress, Result, are_bytes, checksum,
-    octets,
+    IPV6_MIN_MTU, IpProtocol, Ipv4Address, Ipv4Packet, Ipv4Repr, Ipv6Address, Ipv6Packet,
+    Ipv6Refusal, Ipv6Repr, MAX_HARDWARE_ADDRESS_LEN, Octets, OctetsMut, RawHardwareAddress, Result,
+    are_bytes, checksum, octets,
 };
