@@ -4,7 +4,7 @@
 use crate::{
     Error, EthernetAddress, Ipv4Address, Ipv6Address, Ipv6Refusal, RawHardwareAddress, dhcpv4, dns,
     frames, icmpv4, icmpv6, igmp, ipv6ext_header, ipv6hbh, ipv6option, mld, ndisc, ndiscoption,
-    record,
+    quotes, record,
 };
 use core::cmp::Ordering;
 use core::fmt;
@@ -34,6 +34,9 @@ errors! {
     mld::Refusal,
     ndisc::Refusal,
     ndiscoption::Refusal,
+    quotes::icmpv4_error::Refusal,
+    quotes::icmpv6_error::Refusal,
+    quotes::quote::Refusal,
     record::NameRefusal,
     record::PartRefusal,
     record::Refusal,
