@@ -326,13 +326,16 @@ USE = re.compile(r"^(\s*//[/!] (?:# )?use )(\w+)(?=::)", re.M)
 
 
 def comments(file, users):
-    """Comments that are not true of the Rust crate are others, and examples use what `users` has in the place of a crate;
-    no token is touched."""
+    """Comments that are not true of the Rust crate are others; examples use what `users` has in the place of a crate, and
+    links of a crate that is a module lead to that module. No token is touched."""
+    module = users.get(file.crate, "").partition("::")[2]
     for token in file.tokens:
         for one, other in COMMENTS.items():
             token.pre = token.pre.replace(one, other)
         token.pre = PICTURE.sub(".", token.pre)
         token.pre = USE.sub(lambda use: use[1] + users.get(use[2], use[2]), token.pre)
+        if module:
+            token.pre = token.pre.replace("[`crate::", f"[`crate::{module}::")
 
 
 def paths(file, crates, own):

@@ -205,12 +205,14 @@ class Rules(unittest.TestCase):
         self.assertEqual(erased(source), words_of("use a::b; #[derive(Clone)] pub struct S(b);"))
 
     def test_examples_use_the_modules_of_users(self):
-        file = File(PATH, "/// ```\n/// use one_wire::f;\n/// f(one_wire);\n/// ```\nfn f() -> u8 { 1 }\n")
+        file = File(PATH, "/// [`crate::F`]\n/// ```\n/// use one_wire::f;\n/// f(one_wire);\n/// ```\n"
+                    "fn f() -> u8 { 1 }\n")
         unit = unit_of("")
         unit.files[pathlib.Path("one.rs")] = file
         file.crate = "one_wire"
         erase.erase([unit])
-        self.assertEqual(str(file).splitlines()[1:3], ["/// use control_wire::one::f;", "/// f(one_wire);"])
+        self.assertEqual(str(file).splitlines()[0], "/// [`crate::one::F`]")
+        self.assertEqual(str(file).splitlines()[2:4], ["/// use control_wire::one::f;", "/// f(one_wire);"])
 
     def test_each_comment_that_is_exchanged_stands_in_the_source(self):
         sources = [path.read_text() for path in (HERE.parents[1] / "crates").glob("*/src/**/*.rt")]

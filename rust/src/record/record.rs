@@ -152,7 +152,8 @@ impl<'a> Record<'a> {
         None
     }
 
-    /// The data by the record's type and class. Refused where the bytes are not laid out as the type has it. Of a record
+    /// The data by the record's type and class. Refused where the bytes are not laid out as the type has it.
+    /// Of a record
     /// of multicast DNS, [`Record::multicast_rdata`] gives it.
     pub fn rdata(&self) -> Result<RData<'a>> {
         RData::parse(self.type_, self.class, self.data)

@@ -18,8 +18,8 @@ pub enum PartRefusal {
     LabelType(u8),
 }
 
-/// Why octets begin with no question that [`crate::Question::parse`] reads, or with no record that
-/// [`crate::Record::parse`] reads: the check that fails first.
+/// Why octets begin with no question that [`crate::record::Question::parse`] reads, or with no record that
+/// [`crate::record::Record::parse`] reads: the check that fails first.
 #[derive(Debug, PartialEq, Eq, Clone, Copy)]
 pub enum Refusal {
     /// There is no name.

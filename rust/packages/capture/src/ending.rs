@@ -1,7 +1,8 @@
 // Made from crates/capture/src/ending.rt by rust/erase.
 //! What ends a capture, and what ends the reading of it.
 
-use rattle_std::{fmt, io};
+use rattle_std::io::Error;
+use std::fmt;
 
 /// What ends the records of a capture.
 #[derive(Debug, PartialEq, Eq, Clone, Copy)]
@@ -51,8 +52,8 @@ pub enum Fault {
 }
 
 /// What an input tells that could not be read.
-impl From<io::Error> for Fault {
-    fn from(_error: io::Error) -> Fault {
+impl From<Error> for Fault {
+    fn from(_error: Error) -> Fault {
         Fault::Read
     }
 }

@@ -5,7 +5,7 @@ use crate::dns_wire::message::{Front, follow, read_front};
 use crate::record::refusal::{PartRefusal, why_torn};
 use core::fmt;
 
-/// Why [`crate::Name::read`] refuses octets and their message: the check that fails first.
+/// Why [`crate::record::Name::read`] refuses octets and their message: the check that fails first.
 #[derive(Debug, PartialEq, Eq, Clone, Copy)]
 pub enum NameRefusal {
     /// The name is cut, or has a label of another kind.
