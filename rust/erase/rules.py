@@ -90,6 +90,18 @@ def drop(file, i):
     file.refuse(i, "Drop in another place than a derive or a bound")
 
 
+# Types that contracts of other crates name, and no public call: they are private in Rust.
+HIDDEN = {"Layout"}
+
+
+@rule(VALUES)
+def hidden(file, i):
+    """A type that only contracts name is private."""
+    if not file.texts(i, "pub", "enum") or file.text(i + 2) not in HIDDEN:
+        return None
+    return file.remove(i, i + 1, comment=False)
+
+
 @rule(VALUES)
 def clone(file, i):
     """A `Clone` by hand, which answers a Result for want of memory, becomes a derive."""

@@ -30,6 +30,7 @@ SHAPES = {
     "final": (r"final", ""),
     "model": (r"impl [^{};]*Model for [^{};]*\{ \.\. \}", ""),
     "drop": (r"# \[ \.\. \]|, Drop|Drop ,|\+ Drop|Drop \+|: Drop", ""),
+    "hidden": (r"pub", ""),
     "clone": (r"impl Clone for [^{};]*\{ \.\. \}|", r"(, Clone|# \[ derive \( Clone \) \])?"),
     "cloned": (ATTRIBUTES + r"fn \w+ [^{};]*AllocError[^{};]*\{ \.\. \}", ""),
     "debug": (r"Debug ,", ""),

@@ -165,24 +165,24 @@ impl fmt::Display for Authority<'_> {
     }
 }
 
-// How the data of a type is laid out.
+/// How the data of a type is laid out: what contracts say of data names it, and no call takes or gives it.
 #[derive(Debug, PartialEq, Eq, Clone, Copy)]
-enum Layout {
-    // An IPv4 address.
+pub enum Layout {
+    /// An IPv4 address.
     Ipv4,
-    // An IPv6 address.
+    /// An IPv6 address.
     Ipv6,
-    // A name.
+    /// A name.
     Name,
-    // A preference and a name.
+    /// A preference and a name.
     Mail,
-    // A priority, a weight, a port and a name.
+    /// A priority, a weight, a port and a name.
     Service,
-    // Two names and five numbers.
+    /// Two names and five numbers.
     Authority,
-    // Strings.
+    /// Strings.
     Strings,
-    // Any bytes.
+    /// Any bytes.
     Opaque,
 }
 

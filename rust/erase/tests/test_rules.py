@@ -80,6 +80,7 @@ ROWS = {
     "clone": ("#[derive(Debug)] struct S(u8); "
               "impl Clone for S { fn clone(&self) -> Result<S, AllocError> { Ok(S(self.0)) } }",
               "#[derive(Debug, Clone)] struct S(u8);"),
+    "hidden": ("pub enum Layout { A } pub enum Other { A }", "enum Layout { A } pub enum Other { A }"),
     "cloned": ("fn cloned(a: &A) -> Result<A, AllocError> { a.clone() } fn f() -> u8 { 1 }", "fn f() -> u8 { 1 }"),
     "debug": ("#[derive(Debug, Clone)] pub struct Ipv4Address; #[derive(Debug, Clone)] pub struct Ipv4Repr;",
               "#[derive(Clone)] pub struct Ipv4Address; #[derive(Debug, Clone)] pub struct Ipv4Repr;"),
