@@ -1,6 +1,6 @@
 // Made from crates/record_wire/src/lib.rt by rust/erase.
-//! What stands above the messages of the Domain Name System: whole names, as octets and as text; questions and
-//! resource records of any type and class.
+//! Messages of the Domain Name System, read whole: their questions and resource records in turn, of any type and class
+//! and also of multicast DNS, the data of records by type, and names, as octets and as text.
 //!
 //! ```
 //! use control_wire::record::{Entries, Entry, Name};
