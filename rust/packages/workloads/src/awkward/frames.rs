@@ -68,7 +68,7 @@ fn parse_frame(octets: &[u8], digest: &mut Digest) {
             add_datagram(&datagram, digest);
             parse_udp(datagram.payload, digest);
         }
-        Err(refusal) => digest.add(refusal_number(refusal)),
+        Err(refusal) => digest.add(refusal_number(refusal) as u64),
     }
 }
 
@@ -108,7 +108,7 @@ fn read_blocks<R: BufRead>(input: &mut R, digest: &mut Digest) {
                 add_record(&record, capture.octets(), digest);
             }
             Ok(Next::Ended(ending)) => {
-                digest.add(ending_number(ending));
+                digest.add(ending_number(ending) as u64);
                 break;
             }
             Err(fault) => digest.add(16 + fault as u64),

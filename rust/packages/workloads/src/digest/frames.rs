@@ -28,7 +28,7 @@ pub fn add_record(record: &Record, octets: &[u8], digest: &mut Digest) {
 }
 
 /// The number of what ends a capture.
-pub fn ending_number(ending: Ending) -> u64 {
+pub fn ending_number(ending: Ending) -> u8 {
     match ending {
         Ending::Whole => 0,
         Ending::Cut => 1,
@@ -40,7 +40,7 @@ pub fn ending_number(ending: Ending) -> u64 {
 }
 
 /// The number of a reason why octets are no datagram.
-pub fn refusal_number(refusal: Refusal) -> u64 {
+pub fn refusal_number(refusal: Refusal) -> u8 {
     match refusal {
         Refusal::Short | Refusal::Cut(_) => 0,
         Refusal::Version(_)

@@ -27,7 +27,7 @@ pub fn read<R: BufRead>(input: &mut R, most: usize, digest: &mut Digest) {
                 read_frame(record.link_type, capture.octets(), digest);
             }
             Ok(Next::Ended(ending)) => {
-                digest.add(ending_number(ending));
+                digest.add(ending_number(ending) as u64);
                 return;
             }
             Err(fault) => {
@@ -59,7 +59,7 @@ fn read_frame(link_type: u16, octets: &[u8], digest: &mut Digest) {
     };
     match datagram {
         Ok(datagram) => read_datagram(&datagram, digest),
-        Err(refusal) => digest.add(4 + refusal_number(refusal)),
+        Err(refusal) => digest.add(4 + refusal_number(refusal) as u64),
     }
 }
 
