@@ -122,8 +122,8 @@ add_label C text bytes rest reach w more (p ∷ ps) (labels ∷ others) h = (
   ),
 )
 
-pub ends_more : (text bytes rest reach : List ℕ) → Whole text bytes rest → (labels : List (List ℕ)) → Ends rest reach labels
-    → Ends text reach (bytes ∷ labels)
+pub ends_more : (text bytes rest reach : List ℕ) → Whole text bytes rest → (labels : List (List ℕ))
+    → Ends rest reach labels → Ends text reach (bytes ∷ labels)
 ends_more text bytes rest reach w labels h =
     subst (λ t. IsPart t (bytes ∷ labels) ends) (sym w.is) (part_cons bytes rest labels ends (w.some, w.few) h)
 

@@ -1,5 +1,5 @@
 -- What messages and their parts print, by the names of IANA's registry of DNS parameters.
-use Rattle.std.specs.Prelude.{ℕ, ◌==◌, if◌then◌else◌, List, [], ◌∷◌, ◌++◌, length, codes, decimal}
+use Rattle.std.specs.Prelude.{ℕ, ◌==◌, if◌then◌else◌, List, [], ◌∷◌, ◌++◌, length, Option, None, Some, codes, decimal}
 use Rattle.std.specs.Int.Bits.{bit_and}
 use Rattle.wirebase.specs.Display.{pieces}
 use Rattle.wirebase.specs.Ipv4 as ipv4
@@ -19,6 +19,16 @@ abbrev pub named : List ℕ → List (List ℕ × ℕ) → ℕ → List ℕ
 named word [] n = word ++ decimal n
 named word (row ∷ rest) n = if n == row.1 then row.0 else named word rest n
 
+-- the name of a number, where the table has one
+abbrev pub name_in : List (List ℕ × ℕ) → ℕ → Option (List ℕ)
+name_in [] n = None
+name_in (row ∷ rest) n = if n == row.1 then Some row.0 else name_in rest n
+
+-- a name, or a word and the number where there is none
+abbrev pub name_or : List ℕ → Option (List ℕ) → ℕ → List ℕ
+name_or word None n = word ++ decimal n
+name_or word (Some name) n = name
+
 -- types of record; a number with no name is written as RFC 3597 section 5 has it
 abbrev pub type_names : List (List ℕ × ℕ)
 type_names =
@@ -31,12 +41,14 @@ type_names =
     ∷ (codes "AXFR", 252) ∷ (codes "ANY", 255) ∷ (codes "CAA", 257) ∷ []
 
 abbrev pub type_display : RecordType → List ℕ
-type_display t = named (codes "TYPE") type_names (type_number t)
+type_display t = name_or (codes "TYPE") (name_in type_names (type_number t)) (type_number t)
 
--- Kinds of query by their numbers, so that 1 is IQUERY and 2 is STATUS (RFC 1035 section 4.1.1), whatever the case
--- is called.
+-- Kinds of query by their numbers (RFC 1035 section 4.1.1, RFC 1996, RFC 2136, RFC 8490), so that 1 is IQUERY and 2 is
+-- STATUS, whatever the case is called.
 abbrev pub opcode_names : List (List ℕ × ℕ)
-opcode_names = (codes "QUERY", 0) ∷ (codes "IQUERY", 1) ∷ (codes "STATUS", 2) ∷ []
+opcode_names =
+    (codes "QUERY", 0) ∷ (codes "IQUERY", 1) ∷ (codes "STATUS", 2) ∷ (codes "NOTIFY", 4) ∷ (codes "UPDATE", 5)
+    ∷ (codes "DSO", 6) ∷ []
 
 abbrev pub opcode_display : Opcode → List ℕ
 opcode_display opcode = named (codes "OPCODE") opcode_names (opcode_number opcode)

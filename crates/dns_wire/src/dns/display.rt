@@ -2,59 +2,73 @@
 
 ghost use Rattle.std.specs.Prelude.{◌≡◌, [], ◌∷◌, Some, None, codes, map};
 ghost use Rattle.std.specs.Fmt.{WritesOnOk};
-ghost use Rattle.dns_wire.specs.DnsTables.{flag_bits};
+ghost use Rattle.std.specs.Option.{option_map};
+ghost use Rattle.dns_wire.specs.DnsTables.{flag_bits, type_number};
 ghost use Rattle.dns_wire.specs.DnsQuestion.{value_of as question_value};
 ghost use Rattle.dns_wire.specs.DnsRecord.{data_value, value_of as record_value};
 ghost use Rattle.dns_wire.specs.DnsRepr.{value_of as query_value};
-ghost use Rattle.dns_wire.specs.DnsDisplay.{type_display, opcode_display, rcode_display, flags_display, names_set};
+ghost use Rattle.dns_wire.specs.DnsDisplay.{type_names, name_in, type_display, opcode_display, rcode_display, flags_display, names_set};
 ghost use Rattle.dns_wire.specs.DnsDisplay.{question_display, data_display, record_display, query_display};
 
 use super::{Flags, Opcode, Question, Rcode, Record, RecordData, Repr, Type};
 use bitflags::Flags as _;
 use std::fmt;
 
-/// The name of the type, as `AAAA`, or its number where it has none here, as `TYPE34` (RFC 3597 section 5). A number
-/// that is kept as [`Type::Unknown`] has its name too, as `MX`.
+impl Type {
+    /// The mnemonic of the type in IANA's registry, as `MX`, also of a number that is kept as [`Type::Unknown`]; None
+    /// where it has none here.
+    pub fn mnemonic(self) -> Option<&'static str>
+        ensures { option_map (λ mnemonic. mnemonic.now) result ≡ name_in type_names (type_number self) }
+    {
+        match u16::from(self) {
+            1 => Some("A"),
+            2 => Some("NS"),
+            5 => Some("CNAME"),
+            6 => Some("SOA"),
+            12 => Some("PTR"),
+            13 => Some("HINFO"),
+            15 => Some("MX"),
+            16 => Some("TXT"),
+            28 => Some("AAAA"),
+            33 => Some("SRV"),
+            35 => Some("NAPTR"),
+            39 => Some("DNAME"),
+            41 => Some("OPT"),
+            43 => Some("DS"),
+            44 => Some("SSHFP"),
+            46 => Some("RRSIG"),
+            47 => Some("NSEC"),
+            48 => Some("DNSKEY"),
+            50 => Some("NSEC3"),
+            52 => Some("TLSA"),
+            64 => Some("SVCB"),
+            65 => Some("HTTPS"),
+            99 => Some("SPF"),
+            251 => Some("IXFR"),
+            252 => Some("AXFR"),
+            255 => Some("ANY"),
+            257 => Some("CAA"),
+            _ => None,
+        }
+    }
+}
+
+/// The mnemonic of the type, as `AAAA`, or its number where it has none here, as `TYPE34` (RFC 3597 section 5). A number
+/// that is kept as [`Type::Unknown`] has its mnemonic too, as `MX`.
 impl fmt::Display for Type {
     ghost output = { λ kind. Some (type_display kind) };
 
     fn fmt<W: fmt::Write>(&self, f: &mut fmt::Formatter<W>) -> fmt::Result {
-        let name = match u16::from(*self) {
-            1 => "A",
-            2 => "NS",
-            5 => "CNAME",
-            6 => "SOA",
-            12 => "PTR",
-            13 => "HINFO",
-            15 => "MX",
-            16 => "TXT",
-            28 => "AAAA",
-            33 => "SRV",
-            35 => "NAPTR",
-            39 => "DNAME",
-            41 => "OPT",
-            43 => "DS",
-            44 => "SSHFP",
-            46 => "RRSIG",
-            47 => "NSEC",
-            48 => "DNSKEY",
-            50 => "NSEC3",
-            52 => "TLSA",
-            64 => "SVCB",
-            65 => "HTTPS",
-            99 => "SPF",
-            251 => "IXFR",
-            252 => "AXFR",
-            255 => "ANY",
-            257 => "CAA",
-            number => return write!(f, "TYPE{number}"),
-        };
-        f.write_str(name)
+        match self.mnemonic() {
+            Some(mnemonic) => f.write_str(mnemonic),
+            None => write!(f, "TYPE{}", u16::from(*self)),
+        }
     }
 }
 
-/// The name of the kind of query, or its number where it has none here, as `OPCODE6`. It goes by the number: of
-/// [`Opcode::Status`], which is 1, it is `IQUERY`, and of `Opcode::Unknown(2)` it is `STATUS` (RFC 1035 section 4.1.1).
+/// The name of the kind of query, or its number where it has none, as `OPCODE7`. It goes by the number: of
+/// [`Opcode::Status`], which is 1, it is `IQUERY`, and of `Opcode::Unknown(2)` it is `STATUS` (RFC 1035 section 4.1.1);
+/// 4 is `NOTIFY` (RFC 1996), 5 `UPDATE` (RFC 2136) and 6 `DSO` (RFC 8490).
 impl fmt::Display for Opcode {
     ghost output = { λ opcode. Some (opcode_display opcode) };
 
@@ -63,6 +77,9 @@ impl fmt::Display for Opcode {
             0 => "QUERY",
             1 => "IQUERY",
             2 => "STATUS",
+            4 => "NOTIFY",
+            5 => "UPDATE",
+            6 => "DSO",
             number => return write!(f, "OPCODE{number}"),
         };
         f.write_str(name)

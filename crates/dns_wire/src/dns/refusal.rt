@@ -106,8 +106,8 @@ impl<'a> Packet<&'a [u8]> {
 }
 
 impl Question<'_> {
-    /// Why [`Question::parse`] refuses these octets, by the check that fails first; None where it reads them. A question
-    /// has no data, so this is [`Refusal::Name`], [`Refusal::Short`] or [`Refusal::Class`].
+    /// Why [`Question::parse`] refuses these octets, by the check that fails first; None where it reads them. A
+    /// question has no data, so this is [`Refusal::Name`], [`Refusal::Short`] or [`Refusal::Class`].
     pub fn refusal(buffer: &[u8]) -> Option<Refusal>
         ensures told { IfSome result (RefusesQuestion buffer.now) }
         ensures exact { IsNone result ↔ BeginsWithQuestion buffer.now }

@@ -1,4 +1,6 @@
-use super::{Flags, Opcode, Packet, Question, Rcode, Record, RecordData, Type};
+use super::{
+    Flags, MULTICAST_PORT, Opcode, Packet, Question, Rcode, Record, RecordData, SERVER_PORT, Type,
+};
 use crate::message::{Front, follow, read_front};
 use crate::testing::{fail, same, same_of};
 use bitflags::Flags as _;
@@ -9,6 +11,11 @@ pub(super) mod damaged;
 mod printing;
 mod refusals;
 mod written;
+
+#[test]
+fn numbers_of_ports(rt: HostRuntime) {
+    same(&rt, [SERVER_PORT, MULTICAST_PORT], [53, 5353]);
+}
 
 #[test]
 fn numbers_of_kinds_of_query(rt: HostRuntime) {
