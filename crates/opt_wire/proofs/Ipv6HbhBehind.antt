@@ -7,7 +7,8 @@ use Rattle.opt_wire.specs.Ipv6OptionAnswers.{Answer, Tile}
 use Rattle.opt_wire.specs.Ipv6OptionModel.{answers_of}
 use Rattle.opt_wire.specs.Ipv6OptionRefusal as option
 use Rattle.opt_wire.specs.Ipv6HbhRefusal.{IsRead, AreBehind, none, one_more}
-use Rattle.opt_wire.proofs.Ipv6OptionTiles.{rest_after, tile_of, answers_of-nothing, answers_of-begins, answers_of-broken}
+use Rattle.opt_wire.proofs.Ipv6OptionTiles.{rest_after, tile_of, answers_of-nothing, answers_of-begins}
+use Rattle.opt_wire.proofs.Ipv6OptionTiles.{answers_of-broken}
 use Rattle.opt_wire.proofs.Ipv6HbhGrammar.{all, header-end, header-refused}
 
 -- the answers where an option stands at the front

@@ -20,7 +20,8 @@ header-end most bytes options answers some tile e l = record {
   read = options;
   some = some;
   tile = tile;
-  good = ap (take (most + 1)) e ∙ take_all (most + 1) (all options) (omega (arith, l, length-map {B = Answer} options Ok));
+  good = ap (take (most + 1)) e
+      ∙ take_all (most + 1) (all options) (omega (arith, l, length-map {B = Answer} options Ok));
   kept = sym (take_all most options l);
 }
 

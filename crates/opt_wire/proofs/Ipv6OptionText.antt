@@ -92,7 +92,8 @@ norm-norm (unknown k n d) = ap (unknown k n) (take-take n n d (omega arith))
 norm-norm _ = refl
 
 pub norm-text : (v : OptionValue) → text (norm v) ≡ text v
-norm-text (unknown k n d) = ap (λ (l : List ℕ). fields (be8 (type_number k) ∷ be8 n ∷ l ∷ [])) (take-take n n d (omega arith))
+norm-text (unknown k n d) =
+    ap (λ (l : List ℕ). fields (be8 (type_number k) ∷ be8 n ∷ l ∷ [])) (take-take n n d (omega arith))
 norm-text _ = refl
 
 pub ruleset texts = (length-text)

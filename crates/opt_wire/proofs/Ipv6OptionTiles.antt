@@ -62,8 +62,8 @@ none_in_nothing v h = let f = front_of-begins [] v h in cc
 pub behind_first : (bytes rest : List ℕ) (v : OptionValue) → BeginsWith bytes v → rest ≡ drop (text_len v) bytes
     → IsBehind bytes rest
 behind_first bytes rest v h e =
-    let same : rest ≡ h.rest = e ∙ ap (λ (b : List ℕ). drop (text_len v) b) h.whole ∙ rest_after h.front h.rest v h.option
-    in
+    let same : rest ≡ h.rest =
+    e ∙ ap (λ (b : List ℕ). drop (text_len v) b) h.whole ∙ rest_after h.front h.rest v h.option in
     (h.front, v, h.whole ∙ ap (λ (b : List ℕ). h.front ++ b) (sym same), h.option)
 
 -- there is one tiling only

@@ -13,3 +13,4 @@ pub mod NdiscOptionGrammar
 pub mod NdiscOptionReading
 pub mod NdiscOptionRefusals
 pub mod NdiscOptionTexts
+pub mod NdiscOptionTiles

@@ -1,6 +1,6 @@
 -- Texts of options are read back as their normal forms, whatever stands behind them.
-use Rattle.std.proofs.Common.{◌≡◌, ◌≢◌, ℕ, ◌+◌, ◌-◌, ◌*◌, ◌<◌, ◌≤◌, ◌^◌, List, [], ◌∷◌, ◌++◌, length, take, drop, refl, sym}
-use Rattle.std.proofs.Common.{ap, subst, ◌∙◌, arith, length-append}
+use Rattle.std.proofs.Common.{◌≡◌, ◌≢◌, ℕ, ◌+◌, ◌-◌, ◌*◌, ◌<◌, ◌≤◌, ◌^◌, List, [], ◌∷◌, ◌++◌, length, take, drop, refl}
+use Rattle.std.proofs.Common.{sym, ap, subst, ◌∙◌, arith, length-append}
 use Rattle.std.proofs.lemmas.List.{append-nil, append_assoc, length-replicate, take_at, drop_at}
 use Rattle.byteorder.specs.Endian.{big_bytes}
 use Rattle.byteorder.specs.Numbers.{big_number-reads_back}
@@ -226,7 +226,8 @@ redirected_read h d rest c =
 mtu_read : (n : ℕ) (rest : List ℕ) → n < 2 ^ 32 → BeginsWith (5 ∷ 1 ∷ 0 ∷ 0 ∷ (big_bytes 4 n ++ rest)) (mtu n)
 unfolding part
 mtu_read n rest fits = record {
-  block = block_at 5 1 (0 ∷ 0 ∷ big_bytes 4 n) rest (λ is. omega (arith, is)) (λ is. omega (arith, is)) (omega arith) refl;
+  block = block_at 5 1 (0 ∷ 0 ∷ big_bytes 4 n) rest (λ is. omega (arith, is)) (λ is. omega (arith, is)) (omega arith)
+      refl;
   reading = record { kind = refl; count = refl; number = sym (big_number-reads_back 4 n [] (omega (arith, fits))) };
 }
 

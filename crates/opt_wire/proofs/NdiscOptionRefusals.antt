@@ -47,7 +47,10 @@ other_block bytes t u is p r = block bytes u (λ e. absurd (p (sym is ∙ e))) (
 address_at : (bytes : List ℕ) (i j : ℕ) → i ≤ j → j ≤ length bytes → i + 16 ≡ j → (address : Ipv6Address)
     × (octets_of address ≡ bytes_of (record { from = i; to = j }) bytes)
 address_at bytes i j h k wide = (
-  record { octets = bytes_of (record { from = i; to = j }) bytes; whole = omega (arith, length-part bytes i j h k, wide) },
+  record {
+    octets = bytes_of (record { from = i; to = j }) bytes;
+    whole = omega (arith, length-part bytes i j h k, wide);
+  },
   refl,
 )
 

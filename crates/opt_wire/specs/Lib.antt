@@ -9,6 +9,7 @@ pub mod Ipv6OptionModel
 pub mod Ipv6OptionRefusal
 pub mod Ipv6OptionTables
 pub mod NdiscOption
+pub mod NdiscOptionBlocks
 pub mod NdiscOptionRefusal
 pub mod NdiscOptionRepr
 pub mod NdiscOptionTables

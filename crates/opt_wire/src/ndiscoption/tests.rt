@@ -9,6 +9,7 @@ use std::alloc::Global;
 use std::process::Abort;
 use wirebase::{Duration, Error, IpProtocol, Ipv6Address, Ipv6Repr, RawHardwareAddress};
 
+mod options;
 mod plain_reader;
 mod refusals;
 mod types;

@@ -12,7 +12,9 @@ loop-index-preserved c = next_place _ _ _ _ c.loop-index.invariant c.in-Ok.ensur
 
 pub returns-then-is_empty-clause-exact : goal.returns-then-is_empty-clause-exact
 returns-then-is_empty-clause-exact c = (
-  λ ended. read-end 8 _ _ _ c.loop-index.invariant c.requires.some (eqb-true _ 0 (sym c.is_empty.ensures ∙ c.if-is_empty.true))
+  λ ended.
+      read-end 8 _ _ _ c.loop-index.invariant c.requires.some
+      (eqb-true _ 0 (sym c.is_empty.ensures ∙ c.if-is_empty.true))
       (omega (arith, c.loop-index-test.true)),
   λ read. refl,
 )
@@ -22,7 +24,8 @@ returns-in-Err-clause-exact c = (
   λ told. cc,
   λ read. absurd (
       read-broken 8 _ _ _ c.loop-index.invariant (omega (arith, c.loop-index-test.true))
-      (λ e. eqb-false _ 0 (sym c.is_empty.ensures ∙ c.if-is_empty.false) (ap length e)) (c.in-Err.ensures.refuses refl) read
+      (λ e. eqb-false _ 0 (sym c.is_empty.ensures ∙ c.if-is_empty.false) (ap length e))
+      (c.in-Err.ensures.refuses refl) read
       ),
 )
 

@@ -4,16 +4,14 @@ use Rattle.std.proofs.lemmas.List.{take_rest}
 use Rattle.wirebase.proofs.Answers.{answer-progress}
 use Rattle.opt_wire.specs.Ipv6Option.{value_of}
 use Rattle.opt_wire.proofs.Ipv6OptionTiles.{next-option, next-refusal, next-end}
-use Rattle.opt_wire.proofs.ipv6option.options.Ipv6OptionsIteratorIterator.next.Goals.{then-self-via-then-self}
-use Rattle.opt_wire.proofs.ipv6option.options.Ipv6OptionsIteratorIterator.next.Goals.{then-self-via-else-self+then-is_empty}
 use Rattle.opt_wire.proofs.ipv6option.options.Ipv6OptionsIteratorIterator.next.Goals as goal
 
 pub returns-then-self-clause-steps : goal.returns-then-self-clause-steps
 returns-then-self-clause-steps c =
     let it = c.self.inside in
     let ended = sym c.self.view_is ∙ next-end it.hit_error it.data.now (elim c.then-self.branch [
-      | then-self-via-then-self w ↦ inl w.if-self.true
-      | then-self-via-else-self+then-is_empty w ↦
+      | goal.then-self-via-then-self w ↦ inl w.if-self.true
+      | goal.then-self-via-else-self+then-is_empty w ↦
           inr (eqb-true (length it.data.now) 0 (sym w.is_empty.ensures ∙ w.if-is_empty.true))
     ]) in
     (ended, ended)

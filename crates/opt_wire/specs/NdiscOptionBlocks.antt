@@ -1,0 +1,60 @@
+-- The options of a message of neighbor discovery in turn (RFC 4861 section 4.6): blocks one after another.
+use Rattle.std.specs.Prelude.{◌≡◌, ◌⊎◌, ℕ, zero, suc, ◌*◌, ◌==◌, nat_le, Bool, true, false, ◌&&◌, if◌then◌else◌}
+use Rattle.std.specs.Prelude.{List, [], ◌∷◌, ◌++◌, length, take, drop, Option, None, Some, Result, Ok, Err}
+use Rattle.wirebase.specs.Bytes.{byte_of}
+use Rattle.wirebase.specs.declared.error.Error.{Error}
+use Rattle.opt_wire.specs.NdiscOption.{type_field, units_in, BeginsWithBlock}
+use Rattle.opt_wire.specs.NdiscOptionRepr.{OptionValue, value_of, BeginsWith}
+use Rattle.opt_wire.specs.declared.ndiscoption.repr.Repr.{Repr}
+
+-- an answer: all the bytes of a block, or the refusal of what follows
+abbrev pub Answer : Type 0
+Answer = Result (List ℕ) Error
+
+-- Blocks one after another up to the end of the bytes, or up to a place where none stands, which is answered by one
+-- refusal.
+pub data Tile : List ℕ → List Answer → Type 0 where
+  ends : Tile [] []
+  goes_on : {bytes : List ℕ} {answers : List Answer} (block rest : List ℕ)
+      → BeginsWithBlock bytes → length block ≡ 8 * units_in bytes → Tile rest answers → bytes ≡ block ++ rest
+      → Tile bytes (Ok block ∷ answers)
+  breaks : {bytes : List ℕ} (refusal : Error)
+      → (bytes ≡ [] → ⊥) → (BeginsWithBlock bytes → ⊥) → Tile bytes (Err refusal ∷ [])
+
+-- no option is read in the block
+abbrev pub IsUnread : List ℕ → Type 0
+IsUnread block = (value : OptionValue) → BeginsWith block value → ⊥
+
+-- A call of `next` takes off the first answer, and gives what is read in that block, or a refusal where no option is or
+-- where no block stands; where no answer is left it gives None, and none is left still.
+abbrev pub GivesOption : List Answer → Option (Result Repr Error) → List Answer → Type 0
+GivesOption old None new = (old ≡ []) × (new ≡ [])
+GivesOption old (Some (Ok repr)) new = (block : List ℕ) × BeginsWith block (value_of repr) × (old ≡ Ok block ∷ new)
+GivesOption old (Some (Err refusal)) new =
+    (old ≡ Err refusal ∷ new) ⊎ ((block : List ℕ) × IsUnread block × (old ≡ Ok block ∷ new))
+
+-- ---- the answers as they are computed, which the iterator's model needs
+
+-- the fewest units of a block of this type
+abbrev pub least_units : ℕ → ℕ
+least_units t = if t == 3 then 4 else if t == 4 then 6 else 1
+
+-- whether a block stands at the front of the bytes
+abbrev pub begins_with_block : List ℕ → Bool
+begins_with_block bytes =
+    nat_le 8 (length bytes) && (nat_le (least_units (byte_of type_field bytes)) (units_in bytes)
+    && nat_le (8 * units_in bytes) (length bytes))
+
+-- the answers, in at most so many blocks; a block takes a byte at least
+abbrev pub after_block : Bool → ℕ → List ℕ → (List ℕ → List Answer) → List Answer
+after_block true len bytes go = Ok (take len bytes) ∷ go (drop len bytes)
+after_block false len bytes go = Err (record {}) ∷ []
+
+unfoldable pub blocks_within : ℕ → List ℕ → List Answer
+blocks_within most [] = []
+blocks_within zero (t ∷ rest) = []
+blocks_within (suc most) (t ∷ rest) =
+    after_block (begins_with_block (t ∷ rest)) (8 * units_in (t ∷ rest)) (t ∷ rest) (blocks_within most)
+
+abbrev pub blocks_of : List ℕ → List Answer
+blocks_of bytes = blocks_within (length bytes) bytes

@@ -1,0 +1,95 @@
+//! The options of a message of neighbor discovery in turn (RFC 4861 section 4.6).
+
+ghost use Rattle.std.specs.Prelude.{◌≡◌, ◌*◌, length, take, drop, IfOk, IsErr};
+ghost use Rattle.opt_wire.specs.NdiscOption.{units_in, BeginsWithBlock};
+
+use super::{NdiscOption, Repr};
+use crate::writing::UNIT;
+use std::marker::Model;
+use wirebase::{Error, Result};
+
+/// The options of a message of neighbor discovery in turn, those of unknown types too.
+///
+/// A whole option in which [`Repr::parse`] reads none is answered by a refusal, and the one behind it comes next: a
+/// prefix of more than 4 units, an MTU of other than 1, or a redirected header that holds no whole packet of version 6.
+/// Where the octets end before an option does, or where one counts fewer units than its type has, as none at all, one
+/// refusal comes, and then the end for good. Hosts discard such a message (RFC 4861 section 6.1).
+///
+/// ```
+/// use control_wire::ndiscoption::{NdiscOptions, Repr};
+///
+/// // An MTU of 1500 bytes, and a nonce (RFC 3971 section 5.3.2).
+/// let octets = [5, 1, 0, 0, 0, 0, 0x05, 0xdc, 14, 1, 1, 2, 3, 4, 5, 6];
+/// let options: Vec<Repr> = NdiscOptions::new(&octets).collect::<Result<_, _>>()?;
+/// let nonce = Repr::Unknown { type_: 14, length: 1, data: &[1, 2, 3, 4, 5, 6] };
+/// assert_eq!(options, [Repr::Mtu(1500), nonce]);
+/// # Ok::<(), control_wire::Error>(())
+/// ```
+#[derive(Debug, Drop)]
+pub struct NdiscOptions<'a> {
+    // The octets behind the options that were given.
+    rest: &'a [u8],
+}
+
+impl<'a> Model for NdiscOptions<'a> {
+    ghost use Rattle.std.specs.Prelude.{List};
+    ghost use Rattle.opt_wire.specs.NdiscOptionBlocks.{Answer, blocks_of};
+
+    ghost Value = { List Answer };
+
+    ghost view = { λ it. blocks_of it.rest.now };
+}
+
+impl<'a> NdiscOptions<'a> {
+    ghost use Rattle.std.specs.Prelude.{List};
+    ghost use Rattle.opt_wire.specs.NdiscOptionBlocks.{Answer, Tile};
+
+    /// The options in these octets, which are what stands behind the fields of a message: `icmpv6::Packet::payload`.
+    pub fn new(octets: &'a [u8]) -> NdiscOptions<'a>
+        ensures tile { Tile octets.entry.now result }
+        ensures unique { (answers : List Answer)
+            → Tile octets.entry.now answers → answers ≡ result }
+    {
+        NdiscOptions { rest: octets }
+    }
+}
+
+impl<'a> Iterator for NdiscOptions<'a> {
+    ghost use Rattle.std.specs.Iterator.{at_most};
+    ghost use Rattle.opt_wire.specs.NdiscOptionBlocks.{GivesOption};
+
+    type Item = Result<Repr<'a>>;
+
+    ghost next_gives = { GivesOption };
+
+    ghost remaining = { λ answers. at_most (length answers) };
+
+    fn next(&mut self) -> Option<Result<Repr<'a>>> {
+        if self.rest.is_empty() {
+            return None;
+        }
+        match split_block(self.rest) {
+            Ok((block, behind)) => {
+                self.rest = behind;
+                Some(Repr::parse(&NdiscOption::new_unchecked(block)))
+            }
+            Err(error) => {
+                self.rest = &[];
+                Some(Err(error))
+            }
+        }
+    }
+}
+
+// The block at the front, and what stands behind it. Refused where the octets don't begin with a block.
+fn split_block(octets: &[u8]) -> Result<(&[u8], &[u8])>
+    ensures begins { IfOk result (λ parts. BeginsWithBlock octets.now) }
+    ensures block { IfOk result (λ parts. parts.0.now ≡ take (8 * units_in octets.now) octets.now) }
+    ensures behind { IfOk result (λ parts. parts.1.now ≡ drop (8 * units_in octets.now) octets.now) }
+    ensures refuses { IsErr result → BeginsWithBlock octets.now → ⊥ }
+{
+    let Ok(option) = NdiscOption::new_checked(octets) else {
+        return Err(Error);
+    };
+    Ok(octets.split_at(UNIT * option.data_len() as usize))
+}
