@@ -1,4 +1,4 @@
--- Octets that are no message of IGMP: those with a group that a message may speak of have another type.
+-- Octets that are no message of IGMP: those of a type that is read have a group that no message may speak of.
 use Rattle.std.proofs.Common.{◌≡◌, inl, inr, ℕ, List, refl}
 use Rattle.wirebase.specs.Bytes.{byte_of}
 use Rattle.wirebase.specs.declared.ipv4.Ipv4Address.{Ipv4Address}
@@ -17,14 +17,14 @@ begins bytes t group has is kind = record {
   is_group = is;
 }
 
-pub unread-type : (bytes : List ℕ) (group : Ipv4Address) → (IsRead bytes → ⊥) → HasGroup bytes group → IsGroup group
-    → IsMessageType (byte_of type_field bytes) → ⊥
-unread-type bytes group unread has is (inl kind) =
+pub unread-group : (bytes : List ℕ) (group : Ipv4Address) → (IsRead bytes → ⊥) → HasGroup bytes group
+    → IsMessageType (byte_of type_field bytes) → IsGroup group → ⊥
+unread-group bytes group unread has (inl kind) is =
     let code : ℕ = byte_of code_field bytes in
     unread (query_of code group, (code, begins bytes 0x11 group has is kind, refl, refl))
-unread-type bytes group unread has is (inr (inl kind)) =
+unread-group bytes group unread has (inr (inl kind)) is =
     unread (MembershipReport group Version1, (byte_of code_field bytes, begins bytes 0x12 group has is kind))
-unread-type bytes group unread has is (inr (inr (inl kind))) =
+unread-group bytes group unread has (inr (inr (inl kind))) is =
     unread (MembershipReport group Version2, (byte_of code_field bytes, begins bytes 0x16 group has is kind))
-unread-type bytes group unread has is (inr (inr (inr kind))) =
+unread-group bytes group unread has (inr (inr (inr kind))) is =
     unread (LeaveGroup group, (byte_of code_field bytes, begins bytes 0x17 group has is kind))

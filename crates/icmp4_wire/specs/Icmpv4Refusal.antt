@@ -63,7 +63,8 @@ Refuses capabilities bytes refusal.Checksum =
 Refuses capabilities bytes (UnknownType t) =
     HasHeader capabilities bytes × (t ≡ byte_of type_field bytes) × (IsEchoType t → ⊥) × (IsErrorType t → ⊥)
 Refuses capabilities bytes (UnknownCode code) =
-    HasHeader capabilities bytes × IsEchoType (byte_of type_field bytes) × (code ≡ byte_of code_field bytes) × (code ≢ 0)
+    HasHeader capabilities bytes × IsEchoType (byte_of type_field bytes) × (code ≡ byte_of code_field bytes)
+    × (code ≢ 0)
 Refuses capabilities bytes QuotedHeader = RefusesError capabilities bytes QuotedHeader
 Refuses capabilities bytes QuotedLength = RefusesError capabilities bytes QuotedLength
 Refuses capabilities bytes QuoteCut = RefusesError capabilities bytes QuoteCut

@@ -6,7 +6,7 @@ use Rattle.wirebase.specs.Display.{pieces}
 use Rattle.wirebase.specs.Ipv4.{octets_of, address_text}
 use Rattle.wirebase.specs.declared.ipv4.Ipv4Address.{Ipv4Address}
 use Rattle.icmp4_wire.specs.declared.igmp.refusal.Refusal.{Refusal}
-use Rattle.icmp4_wire.specs.declared.igmp.refusal.Refusal.TheVariants.{Short, Group, UnknownType}
+use Rattle.icmp4_wire.specs.declared.igmp.refusal.Refusal.TheVariants.{Short, UnknownType, Group}
 use Rattle.icmp4_wire.specs.declared.igmp.repr.Repr.{Repr}
 use Rattle.icmp4_wire.specs.Igmp.{type_field, group_field, IsGroup, IsMessage}
 
@@ -24,14 +24,13 @@ IsMessageType t = (t ≡ 0x11) ⊎ (t ≡ 0x12) ⊎ (t ≡ 0x16) ⊎ (t ≡ 0x17
 
 abbrev pub Refuses : List ℕ → Refusal → Type 0
 Refuses bytes Short = length bytes < 8
-Refuses bytes (Group group) = HasGroup bytes group × (IsGroup group → ⊥)
-Refuses bytes (UnknownType t) =
-    ((group : Ipv4Address) × HasGroup bytes group × IsGroup group) × (t ≡ byte_of type_field bytes)
-    × (IsMessageType t → ⊥)
+Refuses bytes (UnknownType t) = Reaches group_field bytes × (t ≡ byte_of type_field bytes) × (IsMessageType t → ⊥)
+Refuses bytes (Group group) =
+    HasGroup bytes group × IsMessageType (byte_of type_field bytes) × (IsGroup group → ⊥)
 
 -- what a reason prints
 abbrev pub refusal_display : Refusal → List ℕ
 refusal_display Short = codes "fewer than 8 bytes"
+refusal_display (UnknownType t) = pieces (codes "type " ∷ decimal t ∷ codes " is not read" ∷ [])
 refusal_display (Group group) =
     pieces (codes "group " ∷ address_text group ∷ codes " is neither 0.0.0.0 nor multicast" ∷ [])
-refusal_display (UnknownType t) = pieces (codes "type " ∷ decimal t ∷ codes " is not read" ∷ [])

@@ -1,7 +1,7 @@
 //! Why octets are no message (RFC 792).
 
-ghost use Rattle.std.specs.Prelude.{◌↔◌, IfSome, IsNone, Some};
-ghost use Rattle.icmp4_wire.specs.Icmpv4.{view_octets};
+ghost use Rattle.std.specs.Prelude.{◌≡◌, ◌↔◌, IfOk, IfErr, IsOkAnd, IfSome, IsNone, Some};
+ghost use Rattle.icmp4_wire.specs.Icmpv4.{view_octets, MessageValue, value_of, IsMessage};
 ghost use Rattle.icmp4_wire.specs.Icmpv4Refusal.{IsRead, IsWholeQuote, Refuses, RefusesQuote, refusal_display};
 
 use super::packet::Packet;
@@ -36,16 +36,43 @@ pub enum Refusal {
     QuotedData,
 }
 
-impl Repr<'_> {
+impl<'a> Repr<'a> {
+    /// The message in the octets, or why [`Repr::parse`] refuses them, by the check that fails first.
+    ///
+    /// ```
+    /// use control_wire::ChecksumCapabilities;
+    /// use control_wire::icmpv4::{Packet, Refusal, Repr};
+    ///
+    /// // An echo request whose last byte was changed on its way.
+    /// let octets = [8, 0, 0x19, 0x2c, 0, 1, 0, 2, b'p', b'i', b'n', b'q'];
+    /// let packet = Packet::new_unchecked(&octets[..]);
+    /// let refusal = Repr::parse_or_refusal(&packet, &ChecksumCapabilities::default()).unwrap_err();
+    /// assert_eq!(refusal, Refusal::Checksum);
+    /// assert_eq!(refusal.to_string(), "the checksum does not hold");
+    /// ```
+    pub fn parse_or_refusal(
+        packet: &Packet<&'a [u8]>,
+        checksum_caps: &ChecksumCapabilities,
+    ) -> Result<Repr<'a>, Refusal>
+        ensures sound { IfOk result (λ repr.
+            IsMessage checksum_caps.now (view_octets packet.now) (value_of repr)) }
+        ensures complete { (value : MessageValue)
+            → IsMessage checksum_caps.now (view_octets packet.now) value
+            → IsOkAnd result (λ repr. value_of repr ≡ value) }
+        ensures told { IfErr result (Refuses checksum_caps.now (view_octets packet.now)) }
+    {
+        match Repr::parse(packet, checksum_caps) {
+            Ok(repr) => Ok(repr),
+            Err(_) => Err(why(packet, checksum_caps)),
+        }
+    }
+
     /// Why [`Repr::parse`] refuses these octets, by the check that fails first; None exactly where it reads them.
     pub fn refusal(packet: &Packet<&[u8]>, checksum_caps: &ChecksumCapabilities) -> Option<Refusal>
         ensures told { IfSome result (Refuses checksum_caps.now (view_octets packet.now)) }
         ensures exact { IsNone result ↔ IsRead checksum_caps.now (view_octets packet.now) }
     {
-        match Repr::parse(packet, checksum_caps) {
-            Ok(_) => None,
-            Err(_) => Some(why(packet, checksum_caps)),
-        }
+        Repr::parse_or_refusal(packet, checksum_caps).err()
     }
 }
 
