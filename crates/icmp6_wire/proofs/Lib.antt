@@ -6,6 +6,7 @@ pub mod MldFormat
 pub mod MldIterators
 pub mod MldRecords
 pub mod MldTexts
+pub mod MldTimes
 pub mod NdiscFormat
 pub mod NdiscReading
 pub mod NdiscRefusals

@@ -22,13 +22,19 @@
 -- +-------------------------------+-------------------------------+
 -- | records
 -- +- - - -
-use Rattle.std.specs.Prelude.{ℕ, ◌/◌, ◌%◌, List}
+use Rattle.std.specs.Prelude.{ℕ, ◌+◌, ◌*◌, ◌/◌, ◌%◌, ◌^◌, nat_lt, if◌then◌else◌, List}
 use Rattle.wirebase.specs.Bytes.{Field, field, byte_of}
 use Rattle.icmp6_wire.specs.Icmpv6Packet.{sqrv_field}
 
 -- of a query
 abbrev pub max_resp_code_field : Field
 max_resp_code_field = field 4 6
+
+-- the milliseconds that a maximum response code below 65,536 stands for: below 32,768 as many as the code counts; from
+-- there on its last twelve bits, with a one before them, are the mantissa of such a count, and its three bits above
+-- those, plus 3, are the exponent (RFC 3810 section 5.1.3)
+unfoldable pub resp_millis : ℕ → ℕ
+resp_millis code = if nat_lt code 32768 then code else (4096 + code % 4096) * 2 ^ (code / 4096 % 8 + 3)
 
 abbrev pub mcast_addr_field : Field
 mcast_addr_field = field 8 24

@@ -10,7 +10,7 @@ use Rattle.wirebase.specs.declared.ipv6.Ipv6Repr.{Ipv6Repr}
 use Rattle.opt_wire.specs.declared.ndiscoption.repr.PrefixInformation.{PrefixInformation}
 use Rattle.icmp6_wire.specs.Ndisc.{NdiscValue, router_solicit, router_advert, neighbor_solicit, neighbor_advert}
 use Rattle.icmp6_wire.specs.Ndisc.{redirect}
-use Rattle.icmp6_wire.specs.NdiscTables.{router_bits, neighbor_bits}
+use Rattle.icmp6_wire.specs.NdiscTables.{router_bits, neighbor_bits, router_flags_text, neighbor_flags_text}
 use Rattle.icmp6_wire.specs.declared.ndisc.refusal.Refusal.{Refusal}
 use Rattle.icmp6_wire.specs.declared.ndisc.refusal.Refusal.TheVariants as refusal
 
@@ -44,18 +44,18 @@ times_display lifetime reachable retrans =
 unfoldable pub options_display : Option (List ℕ) → Option ℕ → Option PrefixInformation → List ℕ
 options_display l m p = pieces (lladdr_display l ∷ mtu_display m ∷ prefix_display p ∷ [])
 
--- a message: its fields, flags as the number of their bits
+-- a message: its fields, flags by their names
 abbrev pub repr_display : NdiscValue → List ℕ
 repr_display (router_solicit l) = pieces (codes "NDISC router solicitation" ∷ lladdr_display l ∷ [])
 repr_display (router_advert hops flags lifetime reachable retrans l m p) =
     pieces (codes "NDISC router advertisement hop_limit=" ∷ decimal hops
-    ∷ codes " flags=" ∷ decimal (router_bits flags)
+    ∷ codes " flags=" ∷ router_flags_text (router_bits flags)
     ∷ times_display lifetime reachable retrans
     ∷ options_display l m p ∷ [])
 repr_display (neighbor_solicit t l) =
     pieces (codes "NDISC neighbor solicitation target_addr=" ∷ address_text t ∷ lladdr_display l ∷ [])
 repr_display (neighbor_advert flags t l) =
-    pieces (codes "NDISC neighbor advertisement flags=" ∷ decimal (neighbor_bits flags)
+    pieces (codes "NDISC neighbor advertisement flags=" ∷ neighbor_flags_text (neighbor_bits flags)
     ∷ codes " target_addr=" ∷ address_text t ∷ lladdr_display l ∷ [])
 repr_display (redirect t d l r) =
     pieces (codes "NDISC redirect target_addr=" ∷ address_text t ∷ codes " dest_addr=" ∷ address_text d

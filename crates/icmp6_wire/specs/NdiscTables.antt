@@ -1,5 +1,5 @@
 -- The flags of router and neighbor advertisements (RFC 4861 sections 4.2 and 4.4).
-use Rattle.std.specs.Prelude.{ℕ, List, [], ◌∷◌, codes}
+use Rattle.std.specs.Prelude.{ℕ, ◌==◌, if◌then◌else◌, List, [], ◌∷◌, codes}
 use Rattle.std.specs.Int.RustNames.{bit_and}
 use Rattle.icmp6_wire.specs.declared.ndisc.flags.NeighborFlags.{NeighborFlags}
 use Rattle.icmp6_wire.specs.declared.ndisc.flags.RouterFlags.{RouterFlags}
@@ -17,6 +17,29 @@ router_bits flags = flags.0
 
 abbrev pub neighbor_bits : NeighborFlags → ℕ
 neighbor_bits flags = flags.0
+
+-- what a set of flags prints: the names of those that are set, with a comma between them; `-` where none is
+abbrev pub router_flags_text : ℕ → List ℕ
+router_flags_text bits =
+    if bit_and bits 0x80 == 0 then if bit_and bits 0x40 == 0 then codes "-" else codes "other"
+    else if bit_and bits 0x40 == 0 then codes "managed"
+    else codes "managed,other"
+
+-- the same of a neighbor advertisement, of one that does not come from a router and of one that does
+abbrev pub of_no_router : ℕ → List ℕ
+of_no_router bits =
+    if bit_and bits 0x40 == 0 then if bit_and bits 0x20 == 0 then codes "-" else codes "override"
+    else if bit_and bits 0x20 == 0 then codes "solicited"
+    else codes "solicited,override"
+
+abbrev pub of_router : ℕ → List ℕ
+of_router bits =
+    if bit_and bits 0x40 == 0 then if bit_and bits 0x20 == 0 then codes "router" else codes "router,override"
+    else if bit_and bits 0x20 == 0 then codes "router,solicited"
+    else codes "router,solicited,override"
+
+abbrev pub neighbor_flags_text : ℕ → List ℕ
+neighbor_flags_text bits = if bit_and bits 0x80 == 0 then of_no_router bits else of_router bits
 
 -- the bits that have a name, among some bits
 abbrev pub known_router : ℕ → ℕ

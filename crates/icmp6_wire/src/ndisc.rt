@@ -36,6 +36,7 @@ ghost use Rattle.icmp6_wire.specs.NdiscTables.{router_bits, neighbor_bits, known
 
 use crate::icmpv6::Packet;
 use bitflags::Flags as _;
+use opt_wire::ndiscoption::NdiscOptions;
 use wirebase::{Duration, Ipv6Address, Octets, OctetsMut};
 
 mod display;
@@ -146,6 +147,35 @@ impl<T: Octets> Packet<T> {
         ensures { octets_of result ≡ bytes_of dest_addr_field (T.bytes (inner self.now)) }
     {
         Ipv6Address::from_octets(self.buffer.field(field::DEST_ADDR).try_into().unwrap())
+    }
+}
+
+impl<'a> Packet<&'a [u8]> {
+    ghost use Rattle.std.specs.Prelude.{length};
+    ghost use Rattle.wirebase.specs.Icmp.{type_field};
+    ghost use Rattle.opt_wire.specs.NdiscOptionBlocks.{Tile};
+    ghost use Rattle.icmp6_wire.specs.Icmpv6Packet.{view_octets, header_len_in, payload_in};
+
+    /// The options of a message of neighbor discovery in turn, those of unknown types too: what its payload is (RFC
+    /// 4861 section 4). Requires the header of the type.
+    ///
+    /// ```
+    /// use control_wire::icmpv6::Packet;
+    /// use control_wire::ndiscoption::Repr;
+    ///
+    /// // A router solicitation with a nonce (RFC 3971 section 5.3.2).
+    /// let octets = [133, 0, 0, 0, 0, 0, 0, 0, 14, 1, 1, 2, 3, 4, 5, 6];
+    /// let packet = Packet::new_checked(&octets[..])?;
+    /// let nonce = Repr::Unknown { type_: 14, length: 1, data: &[1, 2, 3, 4, 5, 6] };
+    /// assert!(packet.ndisc_options().eq([Ok(nonce)]));
+    /// # Ok::<(), control_wire::Error>(())
+    /// ```
+    pub fn ndisc_options(&self) -> NdiscOptions<'a>
+        requires kind { Reaches type_field (view_octets self.now) }
+        requires whole { header_len_in (view_octets self.now) ≤ length (view_octets self.now) }
+        ensures { Tile (payload_in (view_octets self.now)) result }
+    {
+        NdiscOptions::new(self.payload())
     }
 }
 

@@ -84,6 +84,7 @@ impl<T: Octets> Packet<T> {
     }
 
     /// The type. Requires at least 1 byte.
+    #[inline]
     pub fn msg_type(&self) -> Message
         requires { Reaches type_field (T.bytes (inner self.now)) }
         ensures { result ≡ message_in (T.bytes (inner self.now)) }

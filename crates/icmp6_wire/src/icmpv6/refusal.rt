@@ -1,11 +1,11 @@
 //! Why octets are no message: the check that fails first.
 
-ghost use Rattle.std.specs.Prelude.{◌≡◌, ◌↔◌, ◌≤◌, ◌<◌, false, IfSome, IsNone, Some};
+ghost use Rattle.std.specs.Prelude.{◌≡◌, ◌↔◌, ◌≤◌, ◌<◌, false, IfOk, IfErr, IsOkAnd, IfSome, IsNone, Some};
 ghost use Rattle.wirebase.specs.Bytes.{byte_of};
 ghost use Rattle.wirebase.specs.Icmp.{code_field};
 ghost use Rattle.wirebase.specs.declared.capabilities.ChecksumCapabilities.{ChecksumCapabilities};
 ghost use Rattle.wirebase.specs.declared.ipv6.address.Ipv6Address.{Ipv6Address};
-ghost use Rattle.icmp6_wire.specs.Icmpv6.{IsContent, value_of};
+ghost use Rattle.icmp6_wire.specs.Icmpv6.{MessageValue, IsContent, IsMessage, value_of};
 ghost use Rattle.icmp6_wire.specs.Icmpv6Display.{refusal_display};
 ghost use Rattle.icmp6_wire.specs.Icmpv6Packet.{view_octets, message_in, BeginsWhole};
 ghost use Rattle.icmp6_wire.specs.Icmpv6Refusal.{IsRead, HasContent, Passes, Refuses};
@@ -26,9 +26,12 @@ use wirebase::{ChecksumCapabilities, IPV6_HEADER_LEN, Ipv6Address};
 pub enum Refusal {
     /// Fewer than 8 bytes.
     Short,
-    /// The type, by its number, is none of those that are read.
+    /// The type, by its number, is none of those that are read: errors of types 1 to 4, echoes, messages of neighbor
+    /// discovery, and of multicast listener discovery queries (130) and reports of version 2 (143). Those of version 1
+    /// (RFC 2710) are 131 for a report and 132 for a done message.
     UnknownType(u8),
-    /// Fewer bytes than the header of the type has.
+    /// Fewer bytes than the header of the type has, as 28 of a query of multicast listener discovery; one of version 1
+    /// has 24.
     Length,
     /// The checksum does not hold (RFC 4443 section 2.3).
     Checksum,
@@ -57,7 +60,42 @@ impl fmt::Display for Refusal {
     }
 }
 
-impl Repr<'_> {
+impl<'a> Repr<'a> {
+    /// The message in the octets, which goes from `src_addr` to `dst_addr`, or why [`Repr::parse`] refuses them, by the
+    /// check that fails first.
+    ///
+    /// ```
+    /// use control_wire::icmpv6::{Packet, Refusal, Repr};
+    /// use control_wire::{ChecksumCapabilities, Ipv6Address};
+    ///
+    /// // A report of version 1 of multicast listener discovery (RFC 2710).
+    /// let mut octets = [0; 24];
+    /// octets[0] = 131;
+    /// let packet = Packet::new_unchecked(&octets[..]);
+    /// let any = Ipv6Address::UNSPECIFIED;
+    /// let read = Repr::parse_or_refusal(&any, &any, &packet, &ChecksumCapabilities::default());
+    /// assert_eq!(read, Err(Refusal::UnknownType(131)));
+    /// ```
+    pub fn parse_or_refusal(
+        src_addr: &Ipv6Address,
+        dst_addr: &Ipv6Address,
+        packet: &Packet<&'a [u8]>,
+        checksum_caps: &ChecksumCapabilities,
+    ) -> Result<Repr<'a>, Refusal>
+        ensures sound { IfOk result (λ repr. IsMessage checksum_caps.now src_addr.now dst_addr.now
+            (view_octets packet.now) (value_of repr)) }
+        ensures complete { (value : MessageValue)
+            → IsMessage checksum_caps.now src_addr.now dst_addr.now (view_octets packet.now) value
+            → IsOkAnd result (λ repr. value_of repr ≡ value) }
+        ensures told { IfErr result (λ refusal. Refuses checksum_caps.now src_addr.now dst_addr.now
+            (view_octets packet.now) refusal) }
+    {
+        match Repr::parse(src_addr, dst_addr, packet, checksum_caps) {
+            Ok(repr) => Ok(repr),
+            Err(_) => Err(why(src_addr, dst_addr, packet, checksum_caps)),
+        }
+    }
+
     /// Why [`Repr::parse`] refuses these octets, by the check that fails first; None where it reads them.
     pub fn refusal(
         src_addr: &Ipv6Address,
@@ -88,6 +126,23 @@ impl Repr<'_> {
             return error_refusal(packet, kind);
         }
         other_refusal(packet, kind)
+    }
+}
+
+// The check that fails first in octets that are not read. `refusal` tells one of all such octets, so `Short` never
+// stands in for it.
+fn why(
+    src_addr: &Ipv6Address,
+    dst_addr: &Ipv6Address,
+    packet: &Packet<&[u8]>,
+    checksum_caps: &ChecksumCapabilities,
+) -> Refusal
+    requires { IsRead checksum_caps.now src_addr.now dst_addr.now (view_octets packet.now) → ⊥ }
+    ensures { Refuses checksum_caps.now src_addr.now dst_addr.now (view_octets packet.now) result }
+{
+    match Repr::refusal(src_addr, dst_addr, packet, checksum_caps) {
+        Some(refusal) => refusal,
+        None => Refusal::Short,
     }
 }
 

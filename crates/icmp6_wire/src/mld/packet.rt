@@ -3,14 +3,18 @@
 ghost use Rattle.std.specs.Prelude.{◌≡◌, ◌↔◌, ◌<◌, ◌+◌, ◌*◌, [], ◌∷◌, IsTrue};
 ghost use Rattle.byteorder.specs.Endian.{big_bytes};
 ghost use Rattle.wirebase.specs.Bytes.{Reaches, byte_of, bytes_of, number_of};
+ghost use Rattle.wirebase.specs.Duration.{micros_of};
 ghost use Rattle.wirebase.specs.Ipv6Address.{octets_of};
 ghost use Rattle.icmp6_wire.specs.Icmpv6Packet.{inner, Sets, KeepsLen, sqrv_field};
 ghost use Rattle.icmp6_wire.specs.MldPacket.{max_resp_code_field, mcast_addr_field, qqic_field, num_srcs_field};
-ghost use Rattle.icmp6_wire.specs.MldPacket.{nr_mcast_addr_rcrds_field, s_flag_in, qrv_in};
+ghost use Rattle.icmp6_wire.specs.MldPacket.{nr_mcast_addr_rcrds_field, resp_millis, s_flag_in, qrv_in};
 
 use super::field;
 use crate::icmpv6::Packet;
-use wirebase::{Ipv6Address, Octets, OctetsMut};
+use wirebase::{Duration, Ipv6Address, Octets, OctetsMut};
+
+// The bit of a code that has an exponent and a mantissa: a code without it is a number of milliseconds.
+const FLOATING: u16 = 0x8000;
 
 // The bit of the flag S; the robustness variable is what stands below it.
 const S_FLAG: u8 = 0x08;
@@ -22,6 +26,23 @@ impl<T: Octets> Packet<T> {
         ensures { result ≡ number_of max_resp_code_field (T.bytes (inner self.now)) }
     {
         self.buffer.u16_at(field::MAX_RESP_CODE)
+    }
+
+    /// The longest time to answer a query in, by its code (RFC 3810 section 5.1.3): whole milliseconds, at most
+    /// 8,387.584 seconds. Requires at least 6 bytes.
+    #[tactic(auto, using(crate::proofs::MldTimes::times))]
+    pub fn max_resp_time(&self) -> Duration
+        requires { Reaches max_resp_code_field (T.bytes (inner self.now)) }
+        ensures { micros_of result
+            ≡ 1000 * resp_millis (number_of max_resp_code_field (T.bytes (inner self.now))) }
+    {
+        let code = self.max_resp_code();
+        if code < FLOATING {
+            return Duration::from_millis(code as u64);
+        }
+        let exponent = (code >> 12) & 0x7;
+        let mantissa = 0x1000 | (code & 0x0fff);
+        Duration::from_millis((mantissa as u64) << (exponent + 3))
     }
 
     /// The group that a query asks for, or `::` for all (RFC 3810 section 5.1.5). Requires at least 24 bytes.

@@ -1,11 +1,13 @@
 //! The flags of router and neighbor advertisements (RFC 4861 sections 4.2 and 4.4).
 
-ghost use Rattle.std.specs.Prelude.{⊤, ◌≡◌, map};
+ghost use Rattle.std.specs.Prelude.{⊤, ◌≡◌, Some, map};
 ghost use Rattle.std.specs.Int.RustNames.{bit_and, bit_or, bit_xor};
 ghost use Rattle.bitflags.specs.Sets.{without};
 ghost use Rattle.icmp6_wire.specs.NdiscTables.{router_rows, neighbor_rows, router_bits, neighbor_bits};
+ghost use Rattle.icmp6_wire.specs.NdiscTables.{router_flags_text, neighbor_flags_text};
 
-use bitflags::Flag;
+use bitflags::{Flag, Flags as _};
+use std::fmt;
 use std::ops::{BitAnd, BitOr, BitXor, Not, Sub};
 
 /// The flags of a router advertisement (RFC 4861 section 4.2). The calls of a set are those of `bitflags::Flags`.
@@ -54,6 +56,22 @@ impl bitflags::Flags for RouterFlags {
 
     fn from_bits_retain(bits: u8) -> RouterFlags {
         RouterFlags(bits)
+    }
+}
+
+/// The names of the flags that are set, as `managed,other`; `-` where none is. Bits without a name are not told.
+impl fmt::Display for RouterFlags {
+    ghost output = { λ flags. Some (router_flags_text (router_bits flags)) };
+
+    fn fmt<W: fmt::Write>(&self, f: &mut fmt::Formatter<W>) -> fmt::Result {
+        let managed = self.bits() & 0x80 != 0;
+        let other = self.bits() & 0x40 != 0;
+        f.write_str(match (managed, other) {
+            (false, false) => "-",
+            (false, true) => "other",
+            (true, false) => "managed",
+            (true, true) => "managed,other",
+        })
     }
 }
 
@@ -162,6 +180,27 @@ impl bitflags::Flags for NeighborFlags {
 
     fn from_bits_retain(bits: u8) -> NeighborFlags {
         NeighborFlags(bits)
+    }
+}
+
+/// The names of the flags that are set, as `solicited,override`; `-` where none is. Bits without a name are not told.
+impl fmt::Display for NeighborFlags {
+    ghost output = { λ flags. Some (neighbor_flags_text (neighbor_bits flags)) };
+
+    fn fmt<W: fmt::Write>(&self, f: &mut fmt::Formatter<W>) -> fmt::Result {
+        let router = self.bits() & 0x80 != 0;
+        let solicited = self.bits() & 0x40 != 0;
+        let overrides = self.bits() & 0x20 != 0;
+        f.write_str(match (router, solicited, overrides) {
+            (false, false, false) => "-",
+            (false, false, true) => "override",
+            (false, true, false) => "solicited",
+            (false, true, true) => "solicited,override",
+            (true, false, false) => "router",
+            (true, false, true) => "router,override",
+            (true, true, false) => "router,solicited",
+            (true, true, true) => "router,solicited,override",
+        })
     }
 }
 

@@ -1,7 +1,7 @@
 use super::{ECHO, TOO_BIG, all, behind, destination, source};
 use crate::icmpv6::{Packet, Refusal, Repr};
 use crate::ndisc;
-use crate::testing::{prints, same_of};
+use crate::testing::{prints, same, same_of};
 use std::process::Abort;
 use wirebase::capabilities::Checksum;
 
@@ -10,6 +10,12 @@ fn check_refusal(rt: &impl Abort, octets: &[u8], checksum: Checksum, wanted: Opt
     let packet = Packet::new_unchecked(octets);
     let refusal = Repr::refusal(&source(), &destination(), &packet, &all(checksum));
     same_of(rt, octets, refusal, wanted);
+}
+
+// Checks what is read in a packet whose checksum is verified, or why it is refused.
+fn check_read(rt: &impl Abort, packet: &Packet<&[u8]>, wanted: &Result<Repr<'_>, Refusal>) {
+    let read = Repr::parse_or_refusal(&source(), &destination(), packet, &all(Checksum::Both));
+    same(rt, &read, wanted);
 }
 
 #[test]
@@ -24,6 +30,28 @@ fn the_first_check_that_fails_is_told(rt: HostRuntime) {
     check_refusal(&rt, &query, Checksum::Both, Some(Refusal::Length));
     let report = [0x8f, 1, 0, 0, 0, 0, 0, 0];
     check_refusal(&rt, &report, Checksum::None, Some(Refusal::Code(1)));
+}
+
+#[test]
+fn messages_are_read_or_told_why_they_are_refused(rt: HostRuntime) {
+    let whole = Packet::new_unchecked(&ECHO[..]);
+    let message = Repr::EchoRequest {
+        ident: 0x1234,
+        seq_no: 0xabcd,
+        data: &[0xaa, 0x00, 0x00, 0xff],
+    };
+    check_read(&rt, &whole, &Ok(message));
+    check_read(
+        &rt,
+        &Packet::new_unchecked(&ECHO[..11]),
+        &Err(Refusal::Checksum),
+    );
+    // The messages of version 1 of multicast listener discovery but for its queries (RFC 2710 section 3.1).
+    for number in [131, 132] {
+        let octets = [number, 0, 0, 0, 0, 0, 0, 0];
+        let packet = Packet::new_unchecked(&octets[..]);
+        check_read(&rt, &packet, &Err(Refusal::UnknownType(number)));
+    }
 }
 
 #[test]

@@ -1,8 +1,10 @@
 use super::{REDIRECT, THREE_MTUS, check_read, check_refused, check_written, here, read, there};
+use crate::icmpv6::Packet;
 use crate::ndisc::Repr;
-use crate::testing::{holds_of, same_of};
+use crate::testing::{holds_of, same, same_of};
+use opt_wire::ndiscoption;
 use std::process::Abort;
-use wirebase::RawHardwareAddress;
+use wirebase::{Error, RawHardwareAddress};
 
 // The MTU that a router advertisement with these options tells; nothing where it is refused.
 fn mtu_of(bytes: &[u8]) -> Option<Option<u32>> {
@@ -55,6 +57,15 @@ fn check_option(rt: &impl Abort, kind: u8, units: u8, len: usize, wanted: Option
     octets[17] = units;
     let part = octets.get(..len).expect(rt, "64 octets are enough");
     check_mtu(rt, part, wanted);
+}
+
+#[test]
+fn options_of_a_message_in_turn(rt: HostRuntime) {
+    let octets: &[u8] = &SKIPPED_FIRST;
+    let mut options = Packet::new_unchecked(octets).ndisc_options();
+    same(&rt, options.next(), Some(Err(Error)));
+    same(&rt, options.next(), Some(Ok(ndiscoption::Repr::Mtu(1_500))));
+    same(&rt, options.next(), None);
 }
 
 #[test]

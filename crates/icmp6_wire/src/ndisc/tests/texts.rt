@@ -1,6 +1,7 @@
 use super::{ethernet, full_router_advert, here, redirect, router_solicit};
-use crate::ndisc::{NeighborFlags, Repr};
+use crate::ndisc::{NeighborFlags, Repr, RouterFlags};
 use crate::testing::prints;
+use bitflags::Flags as _;
 
 #[test]
 fn texts_of_messages_of_routers(rt: HostRuntime) {
@@ -17,7 +18,7 @@ fn texts_of_messages_of_routers(rt: HostRuntime) {
         &rt,
         alloc,
         &full_router_advert(),
-        "NDISC router advertisement hop_limit=64 flags=128 router_lifetime=900.000s reachable_time=0.900s \
+        "NDISC router advertisement hop_limit=64 flags=managed router_lifetime=900.000s reachable_time=0.900s \
          retrans_time=0.900s lladdr=52:54:00:12:34:56 mtu=1500 prefix_info=fe80::1/64",
     );
     prints(
@@ -51,6 +52,39 @@ fn texts_of_messages_of_neighbors(rt: HostRuntime) {
         &rt,
         alloc,
         &advert,
-        "NDISC neighbor advertisement flags=32 target_addr=fe80::1",
+        "NDISC neighbor advertisement flags=override target_addr=fe80::1",
     );
+}
+
+#[test]
+fn flags_print_the_names_of_those_that_are_set(rt: HostRuntime) {
+    const ROUTER: &[(u8, &str)] = &[
+        (0x00, "-"),
+        (0x3f, "-"),
+        (0x40, "other"),
+        (0x80, "managed"),
+        (0xff, "managed,other"),
+    ];
+    for &(bits, text) in ROUTER {
+        prints(&rt, rt.alloc(), &RouterFlags::from_bits_retain(bits), text);
+    }
+    const NEIGHBOR: &[(u8, &str)] = &[
+        (0x00, "-"),
+        (0x1f, "-"),
+        (0x20, "override"),
+        (0x40, "solicited"),
+        (0x60, "solicited,override"),
+        (0x80, "router"),
+        (0xa0, "router,override"),
+        (0xc0, "router,solicited"),
+        (0xff, "router,solicited,override"),
+    ];
+    for &(bits, text) in NEIGHBOR {
+        prints(
+            &rt,
+            rt.alloc(),
+            &NeighborFlags::from_bits_retain(bits),
+            text,
+        );
+    }
 }
