@@ -106,7 +106,8 @@ module _ {K : Type 0} (p : Protocol K) where
 
   -- ---- what was written
 
-  pub packet_read : IsProtocol p → (v : ErrorValue K) → Fills p → IsCanonical p v → IsError p (packet_text p v) (norm p v)
+  pub packet_read : IsProtocol p → (v : ErrorValue K) → Fills p → IsCanonical p v
+      → IsError p (packet_text p v) (norm p v)
   packet_read is v fills c =
       let some : 8 ≤ length (text p v) = omega (arith, length-text v) in
       let extra : ℕ = p.extra (length (text p v)) in
@@ -187,6 +188,7 @@ module _ {K : Type 0} (p : Protocol K) where
             λ computed. subst (λ (bytes : List ℕ). IsGood bytes (p.extra (length bytes))) (sym left)
             (seal-good (over old (text p v)) some computed);
         reads_back = λ long fills canonical.
-            subst (λ (bytes : List ℕ). IsError p bytes (norm p v)) (sym (exact long)) (packet_read is v fills canonical);
+            subst (λ (bytes : List ℕ). IsError p bytes (norm p v)) (sym (exact long))
+            (packet_read is v fills canonical);
         round_trips = round_trips (format p) (error_format is) v;
       }

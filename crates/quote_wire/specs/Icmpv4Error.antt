@@ -1,9 +1,10 @@
--- Errors of ICMPv4 (RFC 792): a destination that is unreachable, a source that is to send less, a better gateway, a time
--- that was exceeded, a parameter that is wrong.
-use Rattle.std.specs.Prelude.{◌≡◌, ℕ, zero, ◌+◌, ◌/◌, ◌%◌, ◌==◌, ◌<◌, ◌≤◌, ◌^◌, List, [], ◌∷◌, length, if◌then◌else◌, Option, Some, None}
-use Rattle.std.specs.Prelude.{codes, decimal}
+-- Errors of ICMPv4 (RFC 792): a destination that is unreachable, a source that is to send less, a better gateway, a
+-- time that was exceeded, a parameter that is wrong.
+use Rattle.std.specs.Prelude.{◌≡◌, ℕ, zero, ◌+◌, ◌/◌, ◌%◌, ◌==◌, ◌<◌, ◌≤◌, ◌^◌, List, [], ◌∷◌, length}
+use Rattle.std.specs.Prelude.{if◌then◌else◌, Option, Some, None, codes, decimal}
 use Rattle.wirebase.specs.declared.capabilities.ChecksumCapabilities.{ChecksumCapabilities}
 use Rattle.wirebase.specs.Bytes.{byte_of}
+use Rattle.wirebase.specs.ByteWriter.{be32}
 use Rattle.wirebase.specs.Ipv4.{ihl_field, header_len_in}
 use Rattle.wirebase.specs.Display.{pieces}
 use Rattle.quote_wire.specs.declared.icmpv4_error.Kind.{Kind}
@@ -31,8 +32,8 @@ pub record IsDatagram (bytes : List ℕ) : Type 0 where
   pub header : 20 ≤ header_len_in bytes
   pub behind : header_len_in bytes + 8 ≤ length bytes
 
--- An error has at most 576 bytes with the 20 of its own IPv4 header (RFC 1812 section 4.3.2.3), and so it quotes at most
--- 548. No pseudo header counts in its checksum.
+-- An error has at most 576 bytes with the 20 of its own IPv4 header (RFC 1812 section 4.3.2.3), and so it quotes at
+-- most 548. No pseudo header counts in its checksum.
 abbrev pub protocol : ChecksumCapabilities → Protocol Kind
 protocol capabilities = record {
   number = kind_number;
@@ -52,6 +53,14 @@ told_mtu n = Some n
 
 abbrev pub next_hop_mtu_in : ErrorValue Kind → Option ℕ
 next_hop_mtu_in v = if kind_number v.kind == 3 then (if v.code == 4 then told_mtu (v.rest % 2 ^ 16) else None) else None
+
+-- the octets of the gateway's address that a redirect tells, and the place that a parameter problem tells, in the
+-- first byte
+abbrev pub gateway_in : ErrorValue Kind → Option (List ℕ)
+gateway_in v = if kind_number v.kind == 5 then Some (be32 v.rest) else None
+
+abbrev pub pointer_in : ErrorValue Kind → Option ℕ
+pointer_in v = if kind_number v.kind == 12 then Some (v.rest / 2 ^ 24) else None
 
 -- what a type prints, and what an error does
 abbrev pub kind_display : Kind → List ℕ

@@ -51,6 +51,10 @@ value_of repr = record { kind = repr.kind; code = repr.code; rest = repr.rest; q
 abbrev pub mtu_in : ErrorValue Kind → Option ℕ
 mtu_in v = if kind_number v.kind == 2 then Some v.rest else None
 
+-- the place that a parameter problem tells
+abbrev pub pointer_in : ErrorValue Kind → Option ℕ
+pointer_in v = if kind_number v.kind == 4 then Some v.rest else None
+
 -- what a type prints, and what an error does
 abbrev pub kind_display : Kind → List ℕ
 kind_display kind.DstUnreachable = codes "destination unreachable"

@@ -1,7 +1,9 @@
 pub mod Error
 pub mod Icmpv4Error
+pub mod Icmpv4Message
 pub mod Icmpv4Reason
 pub mod Icmpv6Error
+pub mod Icmpv6Message
 pub mod Icmpv6Reason
 pub mod Quote
 pub mod Reason

@@ -2,14 +2,16 @@
 
 ghost use Rattle.std.specs.Prelude.{◌≡◌, ◌≤◌, ◌<◌, ◌↔◌, ◌/◌, ◌^◌, length, min, take, IfOk, IsOkAnd, IfSome, IsTrue};
 ghost use Rattle.std.specs.Prelude.{Some};
+ghost use Rattle.std.specs.Option.{option_map};
 ghost use Rattle.wirebase.specs.Bytes.{over, Reaches};
 ghost use Rattle.wirebase.specs.ByteWriter.{fields};
 ghost use Rattle.wirebase.specs.Format.{Rewrites, SameText};
 ghost use Rattle.wirebase.specs.Icmp.{checksum_field, header};
+ghost use Rattle.wirebase.specs.Ipv4.{octets_of};
 ghost use Rattle.quote_wire.specs.Error.{ErrorValue, IsError, error_fields, text_len, packet_text};
 ghost use Rattle.quote_wire.specs.Error.{seal as sealed_octets, format, Emits};
 ghost use Rattle.quote_wire.specs.Icmpv4Error.{kind_number, IsDatagram, protocol, value_of};
-ghost use Rattle.quote_wire.specs.Icmpv4Error.{next_hop_mtu_in, kind_display, repr_display};
+ghost use Rattle.quote_wire.specs.Icmpv4Error.{next_hop_mtu_in, gateway_in, pointer_in, kind_display, repr_display};
 ghost use Rattle.quote_wire.specs.declared.icmpv4_error.Kind.{Kind as AnyKind};
 ghost use Rattle.wirebase.specs.declared.capabilities.ChecksumCapabilities.{ChecksumCapabilities as AnyCapabilities};
 
@@ -20,7 +22,7 @@ use super::field;
 use super::writing::write_error;
 pub use refusal::Refusal;
 use std::fmt;
-use wirebase::{ChecksumCapabilities, Error, Octets, Result, are_bytes, checksum};
+use wirebase::{ChecksumCapabilities, Error, Ipv4Address, Octets, Result, are_bytes, checksum};
 
 /// The bytes of a datagram that an error quotes at most: with the error's own headers they are 576, which every host
 /// takes (RFC 1812 section 4.3.2.3).
@@ -159,6 +161,27 @@ impl<'a> Repr<'a> {
         let mtu = (self.rest % (1 << 16)) as u16;
         match (self.kind, self.code) {
             (Kind::DstUnreachable, 4) if mtu != 0 => Some(mtu),
+            _ => None,
+        }
+    }
+
+    /// The address of the gateway that a redirect tells of (RFC 792). None for every other error.
+    pub fn gateway(&self) -> Option<Ipv4Address>
+        ensures { option_map octets_of result ≡ gateway_in (value_of self.now) }
+    {
+        match self.kind {
+            Kind::Redirect => Some(Ipv4Address::from_octets(self.rest.to_be_bytes())),
+            _ => None,
+        }
+    }
+
+    /// The place of the byte that a parameter problem is about, counted from the first byte of the quoted header on;
+    /// RFC 792 defines it where the code is 0. None for every other error.
+    pub fn pointer(&self) -> Option<u8>
+        ensures { result ≡ pointer_in (value_of self.now) }
+    {
+        match self.kind {
+            Kind::ParamProblem => Some((self.rest >> 24) as u8),
             _ => None,
         }
     }

@@ -11,7 +11,7 @@ ghost use Rattle.wirebase.specs.declared.ipv6.address.Ipv6Address.{Ipv6Address a
 ghost use Rattle.quote_wire.specs.Error.{ErrorValue, IsError, error_fields, text_len, packet_text};
 ghost use Rattle.quote_wire.specs.Error.{seal as sealed_octets, format, Emits};
 ghost use Rattle.quote_wire.specs.Icmpv6Error.{kind_number, IsPacketFront, protocol, extra_sum, value_of, mtu_in};
-ghost use Rattle.quote_wire.specs.Icmpv6Error.{kind_display, repr_display};
+ghost use Rattle.quote_wire.specs.Icmpv6Error.{pointer_in, kind_display, repr_display};
 ghost use Rattle.quote_wire.specs.declared.icmpv6_error.Kind.{Kind as AnyKind};
 
 mod reason;
@@ -169,6 +169,17 @@ impl<'a> Repr<'a> {
     {
         match self.kind {
             Kind::PktTooBig => Some(self.rest),
+            _ => None,
+        }
+    }
+
+    /// The place of the byte that a parameter problem is about, counted from the first byte of the quoted packet on; it
+    /// may be past what is quoted (RFC 4443 section 3.4). None for every other error.
+    pub fn pointer(&self) -> Option<u32>
+        ensures { result ≡ pointer_in (value_of self.now) }
+    {
+        match self.kind {
+            Kind::ParamProblem => Some(self.rest),
             _ => None,
         }
     }

@@ -1,8 +1,9 @@
 //! Why octets are no error (RFC 792).
 
-ghost use Rattle.std.specs.Prelude.{◌↔◌, IfSome, IsNone, Some};
-ghost use Rattle.quote_wire.specs.Error.{IsRead};
-ghost use Rattle.quote_wire.specs.Icmpv4Error.{protocol, Refuses, refusal_display};
+ghost use Rattle.std.specs.Prelude.{◌≡◌, ◌↔◌, IfOk, IfErr, IsOkAnd, IfSome, IsNone, Some};
+ghost use Rattle.quote_wire.specs.Error.{ErrorValue, IsError, IsRead};
+ghost use Rattle.quote_wire.specs.Icmpv4Error.{protocol, value_of, Refuses, refusal_display};
+ghost use Rattle.quote_wire.specs.declared.icmpv4_error.Kind.{Kind as AnyKind};
 
 use super::{Kind, Repr};
 use crate::quote::why_no_datagram;
@@ -23,16 +24,29 @@ pub enum Refusal {
     Quote(quote::Refusal),
 }
 
-impl Repr<'_> {
+impl<'a> Repr<'a> {
+    /// The error in the octets, or why [`Repr::parse`] refuses them, by the check that fails first.
+    pub fn parse_or_refusal(
+        octets: &'a [u8],
+        checksum_caps: &ChecksumCapabilities,
+    ) -> Result<Repr<'a>, Refusal>
+        ensures sound { IfOk result (λ repr. IsError (protocol checksum_caps.now) octets.now (value_of repr)) }
+        ensures complete { (value : ErrorValue AnyKind) → IsError (protocol checksum_caps.now) octets.now value
+            → IsOkAnd result (λ repr. value_of repr ≡ value) }
+        ensures told { IfErr result (Refuses (protocol checksum_caps.now) octets.now) }
+    {
+        match Repr::parse(octets, checksum_caps) {
+            Ok(repr) => Ok(repr),
+            Err(_) => Err(why(octets, checksum_caps)),
+        }
+    }
+
     /// Why [`Repr::parse`] refuses these octets, by the check that fails first; None exactly where it reads them.
     pub fn refusal(octets: &[u8], checksum_caps: &ChecksumCapabilities) -> Option<Refusal>
         ensures told { IfSome result (Refuses (protocol checksum_caps.now) octets.now) }
         ensures exact { IsNone result ↔ IsRead (protocol checksum_caps.now) octets.now }
     {
-        match Repr::parse(octets, checksum_caps) {
-            Ok(_) => None,
-            Err(_) => Some(why(octets, checksum_caps)),
-        }
+        Repr::parse_or_refusal(octets, checksum_caps).err()
     }
 }
 

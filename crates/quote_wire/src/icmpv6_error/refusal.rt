@@ -1,8 +1,9 @@
 //! Why octets are no error (RFC 4443 section 3).
 
-ghost use Rattle.std.specs.Prelude.{◌↔◌, IfSome, IsNone, Some};
-ghost use Rattle.quote_wire.specs.Error.{IsRead};
-ghost use Rattle.quote_wire.specs.Icmpv6Error.{protocol, Refuses, refusal_display};
+ghost use Rattle.std.specs.Prelude.{◌≡◌, ◌↔◌, IfOk, IfErr, IsOkAnd, IfSome, IsNone, Some};
+ghost use Rattle.quote_wire.specs.Error.{ErrorValue, IsError, IsRead};
+ghost use Rattle.quote_wire.specs.Icmpv6Error.{protocol, value_of, Refuses, refusal_display};
+ghost use Rattle.quote_wire.specs.declared.icmpv6_error.Kind.{Kind as AnyKind};
 
 use super::{Kind, Repr, is_good};
 use crate::quote::why_no_packet;
@@ -23,7 +24,29 @@ pub enum Refusal {
     Quote(quote::Refusal),
 }
 
-impl Repr<'_> {
+impl<'a> Repr<'a> {
+    /// The error in the octets of a message from `src_addr` to `dst_addr`, or why [`Repr::parse`] refuses them, by the
+    /// check that fails first.
+    pub fn parse_or_refusal(
+        src_addr: &Ipv6Address,
+        dst_addr: &Ipv6Address,
+        octets: &'a [u8],
+        checksum_caps: &ChecksumCapabilities,
+    ) -> Result<Repr<'a>, Refusal>
+        ensures sound { IfOk result (λ repr.
+            IsError (protocol src_addr.now dst_addr.now checksum_caps.now) octets.now (value_of repr)) }
+        ensures complete { (value : ErrorValue AnyKind)
+            → IsError (protocol src_addr.now dst_addr.now checksum_caps.now) octets.now value
+            → IsOkAnd result (λ repr. value_of repr ≡ value) }
+        ensures told { IfErr result
+            (Refuses (protocol src_addr.now dst_addr.now checksum_caps.now) octets.now) }
+    {
+        match Repr::parse(src_addr, dst_addr, octets, checksum_caps) {
+            Ok(repr) => Ok(repr),
+            Err(_) => Err(why(src_addr, dst_addr, octets, checksum_caps)),
+        }
+    }
+
     /// Why [`Repr::parse`] refuses these octets, by the check that fails first; None exactly where it reads them.
     pub fn refusal(
         src_addr: &Ipv6Address,
@@ -36,10 +59,7 @@ impl Repr<'_> {
         ensures exact { IsNone result
             ↔ IsRead (protocol src_addr.now dst_addr.now checksum_caps.now) octets.now }
     {
-        match Repr::parse(src_addr, dst_addr, octets, checksum_caps) {
-            Ok(_) => None,
-            Err(_) => Some(why(src_addr, dst_addr, octets, checksum_caps)),
-        }
+        Repr::parse_or_refusal(src_addr, dst_addr, octets, checksum_caps).err()
     }
 }
 

@@ -5,4 +5,5 @@ use Rattle.quote_wire.proofs.icmpv6_error.Repr.buffer_len.Goals as goal
 
 pub returns-clause-exact : goal.returns-clause-exact
 returns-clause-exact c = λ source destination capabilities.
-    omega (arith, c.quotable.ensures.len, length-packet_text (protocol source destination capabilities) (value_of c.args.self.now))
+    let p = protocol source destination capabilities in
+    omega (arith, c.quotable.ensures.len, length-packet_text p (value_of c.args.self.now))
