@@ -1,6 +1,6 @@
 -- How options end, by what stands at the front of them.
 use Rattle.std.proofs.Common.{◌≡◌, ◌≢◌, ℕ, ◌≤◌, ◌<◌, List, [], ◌∷◌, ◌++◌, length, take, drop, Option, None, Some}
-use Rattle.std.proofs.Common.{refl, sym, ap, subst, ◌∙◌, arith}
+use Rattle.std.proofs.Common.{refl, sym, ap, subst, ◌∙◌, arith, ◌↔◌, IsNone, IsSome}
 use Rattle.std.specs.Prelude.{Result, Ok, Err, OnOk, OnErr, is_err, is_some, true, false}
 use Rattle.std.proofs.lemmas.List.{take-append-drop, length-take-le}
 use Rattle.dhcp_wire.specs.Dhcpv4Options.{option}
@@ -60,3 +60,8 @@ when-some (Some x) e = (x, refl)
 pub when-none : {A : Type 0} (o : Option A) → is_some o ≡ false → o ≡ None
 when-none None e = refl
 when-none (Some x) e = cc
+
+-- a reason is told of what is not read
+pub told_some : {A P : Type 0} (reason : Option A) → (IsNone reason ↔ P) → (P → ⊥) → IsSome reason
+told_some (Some x) exact refused = refl
+told_some None exact refused = absurd (refused (exact.0 refl))

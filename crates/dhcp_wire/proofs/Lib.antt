@@ -12,3 +12,4 @@ pub mod Dhcpv4Reading
 pub mod Dhcpv4Canonical
 pub mod Dhcpv4Laws
 pub mod Dhcpv4Refusal
+pub mod Dhcpv4OptionAddresses

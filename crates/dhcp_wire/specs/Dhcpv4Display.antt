@@ -1,6 +1,7 @@
 -- What packets of DHCP and their parts print.
 use Rattle.std.specs.Prelude.{ℕ, Bool, true, false, List, [], ◌∷◌, ◌++◌, codes, decimal, length, flat_map}
 use Rattle.std.specs.Prelude.{Option, None, Some, ◌==◌, if◌then◌else◌}
+use Rattle.std.specs.Int.RustNames.{bit_and}
 use Rattle.std.specs.Option.{option_map}
 use Rattle.wirebase.specs.Ethernet.{Ethernet, hex_colons}
 use Rattle.wirebase.specs.Ethernet.{octets_of as ethernet_octets}
@@ -11,7 +12,6 @@ use Rattle.dhcp_wire.specs.declared.dhcpv4.tables.MessageType.TheVariants as mes
 use Rattle.dhcp_wire.specs.declared.dhcpv4.tables.OpCode.{OpCode}
 use Rattle.dhcp_wire.specs.declared.dhcpv4.tables.OpCode.TheVariants as opcode
 use Rattle.dhcp_wire.specs.Dhcpv4.{Value}
-use Rattle.dhcp_wire.specs.Dhcpv4Options.{OptionValue}
 
 -- a number that has no name
 abbrev pub unknown_display : ℕ → List ℕ
@@ -35,9 +35,9 @@ message_display message.Release = codes "RELEASE"
 message_display message.Inform = codes "INFORM"
 message_display (message.Unknown n) = unknown_display n
 
--- an option by its number and the bytes of its data
-abbrev pub option_display : OptionValue → List ℕ
-option_display o = pieces (codes "option " ∷ decimal o.kind ∷ codes " len=" ∷ decimal (length o.body) ∷ [])
+-- the flag that has a name (RFC 2131 section 2), or a line where it is not set
+abbrev pub flags_display : ℕ → List ℕ
+flags_display flags = if bit_and flags 0x8000 == 0 then codes "-" else codes "broadcast"
 
 -- ---- a packet
 

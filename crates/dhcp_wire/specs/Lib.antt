@@ -9,3 +9,6 @@ pub mod Dhcpv4Format
 pub mod Dhcpv4Emission
 pub mod Dhcpv4Display
 pub mod Dhcpv4Refusal
+pub mod Dhcpv4OptionTable
+pub mod Dhcpv4OptionValue
+pub mod Dhcpv4OptionDisplay

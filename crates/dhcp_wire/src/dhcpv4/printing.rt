@@ -1,4 +1,4 @@
-//! Packets and options as texts.
+//! Packets as texts.
 
 ghost use Rattle.std.specs.Prelude.{◌++◌, Some, codes, decimal, flat_map};
 ghost use Rattle.std.specs.Option.{option_map};
@@ -8,22 +8,11 @@ ghost use Rattle.dhcp_wire.specs.Dhcpv4.{value_of};
 ghost use Rattle.dhcp_wire.specs.Dhcpv4Display.{repr_display, fixed_display, exchange_display, hosts_display};
 ghost use Rattle.dhcp_wire.specs.Dhcpv4Display.{networks_display, lists_display, requests_display, servers_display};
 ghost use Rattle.dhcp_wire.specs.Dhcpv4Display.{numbers_display, times_display, count_display};
-ghost use Rattle.dhcp_wire.specs.Dhcpv4Display.{option_display, named, commas, ethernet_text};
-ghost use Rattle.dhcp_wire.specs.Dhcpv4Options.{value_of_option};
+ghost use Rattle.dhcp_wire.specs.Dhcpv4Display.{named, commas, ethernet_text};
 
-use super::options::DhcpOption;
 use super::repr::Repr;
 use std::fmt;
 use wirebase::{EthernetAddress, Ipv4Address};
-
-/// The kind and the number of bytes of the data, as `option 53 len=1`.
-impl fmt::Display for DhcpOption<'_> {
-    ghost output = { λ option. Some (option_display (value_of_option option)) };
-
-    fn fmt<W: fmt::Write>(&self, f: &mut fmt::Formatter<W>) -> fmt::Result {
-        write!(f, "option {} len={}", self.kind, self.data.len())
-    }
-}
 
 /// The type of the message, and each field by its name, as `DHCPv4 DISCOVER xid=1 secs=0 ..`; an option that is not
 /// there is left out.
@@ -201,7 +190,7 @@ impl fmt::Display for NamedNumber<'_> {
 
 // Kinds of option, with commas between them.
 #[derive(Clone, Copy)]
-struct Kinds<'a>(&'a [u8]);
+pub(super) struct Kinds<'a>(pub(super) &'a [u8]);
 
 impl fmt::Display for Kinds<'_> {
     ghost output = { λ kinds. Some (commas decimal kinds.0.now) };

@@ -1,10 +1,11 @@
 //! Why octets are refused.
 
-ghost use Rattle.std.specs.Prelude.{◌≡◌, ◌↔◌, Some, None, List, IfSome, IsNone};
+ghost use Rattle.std.specs.Prelude.{◌≡◌, ◌↔◌, Some, None, List, IfSome, IsNone, IfOk, IfErr, IsOkAnd};
 ghost use Rattle.std.specs.Option.{option_map};
 ghost use Rattle.wirebase.specs.Bytes.{byte_of};
 ghost use Rattle.wirebase.specs.LastOf.{last_of};
-ghost use Rattle.dhcp_wire.specs.Dhcpv4.{said, type_in, IsOfEthernet, AreOfEthernet, HasHeader};
+ghost use Rattle.dhcp_wire.specs.Dhcpv4.{Value, value_of, said, type_in, IsOfEthernet, AreOfEthernet, HasHeader};
+ghost use Rattle.dhcp_wire.specs.Dhcpv4.{IsPacket};
 ghost use Rattle.dhcp_wire.specs.Dhcpv4Options.{value_of_option};
 ghost use Rattle.dhcp_wire.specs.Dhcpv4OptionsAhead.{list_of};
 ghost use Rattle.dhcp_wire.specs.Dhcpv4Packet.{inner, op_field, options_in};
@@ -90,6 +91,20 @@ impl<'a> Repr<'a> {
             return None;
         }
         Some(type_refusal(packet))
+    }
+
+    /// What a packet says, as [`Repr::parse`] reads it, or else why it refuses it, as [`Repr::refusal`] tells it: the
+    /// check that fails first.
+    pub fn parse_or_refusal(packet: &Packet<&'a [u8]>) -> std::result::Result<Repr<'a>, Refusal>
+        ensures sound { IfOk result (λ repr. IsPacket (inner packet.now).now (value_of repr)) }
+        ensures complete { (value : Value) → IsPacket (inner packet.now).now value
+            → IsOkAnd result (λ repr. value_of repr ≡ value) }
+        ensures told { IfErr result (λ refusal. Refuses (inner packet.now).now refusal) }
+    {
+        match Repr::parse(packet) {
+            Ok(repr) => Ok(repr),
+            Err(_) => Err(Repr::refusal(packet).unwrap()),
+        }
     }
 }
 

@@ -4,11 +4,11 @@ ghost use Rattle.std.specs.Prelude.{⊤, ◌≡◌, Some, map};
 ghost use Rattle.std.specs.Int.RustNames.{bit_and, bit_or, bit_xor};
 ghost use Rattle.bitflags.specs.Sets.{without};
 ghost use Rattle.wirebase.specs.Numbered.{IsProper, IsTable};
-ghost use Rattle.dhcp_wire.specs.Dhcpv4Display.{opcode_display, message_display};
+ghost use Rattle.dhcp_wire.specs.Dhcpv4Display.{opcode_display, message_display, flags_display};
 ghost use Rattle.dhcp_wire.specs.Dhcpv4Tables.{opcode_number, opcode_rows, opcode_of, message_number, message_rows};
 ghost use Rattle.dhcp_wire.specs.Dhcpv4Tables.{message_of, operation_of, flag_table, flag_bits};
 
-use bitflags::Flag;
+use bitflags::{Flag, Flags as _};
 use std::fmt;
 use std::ops::{BitAnd, BitOr, BitXor, Not, Sub};
 
@@ -191,6 +191,18 @@ impl Flags {
         name: "BROADCAST",
         value: Flags::BROADCAST,
     }];
+}
+
+/// `broadcast` where the answer is to be sent to everyone, and else `-`. Bits that have no name are not told.
+impl fmt::Display for Flags {
+    ghost output = { λ flags. Some (flags_display flags.0) };
+
+    fn fmt<W: fmt::Write>(&self, f: &mut fmt::Formatter<W>) -> fmt::Result {
+        if self.bits() & 0x8000 == 0 {
+            return f.write_str("-");
+        }
+        f.write_str("broadcast")
+    }
 }
 
 impl bitflags::Flags for Flags {

@@ -85,6 +85,8 @@ fn why_headers_are_refused(rt: HostRuntime) {
             set(octets.as_mut_slice(), place, byte);
         }
         same_of(&rt, bytes, told(octets.as_slice()), Some(wanted));
+        let read = Repr::parse_or_refusal(&Packet::new_unchecked(octets.as_slice()));
+        same_of(&rt, bytes, read.err(), Some(wanted));
     }
     same(&rt, told(&[1; 239]), Some(Refusal::Short));
     same(&rt, told(&[]), Some(Refusal::Short));

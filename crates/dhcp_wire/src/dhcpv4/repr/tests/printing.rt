@@ -1,6 +1,7 @@
 use super::{bare, five_servers, with_options};
-use crate::dhcpv4::{DhcpOption, MessageType, OpCode};
+use crate::dhcpv4::{DhcpOption, Flags, MessageType, OpCode};
 use crate::testing::{prints, prints_each, takes_writes};
+use bitflags::Flags as _;
 use wirebase::{EthernetAddress, Ipv4Address};
 
 #[test]
@@ -85,7 +86,15 @@ fn types_operations_and_options(rt: HostRuntime) {
     };
     prints_each::<MessageType>(&rt, rt.alloc(), TYPES);
     prints_each::<OpCode>(&rt, rt.alloc(), OPERATIONS);
-    prints(&rt, rt.alloc(), &OPTION, "option 53 len=1");
+    prints(&rt, rt.alloc(), &OPTION, "message-type=DISCOVER");
+    prints(&rt, rt.alloc(), &Flags::BROADCAST, "broadcast");
+    prints(
+        &rt,
+        rt.alloc(),
+        &Flags::from_bits_retain(0xffff),
+        "broadcast",
+    );
+    prints(&rt, rt.alloc(), &Flags::from_bits_retain(0x7fff), "-");
 }
 
 #[test]

@@ -1,0 +1,6 @@
+-- What is not read has a reason.
+use Rattle.dhcp_wire.proofs.Dhcpv4Refusal.{told_some}
+use Rattle.dhcp_wire.proofs.dhcpv4.repr.Repr.parse_or_refusal.Goals as goal
+
+pub unwrap-requires : goal.unwrap-requires
+unwrap-requires c = told_some _ c.refusal.ensures.exact (λ read. c.in-Err.ensures.complete read.0 read.1)

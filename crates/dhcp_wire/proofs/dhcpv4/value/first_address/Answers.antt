@@ -1,0 +1,18 @@
+-- The address at the front.
+use Rattle.std.proofs.Common.{◌≡◌, ℕ, ◌∷◌, List, drop, ap, sym, ◌∙◌, rules, arith, length, ◌<◌, length-drop}
+use Rattle.std.proofs.lemmas.Grind.{common_steps}
+use Rattle.wirebase.specs.declared.ipv4.Ipv4Address.{Ipv4Address}
+use Rattle.dhcp_wire.specs.Dhcpv4OptionValue.{addresses_in, first_address}
+use Rattle.dhcp_wire.proofs.Dhcpv4OptionAddresses.{addresses_short, addresses_more}
+use Rattle.dhcp_wire.proofs.dhcpv4.value.first_address.Goals as goal
+
+pub returns-then-octets-lt4-clause-none : goal.returns-then-octets-lt4-clause-none
+returns-then-octets-lt4-clause-none c = λ _. addresses_short c.args.octets.now c.if-octets-lt4.true
+
+pub returns-clause-some : goal.returns-clause-some
+returns-clause-some c =
+    let octets = c.args.octets.now in
+    let first : first_address octets ≡ c.new-address.result = first_of (search rules, grind (arith, common_steps)) in
+    addresses_more octets c.if-octets-lt4.false
+    ∙ (ap (λ (a : Ipv4Address). a ∷ addresses_in (drop 4 octets)) first
+    ∙ ap (λ (rest : List ℕ). c.new-address.result ∷ addresses_in rest) (sym c.past_address.ensures))
