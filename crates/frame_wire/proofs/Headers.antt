@@ -2,7 +2,7 @@
 use Rattle.std.proofs.Common.{◌≡◌, ℕ, List, drop, slice_index, Option, subst}
 use Rattle.wirebase.specs.Ip.{protocol_of}
 use Rattle.wirebase.specs.declared.ip.IpProtocol.{IpProtocol}
-use Rattle.frame_wire.specs.Datagram.{IsExtension, HasExtension, extension_end, options_of, Routes, Passes, past}
+use Rattle.frame_wire.specs.Datagram.{EndsAt, options_of, Routes, Passes, past}
 
 -- what the headers pass from here on, they pass from the first on
 pub record SoFar (first_ : IpProtocol) (all start : List ℕ) (p : IpProtocol) (rest destination : List ℕ) : Type 0 where
@@ -13,13 +13,12 @@ pub so_far-init : (p : IpProtocol) (all start : List ℕ) → SoFar p all start 
 so_far-init p all start = record { passes = λ q payload final h. h }
 
 pub so_far-more : (first_ : IpProtocol) (all start : List ℕ) (p : IpProtocol) (rest destination : List ℕ)
-    (q : IpProtocol)
-    (behind next : List ℕ) → SoFar first_ all start p rest destination → IsExtension p → HasExtension rest
-    → Routes p rest destination next → q ≡ protocol_of (slice_index rest 0) → behind ≡ drop (extension_end rest) rest
-    → SoFar first_ all start q behind next
-so_far-more first_ all start p rest destination q behind next so is there routes e b = record {
+    (q : IpProtocol) (behind next : List ℕ) (end : ℕ) → SoFar first_ all start p rest destination
+    → EndsAt p rest end → Routes p rest destination next → q ≡ protocol_of (slice_index rest 0)
+    → behind ≡ drop end rest → SoFar first_ all start q behind next
+so_far-more first_ all start p rest destination q behind next end so ends routes e b = record {
   passes = λ u payload final h.
-      so.passes u payload final (past next is there routes
+      so.passes u payload final (past end next ends routes
       (subst (λ l. Passes (protocol_of (slice_index rest 0)) l next u payload final) b
       (subst (λ x. Passes x behind next u payload final) e h)));
 }

@@ -1,3 +1,4 @@
 pub mod Headers
+pub mod TagLists
 pub mod Tags
 pub mod Witnesses

@@ -1,6 +1,6 @@
 -- What is read, and what is cut, behind the header of a link.
 use Rattle.std.proofs.Common.{◌≡◌, ◌≢◌, ℕ, ◌+◌, ◌-◌, ◌≤◌, ◌⊎◌, List, length, drop, refl, sym, subst, ◌∙◌, arith}
-use Rattle.std.proofs.Common.{Bool, true, false}
+use Rattle.std.proofs.Common.{Bool, true, false, ◌↔◌, Option, None, Some, IsNone, IsSome}
 use Rattle.byteorder.specs.Endian.{big_number}
 use Rattle.wirebase.specs.Bytes.{field, part, number_of}
 use Rattle.wirebase.specs.Capabilities.{is_verified}
@@ -62,3 +62,8 @@ ports_read capabilities addresses bytes whole port checksum = (
   record { src_port = number_of src_port_field bytes; dst_port = number_of dst_port_field bytes },
   record { whole = whole; source = refl; destination = refl; port = port; checksum = checksum },
 )
+
+-- a reason is told of what is not read
+pub told_some : {A P : Type 0} (reason : Option A) → (IsNone reason ↔ P) → (P → ⊥) → IsSome reason
+told_some (Some x) exact refused = refl
+told_some None exact refused = absurd (refused (exact.0 refl))

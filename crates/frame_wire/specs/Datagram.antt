@@ -109,6 +109,23 @@ pub record HasExtension (bytes : List ℕ) : Type 0 where
   pub least : 8 ≤ length bytes
   pub whole : extension_end bytes ≤ length bytes
 
+-- The bytes begin with the header of a fragment that is a whole datagram by itself, an atomic one (RFC 6946 section 2):
+-- at offset 0, and with no more fragments. The offset has the upper 13 bits of two bytes, and the lowest bit is set
+-- where more fragments follow (RFC 8200 section 4.5).
+pub record HasAtomic (bytes : List ℕ) : Type 0 where
+  pub whole : 8 ≤ length bytes
+  pub offset : number_of (field 2 4) bytes / 8 ≡ 0
+  pub last : number_of (field 2 4) bytes % 2 ≡ 0
+
+-- a header that is passed
+abbrev pub IsPassed : IpProtocol → List ℕ → Type 0
+IsPassed p bytes = IsExtension p ⊎ ((p ≡ Ipv6Frag) × HasAtomic bytes)
+
+-- where it ends
+pub data EndsAt (p : IpProtocol) (bytes : List ℕ) (end : ℕ) : Type 0 where
+  extension : IsExtension p → HasExtension bytes → end ≡ extension_end bytes → EndsAt p bytes end
+  atomic : p ≡ Ipv6Frag → HasAtomic bytes → end ≡ 8 → EndsAt p bytes end
+
 -- the options of a hop-by-hop header, behind its first two bytes (RFC 8200 section 4.3); other headers have none
 abbrev pub options_of : IpProtocol → List ℕ → Option (List ℕ)
 options_of HopByHop header = Some (part header 2 (extension_end header))
@@ -134,9 +151,9 @@ pub data Routes (p : IpProtocol) (header destination next : List ℕ) : Type 0 w
 pub data Passes : IpProtocol → List ℕ → List ℕ → IpProtocol → List ℕ → List ℕ → Type 0 where
   here : {p : IpProtocol} {bytes destination : List ℕ} {q : IpProtocol} {rest final : List ℕ}
       → q ≡ p → rest ≡ bytes → final ≡ destination → Passes p bytes destination q rest final
-  past : {p : IpProtocol} {bytes destination : List ℕ} {q : IpProtocol} {rest final : List ℕ} (next : List ℕ)
-      → IsExtension p → HasExtension bytes → Routes p bytes destination next
-      → Passes (protocol_of (slice_index bytes 0)) (drop (extension_end bytes) bytes) next q rest final
+  past : {p : IpProtocol} {bytes destination : List ℕ} {q : IpProtocol} {rest final : List ℕ} (end : ℕ)
+      (next : List ℕ) → EndsAt p bytes end → Routes p bytes destination next
+      → Passes (protocol_of (slice_index bytes 0)) (drop end bytes) next q rest final
       → Passes p bytes destination q rest final
 
 -- a header that is not whole: one of those that are passed, or that of a fragment, which has eight bytes
@@ -194,8 +211,9 @@ pub record IsHead6 (bytes : List ℕ) (h : Head) : Type 0 where
   pub frag_offset_ : h.frag_offset ≡ 0
   pub more_frags_ : h.more_frags ≡ false
 
--- The headers lead to that of a fragment (RFC 8200 section 4.5): the protocol behind it, a reserved byte, the offset
--- in the upper 13 bits of two bytes, of which the lowest is set where more fragments follow, and the identification.
+-- The headers lead to that of a fragment that is not atomic (RFC 8200 section 4.5): the protocol behind it, a reserved
+-- byte, the offset in the upper 13 bits of two bytes, of which the lowest is set where more fragments follow, and the
+-- identification.
 pub record IsFragment6 (bytes behind : List ℕ) (h : Head) : Type 0 where
   pub source : Ipv6Address
   pub destination : Ipv6Address
@@ -203,6 +221,7 @@ pub record IsFragment6 (bytes behind : List ℕ) (h : Head) : Type 0 where
   pub passes_ : Passes (next_header_in bytes) behind (bytes_of ipv6.dst_addr_field bytes) Ipv6Frag header
       (octets_of destination)
   pub whole : 8 ≤ length header
+  pub no_atomic : HasAtomic header → ⊥
   pub source_ : octets_of source ≡ bytes_of ipv6.src_addr_field bytes
   pub addresses_ : h.addresses ≡ V6 source destination
   pub protocol_ : h.protocol ≡ protocol_of (slice_index header 0)

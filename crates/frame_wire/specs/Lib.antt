@@ -4,6 +4,9 @@ pub mod Datagram
 pub mod DatagramDisplay
 pub mod Link
 pub mod LinkDisplay
+pub mod LinkEthernet
 pub mod LinkRefusal
+pub mod LinkVlans
 pub mod Udp
+pub mod UdpCaptured
 pub mod UdpRefusal

@@ -6,8 +6,8 @@ use Rattle.frame_wire.specs.declared.link.Link.{Link}
 use Rattle.frame_wire.specs.declared.link.Link.TheVariants as link
 use Rattle.frame_wire.specs.declared.link.Network.{Network}
 use Rattle.frame_wire.specs.declared.link.Network.TheVariants as network
-use Rattle.frame_wire.specs.declared.link.Refusal.{Refusal}
-use Rattle.frame_wire.specs.declared.link.Refusal.TheVariants as refusal
+use Rattle.frame_wire.specs.declared.link.refusal.Refusal.{Refusal}
+use Rattle.frame_wire.specs.declared.link.refusal.Refusal.TheVariants as refusal
 
 -- a link by its name in the registry of link types, without LINKTYPE_
 abbrev pub link_display : Link → List ℕ

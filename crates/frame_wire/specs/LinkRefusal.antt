@@ -4,9 +4,9 @@ use Rattle.wirebase.specs.Bytes.{field, number_of}
 use Rattle.frame_wire.specs.Link.{FrameValue, TypedValue, IsTagType, IsTagged, HasAddress, IsSession, IsFrame}
 use Rattle.frame_wire.specs.declared.link.Link.{Link}
 use Rattle.frame_wire.specs.declared.link.Link.TheVariants.{Null, Ethernet, Ppp, PppEther, Raw, LinuxSll, LinuxSll2}
-use Rattle.frame_wire.specs.declared.link.Refusal.{Refusal}
-use Rattle.frame_wire.specs.declared.link.Refusal.TheVariants.{Short, Tag, Protocol, SessionVersion, SessionType}
-use Rattle.frame_wire.specs.declared.link.Refusal.TheVariants.{SessionCode}
+use Rattle.frame_wire.specs.declared.link.refusal.Refusal.{Refusal}
+use Rattle.frame_wire.specs.declared.link.refusal.Refusal.TheVariants.{Short, Tag, Protocol, SessionVersion}
+use Rattle.frame_wire.specs.declared.link.refusal.Refusal.TheVariants.{SessionType, SessionCode}
 
 -- the bytes are a frame of a link
 abbrev pub IsRead : Link → List ℕ → Type 0

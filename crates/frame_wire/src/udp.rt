@@ -1,6 +1,7 @@
 //! UDP datagrams (RFC 768).
 
-ghost use Rattle.std.specs.Prelude.{◌≡◌, ◌≤◌, ◌↔◌, ◌⊎◌, ℕ, List, length, IsTrue, IsOk, IfOk, IsOkAnd, IfSome, IsNone};
+ghost use Rattle.std.specs.Prelude.{◌≡◌, ◌≤◌, ◌↔◌, ◌⊎◌, ℕ, List, length, IsTrue, IsOk, IfOk, IfErr, IsOkAnd};
+ghost use Rattle.std.specs.Prelude.{IfSome, IsNone};
 ghost use Rattle.std.specs.Borrow.{sem, Lends, Array, u8 as byte};
 ghost use Rattle.byteorder.specs.Endian.{big_bytes};
 ghost use Rattle.wirebase.specs.Bytes.{Reaches, bytes_of, number_of, splice};
@@ -15,7 +16,10 @@ ghost use Rattle.frame_wire.specs.declared.udp.UdpRepr.{UdpRepr as AnUdpRepr};
 use crate::datagram::Addresses;
 use wirebase::{ChecksumCapabilities, Error, IpProtocol, Octets, OctetsMut, Result, checksum};
 
+mod captured;
 mod display;
+
+pub use captured::CapturedUdp;
 
 // The fields; their picture is in specs/Udp.antt.
 mod field {
@@ -329,6 +333,25 @@ impl UdpRepr {
             return Some(Refusal::NoChecksum);
         }
         Some(Refusal::Checksum)
+    }
+
+    /// The ports of the datagram at the front of the octets, as [`UdpRepr::parse`] reads them, or else why it refuses
+    /// them, as [`UdpRepr::refusal`] tells it: the check that fails first.
+    pub fn parse_or_refusal(
+        packet: &UdpPacket<&[u8]>,
+        addresses: &Addresses,
+        checksum_caps: &ChecksumCapabilities,
+    ) -> std::result::Result<UdpRepr, Refusal>
+        ensures sound { IfOk result (λ repr. IsDatagram checksum_caps.now addresses.now (view_octets packet.now) repr) }
+        ensures complete { (r : AnUdpRepr) → IsDatagram checksum_caps.now addresses.now (view_octets packet.now) r
+            → IsOkAnd result (λ repr. repr ≡ r) }
+        ensures told { IfErr result (λ refusal. Refuses checksum_caps.now addresses.now (view_octets packet.now)
+            refusal) }
+    {
+        match UdpRepr::parse(packet, addresses, checksum_caps) {
+            Ok(repr) => Ok(repr),
+            Err(_) => Err(UdpRepr::refusal(packet, addresses, checksum_caps).unwrap()),
+        }
     }
 
     /// The bytes of the header: 8.

@@ -19,6 +19,7 @@ returns c =
           subst (λ p. Passes (next_header_in octets) c.args.behind.now (bytes_of dst_addr_field octets) p
           upper.payload.now (octets_of upper.dst_addr)) c.requires.fragment c.requires.passes;
       whole = first_of (search rules, omega arith);
+      no_atomic = c.requires.no_atomic;
       source_ = first_of (search rules, grind (arith, common_steps));
       addresses_ = refl;
       protocol_ = first_of (search rules, grind (arith, common_steps));

@@ -2,28 +2,22 @@
 use Rattle.std.proofs.Common.{refl, inl}
 use Rattle.frame_wire.specs.Datagram.{here}
 use Rattle.frame_wire.proofs.Headers.{so_far-init, so_far-more}
-use Rattle.frame_wire.proofs.Tags.{told, told_not}
 use Rattle.frame_wire.proofs.datagram.pass_headers.Goals as goal
 
 pub headers-init : goal.headers-init
 headers-init c = so_far-init _ _ _
 
-pub returns-then-not-has_extension-clause-torn : goal.returns-then-not-has_extension-clause-torn
-returns-then-not-has_extension-clause-torn c = record {
+pub returns-in_default-clause-torn : goal.returns-in_default-clause-torn
+returns-in_default-clause-torn c = record {
   rest = _;
   final = _;
   passes_ = c.headers.invariant.passes _ _ _ (here refl refl refl);
-  torn =
-      inl (
-        told _ c.is_extension.ensures c.headers-test.true,
-        told_not _ c.has_extension.ensures c.if-not-has_extension.true,
-      );
+  torn = inl (c.in_default.ensures.torn refl);
 }
 
 pub headers-preserved : goal.headers-preserved
 headers-preserved c =
-    so_far-more _ _ _ _ _ _ _ _ _ c.headers.invariant (told _ c.is_extension.ensures c.headers-test.true)
-    (told _ c.has_extension.ensures c.if-not-has_extension.false) c.behind_header-dst_addr.ensures
+    so_far-more _ _ _ _ _ _ _ _ _ _ c.headers.invariant c.in-Some.ensures.ends c.behind_header-dst_addr.ensures
     c.from-protocol.ensures.value c.behind-rest.ensures
 
 pub returns-clause-passes : goal.returns-clause-passes

@@ -1,5 +1,5 @@
 -- The fixed header is read, and what the others lead to.
-use Rattle.std.proofs.Common.{◌≡◌, rules, refl, arith}
+use Rattle.std.proofs.Common.{◌≡◌, rules, refl, arith, inl}
 use Rattle.std.proofs.lemmas.Grind.{common_steps}
 use Rattle.wirebase.specs.Bytes.{bytes_of}
 use Rattle.wirebase.specs.Ipv6.{dst_addr_field}
@@ -24,6 +24,6 @@ returns-clause-sound c =
       hop_limit_ = first_of (search rules, grind (arith, common_steps));
       hop_by_hop_ = options_at _ _ _ _ _ protocol refl c.options_of.ensures;
       passes_ = passes_at _ _ _ _ _ _ _ _ _ protocol refl destination c.in-Ok.ensures.passes;
-      passed = c.in-Ok.ensures.passed;
+      passed = λ is. c.in-Ok.ensures.passed (inl is);
       unfragmented = told_not _ c.is_fragment.ensures c.if-is_fragment.false;
     }

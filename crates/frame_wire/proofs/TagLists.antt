@@ -1,0 +1,28 @@
+-- The VLAN tags that stand in bytes.
+use Rattle.std.proofs.Common.{◌≡◌, ℕ, ◌≤◌, ◌<◌, List, [], ◌∷◌, length, drop, slice_index, Some, refl, ap, arith}
+use Rattle.std.specs.Iterator.{MakesProgress, at_most}
+use Rattle.frame_wire.specs.LinkVlans.{tags_in, tag_of}
+use Rattle.frame_wire.specs.declared.link.vlans.VlanTag.{VlanTag}
+
+pub tags_short : (bytes : List ℕ) → length bytes < 4 → tags_in bytes ≡ []
+unfolding tags_in
+tags_short [] short = refl
+tags_short (a ∷ []) short = refl
+tags_short (a ∷ b ∷ []) short = refl
+tags_short (a ∷ b ∷ c ∷ []) short = refl
+tags_short (a ∷ b ∷ c ∷ d ∷ rest) short = absurd (omega (arith, short))
+
+pub tags_more : (bytes : List ℕ) → 4 ≤ length bytes
+    → tags_in bytes ≡ tag_of (slice_index bytes 0) (slice_index bytes 1) ∷ tags_in (drop 4 bytes)
+unfolding tags_in
+tags_more [] long = absurd (omega (arith, long))
+tags_more (a ∷ []) long = absurd (omega (arith, long))
+tags_more (a ∷ b ∷ []) long = absurd (omega (arith, long))
+tags_more (a ∷ b ∷ c ∷ []) long = absurd (omega (arith, long))
+tags_more (a ∷ b ∷ c ∷ d ∷ rest) long = refl
+
+pub tag_progress : (old new : List VlanTag) (tag : VlanTag) → old ≡ tag ∷ new
+    → MakesProgress {S = List VlanTag} {A = VlanTag} (λ _. Unit {0}) (λ tags. at_most (length tags)) old (Some tag) new
+tag_progress old new tag e =
+    let fewer : length new < length old = omega (arith, ap length e) in
+    record { on = λ _. (tt, tt, fewer); keeps = tt; rests = λ _. tt }

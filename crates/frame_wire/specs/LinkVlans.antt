@@ -1,0 +1,32 @@
+-- The VLAN tags of a frame (IEEE 802.1Q clause 9.6): four bytes each, of which the first two have a priority of three
+-- bits, a bit for frames that may be dropped first, and the number of the VLAN in twelve bits; the others are the type
+-- of what is behind the tag.
+--
+--  0                   1
+--  0 1 2 3 4 5 6 7 8 9 0 1 2 3 4 5
+-- +-----+-+-----------------------+
+-- | PCP |D|          VID          |
+-- +-----+-+-----------------------+
+use Rattle.std.specs.Prelude.{◌≡◌, ℕ, ◌+◌, ◌*◌, ◌/◌, ◌%◌, ◌==◌, List, [], ◌∷◌, Option, None, Some}
+use Rattle.frame_wire.specs.declared.link.vlans.VlanTag.{VlanTag}
+
+-- the tag of two bytes
+abbrev pub tag_of : ℕ → ℕ → VlanTag
+tag_of high low = record {
+  priority = high / 32;
+  drop_eligible = high / 16 % 2 == 1;
+  number = 256 * (high % 16) + low;
+}
+
+-- the tags in these bytes, of which fewer than four at their end are none
+unfoldable pub tags_in : List ℕ → List VlanTag
+tags_in [] = []
+tags_in (a ∷ []) = []
+tags_in (a ∷ b ∷ []) = []
+tags_in (a ∷ b ∷ c ∷ []) = []
+tags_in (a ∷ b ∷ c ∷ d ∷ rest) = tag_of a b ∷ tags_in rest
+
+-- a call of `next` gives the first tag and takes it off; where none is left it gives None, and none is left still
+abbrev pub GivesFirst : List VlanTag → Option VlanTag → List VlanTag → Type 0
+GivesFirst old None new = (old ≡ []) × (new ≡ [])
+GivesFirst old (Some tag) new = old ≡ tag ∷ new
