@@ -5,10 +5,10 @@ use Rattle.std.proofs.Common.{length-drop}
 use Rattle.std.proofs.lemmas.Bool.{leb-true, le-leb}
 use Rattle.wirebase.specs.Bytes.{number_of}
 use Rattle.wirebase.specs.declared.error.Error.{Error}
-use Rattle.record_wire.specs.Edns.{OptionValue, IsOption, option_len, code_field, Answer, Tile}
+use Rattle.record_wire.specs.Edns.{OptionValue, IsOption, HasOption, option_len, code_field, Answer, Tile}
 use Rattle.record_wire.specs.Edns.{option_at, answer_by, answer_at, answers_in}
 use Rattle.record_wire.proofs.Characters.{both}
-use Rattle.record_wire.proofs.Ahead.{Shrinks, Front, none, one, front, ahead_none, ahead_some}
+use Rattle.record_wire.proofs.Ahead.{Shrinks, none, one, front, ahead_none, ahead_some}
 
 -- ---- an option at the front
 
@@ -56,6 +56,13 @@ option_first bytes rest option is =
     ∙ (ap (λ (o : OptionValue). Some (o, behind bytes))
     (same_option (the_option bytes) option (sym is.code_) (sym is.data_is))
     ∙ ap (λ (r : List ℕ). Some (option, r)) (sym is.rest_))
+
+pub option_here : (bytes : List ℕ) → 4 ≤ length bytes → option_len bytes ≤ length (drop 4 bytes) → HasOption bytes
+option_here bytes reaches fits = (
+  the_option bytes,
+  behind bytes,
+  record { reaches = reaches; code_ = refl; fits = fits; data_is = refl; rest_ = refl },
+)
 
 pub option_shrinks : (bytes rest : List ℕ) (option : OptionValue) → IsOption bytes option rest
     → length rest < length bytes

@@ -1,9 +1,11 @@
 -- The entries of a section are questions, or else records.
-use Rattle.std.proofs.Common.{◌≡◌, ◌≢◌, ℕ, List, refl}
+use Rattle.std.proofs.Common.{◌≡◌, ◌≢◌, ℕ, List, Option, None, Some, IfSome, refl, sym, subst}
 use Rattle.record_wire.specs.declared.entries.Section.{Section}
-use Rattle.record_wire.specs.declared.entries.Section.TheVariants.{Question}
+use Rattle.record_wire.specs.declared.entries.Section.TheVariants.{Question, Answer, Authority, Additional}
+use Rattle.record_wire.specs.declared.refusal.Refusal.{Refusal}
 use Rattle.record_wire.specs.Record.{QuestionValue, IsQuestion, RecordValue, IsRecord}
-use Rattle.record_wire.specs.Entries.{EntryValue, question, record_in, IsEntry}
+use Rattle.record_wire.specs.RecordRefusal.{RefusesQuestion, RefusesRecord, HasQuestion, HasRecord}
+use Rattle.record_wire.specs.Entries.{EntryValue, question, record_in, IsEntry, HasEntry, RefusesEntry}
 
 pub as_question : {A : Type 0} (section : Section) (bytes rest : List ℕ) (value : EntryValue) → section ≡ Question
     → ((q : QuestionValue) → value ≡ question q → IsQuestion bytes q rest → A) → IsEntry section bytes value rest → A
@@ -15,3 +17,34 @@ pub as_record : {A : Type 0} (section : Section) (bytes rest : List ℕ) (value 
     → IsEntry section bytes value rest → A
 as_record section bytes rest (question q) other f is = absurd (other is.0)
 as_record section bytes rest (record_in s r) other f is = f s r refl is.1 is.2
+
+-- ---- why none begins
+
+pub has_question : (section : Section) (bytes : List ℕ) → section ≡ Question → HasEntry section bytes
+    → HasQuestion bytes
+has_question section bytes e (value, rest, is) =
+    as_question section bytes rest value e (λ q same asks. (q, rest, asks)) is
+
+pub question_has : (section : Section) (bytes : List ℕ) → section ≡ Question → HasQuestion bytes
+    → HasEntry section bytes
+question_has section bytes e (q, rest, asks) = (question q, rest, (e, asks))
+
+pub has_record : (section : Section) (bytes : List ℕ) → section ≢ Question → HasEntry section bytes → HasRecord bytes
+has_record section bytes other (value, rest, is) =
+    as_record section bytes rest value other (λ s r same section_is reads. (r, rest, reads)) is
+
+pub record_has : (section : Section) (bytes : List ℕ) → section ≢ Question → HasRecord bytes → HasEntry section bytes
+record_has section bytes other (r, rest, reads) = (record_in section r, rest, (other, refl, reads))
+
+pub refuses_question : (section : Section) (bytes : List ℕ) (r : Option Refusal) → section ≡ Question
+    → IfSome r (λ why. RefusesQuestion bytes why) → IfSome r (λ why. RefusesEntry section bytes why)
+refuses_question section bytes None e is = tt
+refuses_question section bytes (Some why) e is = subst (λ (s : Section). RefusesEntry s bytes why) (sym e) is
+
+pub refuses_record : (section : Section) (bytes : List ℕ) (r : Option Refusal) → section ≢ Question
+    → IfSome r (λ why. RefusesRecord bytes why) → IfSome r (λ why. RefusesEntry section bytes why)
+refuses_record section bytes None other is = tt
+refuses_record Question bytes (Some why) other is = absurd (other refl)
+refuses_record Answer bytes (Some why) other is = is
+refuses_record Authority bytes (Some why) other is = is
+refuses_record Additional bytes (Some why) other is = is

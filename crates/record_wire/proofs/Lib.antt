@@ -1,4 +1,5 @@
 pub mod Characters
+pub mod RecordTexts
 pub mod Spelling
 pub mod LabelLists
 pub mod NameLabels
@@ -18,3 +19,5 @@ pub mod MnemonicTexts
 pub mod NameCases
 pub mod TornNames
 pub mod NameRefusals
+pub mod RDataRefusals
+pub mod TextRefusals

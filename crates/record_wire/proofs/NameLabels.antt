@@ -7,16 +7,10 @@ use Rattle.dns_wire.specs.DnsName.{IsLabel, written}
 use Rattle.record_wire.specs.Labels.{written_all, wire}
 use Rattle.record_wire.specs.NameText.{Spells, GoesOn, IsTextOf, IsNameText}
 use Rattle.record_wire.specs.NameReading.{first_byte, AreSpelled, behind_in, at_end, at_label, at_other}
+use Rattle.record_wire.specs.TextRefusal.{Leads}
 use Rattle.record_wire.proofs.LabelLists.{written_more, each_more, room_before}
 use Rattle.record_wire.proofs.Characters.{chosen, character_some, character_first}
 use Rattle.record_wire.proofs.Spelling.{spelling_one, goes_on_none}
-
--- a text is these labels, each with a dot behind it, and then more
-abbrev pub Leads : List ℕ → List (List ℕ) → List ℕ → Type 0
-Leads text [] left = text ≡ left
-Leads text (label ∷ labels) left =
-    (rest : List ℕ) × (after : List ℕ) × Spells text label rest × (rest ≡ codes "." ++ after)
-    × (1 ≤ length after) × Leads after labels left
 
 pub leads_more : (done : List (List ℕ)) (text left label rest after : List ℕ) → Leads text done left
     → Spells left label rest → rest ≡ codes "." ++ after → 1 ≤ length after → Leads text (done ++ label ∷ []) after

@@ -1,17 +1,16 @@
 -- Where reading a name comes to an end that is none.
-use Rattle.std.proofs.Common.{◌≡◌, ℕ, ◌+◌, ◌<◌, ◌≤◌, ◌⊎◌, inl, inr, List, [], ◌∷◌, ◌++◌}
+use Rattle.std.proofs.Common.{◌≡◌, ℕ, ◌+◌, ◌<◌, ◌≤◌, inl, inr, List, [], ◌∷◌, ◌++◌}
 use Rattle.std.proofs.Common.{length, take, drop, refl, sym, ap, ◌∙◌}
-use Rattle.std.proofs.Common.{subst, arith, slice_index_or}
+use Rattle.std.proofs.Common.{subst, arith}
 use Rattle.std.proofs.Common.{append_assoc, length-append}
 use Rattle.std.proofs.lemmas.Bool.{cases_lt}
 use Rattle.std.specs.List.{AllByRecursion}
 use Rattle.dns_wire.specs.DnsName.{IsLabel, IsName, written}
-use Rattle.dns_wire.specs.DnsNameAhead.{whole, pointer, stop, torn, front_of}
+use Rattle.dns_wire.specs.DnsNameAhead.{whole, pointer, stop, front_of}
 use Rattle.dns_wire.proofs.DnsNameTurns.{Whole-front, Points-front}
 use Rattle.record_wire.specs.Labels.{wire, written_all, AreOfName}
-use Rattle.record_wire.specs.NameParts.{AreNamed}
 use Rattle.record_wire.specs.NameRefusal.{PointsTo, ComesTo, begins, passes, follows, RefusesName}
-use Rattle.record_wire.specs.RecordRefusal.{Behind, IsCut, IsNoPart}
+use Rattle.record_wire.specs.RecordRefusal.{IsNoPart}
 use Rattle.record_wire.specs.declared.refusal.PartRefusal.{PartRefusal}
 use Rattle.record_wire.specs.declared.refusal.PartRefusal.TheVariants.{Cut, LabelType}
 use Rattle.record_wire.specs.declared.name.refusal.NameRefusal.TheVariants.{Part, Pointer, TooLong}

@@ -1,16 +1,14 @@
 -- The strings at the front of octets.
-use Rattle.std.proofs.Common.{◌≡◌, ℕ, zero, suc, ◌<◌, ◌≤◌, Bool, true, false, cond, leb, List, [], ◌∷◌, ◌++◌}
+use Rattle.std.proofs.Common.{◌≡◌, ℕ, zero, suc, ◌≤◌, Bool, true, false, cond, leb, List, [], ◌∷◌, ◌++◌}
 use Rattle.std.proofs.Common.{length, take, drop, flat_map, Option, None, Some, refl, sym, ap, ◌∙◌, subst, arith}
 use Rattle.std.proofs.Common.{length-append, append_assoc}
 use Rattle.std.proofs.lemmas.List.{take-append-drop, length-take-le}
-use Rattle.std.proofs.lemmas.Bool.{leb-true, leb-false, le-leb}
+use Rattle.std.proofs.lemmas.Bool.{leb-true, le-leb}
 use Rattle.std.proofs.Math.Seq.{take-append_seam}
-use Rattle.std.specs.Iterator.{MakesProgress, at_most}
-use Rattle.std.specs.Borrow.{Bor}
 use Rattle.dns_wire.specs.DnsName.{written}
 use Rattle.record_wire.specs.Strings.{HasNoString, AreStringsAhead, first_string, strings_in}
 use Rattle.record_wire.proofs.LabelLists.{drop_seam}
-use Rattle.record_wire.proofs.Ahead.{Shrinks, Front, none, one, front, ahead_none, ahead_some}
+use Rattle.record_wire.proofs.Ahead.{Shrinks, none, one, front, ahead_none, ahead_some}
 
 abbrev string_then : List ℕ → List ℕ → Option (List ℕ × List ℕ)
 string_then string rest = Some (string, rest)

@@ -1,13 +1,13 @@
 -- Where a name of one part is torn.
-use Rattle.std.proofs.Common.{◌≡◌, ℕ, ◌+◌, ◌<◌, ◌≤◌, ◌⊎◌, inl, inr, Bool, true, false, cond}
+use Rattle.std.proofs.Common.{◌≡◌, ℕ, ◌<◌, ◌≤◌, ◌⊎◌, inl, inr}
 use Rattle.std.proofs.Common.{ltb, eqb, List, [], ◌∷◌, ◌++◌}
-use Rattle.std.proofs.Common.{slice_index_or, length, take, drop, refl, sym, ap, ◌∙◌}
+use Rattle.std.proofs.Common.{slice_index_or, length, refl, sym, ap, ◌∙◌}
 use Rattle.std.proofs.Common.{subst, arith, append_assoc, length-append}
-use Rattle.std.proofs.lemmas.Bool.{ltb-true, ltb-false, lt-ltb, le-ltb, eqb-true, eqb-false, ne_eqb, cases_lt}
+use Rattle.std.proofs.lemmas.Bool.{ltb-true, ltb-false, eqb-false}
 use Rattle.std.proofs.lemmas.Grind.{flat_map-append}
 use Rattle.std.specs.List.{AllByRecursion}
-use Rattle.dns_wire.specs.DnsName.{IsLabel, written, Stop, ends, goes_on, IsMark, IsOnePart}
-use Rattle.dns_wire.specs.DnsNameAhead.{Front, whole, pointer, stop, torn, front_of, pointer_at}
+use Rattle.dns_wire.specs.DnsName.{IsLabel, written, Stop, ends, goes_on, IsMark}
+use Rattle.dns_wire.specs.DnsNameAhead.{whole, pointer, stop, torn, front_of, pointer_at}
 use Rattle.dns_wire.specs.DnsPart.{IsSplit}
 use Rattle.dns_wire.proofs.DnsNameTurns.{chosen, Whole-front, Points-front, stop-front}
 use Rattle.record_wire.specs.Labels.{written_all}

@@ -1,15 +1,64 @@
--- The options of an OPT record (RFC 6891 section 6.1.2).
+-- An OPT record (RFC 6891 sections 6.1.2 and 6.1.3): the size of its sender's UDP payloads stands in the place of a
+-- class, and in the place of a time to live
+--
+-- +-------------------------------+-------------------------------+
+-- |  upper bits of response code  |            version            |
+-- +---+---------------------------+-------------------------------+
+-- |DO |                          reserved                         |
+-- +---+-----------------------------------------------------------+
+--
+-- Its data is options, each of them
 --
 -- +-------------------------------+-------------------------------+
 -- |        code of option         |        length of data         | data
 -- +-------------------------------+-------------------------------+- - - -
-use Rattle.std.specs.Prelude.{◌≡◌, ℕ, ◌≤◌, ◌&&◌, nat_le, if◌then◌else◌, List, [], ◌∷◌, length, take, drop}
+use Rattle.std.specs.Prelude.{◌≡◌, ℕ, ◌+◌, ◌*◌, ◌/◌, ◌%◌, ◌<◌, ◌≤◌, Bool, ◌&&◌, nat_le, if◌then◌else◌}
+use Rattle.std.specs.Prelude.{List, [], ◌∷◌, length, take, drop}
 use Rattle.std.specs.Prelude.{Option, None, Some, Result, Ok, Err}
-use Rattle.std.specs.Borrow.{Bor}
 use Rattle.wirebase.specs.Bytes.{Field, field, Reaches, number_of}
 use Rattle.wirebase.specs.declared.error.Error.{Error}
 use Rattle.record_wire.specs.Ahead.{ahead}
+use Rattle.record_wire.specs.Record.{RecordValue}
+use Rattle.record_wire.specs.declared.edns.Edns.{Edns}
 use Rattle.record_wire.specs.declared.edns.EdnsOption.{EdnsOption}
+use Rattle.record_wire.specs.declared.edns.OptionRefusal.{OptionRefusal}
+use Rattle.record_wire.specs.declared.edns.OptionRefusal.TheVariants as refusal
+
+-- ---- what the record says
+
+-- it by its content
+pub record EdnsValue : Type 0 where
+  pub payload_size : ℕ
+  pub extended_rcode : ℕ
+  pub version : ℕ
+  pub dnssec_ok : Bool
+  pub flags : ℕ
+  pub options : List ℕ
+
+abbrev pub edns_of : Edns → EdnsValue
+edns_of edns = record {
+  payload_size = edns.payload_size;
+  extended_rcode = edns.extended_rcode;
+  version = edns.version;
+  dnssec_ok = edns.dnssec_ok;
+  flags = edns.flags;
+  options = edns.options.now;
+}
+
+-- this is what the record says
+pub record IsEdns (r : RecordValue) (edns : EdnsValue) : Type 0 where
+  pub payload_size_ : edns.payload_size ≡ r.class
+  pub extended_rcode_ : edns.extended_rcode ≡ r.ttl / 0x1000000
+  pub version_ : edns.version ≡ r.ttl / 0x10000 % 0x100
+  pub flags_ : edns.flags ≡ r.ttl % 0x10000
+  pub dnssec_ok_ : edns.dnssec_ok ≡ nat_le 0x8000 edns.flags
+  pub options_ : edns.options ≡ r.data_
+
+-- the response code, of which the header has the lower four bits
+abbrev pub rcode_with : ℕ → ℕ → ℕ
+rcode_with upper header = 16 * upper + header % 16
+
+-- ---- options
 
 abbrev pub code_field : Field
 code_field = field 0 2
@@ -35,6 +84,15 @@ pub record IsOption (bytes : List ℕ) (option : OptionValue) (rest : List ℕ) 
   pub fits : option_len bytes ≤ length (drop 4 bytes)
   pub data_is : option.data_ ≡ take (option_len bytes) (drop 4 bytes)
   pub rest_ : rest ≡ drop (option_len bytes) (drop 4 bytes)
+
+-- the bytes begin with an option
+abbrev pub HasOption : List ℕ → Type 0
+HasOption bytes = (option : OptionValue) × (rest : List ℕ) × IsOption bytes option rest
+
+-- they are too short for a code and a length, or what is behind these is shorter than the length
+abbrev pub RefusesOption : List ℕ → OptionRefusal → Type 0
+RefusesOption bytes refusal.Fields = length bytes < 4
+RefusesOption bytes refusal.Data = Reaches option_length_field bytes × (length (drop 4 bytes) < option_len bytes)
 
 -- an answer: an option, or the refusal of what follows
 abbrev pub Answer : Type 0

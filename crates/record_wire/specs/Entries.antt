@@ -1,12 +1,15 @@
 -- What stands behind the header of a message, in order (RFC 1035 section 4.1): the questions, and then the records that
 -- answer, those that name an authority, and those that add to them, as many of each as the header counts.
-use Rattle.std.specs.Prelude.{◌≡◌, ◌≢◌, ℕ, ◌+◌, ◌-◌, ◌<◌, nat_lt, if◌then◌else◌, List}
+use Rattle.std.specs.Prelude.{◌≡◌, ◌≢◌, ℕ, ◌+◌, ◌-◌, ◌<◌, ◌≤◌, nat_lt, Bool, true, false, not, ◌&&◌}
+use Rattle.std.specs.Prelude.{if◌then◌else◌, ◌⊎◌, List}
 use Rattle.std.specs.Prelude.{Option, None, Some, Result, Ok, Err}
 use Rattle.wirebase.specs.Bytes.{number_of}
 use Rattle.wirebase.specs.declared.error.Error.{Error}
 use Rattle.dns_wire.specs.DnsPacket.{question_count_field, answer_count_field, authority_count_field}
 use Rattle.dns_wire.specs.DnsPacket.{additional_count_field, payload_in}
 use Rattle.record_wire.specs.Record.{QuestionValue, question_of, IsQuestion, RecordValue, record_of, IsRecord}
+use Rattle.record_wire.specs.RecordRefusal.{RefusesQuestion, RefusesRecord}
+use Rattle.record_wire.specs.declared.refusal.Refusal.{Refusal}
 use Rattle.record_wire.specs.declared.entries.Section.{Section}
 use Rattle.record_wire.specs.declared.entries.Section.TheVariants.{Question, Answer, Authority, Additional}
 use Rattle.record_wire.specs.declared.entries.Entry.{Entry}
@@ -53,39 +56,59 @@ abbrev pub IsEntry : Section → List ℕ → EntryValue → List ℕ → Type 0
 IsEntry section bytes (question q) rest = (section ≡ Question) × IsQuestion bytes q rest
 IsEntry section bytes (record_in s r) rest = (section ≢ Question) × (s ≡ section) × IsRecord bytes r rest
 
--- how many entries were taken off, and the bytes that the others begin in
+-- the octets begin with an entry of a section
+abbrev pub HasEntry : Section → List ℕ → Type 0
+HasEntry section bytes = (value : EntryValue) × (rest : List ℕ) × IsEntry section bytes value rest
+
+-- why they do not
+abbrev pub RefusesEntry : Section → List ℕ → Refusal → Type 0
+RefusesEntry Question bytes why = RefusesQuestion bytes why
+RefusesEntry _ bytes why = RefusesRecord bytes why
+
+-- how many entries were taken off, whether the next one was refused, and the bytes that the others begin in
 pub record Left : Type 0 where
   pub ends : Ends
   pub taken : ℕ
+  pub refused : Bool
   pub bytes : List ℕ
 
 abbrev pub all_of : List ℕ → Left
-all_of message = record { ends = ends_in message; taken = 0; bytes = payload_in message }
+all_of message = record { ends = ends_in message; taken = 0; refused = false; bytes = payload_in message }
 
--- the section of the next entry, where one is left
-abbrev pub next_section : Left → Option Section
-next_section left = if nat_lt left.taken left.ends.all then Some (section_at left.ends left.taken) else None
+-- an entry is left where the header counts one more, and it was not refused
+abbrev pub is_left : Left → Bool
+is_left left = not left.refused && nat_lt left.taken left.ends.all
 
 -- how many are left
 abbrev pub are_left : Left → ℕ
-are_left left = left.ends.all - left.taken
+are_left left = if left.refused then 0 else left.ends.all - left.taken
+
+-- no more were taken off than there are, and where one was refused none begins
+pub record IsSettled (left : Left) : Type 0 where
+  pub most : left.taken ≤ left.ends.all
+  pub none : left.refused ≡ true → HasEntry (section_at left.ends left.taken) left.bytes → ⊥
 
 -- the next entry stands at the front of the bytes
 pub record IsNext (old : Left) (e : EntryValue) (new : Left) : Type 0 where
+  pub unbroken : old.refused ≡ false
   pub some : old.taken < old.ends.all
   pub is : IsEntry (section_at old.ends old.taken) old.bytes e new.bytes
   pub ends_ : new.ends ≡ old.ends
   pub taken_ : new.taken ≡ old.taken + 1
+  pub refused_ : new.refused ≡ false
 
--- an entry is left, and none stands at the front of the bytes; none is left then
+-- an entry is left, and none stands at the front of the bytes; none is left then, and the bytes stay
 pub record IsBroken (old new : Left) : Type 0 where
+  pub unbroken : old.refused ≡ false
   pub some : old.taken < old.ends.all
   pub none : (e : EntryValue) (rest : List ℕ) → IsEntry (section_at old.ends old.taken) old.bytes e rest → ⊥
   pub ends_ : new.ends ≡ old.ends
-  pub taken_ : new.taken ≡ old.ends.all
+  pub taken_ : new.taken ≡ old.taken
+  pub refused_ : new.refused ≡ true
+  pub bytes_ : new.bytes ≡ old.bytes
 
 -- A call gives the next entry and takes it off; where none stands it gives one refusal, and then the end for good.
 abbrev pub GivesEntry : Left → Option (Result Entry Error) → Left → Type 0
-GivesEntry old None new = (old.taken ≡ old.ends.all) × (new ≡ old)
+GivesEntry old None new = ((old.refused ≡ true) ⊎ (old.taken ≡ old.ends.all)) × (new ≡ old)
 GivesEntry old (Some (Ok e)) new = IsNext old (entry_of e) new
 GivesEntry old (Some (Err error)) new = IsBroken old new

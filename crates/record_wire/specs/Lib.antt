@@ -10,6 +10,7 @@ pub mod Record
 pub mod Entries
 pub mod RData
 pub mod Ahead
+pub mod RecordText
 pub mod Strings
 pub mod Edns
 pub mod Mnemonics
@@ -17,3 +18,7 @@ pub mod NameCase
 pub mod RecordDisplay
 pub mod RecordRefusal
 pub mod NameRefusal
+pub mod RDataRefusal
+pub mod TextRefusal
+pub mod Update
+pub mod ZoneText

@@ -1,30 +1,33 @@
 -- What questions, records and their data print. Names and data are printed by their lengths, since a name may go on
 -- elsewhere in its message.
-use Rattle.std.specs.Prelude.{ℕ, List, [], ◌∷◌, length, codes, decimal}
+use Rattle.std.specs.Prelude.{ℕ, if◌then◌else◌, List, [], ◌∷◌, length, flat_map, codes, decimal}
 use Rattle.wirebase.specs.Display.{pieces}
 use Rattle.wirebase.specs.Ipv4 as ipv4
 use Rattle.wirebase.specs.Ipv6Address as ipv6
-use Rattle.dns_wire.specs.DnsTables.{type_number}
-use Rattle.record_wire.specs.Mnemonics.{type_text, class_text}
+use Rattle.wirebase.specs.Ethernet.{hex_byte}
+use Rattle.dns_wire.specs.DnsDisplay.{name_in, name_or, type_display}
+use Rattle.record_wire.specs.Mnemonics.{class_text}
 use Rattle.record_wire.specs.Record.{QuestionValue, RecordValue}
 use Rattle.record_wire.specs.RData.{AuthorityValue, RDataValue, address4, address6, name, mail, service, authority}
 use Rattle.record_wire.specs.RData.{strings, other}
-use Rattle.record_wire.specs.Edns.{OptionValue}
+use Rattle.record_wire.specs.Edns.{EdnsValue, OptionValue}
 use Rattle.record_wire.specs.Entries.{EntryValue, question, record_in}
+use Rattle.record_wire.specs.declared.edns.OptionRefusal.{OptionRefusal}
+use Rattle.record_wire.specs.declared.edns.OptionRefusal.TheVariants as refusal
 use Rattle.record_wire.specs.declared.entries.Section.{Section}
 use Rattle.record_wire.specs.declared.entries.Section.TheVariants.{Question, Answer, Authority, Additional}
 
 abbrev pub question_display : QuestionValue → List ℕ
 question_display q =
     pieces (codes "question name_len=" ∷ decimal (length q.name)
-    ∷ codes " type=" ∷ type_text (type_number q.kind)
+    ∷ codes " type=" ∷ type_display q.kind
     ∷ codes " class=" ∷ class_text q.class ∷ [])
 
 -- the time to live is in seconds
 abbrev pub record_display : RecordValue → List ℕ
 record_display r =
     pieces (codes "record name_len=" ∷ decimal (length r.name)
-    ∷ codes " type=" ∷ type_text (type_number r.kind)
+    ∷ codes " type=" ∷ type_display r.kind
     ∷ codes " class=" ∷ class_text r.class
     ∷ codes " ttl=" ∷ decimal r.ttl
     ∷ codes " len=" ∷ decimal (length r.data_) ∷ [])
@@ -57,11 +60,35 @@ rdata_display (authority soa) = authority_display soa
 rdata_display (strings bytes) = pieces (codes "TXT len=" ∷ decimal (length bytes) ∷ [])
 rdata_display (other bytes) = pieces (codes "data len=" ∷ decimal (length bytes) ∷ [])
 
--- ---- options and entries
+-- ---- what an OPT record says, and its options
+
+abbrev pub edns_display : EdnsValue → List ℕ
+edns_display edns =
+    pieces (codes "EDNS payload_size=" ∷ decimal edns.payload_size
+    ∷ codes " extended_rcode=" ∷ decimal edns.extended_rcode
+    ∷ codes " version=" ∷ decimal edns.version
+    ∷ codes " dnssec_ok=" ∷ (if edns.dnssec_ok then codes "true" else codes "false")
+    ∷ codes " flags=" ∷ decimal edns.flags
+    ∷ codes " len=" ∷ decimal (length edns.options) ∷ [])
+
+-- options of EDNS, by IANA's registry of EDNS option codes
+abbrev pub option_names : List (List ℕ × ℕ)
+option_names =
+    (codes "nsid", 3) ∷ (codes "dau", 5) ∷ (codes "dhu", 6) ∷ (codes "n3u", 7) ∷ (codes "client-subnet", 8)
+    ∷ (codes "expire", 9) ∷ (codes "cookie", 10) ∷ (codes "tcp-keepalive", 11) ∷ (codes "padding", 12)
+    ∷ (codes "chain", 13) ∷ (codes "key-tag", 14) ∷ (codes "extended-error", 15) ∷ (codes "report-channel", 18)
+    ∷ (codes "zone-version", 19) ∷ []
 
 abbrev pub option_display : OptionValue → List ℕ
 option_display option =
-    pieces (codes "option code=" ∷ decimal option.code ∷ codes " len=" ∷ decimal (length option.data_) ∷ [])
+    pieces (name_or (codes "option-") (name_in option_names option.code) option.code
+    ∷ codes "=" ∷ flat_map hex_byte option.data_ ∷ [])
+
+abbrev pub option_refusal_display : OptionRefusal → List ℕ
+option_refusal_display refusal.Fields = codes "the code and the length are cut"
+option_refusal_display refusal.Data = codes "the data of the option is cut"
+
+-- ---- entries
 
 abbrev pub section_display : Section → List ℕ
 section_display Question = codes "question"

@@ -5,7 +5,6 @@ use Rattle.wirebase.specs.Bytes.{Reaches}
 use Rattle.wirebase.specs.Display.{pieces}
 use Rattle.dns_wire.specs.DnsName.{IsLabel}
 use Rattle.dns_wire.specs.DnsPart.{IsSplit}
-use Rattle.dns_wire.specs.DnsQuestion.{class_field}
 use Rattle.dns_wire.specs.DnsRecord.{length_field}
 use Rattle.record_wire.specs.Labels.{written_all}
 use Rattle.record_wire.specs.Record.{QuestionValue, IsQuestion, RecordValue, IsRecord, data_len}

@@ -2,7 +2,8 @@
 
 ghost use Rattle.std.specs.Prelude.{◌≡◌};
 ghost use Rattle.std.specs.Option.{option_map};
-ghost use Rattle.record_wire.specs.Mnemonics.{class_mnemonics, mnemonic_in};
+ghost use Rattle.dns_wire.specs.DnsDisplay.{name_in};
+ghost use Rattle.record_wire.specs.Mnemonics.{class_names};
 
 use std::fmt;
 
@@ -39,9 +40,10 @@ impl fmt::Display for ClassName {
     }
 }
 
-// The mnemonic of the class of this number.
-fn mnemonic(number: u16) -> Option<&'static str>
-    ensures { option_map (λ mnemonic. mnemonic.now) result ≡ mnemonic_in class_mnemonics number }
+/// The mnemonic of the class of this number, as `IN` of 1; None where it has none here.
+#[inline]
+pub fn mnemonic(number: u16) -> Option<&'static str>
+    ensures { option_map (λ mnemonic. mnemonic.now) result ≡ name_in class_names number }
 {
     match number {
         IN => Some("IN"),

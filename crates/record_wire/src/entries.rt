@@ -1,11 +1,12 @@
 //! What stands behind the header of a message, in order (RFC 1035 section 4.1).
 
-ghost use Rattle.std.specs.Prelude.{◌≡◌, ℕ, List, IfOk, IsOkAnd};
+ghost use Rattle.std.specs.Prelude.{◌≡◌, ◌↔◌, true, ℕ, List, IfOk, IsOkAnd, IfSome, IsSome, IsNone};
 ghost use Rattle.dns_wire.specs.DnsPacket.{view_octets, header};
 ghost use Rattle.wirebase.specs.Bytes.{Reaches};
-ghost use Rattle.record_wire.specs.Entries.{EntryValue, entry_of, IsEntry};
+ghost use Rattle.record_wire.specs.Entries.{EntryValue, entry_of, IsEntry, HasEntry, section_at, RefusesEntry};
 
 use crate::record::{Question, Record};
+use crate::refusal::Refusal;
 use dns_wire::dns::Packet;
 use std::fmt;
 use std::marker::Model;
@@ -66,7 +67,8 @@ impl fmt::Display for Entry<'_> {
 }
 
 /// The questions and the records of a message in turn, as many as its header counts: each one while they read, one
-/// refusal where none stands, and then the end for good.
+/// refusal where none stands, and then the end for good. Behind a refusal, [`Entries::refusal`] gives the
+/// reason, and [`Entries::rest`] the bytes that were refused.
 ///
 /// ```
 /// use record_wire::{Entries, Entry};
@@ -87,15 +89,16 @@ pub struct Entries<'a> {
     answers: u32,
     authorities: u32,
     all: u32,
-    // How many were given; all of them, behind a refusal.
+    // How many were given.
     taken: u32,
+    // Whether the next one was refused.
+    is_refused: bool,
     // The bytes behind those that were given.
     bytes: &'a [u8],
 }
 
 impl<'a> Model for Entries<'a> {
-    ghost use Rattle.std.specs.Prelude.{◌≤◌};
-    ghost use Rattle.record_wire.specs.Entries.{Left};
+    ghost use Rattle.record_wire.specs.Entries.{Ends, Left, IsSettled};
 
     ghost Value = { Left };
 
@@ -107,14 +110,25 @@ impl<'a> Model for Entries<'a> {
         all = it.all;
       };
       taken = it.taken;
+      refused = it.is_refused;
       bytes = it.bytes.now;
     } };
 
-    ghost invariant = { λ it. it.taken ≤ it.all };
+    ghost invariant = { λ it. IsSettled (record {
+      ends = record {
+        questions = it.questions;
+        answers = it.answers;
+        authorities = it.authorities;
+        all = it.all;
+      };
+      taken = it.taken;
+      refused = it.is_refused;
+      bytes = it.bytes.now;
+    }) };
 }
 
 impl<'a> Entries<'a> {
-    ghost use Rattle.record_wire.specs.Entries.{all_of, next_section};
+    ghost use Rattle.record_wire.specs.Entries.{all_of, is_left};
 
     /// The questions and the records of this message. Requires at least 12 bytes, as `Packet::new_checked` sees to. The
     /// entries keep parts of the octets, so the view is one of a slice: over a buffer of one's own, a `Vec<u8>` or an
@@ -132,27 +146,55 @@ impl<'a> Entries<'a> {
             authorities,
             all: authorities + packet.additional_record_count() as u32,
             taken: 0,
+            is_refused: false,
             bytes: packet.payload(),
         }
     }
 
-    // The section of the next entry, where one is left.
-    fn section(&self) -> Option<Section>
-        ensures { result ≡ next_section self.now }
+    /// Where an entry was refused: its section, and why none begins there, by the check that fails first. None while
+    /// none was refused.
+    pub fn refusal(&self) -> Option<(Section, Refusal)>
+        ensures place { IfSome result (λ why. why.0 ≡ section_at self.now.ends self.now.taken) }
+        ensures told { IfSome result (λ why. RefusesEntry why.0 self.now.bytes why.1) }
+        ensures exact { IsSome result ↔ (self.now.refused ≡ true) }
     {
-        if self.taken >= self.all {
+        if !self.is_refused {
             return None;
         }
+        let section = self.section();
+        let refusal = why_no_entry(section, self.bytes)?;
+        Some((section, refusal))
+    }
+
+    /// The bytes behind the entries that were given: where the next one begins, or the one that was refused. Behind the
+    /// last entry it is what stands behind the message's records.
+    pub fn rest(&self) -> &'a [u8]
+        ensures { result.now ≡ self.now.bytes }
+    {
+        self.bytes
+    }
+
+    // Whether an entry is left.
+    fn is_left(&self) -> bool
+        ensures { result ≡ is_left self.now }
+    {
+        !self.is_refused && self.taken < self.all
+    }
+
+    // The section of the entry behind those that were given.
+    fn section(&self) -> Section
+        ensures { result ≡ section_at self.now.ends self.now.taken }
+    {
         if self.taken < self.questions {
-            return Some(Section::Question);
+            return Section::Question;
         }
         if self.taken < self.answers {
-            return Some(Section::Answer);
+            return Section::Answer;
         }
         if self.taken < self.authorities {
-            return Some(Section::Authority);
+            return Section::Authority;
         }
-        Some(Section::Additional)
+        Section::Additional
     }
 }
 
@@ -167,18 +209,17 @@ impl<'a> Iterator for Entries<'a> {
     ghost remaining = { λ left. at_most (are_left left) };
 
     fn next(&mut self) -> Option<Result<Entry<'a>>> {
-        let section = match self.section() {
-            Some(section) => section,
-            None => return None,
-        };
-        match read_entry(section, self.bytes) {
+        if !self.is_left() {
+            return None;
+        }
+        match read_entry(self.section(), self.bytes) {
             Ok((rest, entry)) => {
                 self.taken += 1;
                 self.bytes = rest;
                 Some(Ok(entry))
             }
             Err(error) => {
-                self.taken = self.all;
+                self.is_refused = true;
                 Some(Err(error))
             }
         }
@@ -197,6 +238,17 @@ fn read_entry(section: Section, bytes: &[u8]) -> Result<(&[u8], Entry<'_>)>
     }
     let (rest, record) = Record::parse(bytes)?;
     Ok((rest, Entry::Record(section, record)))
+}
+
+// Why octets begin with no entry of a section; None where one begins there.
+fn why_no_entry(section: Section, bytes: &[u8]) -> Option<Refusal>
+    ensures told { IfSome result (λ refusal. RefusesEntry section bytes.now refusal) }
+    ensures exact { IsNone result ↔ HasEntry section bytes.now }
+{
+    if section == Section::Question {
+        return Question::refusal(bytes);
+    }
+    Record::refusal(bytes)
 }
 
 #[cfg(test)]

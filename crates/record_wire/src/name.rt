@@ -4,7 +4,8 @@ pub mod dotted;
 mod label;
 mod part;
 pub mod refusal;
-mod text;
+pub(crate) mod text;
+pub mod text_refusal;
 
 ghost use Rattle.std.specs.Prelude.{◌≡◌, ◌↔◌, ℕ, List, [], IfOk, IsOk, IsOkAnd, OnOk, IsTrue, IfSome, IsNone};
 ghost use Rattle.wirebase.specs.Bytes.{IsBytes};
@@ -14,12 +15,14 @@ ghost use Rattle.record_wire.specs.Labels.{wire, written_all, labels_in, AreOfNa
 ghost use Rattle.record_wire.specs.NameParts.{AreNamed};
 ghost use Rattle.record_wire.specs.NameCase.{lower_labels};
 ghost use Rattle.record_wire.specs.NameRefusal.{RefusesName, HasName};
+ghost use Rattle.record_wire.specs.TextRefusal.{RefusesText, IsText};
 
 pub use crate::name::label::Labels;
 use crate::name::label::{push_end, push_octets};
 use crate::name::part::read_labels;
 use crate::name::refusal::{NameRefusal, why_no_name};
 use crate::name::text::{fmt_labels, is_root, put_labels};
+use crate::name::text_refusal::{NameTextRefusal, why_no_text};
 use arrayvec::ArrayVec;
 use dns_wire::dns::Packet;
 use dns_wire::message::{Front, follow, octets_of};
@@ -81,7 +84,8 @@ impl Name {
     /// The name of this text: labels with dots between them, a last dot allowed, and a dot alone for the root. A
     /// visible character stands for itself, but `"`, `$`, `(`, `)`, `.`, `;`, `@` and `\` stand behind a backslash;
     /// three digits behind a backslash are the number of a byte. Refused where the text is none, where a label is
-    /// empty or has more than 63 bytes, and where the name has more than 255 octets.
+    /// empty or has more than 63 bytes, and where the name has more than 255 octets: [`Name::from_text_refusal`] says
+    /// why.
     pub fn from_text(text: &[u8]) -> Result<Name>
         ensures sound { IfOk result (λ name. IsNameText text.now (labels_of name)) }
         ensures complete { (labels : List (List ℕ)) → IsNameText text.now labels
@@ -96,6 +100,25 @@ impl Name {
         put_labels(&mut octets, text)?;
         push_end(&mut octets)?;
         Ok(Name { octets })
+    }
+
+    /// Why [`Name::from_text`] refuses this text, which it reads from its front on, by the check that fails first; None
+    /// where it is that of a name.
+    ///
+    /// ```
+    /// use record_wire::{Name, NameTextRefusal};
+    ///
+    /// assert_eq!(Name::from_text_refusal(b"www..com"), Some(NameTextRefusal::EmptyLabel));
+    /// assert_eq!(Name::from_text_refusal(b"www.example.com"), None);
+    /// ```
+    pub fn from_text_refusal(text: &[u8]) -> Option<NameTextRefusal>
+        ensures told { IfSome result (λ refusal. RefusesText text.now refusal) }
+        ensures exact { IsNone result ↔ IsText text.now }
+    {
+        match Name::from_text(text) {
+            Ok(_) => None,
+            Err(_) => Some(why_no_text(text)),
+        }
     }
 
     /// The octets: each label behind its length, and then byte 0.

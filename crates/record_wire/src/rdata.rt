@@ -1,5 +1,7 @@
 //! The data of resource records by their type (RFC 1035 sections 3.3 and 3.4, RFC 2782, RFC 3596).
 
+pub mod refusal;
+
 ghost use Rattle.std.specs.Prelude.{◌≡◌, ◌↔◌, IfOk, IsOkAnd, IsTrue};
 ghost use Rattle.dns_wire.specs.DnsName.{IsOnePart};
 ghost use Rattle.record_wire.specs.RData.{layout_of, RDataValue, rdata_of, IsRData, IsLaidOut, IsAddress4, IsAddress6};
@@ -187,8 +189,8 @@ pub enum Layout {
 }
 
 impl<'a> RData<'a> {
-    /// The data of a record of this type and class. Refused where the bytes are not laid out as the type has it. Of a
-    /// record of multicast DNS, [`RData::parse_multicast`] reads it.
+    /// The data of a record of this type and class. Refused where the bytes are not laid out as the type has it:
+    /// [`RData::refusal`] says why. Of a record of multicast DNS, [`RData::parse_multicast`] reads it.
     pub fn parse(type_: Type, class: u16, octets: &'a [u8]) -> Result<RData<'a>>
         ensures sound { IfOk result (λ read. IsRData type_ class octets.now (rdata_of read)) }
         ensures complete { (value : RDataValue) → IsRData type_ class octets.now value

@@ -11,7 +11,6 @@ use crate::classes::ClassName;
 use crate::multicast;
 use crate::rdata::RData;
 use crate::refusal::{Refusal, why_no_part};
-use crate::types::TypeName;
 use dns_wire::dns::{Type, split_name};
 use std::fmt;
 use wirebase::{Error, Octets, Result};
@@ -58,6 +57,7 @@ pub struct Question<'a> {
 impl<'a> Question<'a> {
     /// What stands behind the question at the front of the octets, and the question. Refused where they do not begin
     /// with a name of one part, a type and a class.
+    #[inline]
     pub fn parse(octets: &'a [u8]) -> Result<(&'a [u8], Question<'a>)>
         ensures sound { IfOk result (λ read. IsQuestion octets.now (question_of read.1) read.0.now) }
         ensures complete { (value : QuestionValue) (rest : List ℕ) → IsQuestion octets.now value rest
@@ -115,7 +115,7 @@ impl fmt::Display for Question<'_> {
 
     fn fmt<W: fmt::Write>(&self, f: &mut fmt::Formatter<W>) -> fmt::Result {
         let name_len = self.name.len();
-        let type_ = TypeName(self.type_);
+        let type_ = self.type_;
         let class = ClassName(self.class);
         write!(f, "question name_len={name_len} type={type_} class={class}")
     }
@@ -153,6 +153,7 @@ pub struct Record<'a> {
 impl<'a> Record<'a> {
     /// What stands behind the record at the front of the octets, and the record. Refused where they do not begin with
     /// a name of one part, a type, a class, a time to live, a length and as many bytes.
+    #[inline]
     pub fn parse(octets: &'a [u8]) -> Result<(&'a [u8], Record<'a>)>
         ensures sound { IfOk result (λ read. IsRecord octets.now (record_of read.1) read.0.now) }
         ensures complete { (value : RecordValue) (rest : List ℕ) → IsRecord octets.now value rest
@@ -262,7 +263,7 @@ impl fmt::Display for Record<'_> {
 
     fn fmt<W: fmt::Write>(&self, f: &mut fmt::Formatter<W>) -> fmt::Result {
         let name_len = self.name.len();
-        let type_ = TypeName(self.type_);
+        let type_ = self.type_;
         let class = ClassName(self.class);
         let len = self.data.len();
         write!(

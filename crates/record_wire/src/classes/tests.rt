@@ -1,6 +1,6 @@
 //! Classes by their mnemonics.
 
-use super::{ANY, CH, ClassName, HS, IN, NONE};
+use super::{ANY, CH, ClassName, HS, IN, NONE, mnemonic};
 use crate::testing::{prints, same_of};
 
 #[test]
@@ -18,4 +18,10 @@ fn classes_of_the_registry(rt: HostRuntime) {
         prints(&rt, rt.alloc(), &ClassName(class), mnemonic);
         same_of(&rt, mnemonic, class, number);
     }
+}
+
+#[test]
+fn mnemonics_of_classes(rt: HostRuntime) {
+    same_of(&rt, 254, mnemonic(254), Some("NONE"));
+    same_of(&rt, 253, mnemonic(253), None);
 }

@@ -40,7 +40,7 @@ impl fmt::Display for NameRefusal {
 }
 
 /// Why no name of 255 octets at most begins in bytes and goes on in a message.
-pub(super) fn why_no_name<'a>(message: &'a [u8], bytes: &'a [u8]) -> NameRefusal
+pub(crate) fn why_no_name<'a>(message: &'a [u8], bytes: &'a [u8]) -> NameRefusal
     requires { (labels : List (List ℕ)) → IsName bytes.now message.now labels → AreOfName labels → ⊥ }
     ensures { RefusesName bytes.now message.now result }
 {

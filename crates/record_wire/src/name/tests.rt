@@ -86,7 +86,7 @@ fn texts_that_are_no_names(rt: HostRuntime) {
 }
 
 // Labels of 63 bytes, so many, and then the rest.
-fn long_name(labels: usize, rest: &str) -> ArrayString<300> {
+pub(super) fn long_name(labels: usize, rest: &str) -> ArrayString<300> {
     let mut text = ArrayString::new();
     for _ in 0..labels {
         let _ = text.try_push_str(

@@ -59,8 +59,8 @@ pub(super) enum Behind<'a> {
     Other,
 }
 
-// What stands behind the text of a label.
-fn read_behind(text: &[u8]) -> Behind<'_>
+/// What stands behind the text of a label.
+pub(super) fn read_behind(text: &[u8]) -> Behind<'_>
     ensures { seen_behind result ≡ behind_in text.now }
 {
     match text {
@@ -71,9 +71,9 @@ fn read_behind(text: &[u8]) -> Behind<'_>
     }
 }
 
-// Reads a label's text, up to where no more characters stand, and gives what stands there. Refused where the label
-// would be empty or has more than 63 bytes.
-fn read_label(text: &[u8]) -> Result<(ArrayVec<u8, MAX_LABEL_LEN>, &[u8])>
+/// Reads a label's text, up to where no more characters stand, and gives what stands there. Refused where the label
+/// would be empty or has more than 63 bytes.
+pub(super) fn read_label(text: &[u8]) -> Result<(ArrayVec<u8, MAX_LABEL_LEN>, &[u8])>
     ensures sound { IfOk result (λ read. IsSpelling text.now read.0.items read.1.now) }
     ensures some { IfOk result (λ read. 1 ≤ length read.0.items) }
     ensures few { IfOk result (λ read. length read.0.items ≤ 63) }
@@ -94,8 +94,8 @@ fn read_label(text: &[u8]) -> Result<(ArrayVec<u8, MAX_LABEL_LEN>, &[u8])>
     Ok((label, left))
 }
 
-// The byte that the first character of a text stands for, and what stands behind the character.
-fn read_byte(text: &[u8]) -> Option<(u8, &[u8])>
+/// The byte that the first character of a text stands for, and what stands behind the character.
+pub(super) fn read_byte(text: &[u8]) -> Option<(u8, &[u8])>
     ensures { seen_byte result ≡ first_byte text.now }
 {
     match text {
@@ -233,8 +233,8 @@ fn make_room<W: fmt::Write>(
     Ok(0)
 }
 
-// Writes what waits.
-fn write_piece<W: fmt::Write>(f: &mut fmt::Formatter<W>, text: &[u8]) -> fmt::Result
+/// Writes what waits.
+pub(crate) fn write_piece<W: fmt::Write>(f: &mut fmt::Formatter<W>, text: &[u8]) -> fmt::Result
     ensures { IsAscii text.now → WritesOnOk W.write_str_gives f.old result text.now f.new }
 {
     // ASCII is UTF-8.

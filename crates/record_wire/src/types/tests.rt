@@ -2,7 +2,7 @@
 
 use super::{
     A, AAAA, ANY, AXFR, CAA, CNAME, DNAME, DNSKEY, DS, HINFO, HTTPS, IXFR, MX, NAPTR, NS, NSEC,
-    NSEC3, OPT, PTR, RRSIG, SOA, SPF, SRV, SSHFP, SVCB, TLSA, TXT, TypeName,
+    NSEC3, OPT, PTR, RRSIG, SOA, SPF, SRV, SSHFP, SVCB, TLSA, TXT,
 };
 use crate::testing::{prints, same_of};
 use dns_wire::dns::Type;
@@ -44,7 +44,7 @@ const ROWS: &[(Type, &str, u16)] = &[
 #[test]
 fn types_of_the_registry(rt: HostRuntime) {
     for &(type_, mnemonic, number) in ROWS {
-        prints(&rt, rt.alloc(), &TypeName(type_), mnemonic);
+        prints(&rt, rt.alloc(), &type_, mnemonic);
         same_of(&rt, mnemonic, u16::from(type_), number);
     }
 }
@@ -58,4 +58,10 @@ fn is_of_signatures(type_: Type) -> bool {
 fn types_in_patterns(rt: HostRuntime) {
     same_of(&rt, "DS", is_of_signatures(Type::from(43)), true);
     same_of(&rt, "A", is_of_signatures(Type::from(1)), false);
+}
+
+#[test]
+fn mnemonics_of_types(rt: HostRuntime) {
+    same_of(&rt, 257, Type::from(257).mnemonic(), Some("CAA"));
+    same_of(&rt, 14, Type::from(14).mnemonic(), None);
 }

@@ -1,7 +1,6 @@
-use Rattle.std.proofs.Common.{◌≡◌, sym, ap, ◌∙◌, inl, inr}
-use Rattle.dns_wire.specs.DnsNameAhead.{torn, front_of}
+use Rattle.std.proofs.Common.{sym, ap, ◌∙◌, inl, inr}
 use Rattle.dns_wire.specs.DnsPart.{shown}
-use Rattle.record_wire.proofs.TornNames.{behind_nothing, behind_label, label_fewer, split_pointer, split_end}
+use Rattle.record_wire.proofs.TornNames.{behind_label, split_pointer, split_end}
 use Rattle.record_wire.proofs.TornNames.{no_part_behind}
 use Rattle.record_wire.proofs.refusal.why_no_part.Goals as goal
 

@@ -15,21 +15,21 @@ returns-then-is_empty-clause-steps c =
     ∙ answers_nothing) in
     (ended, ended)
 
-pub returns-in-Some-clause-steps : goal.returns-in-Some-clause-steps
-returns-in-Some-clause-steps c =
-    sym c.self.view_is ∙ answers_option c.self.inside.left.now c.in-Some.rest.now _ c.in-Some.ensures.is
+pub returns-in-Ok-clause-steps : goal.returns-in-Ok-clause-steps
+returns-in-Ok-clause-steps c =
+    sym c.self.view_is ∙ answers_option c.self.inside.left.now c.in-Ok.rest.now _ c.in-Ok.ensures.sound
 
-pub returns-in-Some-clause-goes : goal.returns-in-Some-clause-goes
-returns-in-Some-clause-goes c = answer-progress option_of _ _ _ (returns-in-Some-clause-steps c)
+pub returns-in-Ok-clause-goes : goal.returns-in-Ok-clause-goes
+returns-in-Ok-clause-goes c = answer-progress option_of _ _ _ (returns-in-Ok-clause-steps c)
 
-pub returns-in-None-clause-steps : goal.returns-in-None-clause-steps
-returns-in-None-clause-steps c =
+pub returns-in-Err-clause-steps : goal.returns-in-Err-clause-steps
+returns-in-Err-clause-steps c =
     let left = c.self.inside.left.now in
     let some : 1 ≤ length left =
     omega (arith, eqb-false (length left) 0 (sym c.is_empty.ensures ∙ c.if-is_empty.false)) in
     sym c.self.view_is
-    ∙ (answers_broken left _ some (λ option rest is. cc (c.in-None.ensures.whole option rest is))
+    ∙ (answers_broken left _ some (λ option rest is. absurd (c.in-Err.ensures.complete option rest is))
     ∙ ap (λ (more : List Answer). Err (record {}) ∷ more) (sym answers_nothing))
 
-pub returns-in-None-clause-goes : goal.returns-in-None-clause-goes
-returns-in-None-clause-goes c = answer-progress option_of _ _ _ (returns-in-None-clause-steps c)
+pub returns-in-Err-clause-goes : goal.returns-in-Err-clause-goes
+returns-in-Err-clause-goes c = answer-progress option_of _ _ _ (returns-in-Err-clause-steps c)

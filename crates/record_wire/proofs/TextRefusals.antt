@@ -1,0 +1,138 @@
+-- Why a text is that of no name.
+use Rattle.std.proofs.Common.{◌≡◌, ◌≢◌, ℕ, zero, suc, ◌+◌, ◌<◌, ◌≤◌, List, [], ◌∷◌, ◌++◌, length, Option, None, Some}
+use Rattle.std.proofs.Common.{refl, sym, ap, ◌∙◌, inl, inr, arith, codes, length-append}
+use Rattle.std.proofs.lemmas.Bool.{cases_lt}
+use Rattle.dns_wire.specs.DnsName.{IsLabel, written}
+use Rattle.record_wire.specs.Labels.{written_all, wire}
+use Rattle.record_wire.specs.NameText.{Spells, GoesOn, IsNameText}
+use Rattle.record_wire.specs.NameReading.{first_byte, behind_in, at_other, IsSpelling}
+use Rattle.record_wire.specs.TextRefusal.{IsReadTo, BeginsWithNone, IsLabelEnd, RefusesRest, RefusesLabel, RefusesText}
+use Rattle.record_wire.specs.declared.name.text_refusal.NameTextRefusal.{NameTextRefusal}
+use Rattle.record_wire.specs.declared.name.text_refusal.NameTextRefusal.TheVariants as refusal
+use Rattle.record_wire.proofs.Characters.{first_character, character_first, first_shorter}
+use Rattle.record_wire.proofs.LabelLists.{written_more, each_more}
+use Rattle.record_wire.proofs.NameLabels.{SoFar, leads_text}
+
+-- ---- characters
+
+pub none_begins : (text : List ℕ) → first_byte text ≡ None → BeginsWithNone text
+none_begins text e = λ byte character rest is whole.
+    let some = ap first_byte whole ∙ character_first byte character rest is in
+    cc (some, e)
+
+-- ---- labels
+
+-- the characters at the front of a text, as many as there are
+abbrev Spelling : List ℕ → Type 0
+Spelling text = (label : List ℕ) × (rest : List ℕ) × IsSpelling text label rest
+
+spelling_by : (text : List ℕ) (o : Option (ℕ × List ℕ)) → first_byte text ≡ o
+    → ((byte : ℕ) (rest : List ℕ) → first_byte text ≡ Some (byte, rest) → Spelling rest) → Spelling text
+spelling_by text None e go = ([], text, record { spells = refl; no_more = e })
+spelling_by text (Some (byte, rest)) e go =
+    let begins = first_character byte text rest e in
+    let (label, behind, more) = go byte rest e in (
+      byte ∷ label,
+      behind,
+      record { spells = (begins.character, rest, begins.is, begins.whole, more.spells); no_more = more.no_more },
+    )
+
+spelling_within : (most : ℕ) (text : List ℕ) → length text ≤ most → Spelling text
+spelling_within zero text h =
+    spelling_by text (first_byte text) refl
+    (λ byte rest e. absurd (omega (arith, h, first_shorter byte text rest e)))
+spelling_within (suc most) text h =
+    spelling_by text (first_byte text) refl
+    (λ byte rest e. spelling_within most rest (omega (arith, h, first_shorter byte text rest e)))
+
+long_by : (text : List ℕ) (byte : ℕ) (behind : List ℕ) → first_byte text ≡ Some (byte, behind)
+    → ((label rest : List ℕ) → IsSpelling text label rest → 1 ≤ length label → length label ≤ 63 → ⊥)
+    → Spelling text → RefusesLabel text refusal.LongLabel
+long_by text byte behind e none ([], rest, is) =
+    let none_there = ap first_byte is.spells ∙ is.no_more in
+    cc (none_there, e)
+long_by text byte behind e none (b ∷ label, rest, is) = elim (cases_lt 63 (length (b ∷ label))) [
+  | inl long ↦ (b ∷ label, rest, is.spells, long)
+  | inr few ↦ absurd (none (b ∷ label) rest is (omega arith) few)
+]
+
+pub long_label : (text : List ℕ) (byte : ℕ) (behind : List ℕ) → first_byte text ≡ Some (byte, behind)
+    → ((label rest : List ℕ) → IsSpelling text label rest → 1 ≤ length label → length label ≤ 63 → ⊥)
+    → RefusesLabel text refusal.LongLabel
+long_label text byte behind e none =
+    long_by text byte behind e none (spelling_within (length text) text (omega arith))
+
+pub rest_of_label : (text : List ℕ) (why : NameTextRefusal) → RefusesRest text why → RefusesLabel text why
+rest_of_label text refusal.EmptyLabel is = is
+rest_of_label text refusal.LongLabel is = absurd is
+rest_of_label text refusal.TooLong is = absurd is
+rest_of_label text refusal.Escape is = is
+rest_of_label text (refusal.Byte byte) is = is
+
+-- ---- behind the labels that were read
+
+abbrev read_to : (text octets left label rest : List ℕ) → SoFar text octets left → Spells left label rest
+    → IsReadTo text rest
+read_to text octets left label rest so spells = record {
+  done = so.done;
+  each = so.each;
+  left = left;
+  leads = so.leads;
+  label = label;
+  spells = spells;
+}
+
+pub label_refused : (text octets left : List ℕ) (why : NameTextRefusal) → SoFar text octets left → text ≢ codes "."
+    → RefusesLabel left why → RefusesText text why
+label_refused text octets left refusal.EmptyLabel so root is =
+    (left, read_to text octets left [] left so refl, refl, is, root)
+label_refused text octets left refusal.LongLabel so root (label, rest, spells, long) =
+    (rest, read_to text octets left label rest so spells, long)
+label_refused text octets left refusal.TooLong so root is = absurd is
+label_refused text octets left refusal.Escape so root is = (left, read_to text octets left [] left so refl, is)
+label_refused text octets left (refusal.Byte byte) so root is = (left, read_to text octets left [] left so refl, is)
+
+no_end : (rest : List ℕ) → IsLabelEnd rest → behind_in rest ≡ at_other → ⊥
+no_end [] is e = cc e
+no_end (byte ∷ []) is e = let f = ap (λ (b : ℕ). behind_in (b ∷ [])) (sym is) ∙ e in cc f
+no_end (byte ∷ next ∷ rest) is e = let f = ap (λ (b : ℕ). behind_in (b ∷ next ∷ rest)) (sym is) ∙ e in cc f
+
+pub rest_refused : (text octets left label rest : List ℕ) (why : NameTextRefusal) → SoFar text octets left
+    → Spells left label rest → behind_in rest ≡ at_other → RefusesRest rest why → RefusesText text why
+rest_refused text octets left label rest refusal.EmptyLabel so spells other is = absurd (no_end rest is other)
+rest_refused text octets left label rest refusal.LongLabel so spells other is = absurd is
+rest_refused text octets left label rest refusal.TooLong so spells other is = absurd is
+rest_refused text octets left label rest refusal.Escape so spells other is =
+    (rest, read_to text octets left label rest so spells, is)
+rest_refused text octets left label rest (refusal.Byte byte) so spells other is =
+    (rest, read_to text octets left label rest so spells, is)
+
+-- ---- names that are too long
+
+pub no_room : (text octets left label rest : List ℕ) → SoFar text octets left → Spells left label rest
+    → 255 < length octets + length (written label) → RefusesText text refusal.TooLong
+no_room text octets left label rest so spells long = (
+  rest,
+  read_to text octets left label rest so spells,
+  omega (
+    arith,
+    long,
+    ap length so.written,
+    ap length (written_more so.done label),
+    length-append (written_all so.done) (written label),
+    length-append (written_all (so.done ++ label ∷ [])) (0 ∷ []),
+  ),
+)
+
+pub no_name : (text octets left label rest : List ℕ) → SoFar text octets left → IsLabel label
+    → Spells left label rest → GoesOn rest [] → ((labels : List (List ℕ)) → IsNameText text labels → ⊥)
+    → RefusesText text refusal.TooLong
+no_name text octets left label rest so one spells ends none =
+    elim (cases_lt 255 (length (wire (so.done ++ label ∷ [])))) [
+      | inl long ↦ (rest, read_to text octets left label rest so spells, long)
+      | inr fits ↦
+          absurd (none (so.done ++ label ∷ []) (record {
+            name = record { each = each_more so.done label so.each one; fits = fits };
+            is = leads_text so.done text left label [] so.leads (rest, spells, ends);
+          }))
+    ]

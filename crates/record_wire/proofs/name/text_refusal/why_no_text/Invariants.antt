@@ -1,0 +1,10 @@
+-- The labels in front of what is left were read.
+use Rattle.std.proofs.Common.{length}
+use Rattle.record_wire.proofs.NameLabels.{SoFar}
+use Rattle.record_wire.proofs.name.text_refusal.why_no_text.Given as goal
+
+abbrev pub invariant-loop-label : goal.invariant-loop-label
+invariant-loop-label l = SoFar l.text l.octets.items l.left
+
+abbrev pub decreases-loop-label : goal.decreases-loop-label
+decreases-loop-label l = length l.left

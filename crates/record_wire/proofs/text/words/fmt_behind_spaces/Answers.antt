@@ -1,0 +1,31 @@
+-- Each turn writes a string behind a space.
+use Rattle.std.proofs.Common.{ℕ, List, [], ◌∷◌, ◌++◌, IsOk, refl, sym, ap, ◌∙◌, subst, rules}
+use Rattle.std.proofs.lemmas.Grind.{put_two}
+use Rattle.std.proofs.lemmas.List.{append-nil}
+use Rattle.std.specs.Fmt.{HasWritten}
+use Rattle.record_wire.specs.ZoneText.{word, string_text, string_words}
+use Rattle.record_wire.proofs.RecordTexts.{one_word}
+use Rattle.record_wire.proofs.text.words.fmt_behind_spaces.Goals as goal
+
+pub loop-string-init : goal.loop-string-init
+loop-string-init g c = λ plain. ([], refl, search rules)
+
+pub loop-string-preserved : goal.loop-string-preserved
+unfolding word
+loop-string-preserved g c = λ plain.
+    let (done, is, before) = c.loop-string.invariant plain in
+    let ok : IsOk c.write.result = search rules in
+    let text = string_text c.in-Some.string.now in
+    let left = string_words c.loop-string.strings in
+    let rest = string_words c.next.new.self in (
+      done ++ 32 ∷ text,
+      one_word done left text rest (string_words c.args.strings) is (ap string_words c.in-Some.ensures.steps),
+      put_two _ _ _ _ _ _ _ before (c.write.ensures.writes before.plain ok) refl,
+    )
+
+pub returns : goal.returns
+returns g c = λ plain ok.
+    let (done, is, before) = c.loop-string.invariant plain in
+    let none = ap string_words c.in_default.ensures.steps.0 in
+    let whole = sym (append-nil done) ∙ (ap (λ (l : List ℕ). done ++ l) (sym none) ∙ is) in
+    subst (λ t. HasWritten g.W.Write.write_str_gives c.args.f.now t c.loop-string.f) whole before

@@ -1,0 +1,13 @@
+-- Each turn writes a byte.
+use Rattle.std.proofs.Common.{IsOk, rules}
+use Rattle.std.proofs.lemmas.Grind.{put_two}
+use Rattle.wirebase.specs.Ethernet.{hex_byte}
+use Rattle.record_wire.proofs.RecordTexts.{one_more}
+use Rattle.record_wire.proofs.text.words.fmt_digits.Goals as goal
+
+pub loop-byte-preserved : goal.loop-byte-preserved
+loop-byte-preserved g c = λ plain.
+    let before = c.loop-byte.invariant plain in
+    let ok : IsOk c.write.result = search rules in
+    put_two _ _ _ _ _ _ _ before (c.write.ensures.writes before.plain ok)
+    (one_more hex_byte c.args.bytes.now c.loop-byte.byte-index 0 c.loop-byte-test.true)

@@ -1,0 +1,73 @@
+-- Why a text is that of no name: the check that fails first.
+use Rattle.std.specs.Prelude.{◌≡◌, ◌≢◌, ℕ, ◌<◌, ◌≤◌, List, [], ◌∷◌, ◌++◌, length, codes, decimal}
+use Rattle.std.specs.List.{AllByRecursion}
+use Rattle.wirebase.specs.Display.{pieces}
+use Rattle.dns_wire.specs.DnsName.{IsLabel}
+use Rattle.record_wire.specs.Labels.{wire}
+use Rattle.record_wire.specs.NameText.{IsCharacter, Spells, IsNameText}
+use Rattle.record_wire.specs.declared.name.text_refusal.NameTextRefusal.{NameTextRefusal}
+use Rattle.record_wire.specs.declared.name.text_refusal.NameTextRefusal.TheVariants as refusal
+
+-- a text is these labels, each with a dot behind it, and then more
+abbrev pub Leads : List ℕ → List (List ℕ) → List ℕ → Type 0
+Leads text [] left = text ≡ left
+Leads text (label ∷ labels) left =
+    (rest : List ℕ) × (after : List ℕ) × Spells text label rest × (rest ≡ codes "." ++ after)
+    × (1 ≤ length after) × Leads after labels left
+
+-- a text is whole labels with dots behind them, the characters of one more label, and then a rest
+pub record IsReadTo (text rest : List ℕ) : Type 0 where
+  pub done : List (List ℕ)
+  pub each : AllByRecursion IsLabel done
+  pub left : List ℕ
+  pub leads : Leads text done left
+  pub label : List ℕ
+  pub spells : Spells left label rest
+
+-- no character stands at the front
+abbrev pub BeginsWithNone : List ℕ → Type 0
+BeginsWithNone text = (byte : ℕ) (character rest : List ℕ) → IsCharacter byte character
+    → text ≡ character ++ rest → ⊥
+
+-- the end of a text, or a dot
+abbrev pub IsLabelEnd : List ℕ → Type 0
+IsLabelEnd [] = Unit {0}
+IsLabelEnd (byte ∷ rest) = byte ≡ 46
+
+-- what is left of a text where no character stands: the end or a dot, a backslash, or another byte
+abbrev pub RefusesRest : List ℕ → NameTextRefusal → Type 0
+RefusesRest rest refusal.EmptyLabel = IsLabelEnd rest
+RefusesRest rest refusal.Escape = (more : List ℕ) × (rest ≡ 92 ∷ more) × BeginsWithNone rest
+RefusesRest rest (refusal.Byte byte) =
+    (more : List ℕ) × (rest ≡ byte ∷ more) × (byte ≢ 46) × (byte ≢ 92) × BeginsWithNone rest
+RefusesRest rest _ = ⊥
+
+-- what is left of a text where no label of 1 to 63 bytes stands: too many characters or none
+abbrev pub RefusesLabel : List ℕ → NameTextRefusal → Type 0
+RefusesLabel text refusal.LongLabel =
+    (label : List ℕ) × (rest : List ℕ) × Spells text label rest × (63 < length label)
+RefusesLabel text refusal.TooLong = ⊥
+RefusesLabel text why = RefusesRest text why
+
+-- A label has no characters, and the text is not a dot alone; it has too many; with it the name has too many octets;
+-- behind it stands a backslash that begins no character, or another byte that begins none.
+abbrev pub RefusesText : List ℕ → NameTextRefusal → Type 0
+RefusesText text refusal.EmptyLabel =
+    (rest : List ℕ) × (read : IsReadTo text rest) × (read.label ≡ []) × IsLabelEnd rest × (text ≢ codes ".")
+RefusesText text refusal.LongLabel = (rest : List ℕ) × (read : IsReadTo text rest) × (63 < length read.label)
+RefusesText text refusal.TooLong =
+    (rest : List ℕ) × (read : IsReadTo text rest) × (255 < length (wire (read.done ++ read.label ∷ [])))
+RefusesText text refusal.Escape = (rest : List ℕ) × IsReadTo text rest × RefusesRest rest refusal.Escape
+RefusesText text (refusal.Byte byte) = (rest : List ℕ) × IsReadTo text rest × RefusesRest rest (refusal.Byte byte)
+
+-- the text of a name
+abbrev pub IsText : List ℕ → Type 0
+IsText text = (labels : List (List ℕ)) × IsNameText text labels
+
+abbrev pub text_refusal_display : NameTextRefusal → List ℕ
+text_refusal_display refusal.EmptyLabel = codes "a label is empty"
+text_refusal_display refusal.LongLabel = codes "a label has more than 63 bytes"
+text_refusal_display refusal.TooLong = codes "the name has more than 255 octets"
+text_refusal_display refusal.Escape = codes "a backslash stands before no character that it quotes"
+text_refusal_display (refusal.Byte byte) =
+    pieces (codes "byte " ∷ decimal byte ∷ codes " does not stand for itself" ∷ [])

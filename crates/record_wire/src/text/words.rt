@@ -1,0 +1,174 @@
+//! The words of a line of a zone file (RFC 1035 section 5.1, RFC 3597 section 5).
+
+#![tactic(auto, unfolding(crate::specs::ZoneText::word))]
+
+ghost use Rattle.std.specs.Prelude.{◌≡◌, Some, flat_map};
+ghost use Rattle.std.specs.Fmt.{WritesOnOk};
+ghost use Rattle.wirebase.specs.Ethernet.{hex_byte};
+ghost use Rattle.record_wire.specs.Name.{labels_of};
+ghost use Rattle.record_wire.specs.Strings.{strings_in};
+ghost use Rattle.record_wire.specs.ZoneText.{whole_name, string_character, string_text, string_words, strings_text};
+ghost use Rattle.record_wire.specs.ZoneText.{has_meaning, is_itself, generic_text};
+
+use crate::name::Name;
+use crate::name::text::write_piece;
+use crate::strings::TxtStrings;
+use std::fmt;
+
+/// A name with its last dot; the root is a dot.
+#[derive(Clone, Copy)]
+pub(super) struct Whole<'a>(pub(super) &'a Name);
+
+impl fmt::Display for Whole<'_> {
+    ghost output = { λ name. Some (whole_name (labels_of name.0.now)) };
+
+    fn fmt<W: fmt::Write>(&self, f: &mut fmt::Formatter<W>) -> fmt::Result {
+        let name = self.0;
+        // Byte 0 alone is the root.
+        if name.octets().len() == 1 {
+            return f.write_str(".");
+        }
+        write!(f, "{name}.")
+    }
+}
+
+/// Strings, each of which stands behind its length, in quotes and with spaces between them.
+#[derive(Clone, Copy)]
+pub(super) struct Strings<'a>(pub(super) &'a [u8]);
+
+impl fmt::Display for Strings<'_> {
+    ghost output = { λ strings. Some (strings_text (strings_in strings.0.now)) };
+
+    fn fmt<W: fmt::Write>(&self, f: &mut fmt::Formatter<W>) -> fmt::Result {
+        let mut strings = TxtStrings::new(self.0);
+        let Some(first) = strings.next() else {
+            return Ok(());
+        };
+        write!(f, "{}", Quoted(first))?;
+        fmt_behind_spaces(f, strings)
+    }
+}
+
+// Writes each string that is left behind a space.
+fn fmt_behind_spaces<W: fmt::Write>(
+    f: &mut fmt::Formatter<W>,
+    mut strings: TxtStrings<'_>,
+) -> fmt::Result
+    ensures { WritesOnOk W.write_str_gives f.old result (string_words strings.entry) f.new }
+{
+    while let Some(string) = strings.next() {
+        write!(f, " {}", Quoted(string))?;
+    }
+    Ok(())
+}
+
+// A string in quotes.
+#[derive(Clone, Copy)]
+struct Quoted<'a>(&'a [u8]);
+
+impl fmt::Display for Quoted<'_> {
+    ghost output = { λ string. Some (string_text string.0.now) };
+
+    fn fmt<W: fmt::Write>(&self, f: &mut fmt::Formatter<W>) -> fmt::Result {
+        f.write_str("\"")?;
+        fmt_characters(f, self.0)?;
+        f.write_str("\"")
+    }
+}
+
+// Writes the bytes of a string.
+fn fmt_characters<W: fmt::Write>(f: &mut fmt::Formatter<W>, string: &[u8]) -> fmt::Result
+    ensures { WritesOnOk W.write_str_gives f.old result (flat_map string_character string.now) f.new }
+{
+    for byte in string {
+        write!(f, "{}", Character(*byte))?;
+    }
+    Ok(())
+}
+
+// A byte of a string: itself, behind a backslash where it has a meaning of its own, or its number behind one.
+#[derive(Clone, Copy)]
+struct Character(u8);
+
+impl fmt::Display for Character {
+    ghost output = { λ byte. Some (string_character byte.0) };
+
+    fn fmt<W: fmt::Write>(&self, f: &mut fmt::Formatter<W>) -> fmt::Result {
+        let byte = self.0;
+        if is_special(byte) {
+            return write_piece(f, &[b'\\', byte]);
+        }
+        if is_plain(byte) {
+            return write_piece(f, &[byte]);
+        }
+        write!(f, "\\{}{}{}", byte / 100, byte / 10 % 10, byte % 10)
+    }
+}
+
+// Whether a byte of a string is written as itself.
+fn is_plain(byte: u8) -> bool
+    ensures { result ≡ is_itself byte }
+{
+    matches!(byte, 32..=126) && !is_special(byte)
+}
+
+// Whether a byte of a string has a meaning of its own.
+fn is_special(byte: u8) -> bool
+    ensures { result ≡ has_meaning byte }
+{
+    byte == b'"' || byte == b'\\'
+}
+
+/// Data of any type: the number of bytes, and these in hexadecimal.
+#[derive(Clone, Copy)]
+pub(super) struct Generic<'a>(pub(super) &'a [u8]);
+
+impl fmt::Display for Generic<'_> {
+    ghost output = { λ bytes. Some (generic_text bytes.0.now) };
+
+    fn fmt<W: fmt::Write>(&self, f: &mut fmt::Formatter<W>) -> fmt::Result {
+        let len = self.0.len();
+        write!(f, "\\# {len}")?;
+        if self.0.is_empty() {
+            return Ok(());
+        }
+        f.write_str(" ")?;
+        fmt_digits(f, self.0)
+    }
+}
+
+/// Bytes in hexadecimal, two digits each.
+#[derive(Clone, Copy)]
+pub(crate) struct Digits<'a>(pub(crate) &'a [u8]);
+
+impl fmt::Display for Digits<'_> {
+    ghost output = { λ bytes. Some (flat_map hex_byte bytes.0.now) };
+
+    fn fmt<W: fmt::Write>(&self, f: &mut fmt::Formatter<W>) -> fmt::Result {
+        fmt_digits(f, self.0)
+    }
+}
+
+// Writes bytes as two hexadecimal digits each.
+fn fmt_digits<W: fmt::Write>(f: &mut fmt::Formatter<W>, bytes: &[u8]) -> fmt::Result
+    ensures { WritesOnOk W.write_str_gives f.old result (flat_map hex_byte bytes.now) f.new }
+{
+    for byte in bytes {
+        write!(f, "{}", HexByte(*byte))?;
+    }
+    Ok(())
+}
+
+// A byte as two hexadecimal digits.
+#[derive(Clone, Copy)]
+struct HexByte(u8);
+
+impl fmt::Display for HexByte {
+    ghost output = { λ byte. Some (hex_byte byte.0) };
+
+    fn fmt<W: fmt::Write>(&self, f: &mut fmt::Formatter<W>) -> fmt::Result {
+        let high = self.0 / 16;
+        let low = self.0 % 16;
+        write!(f, "{high:x}{low:x}")
+    }
+}

@@ -1,0 +1,46 @@
+//! The data of records of updates, which may have none (RFC 2136 section 2.5).
+//!
+//! ```
+//! use record_wire::rdata::RData;
+//! use record_wire::{classes, types};
+//!
+//! // An update deletes all mail servers of a name by a record of class ANY without data.
+//! assert_eq!(RData::parse_update(types::MX, classes::ANY, b"")?, RData::Other(b""));
+//! assert!(RData::parse(types::MX, classes::ANY, b"").is_err());
+//! # Ok::<(), control_wire::Error>(())
+//! ```
+
+ghost use Rattle.std.specs.Prelude.{◌≡◌, IfOk, IsOkAnd};
+ghost use Rattle.record_wire.specs.RData.{RDataValue, rdata_of};
+ghost use Rattle.record_wire.specs.Update.{is_without_data, IsDataOf};
+
+use crate::classes;
+use crate::rdata::RData;
+use dns_wire::dns::Type;
+use wirebase::Result;
+
+impl<'a> RData<'a> {
+    /// The data of a record of this type and class, which may be one of an update: of class NONE or ANY and without
+    /// data it is `RData::Other` of no bytes, whatever its type (RFC 2136 section 2.5), and else what [`RData::parse`]
+    /// gives. Refused where the bytes are not laid out as the type has it.
+    pub fn parse_update(type_: Type, class: u16, octets: &'a [u8]) -> Result<RData<'a>>
+        ensures sound { IfOk result (λ read. IsDataOf type_ class octets.now (rdata_of read)) }
+        ensures complete { (value : RDataValue) → IsDataOf type_ class octets.now value
+            → IsOkAnd result (λ read. rdata_of read ≡ value) }
+    {
+        if is_without_data(class, octets) {
+            return Ok(RData::Other(octets));
+        }
+        RData::parse(type_, class, octets)
+    }
+}
+
+// Whether a record of this class and data is one of an update without data.
+pub(crate) fn is_without_data(class: u16, octets: &[u8]) -> bool
+    ensures { result ≡ is_without_data class octets.now }
+{
+    octets.is_empty() && matches!(class, classes::NONE | classes::ANY)
+}
+
+#[cfg(test)]
+mod tests;
