@@ -3,6 +3,7 @@ pub mod Digits
 pub mod Entries
 pub mod FlagNames
 pub mod Gateways
+pub mod HexBytes
 pub mod Lines
 pub mod Numbers
 pub mod OneLine

@@ -1,7 +1,8 @@
 -- The options of OPT.
 use Rattle.std.proofs.Common.{ℕ, ◌<◌, ◌≤◌, List, [], ◌∷◌, ◌++◌, length, drop, refl, sym, ap, ◌∙◌, subst, arith}
 use Rattle.std.proofs.Common.{length-drop}
-use Rattle.listing.specs.ListingEdns.{OptionValue, IsOption, AreOptions, option_len, option_line}
+use Rattle.record_wire.specs.Edns.{OptionValue, IsOption, option_len}
+use Rattle.listing.specs.ListingEdns.{AreOptions, option_line}
 use Rattle.listing.specs.ListingParts.{OptionsShown}
 
 -- an option is followed by fewer octets

@@ -1,20 +1,22 @@
 -- What reads of a record, and what does not.
-use Rattle.std.proofs.Common.{◌≡◌, ℕ, Bool, true, false, List, [], ◌∷◌, ◌++◌, Option, None, Some, codes}
+use Rattle.std.proofs.Common.{◌≡◌, ℕ, Bool, true, false, ◌&&◌, List, [], ◌∷◌, ◌++◌, Option, None, Some, codes}
 use Rattle.std.proofs.Common.{refl, sym, ◌∙◌, subst, arith}
 use Rattle.std.specs.Option.{is_some}
 use Rattle.dns_wire.specs.DnsName.{IsName}
 use Rattle.record_wire.specs.Labels.{AreOfName}
 use Rattle.record_wire.specs.NameDotted.{dotted, AreUsual}
+use Rattle.record_wire.specs.Multicast.{flushes}
 use Rattle.record_wire.specs.RData.{RDataValue, IsLaidOut}
 use Rattle.record_wire.specs.Record.{RecordValue}
+use Rattle.record_wire.specs.Update.{IsDataOf}
 use Rattle.record_wire.specs.declared.entries.Section.{Section}
 use Rattle.record_wire.specs.declared.rdata.Layout.{Layout}
 use Rattle.record_wire.specs.declared.rdata.Layout.TheVariants as layout
 use Rattle.record_wire.proofs.NameDotted.{usual_name}
 use Rattle.listing.specs.ListingParts.{LineShown, HasStrings}
-use Rattle.listing.specs.ListingRecord.{NameReads, IsDataOf, class_in, has_top_bit, line_end, record_front, record_line}
+use Rattle.listing.specs.ListingRecord.{NameReads, record_class, line_end, record_front, record_line}
 use Rattle.listing.specs.ListingRecord.{RecordPrints, has, has_no_name_in_data}
-use Rattle.listing.specs.ListingZone.{whole_name}
+use Rattle.record_wire.specs.ZoneText.{whole_name}
 use Rattle.listing.specs.Output.{Gains, GainsSome}
 use Rattle.listing.specs.declared.message.Unread.{Unread}
 use Rattle.listing.proofs.Printing.{gains_both}
@@ -46,7 +48,7 @@ reads_usual message bytes text (label ∷ labels) usual is = record {
 
 module _ (margin : List ℕ) (is_multicast : Bool) (message : List ℕ) (section : Section) (r : RecordValue)
     (owner : List ℕ) (value : RDataValue) (name : NameReads message r.name owner)
-    (is : IsDataOf r.kind (class_in is_multicast r.class) r.data_ value) where
+    (is : IsDataOf r.kind (record_class is_multicast r.kind r.class) r.data_ value) where
   -- a record with a name in its data that does not read
   pub record_unread : (a b : Option (List ℕ)) (unread : Option Unread) → is_some unread ≡ true
       → GainsSome a b (λ text. LineShown (record_front margin is_multicast section r owner) message value text unread)
@@ -63,7 +65,7 @@ module _ (margin : List ℕ) (is_multicast : Bool) (message : List ℕ) (section
   -- one that reads, and the end of its line
   pub record_listed : (a b c : Option (List ℕ)) (unread : Option Unread) → is_some unread ≡ false
       → GainsSome a b (λ text. LineShown (record_front margin is_multicast section r owner) message value text unread)
-      → Gains b c (line_end (has_top_bit is_multicast r.class) (codes "cache-flush"))
+      → Gains b c (line_end (is_multicast && flushes r.kind r.class) (codes "cache-flush"))
       → GainsSome a c (λ text. RecordPrints margin is_multicast message section r text None)
   record_listed a b c None e (text, (data_, reads, whole), gains) end = (
     record_line margin is_multicast section r owner data_,

@@ -15,25 +15,10 @@ use Rattle.record_wire.specs.Labels.{wire}
 use Rattle.record_wire.specs.NameText.{name_text}
 use Rattle.record_wire.specs.RData.{AreStrings}
 use Rattle.record_wire.proofs.RDataParts.{string_first}
-use Rattle.listing.specs.ListingParts.{first_string, has_meaning, is_itself}
+use Rattle.record_wire.specs.Strings.{first_string}
+use Rattle.record_wire.specs.ZoneText.{word, has_meaning, is_itself, string_character, string_text}
+use Rattle.record_wire.proofs.RecordTexts.{itself_text, hidden}
 use Rattle.listing.specs.ListingRecord.{StringsRead}
-use Rattle.listing.specs.ListingZone.{type_mnemonics, class_mnemonics, mnemonic_in, mnemonic_or, type_text, class_text}
-use Rattle.listing.specs.ListingZone.{word, whole_name, string_character, string_text}
-
--- ---- names
-
--- byte 0 alone is the root
-pub root_name : (labels : List (List ℕ)) → length (wire labels) ≡ 1 → whole_name labels ≡ codes "."
-unfolding whole_name
-root_name [] e = refl
-root_name (label ∷ labels) e =
-    absurd (omega (arith, e, length-append (label ++ flat_map written labels) (0 ∷ [])))
-
-pub longer_name : (labels : List (List ℕ)) → (length (wire labels) ≡ 1 → ⊥)
-    → whole_name labels ≡ name_text labels ++ codes "."
-unfolding whole_name
-longer_name [] e = absurd (e refl)
-longer_name (label ∷ labels) e = refl
 
 -- ---- strings
 
@@ -123,27 +108,6 @@ string_closes left len h plain =
 
 -- ---- bytes of a string
 
-shown : (special visible : Bool) → (visible && not special) ≡ true → (special ≡ false) × (visible ≡ true)
-shown true true e = cc e
-shown true false e = cc e
-shown false true e = (refl, refl)
-shown false false e = cc e
-
-hidden : (special visible : Bool) → special ≡ false → (visible && not special) ≡ false → visible ≡ false
-hidden true visible e f = cc e
-hidden false true e f = cc f
-hidden false false e f = refl
-
-pub itself_text : (byte : ℕ) → is_itself byte ≡ true → string_character byte ≡ byte ∷ []
-unfolding string_character
-itself_text byte e =
-    let both = shown (has_meaning byte) (leb 32 byte && leb byte 126) e in
-    rw (both.0, both.1) refl
-
-pub special_text : (byte : ℕ) → has_meaning byte ≡ true → string_character byte ≡ 92 ∷ byte ∷ []
-unfolding string_character
-special_text byte e = rw e refl
-
 pub number_text : (byte : ℕ) → byte < 256 → has_meaning byte ≡ false → is_itself byte ≡ false
     → string_character byte ≡ 92 ∷ (48 + byte / 100) ∷ (48 + byte / 10 % 10) ∷ (48 + byte % 10) ∷ []
 unfolding string_character
@@ -165,21 +129,3 @@ itself_more string len h e plain =
     (ap (λ front. front ++ flat_map string_character (slice_index string len ∷ [])) plain
     ∙ ap (λ more. take len string ++ more)
     (ap (λ one. one ++ []) (itself_text (slice_index string len) e)))
-
--- ---- mnemonics
-
-pub known_type : (n : ℕ) (mnemonic : List ℕ) → Some mnemonic ≡ mnemonic_in type_mnemonics n → type_text n ≡ mnemonic
-unfolding type_text
-known_type n mnemonic e = sym (ap (λ m. mnemonic_or (codes "TYPE") m n) e)
-
-pub unknown_type : (n : ℕ) → None ≡ mnemonic_in type_mnemonics n → type_text n ≡ mnemonic_or (codes "TYPE") None n
-unfolding type_text
-unknown_type n e = sym (ap (λ m. mnemonic_or (codes "TYPE") m n) e)
-
-pub known_class : (n : ℕ) (mnemonic : List ℕ) → Some mnemonic ≡ mnemonic_in class_mnemonics n → class_text n ≡ mnemonic
-unfolding class_text
-known_class n mnemonic e = sym (ap (λ m. mnemonic_or (codes "CLASS") m n) e)
-
-pub unknown_class : (n : ℕ) → None ≡ mnemonic_in class_mnemonics n → class_text n ≡ mnemonic_or (codes "CLASS") None n
-unfolding class_text
-unknown_class n e = sym (ap (λ m. mnemonic_or (codes "CLASS") m n) e)

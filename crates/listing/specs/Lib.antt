@@ -19,7 +19,6 @@ pub mod ListingNdopt
 pub mod ListingParts
 pub mod ListingQuote
 pub mod ListingRecord
-pub mod ListingZone
 pub mod Output
 pub mod Page
 pub mod Ports

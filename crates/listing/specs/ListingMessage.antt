@@ -4,12 +4,12 @@ use Rattle.std.specs.Prelude.{◌≡◌, ℕ, ◌/◌, ◌%◌, ◌^◌, ◌<◌
 use Rattle.std.specs.Prelude.{length, flat_map, Option, None, Some, codes, decimal}
 use Rattle.wirebase.specs.Bytes.{Reaches, number_of}
 use Rattle.dns_wire.specs.DnsPacket.{id_field, flags_field, header, opcode_in, rcode_in}
-use Rattle.dns_wire.specs.DnsTables.{type_number}
 use Rattle.record_wire.specs.Entries.{EntryValue, question, record_in, Left, all_of, IsNext, IsBroken}
+use Rattle.record_wire.specs.Multicast.{is_opt}
 use Rattle.record_wire.specs.Record.{RecordValue}
 use Rattle.record_wire.specs.declared.entries.Section.{Section}
 use Rattle.listing.specs.Layout.{part_field}
-use Rattle.listing.specs.ListingEdns.{opt_type, OptPrints}
+use Rattle.listing.specs.ListingEdns.{OptPrints}
 use Rattle.listing.specs.ListingRecord.{QuestionPrints, RecordPrints}
 use Rattle.listing.specs.declared.message.Unread.{Unread}
 use Rattle.listing.specs.declared.message.Unread.TheVariants as unread
@@ -57,7 +57,7 @@ abbrev pub EntryPrints : List ℕ → Bool → List ℕ → EntryValue → List 
 EntryPrints margin is_multicast message (question q) text unread =
     QuestionPrints margin is_multicast message q text unread
 EntryPrints margin is_multicast message (record_in section r) text unread =
-    AnyRecordPrints (type_number r.kind == opt_type) margin is_multicast message section r text unread
+    AnyRecordPrints (is_opt r.kind) margin is_multicast message section r text unread
 
 -- What the entries that are left print: each in turn what it prints, up to the first that is not listed.
 pub data EntriesPrint (margin : List ℕ) (is_multicast : Bool) (message : List ℕ) : Left → List ℕ → Option Unread

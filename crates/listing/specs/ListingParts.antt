@@ -2,15 +2,17 @@
 use Rattle.std.specs.Prelude.{◌≡◌, ℕ, Bool, not, ◌&&◌, ◌||◌, ◌==◌, nat_le, if◌then◌else◌, List, [], ◌∷◌}
 use Rattle.std.specs.Prelude.{◌++◌, length, take, drop, flat_map, Option, None, Some, codes, decimal}
 use Rattle.std.specs.Borrow.{Bor}
+use Rattle.dns_wire.specs.DnsTables.{type_number}
+use Rattle.record_wire.specs.Mnemonics.{type_text, class_text}
 use Rattle.record_wire.specs.Name.{labels_of}
 use Rattle.record_wire.specs.RData.{RDataValue, strings, AreStrings}
+use Rattle.record_wire.specs.ZoneText.{word, whole_name}
 use Rattle.record_wire.specs.declared.name.Name.{Name}
-use Rattle.listing.specs.ListingEdns.{OptionValue, AreOptions, options_listing}
+use Rattle.record_wire.specs.Edns.{OptionValue}
+use Rattle.listing.specs.ListingEdns.{AreOptions, options_listing}
 use Rattle.listing.specs.ListingRecord.{line_front, DataReads}
-use Rattle.listing.specs.ListingZone.{word, whole_name, type_text, class_text}
 use Rattle.listing.specs.declared.message.Unread.{Unread}
 use Rattle.listing.specs.declared.message.Unread.TheVariants as unread
-use Rattle.listing.specs.declared.message.edns.EdnsOption.{EdnsOption}
 use Rattle.listing.specs.declared.message.record.Line.{Line}
 use Rattle.listing.specs.declared.zone.name_text.NameText.{NameText}
 
@@ -32,7 +34,7 @@ line_text line =
     line_front line.margin.now line.section (text_of line.owner.now)
     ++ word (decimal line.ttl)
     ++ word (class_text line.class)
-    ++ word (type_text line.kind)
+    ++ word (type_text (type_number line.kind))
 
 -- a line was written up to its end, or nothing for a name in its data that does not read
 abbrev pub LineShown : List ℕ → List ℕ → RDataValue → List ℕ → Option Unread → Type 0
@@ -47,26 +49,7 @@ abbrev pub HasStrings : RDataValue → Type 0
 HasStrings (strings bytes) = AreStrings bytes
 HasStrings _ = Unit {0}
 
--- the string at the front of octets, and what stands behind it
-abbrev pub first_string : List ℕ → Option (List ℕ × List ℕ)
-first_string [] = None
-first_string (n ∷ rest) = if nat_le n (length rest) then Some (take n rest, drop n rest) else None
-
-abbrev pub seen_string : Option (Bor (List ℕ) × Bor (List ℕ)) → Option (List ℕ × List ℕ)
-seen_string None = None
-seen_string (Some (string, rest)) = Some (string.now, rest.now)
-
-abbrev pub has_meaning : ℕ → Bool
-has_meaning byte = byte == 34 || byte == 92
-
--- a byte that is written as itself
-abbrev pub is_itself : ℕ → Bool
-is_itself byte = nat_le 32 byte && nat_le byte 126 && not (has_meaning byte)
-
 -- ---- options
-
-abbrev pub option_of : EdnsOption → OptionValue
-option_of option = record { code = option.code; data_ = option.«data».now }
 
 abbrev pub OptionsShown : List ℕ → List ℕ → List ℕ → Type 0
 OptionsShown margin bytes text =

@@ -1,31 +1,32 @@
 -- What a question and a record of a message print: a line of a zone file each (RFC 1035 section 5.1).
-use Rattle.std.specs.Prelude.{◌≡◌, ℕ, ◌%◌, ◌==◌, nat_le, ◌&&◌, ◌||◌, Bool, if◌then◌else◌, List, [], ◌++◌, length}
+use Rattle.std.specs.Prelude.{◌≡◌, ℕ, ◌&&◌, Bool, if◌then◌else◌, List, [], ◌++◌}
 use Rattle.std.specs.Prelude.{codes, decimal, flat_map, Option, None, Some}
 use Rattle.wirebase.specs.Ipv4 as ipv4
 use Rattle.wirebase.specs.Ipv6Address as ipv6
 use Rattle.dns_wire.specs.DnsName.{IsName, written}
 use Rattle.dns_wire.specs.DnsTables.{type_number}
 use Rattle.record_wire.specs.Labels.{AreOfName}
+use Rattle.record_wire.specs.Mnemonics.{type_text, class_text}
+use Rattle.record_wire.specs.Multicast.{class_of, has_top_bit, record_class_of, flushes}
 use Rattle.record_wire.specs.RData.{RDataValue, address4, address6, name, mail, service, authority, strings, other}
-use Rattle.record_wire.specs.RData.{AuthorityValue, layout_of, IsLaidOut}
+use Rattle.record_wire.specs.RData.{AuthorityValue}
 use Rattle.record_wire.specs.Record.{QuestionValue, RecordValue}
+use Rattle.record_wire.specs.Update.{IsDataOf}
+use Rattle.record_wire.specs.ZoneText.{word, whole_name, string_words, generic_text}
 use Rattle.dns_wire.specs.declared.dns.tables.Type.{«Type» as RecordType}
 use Rattle.record_wire.specs.declared.entries.Section.{Section}
 use Rattle.record_wire.specs.declared.entries.Section.TheVariants.{Question, Answer, Authority, Additional}
-use Rattle.record_wire.specs.declared.rdata.Layout.{Layout}
-use Rattle.record_wire.specs.declared.rdata.Layout.TheVariants as layout
-use Rattle.listing.specs.ListingZone.{word, whole_name, type_text, class_text, strings_text, generic_text}
 use Rattle.listing.specs.declared.message.Unread.{Unread}
 use Rattle.listing.specs.declared.message.Unread.TheVariants as unread
 
 -- ---- classes
 
 -- In multicast DNS the top bit of a class is no part of it (RFC 6762 sections 5.4 and 10.2).
-abbrev pub class_in : Bool → ℕ → ℕ
-class_in is_multicast class = if is_multicast then class % 0x8000 else class
+abbrev pub question_class : Bool → ℕ → ℕ
+question_class is_multicast class = if is_multicast then class_of class else class
 
-abbrev pub has_top_bit : Bool → ℕ → Bool
-has_top_bit is_multicast class = is_multicast && nat_le 0x8000 class
+abbrev pub record_class : Bool → RecordType → ℕ → ℕ
+record_class is_multicast kind class = if is_multicast then record_class_of kind class else class
 
 -- ---- names
 
@@ -37,18 +38,6 @@ pub record NameReads (message bytes text : List ℕ) : Type 0 where
   pub is : text ≡ whole_name labels
 
 -- ---- data
-
--- An update has records of class NONE or ANY without data, whatever their type (RFC 2136 section 2.5).
-abbrev pub is_without_data : ℕ → List ℕ → Bool
-is_without_data class bytes = length bytes == 0 && (class == 254 || class == 255)
-
--- how the data of a record of this type and class are laid out
-abbrev pub data_layout : RecordType → ℕ → List ℕ → Layout
-data_layout kind class bytes = if is_without_data class bytes then layout.Opaque else layout_of kind class
-
--- these bytes are the data of a record of this type and class
-abbrev pub IsDataOf : RecordType → ℕ → List ℕ → RDataValue → Type 0
-IsDataOf kind class bytes value = IsLaidOut (data_layout kind class bytes) bytes value
 
 -- two names, and five numbers
 pub record AuthorityReads (message : List ℕ) (soa : AuthorityValue) (text : List ℕ) : Type 0 where
@@ -62,7 +51,7 @@ pub record AuthorityReads (message : List ℕ) (soa : AuthorityValue) (text : Li
 
 -- strings of up to 255 bytes, each behind its length
 abbrev pub StringsRead : List ℕ → List ℕ → Type 0
-StringsRead bytes text = (each : List (List ℕ)) × (bytes ≡ flat_map written each) × (text ≡ strings_text each)
+StringsRead bytes text = (each : List (List ℕ)) × (bytes ≡ flat_map written each) × (text ≡ string_words each)
 
 -- the names in data read, and this is the text of the data, each word behind a space
 abbrev pub DataReads : List ℕ → RDataValue → List ℕ → Type 0
@@ -76,7 +65,7 @@ DataReads message (service priority weight port bytes) text =
     × (text ≡ word (decimal priority) ++ word (decimal weight) ++ word (decimal port) ++ word host)
 DataReads message (authority soa) text = AuthorityReads message soa text
 DataReads message (strings bytes) text = StringsRead bytes text
-DataReads message (other bytes) text = text ≡ generic_text bytes
+DataReads message (other bytes) text = text ≡ word (generic_text bytes)
 
 -- ---- lines
 
@@ -96,23 +85,23 @@ line_end is_marked mark = if is_marked then codes " ; " ++ mark ++ codes "\n" el
 abbrev pub question_line : List ℕ → Bool → QuestionValue → List ℕ → List ℕ
 question_line margin is_multicast q owner =
     line_front margin Question owner
-    ++ word (class_text (class_in is_multicast q.class))
+    ++ word (class_text (question_class is_multicast q.class))
     ++ word (type_text (type_number q.kind))
-    ++ line_end (has_top_bit is_multicast q.class) (codes "unicast-response")
+    ++ line_end (is_multicast && has_top_bit q.class) (codes "unicast-response")
 
 -- the line of a record up to its data
 abbrev pub record_front : List ℕ → Bool → Section → RecordValue → List ℕ → List ℕ
 record_front margin is_multicast section r owner =
     line_front margin section owner
     ++ word (decimal r.ttl)
-    ++ word (class_text (class_in is_multicast r.class))
+    ++ word (class_text (record_class is_multicast r.kind r.class))
     ++ word (type_text (type_number r.kind))
 
 abbrev pub record_line : List ℕ → Bool → Section → RecordValue → List ℕ → List ℕ → List ℕ
 record_line margin is_multicast section r owner data_ =
     record_front margin is_multicast section r owner
     ++ data_
-    ++ line_end (has_top_bit is_multicast r.class) (codes "cache-flush")
+    ++ line_end (is_multicast && flushes r.kind r.class) (codes "cache-flush")
 
 -- ---- what is printed
 
@@ -129,14 +118,14 @@ pub data QuestionPrints (margin : List ℕ) (is_multicast : Bool) (message : Lis
 pub data RecordPrints (margin : List ℕ) (is_multicast : Bool) (message : List ℕ) (section : Section) (r : RecordValue)
     : List ℕ → Option Unread → Type 0 where
   has : (owner data_ : List ℕ) (value : RDataValue) → NameReads message r.name owner
-      → IsDataOf r.kind (class_in is_multicast r.class) r.data_ value → DataReads message value data_
+      → IsDataOf r.kind (record_class is_multicast r.kind r.class) r.data_ value → DataReads message value data_
       → RecordPrints margin is_multicast message section r (record_line margin is_multicast section r owner data_) None
   has_no_name : ((owner : List ℕ) → NameReads message r.name owner → ⊥)
       → RecordPrints margin is_multicast message section r [] (Some unread.Name)
   has_no_data : (owner : List ℕ) → NameReads message r.name owner
-      → ((value : RDataValue) → IsDataOf r.kind (class_in is_multicast r.class) r.data_ value → ⊥)
+      → ((value : RDataValue) → IsDataOf r.kind (record_class is_multicast r.kind r.class) r.data_ value → ⊥)
       → RecordPrints margin is_multicast message section r [] (Some unread.Data)
   has_no_name_in_data : (owner : List ℕ) (value : RDataValue) → NameReads message r.name owner
-      → IsDataOf r.kind (class_in is_multicast r.class) r.data_ value
+      → IsDataOf r.kind (record_class is_multicast r.kind r.class) r.data_ value
       → ((data_ : List ℕ) → DataReads message value data_ → ⊥)
       → RecordPrints margin is_multicast message section r [] (Some unread.Name)

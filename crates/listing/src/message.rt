@@ -15,7 +15,7 @@ ghost use Rattle.record_wire.specs.Record.{record_of};
 ghost use Rattle.listing.specs.ListingMessage.{MessagePrints, EntryPrints, EntriesPrint};
 ghost use Rattle.listing.specs.Output.{GainsSome};
 
-use crate::message::edns::{OPT, show_opt};
+use crate::message::edns::show_opt;
 use crate::message::header::show_header;
 use crate::message::record::{show_question, show_record};
 use dns_wire::dns::Packet;
@@ -110,8 +110,8 @@ fn show_any_record<'a, W: Write>(
         (λ text. EntryPrints margin.now is_multicast (view_octets packet.now)
         (record_in section (record_of «record».now)) text unread)) }
 {
-    if u16::from(record.type_) == OPT {
-        return show_opt(output, margin, packet, record);
+    if let Some(edns) = record.edns() {
+        return show_opt(output, margin, packet, record, &edns);
     }
     show_record(output, margin, is_multicast, packet, section, record)
 }

@@ -8,8 +8,8 @@ mod string;
 
 ghost use Rattle.std.specs.Prelude.{OnOk};
 ghost use Rattle.listing.specs.ListingParts.{text_of};
-ghost use Rattle.listing.specs.ListingZone.{word as word_text, generic_text};
 ghost use Rattle.listing.specs.Output.{Gains};
+ghost use Rattle.record_wire.specs.ZoneText.{word as word_text, generic_text};
 ghost use Rattle.wirebase.specs.Ipv6Address.{address_text};
 
 use crate::endpoint::write_v6;
@@ -22,7 +22,7 @@ pub use string::strings;
 use wirebase::Ipv6Address;
 
 /// Writes a value behind a space.
-#[tactic(auto, using(crate::proofs::Printing::gained, crate::proofs::Printing::gains_both), unfolding(crate::specs::ListingZone::word))]
+#[tactic(auto, using(crate::proofs::Printing::gained, crate::proofs::Printing::gains_both), unfolding(record_wire::specs::ZoneText::word))]
 pub fn word<V: Value, W: Write>(output: &mut W, value: V) -> io::Result<()>
     ensures { OnOk result (Gains (W.contents output.old) (W.contents output.new)
         (word_text (V.text value))) }
@@ -32,7 +32,7 @@ pub fn word<V: Value, W: Write>(output: &mut W, value: V) -> io::Result<()>
 }
 
 /// Writes an address behind a space.
-#[tactic(auto, using(crate::proofs::Printing::gained, crate::proofs::Printing::gains_both), unfolding(crate::specs::ListingZone::word))]
+#[tactic(auto, using(crate::proofs::Printing::gained, crate::proofs::Printing::gains_both), unfolding(record_wire::specs::ZoneText::word))]
 pub fn ipv6_word<W: Write>(output: &mut W, address: Ipv6Address) -> io::Result<()>
     ensures { OnOk result (Gains (W.contents output.old) (W.contents output.new)
         (word_text (address_text address))) }
@@ -42,7 +42,7 @@ pub fn ipv6_word<W: Write>(output: &mut W, address: Ipv6Address) -> io::Result<(
 }
 
 /// Writes a name behind a space.
-#[tactic(auto, using(crate::proofs::Printing::gained, crate::proofs::Printing::gains_both), unfolding(crate::specs::ListingZone::word))]
+#[tactic(auto, using(crate::proofs::Printing::gained, crate::proofs::Printing::gains_both), unfolding(record_wire::specs::ZoneText::word))]
 pub fn name_word<W: Write>(output: &mut W, name: &NameText) -> io::Result<()>
     ensures { OnOk result (Gains (W.contents output.old) (W.contents output.new)
         (word_text (text_of name.now))) }
@@ -51,10 +51,10 @@ pub fn name_word<W: Write>(output: &mut W, name: &NameText) -> io::Result<()>
     name.write_to(output)
 }
 
-/// Writes data of any type: the number of bytes, and these in hexadecimal.
+/// Writes data of any type behind a space: the number of bytes, and these in hexadecimal.
 pub fn generic<W: Write>(output: &mut W, octets: &[u8]) -> io::Result<()>
     ensures { OnOk result (Gains (W.contents output.old) (W.contents output.new)
-        (generic_text octets.now)) }
+        (word_text (generic_text octets.now))) }
 {
     word(output, "\\#")?;
     if octets.is_empty() {

@@ -2,12 +2,12 @@
 
 #![tactic(auto, using(crate::proofs::Printing::gains_both))]
 
-ghost use Rattle.std.specs.Prelude.{◌≡◌, OnOk, IfOk, IsOkAnd};
+ghost use Rattle.std.specs.Prelude.{◌≡◌, ◌&&◌, OnOk, IfOk};
 ghost use Rattle.dns_wire.specs.DnsPacket.{view_octets};
 ghost use Rattle.dns_wire.specs.DnsTables.{type_number};
-ghost use Rattle.record_wire.specs.RData.{RDataValue, rdata_of};
+ghost use Rattle.record_wire.specs.Multicast.{has_top_bit, flushes};
 ghost use Rattle.record_wire.specs.Record.{question_of, record_of};
-ghost use Rattle.listing.specs.ListingRecord.{QuestionPrints, RecordPrints, IsDataOf, class_in, has_top_bit};
+ghost use Rattle.listing.specs.ListingRecord.{QuestionPrints, RecordPrints, question_class, record_class};
 ghost use Rattle.listing.specs.ListingRecord.{line_front, line_end};
 ghost use Rattle.listing.specs.ListingParts.{line_text, text_of};
 ghost use Rattle.listing.specs.Output.{Gains, GainsSome};
@@ -20,15 +20,6 @@ use record_wire::rdata::RData;
 use record_wire::{Question, Record, Section};
 use std::io;
 use std::io::Write;
-use wirebase::Result;
-
-// The bit of a class that is no part of it in multicast DNS.
-const TOP_BIT: u16 = 0x8000;
-
-// The classes of an update's records without data.
-const CLASS_NONE: u16 = 254;
-
-const CLASS_ANY: u16 = 255;
 
 /// Prints a question.
 pub fn show_question<'a, W: Write>(
@@ -47,11 +38,11 @@ pub fn show_question<'a, W: Write>(
         return Ok(Some(Unread::Name));
     }
     write_front(output, margin, Section::Question, &owner)?;
-    class_word(output, class_in(is_multicast, question.class))?;
-    type_word(output, u16::from(question.type_))?;
+    class_word(output, question_class(is_multicast, question))?;
+    type_word(output, question.type_)?;
     end_line(
         output,
-        has_top_bit(is_multicast, question.class),
+        wants_unicast(is_multicast, question),
         "unicast-response",
     )?;
     Ok(None)
@@ -79,35 +70,18 @@ pub fn show_record<'a, W: Write>(
         section,
         owner: &owner,
         ttl: record.ttl,
-        class: class_in(is_multicast, record.class),
-        kind: u16::from(record.type_),
+        class: record_class(is_multicast, record),
+        kind: record.type_,
     };
-    let Ok(data) = read_data(record.type_, line.class, record.data) else {
+    let Ok(data) = RData::parse_update(record.type_, line.class, record.data) else {
         return Ok(Some(Unread::Data));
     };
     let unread = show_data(output, packet, &line, &data)?;
     if unread.is_some() {
         return Ok(unread);
     }
-    end_line(
-        output,
-        has_top_bit(is_multicast, record.class),
-        "cache-flush",
-    )?;
+    end_line(output, flushes_cache(is_multicast, record), "cache-flush")?;
     Ok(None)
-}
-
-// The data of a record. An update has records of class NONE or ANY without data, whatever their type (RFC 2136 section
-// 2.5).
-fn read_data(type_: Type, class: u16, octets: &[u8]) -> Result<RData<'_>>
-    ensures sound { IfOk result (λ read. IsDataOf type_ class octets.now (rdata_of read)) }
-    ensures complete { (value : RDataValue) → IsDataOf type_ class octets.now value
-        → IsOkAnd result (λ read. rdata_of read ≡ value) }
-{
-    if octets.is_empty() && (class == CLASS_NONE || class == CLASS_ANY) {
-        return Ok(RData::Other(octets));
-    }
-    RData::parse(type_, class, octets)
 }
 
 /// The line of a record up to its data.
@@ -118,7 +92,7 @@ pub struct Line<'a> {
     owner: &'a NameText,
     ttl: u32,
     class: u16,
-    kind: u16,
+    kind: Type,
 }
 
 /// Writes the line of a record up to its data.
@@ -132,7 +106,8 @@ pub fn write_line<W: Write>(output: &mut W, line: &Line<'_>) -> io::Result<()>
     type_word(output, line.kind)
 }
 
-// The front of a line, up to the name.
+// The front of a line, up to the name. Inlined, the name of a section that the caller knows is copied without a call.
+#[inline(always)]
 #[tactic(auto, using(crate::proofs::Printing::gained, crate::proofs::Printing::gains_both), unfolding(crate::specs::ListingRecord::line_front))]
 fn write_front<W: Write>(
     output: &mut W,
@@ -167,19 +142,36 @@ fn end_line<W: Write>(output: &mut W, is_marked: bool, mark: &str) -> io::Result
     output.write_all(b"\n")
 }
 
-// The class, which in multicast DNS is without its top bit.
-fn class_in(is_multicast: bool, class: u16) -> u16
-    ensures { result ≡ class_in is_multicast class }
+// The class of a question, which in multicast DNS is without its top bit.
+fn question_class(is_multicast: bool, question: &Question<'_>) -> u16
+    ensures { result ≡ question_class is_multicast question.now.class }
 {
     if is_multicast {
-        return class % TOP_BIT;
+        return question.multicast_class();
     }
-    class
+    question.class
 }
 
-// Whether the top bit is set that is no part of a class.
-fn has_top_bit(is_multicast: bool, class: u16) -> bool
-    ensures { result ≡ has_top_bit is_multicast class }
+// The class of a record, which in multicast DNS is without its top bit.
+fn record_class(is_multicast: bool, record: &Record<'_>) -> u16
+    ensures { result ≡ record_class is_multicast «record».now.type_ «record».now.class }
 {
-    is_multicast && class >= TOP_BIT
+    if is_multicast {
+        return record.multicast_class();
+    }
+    record.class
+}
+
+// Whether a question of multicast DNS wants its answer sent to the asker alone.
+fn wants_unicast(is_multicast: bool, question: &Question<'_>) -> bool
+    ensures { result ≡ (is_multicast && has_top_bit question.now.class) }
+{
+    is_multicast && question.wants_unicast()
+}
+
+// Whether a record of multicast DNS tells caches to drop what they have.
+fn flushes_cache(is_multicast: bool, record: &Record<'_>) -> bool
+    ensures { result ≡ (is_multicast && flushes «record».now.type_ «record».now.class) }
+{
+    is_multicast && record.flushes_cache()
 }

@@ -2,24 +2,27 @@
 
 #![tactic(auto, using(crate::proofs::Printing::gains_both))]
 
-ghost use Rattle.std.specs.Prelude.{◌≡◌, OnOk};
-ghost use Rattle.std.specs.Option.{option_map};
-ghost use Rattle.listing.specs.ListingZone.{type_mnemonics, class_mnemonics, mnemonic_in, mnemonic_or};
-ghost use Rattle.listing.specs.ListingZone.{word, type_text, class_text};
+ghost use Rattle.std.specs.Prelude.{OnOk};
 ghost use Rattle.listing.specs.Output.{Gains};
+ghost use Rattle.dns_wire.specs.DnsDisplay.{name_or};
+ghost use Rattle.dns_wire.specs.DnsTables.{type_number};
+ghost use Rattle.record_wire.specs.Mnemonics.{type_text, class_text};
+ghost use Rattle.record_wire.specs.ZoneText.{word};
 
 use crate::number::write_number;
+use dns_wire::dns::Type;
+use record_wire::classes;
 use std::io;
 use std::io::Write;
 
 /// Writes a type behind a space.
-pub fn type_word<W: Write>(output: &mut W, number: u16) -> io::Result<()>
+pub fn type_word<W: Write>(output: &mut W, type_: Type) -> io::Result<()>
     ensures { OnOk result (Gains (W.contents output.old) (W.contents output.new)
-        (word (type_text number))) }
+        (word (type_text (type_number type_)))) }
 {
-    match type_mnemonic(number) {
+    match type_.mnemonic() {
         Some(mnemonic) => put_word(output, mnemonic),
-        None => put_numbered(output, "TYPE", number),
+        None => put_numbered(output, "TYPE", u16::from(type_)),
     }
 }
 
@@ -28,61 +31,13 @@ pub fn class_word<W: Write>(output: &mut W, number: u16) -> io::Result<()>
     ensures { OnOk result (Gains (W.contents output.old) (W.contents output.new)
         (word (class_text number))) }
 {
-    match class_mnemonic(number) {
+    match classes::mnemonic(number) {
         Some(mnemonic) => put_word(output, mnemonic),
         None => put_numbered(output, "CLASS", number),
     }
 }
 
-fn type_mnemonic(number: u16) -> Option<&'static str>
-    ensures { option_map (λ mnemonic. mnemonic.now) result ≡ mnemonic_in type_mnemonics number }
-{
-    match number {
-        1 => Some("A"),
-        2 => Some("NS"),
-        5 => Some("CNAME"),
-        6 => Some("SOA"),
-        12 => Some("PTR"),
-        13 => Some("HINFO"),
-        15 => Some("MX"),
-        16 => Some("TXT"),
-        28 => Some("AAAA"),
-        33 => Some("SRV"),
-        35 => Some("NAPTR"),
-        39 => Some("DNAME"),
-        41 => Some("OPT"),
-        43 => Some("DS"),
-        44 => Some("SSHFP"),
-        46 => Some("RRSIG"),
-        47 => Some("NSEC"),
-        48 => Some("DNSKEY"),
-        50 => Some("NSEC3"),
-        52 => Some("TLSA"),
-        64 => Some("SVCB"),
-        65 => Some("HTTPS"),
-        99 => Some("SPF"),
-        251 => Some("IXFR"),
-        252 => Some("AXFR"),
-        255 => Some("ANY"),
-        257 => Some("CAA"),
-        _ => None,
-    }
-}
-
-fn class_mnemonic(number: u16) -> Option<&'static str>
-    ensures { option_map (λ mnemonic. mnemonic.now) result ≡ mnemonic_in class_mnemonics number }
-{
-    match number {
-        1 => Some("IN"),
-        3 => Some("CH"),
-        4 => Some("HS"),
-        254 => Some("NONE"),
-        255 => Some("ANY"),
-        _ => None,
-    }
-}
-
-#[tactic(auto, using(crate::proofs::Printing::gained, crate::proofs::Printing::gains_both), unfolding(crate::specs::ListingZone::word))]
+#[tactic(auto, using(crate::proofs::Printing::gained, crate::proofs::Printing::gains_both), unfolding(record_wire::specs::ZoneText::word))]
 fn put_word<W: Write>(output: &mut W, text: &str) -> io::Result<()>
     ensures { OnOk result (Gains (W.contents output.old) (W.contents output.new) (word text.now)) }
 {
@@ -90,10 +45,10 @@ fn put_word<W: Write>(output: &mut W, text: &str) -> io::Result<()>
     output.write_all(text.as_bytes())
 }
 
-#[tactic(auto, using(crate::proofs::Printing::gained, crate::proofs::Printing::gains_both), unfolding(crate::specs::ListingZone::word))]
+#[tactic(auto, using(crate::proofs::Printing::gained, crate::proofs::Printing::gains_both), unfolding(record_wire::specs::ZoneText::word))]
 fn put_numbered<W: Write>(output: &mut W, text: &str, number: u16) -> io::Result<()>
     ensures { OnOk result (Gains (W.contents output.old) (W.contents output.new)
-        (word (mnemonic_or text.now None number))) }
+        (word (name_or text.now None number))) }
 {
     put_word(output, text)?;
     write_number(output, u64::from(number))

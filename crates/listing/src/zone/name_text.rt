@@ -5,7 +5,7 @@
 ghost use Rattle.std.specs.Prelude.{◌≡◌, ◌≤◌, ℕ, List, IsTrue, IsFalse, OnOk};
 ghost use Rattle.dns_wire.specs.DnsPacket.{view_octets};
 ghost use Rattle.record_wire.specs.Name.{labels_of};
-ghost use Rattle.listing.specs.ListingZone.{whole_name};
+ghost use Rattle.record_wire.specs.ZoneText.{whole_name};
 ghost use Rattle.listing.specs.Output.{Gains};
 
 use dns_wire::dns::Packet;

@@ -4,10 +4,11 @@
 
 ghost use Rattle.std.specs.Prelude.{◌≡◌, ◌≤◌, ◌<◌, ◌+◌, ℕ, OnOk, length, take, drop, flat_map, slice_index};
 ghost use Rattle.std.specs.Prelude.{true, false};
+ghost use Rattle.record_wire.specs.NameReading.{seen_label};
 ghost use Rattle.record_wire.specs.RData.{AreStrings};
-ghost use Rattle.listing.specs.ListingParts.{first_string, seen_string, has_meaning, is_itself};
+ghost use Rattle.record_wire.specs.Strings.{first_string};
+ghost use Rattle.record_wire.specs.ZoneText.{word, string_text, string_character, has_meaning, is_itself};
 ghost use Rattle.listing.specs.ListingRecord.{StringsRead};
-ghost use Rattle.listing.specs.ListingZone.{word, string_text, string_character};
 ghost use Rattle.listing.specs.Output.{Gains, GainsSome};
 
 use std::io;
@@ -30,7 +31,7 @@ pub fn strings<W: Write>(output: &mut W, octets: &[u8]) -> io::Result<()>
 
 // The string at the front of octets, and what stands behind it. None where no whole string stands.
 fn split_string(octets: &[u8]) -> Option<(&[u8], &[u8])>
-    ensures { seen_string result ≡ first_string octets.now }
+    ensures { seen_label result ≡ first_string octets.now }
 {
     match octets {
         [len, rest @ ..] if *len as usize <= rest.len() => {

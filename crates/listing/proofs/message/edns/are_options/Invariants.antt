@@ -1,6 +1,7 @@
 -- The octets are options exactly where those that are left are.
 use Rattle.std.proofs.Common.{List, length}
-use Rattle.listing.specs.ListingEdns.{OptionValue, AreOptions}
+use Rattle.record_wire.specs.Edns.{OptionValue}
+use Rattle.listing.specs.ListingEdns.{AreOptions}
 use Rattle.listing.proofs.message.edns.are_options.Given as goal
 
 abbrev pub invariant-loop-left : goal.invariant-loop-left

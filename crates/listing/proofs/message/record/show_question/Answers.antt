@@ -8,10 +8,9 @@ returns-then-not-read g c = ([], asks_of_no_name (c.read.ensures.reads_not c.if-
 
 pub returns : goal.returns
 returns g c =
-    let class = rw c.class_in.ensures at c.in_ok-class_word.ensures in
-    let kind = rw c.from.ensures.value at c.in_ok-type_word.ensures in
-    let end = rw c.has_top_bit.ensures at c.in_ok-end_line.ensures in (
+    let class = rw c.question_class.ensures at c.in_ok-class_word.ensures in
+    let end = rw c.wants_unicast.ensures at c.in_ok-end_line.ensures in (
       _,
       asks _ (c.read.ensures.reads c.if-not-read.false),
-      c.in_ok-write_front.ensures then class then kind then end,
+      c.in_ok-write_front.ensures then class then c.in_ok-type_word.ensures then end,
     )

@@ -15,7 +15,7 @@ pub returns-in_default : goal.returns-in_default
 returns-in_default g c = (
   [],
   has_no_data _ (c.read.ensures.reads c.if-not-read.false)
-      (rw c.class_in.ensures at c.in_default.ensures.complete),
+      (rw c.record_class.ensures at c.in_default.ensures.complete),
   gains_none _,
 )
 
@@ -26,15 +26,15 @@ pub returns-then-is_some : goal.returns-then-is_some
 returns-then-is_some g c =
     record_unread c.args.margin.now c.args.is_multicast (view_octets c.args.packet.now) c.args.section
     (record_of c.args.record.now) (text_of c.read.new.self) (rdata_of c.in-Ok.data)
-    (c.read.ensures.reads c.if-not-read.false) (rw c.class_in.ensures at c.in-Ok.ensures.sound) _ _
+    (c.read.ensures.reads c.if-not-read.false) (rw c.record_class.ensures at c.in-Ok.ensures.sound) _ _
     c.in_ok-unread.unread (sym c.is_some.ensures ∙ c.if-is_some.true)
-    (rw (c.class_in.ensures, c.from.ensures.value) at c.in_ok-unread.ensures)
+    (rw c.record_class.ensures at c.in_ok-unread.ensures)
 
 pub returns : goal.returns
 returns g c =
     record_listed c.args.margin.now c.args.is_multicast (view_octets c.args.packet.now) c.args.section
     (record_of c.args.record.now) (text_of c.read.new.self) (rdata_of c.in-Ok.data)
-    (c.read.ensures.reads c.if-not-read.false) (rw c.class_in.ensures at c.in-Ok.ensures.sound) _ _ _
+    (c.read.ensures.reads c.if-not-read.false) (rw c.record_class.ensures at c.in-Ok.ensures.sound) _ _ _
     c.in_ok-unread.unread (sym c.is_some.ensures ∙ c.if-is_some.false)
-    (rw (c.class_in.ensures, c.from.ensures.value) at c.in_ok-unread.ensures)
-    (rw c.has_top_bit.ensures at c.in_ok-end_line.ensures)
+    (rw c.record_class.ensures at c.in_ok-unread.ensures)
+    (rw c.flushes_cache.ensures at c.in_ok-end_line.ensures)

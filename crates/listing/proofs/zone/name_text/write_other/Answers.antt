@@ -2,8 +2,8 @@
 use Rattle.std.proofs.Common.{◌≡◌, length, sym, ap, ◌∙◌}
 use Rattle.record_wire.specs.Labels.{wire}
 use Rattle.record_wire.specs.Name.{labels_of}
+use Rattle.record_wire.proofs.RecordTexts.{root_name, longer_name}
 use Rattle.listing.proofs.Printing.{gained_on_ok}
-use Rattle.listing.proofs.ZoneTexts.{root_name, longer_name}
 use Rattle.listing.proofs.zone.name_text.write_other.Goals as goal
 
 pub returns-then-octets-eq1 : goal.returns-then-octets-eq1

@@ -1,7 +1,8 @@
 -- The byte itself or its number.
 use Rattle.std.proofs.Common.{sym, ◌∙◌}
 use Rattle.listing.proofs.Printing.{gained_on_ok}
-use Rattle.listing.proofs.ZoneTexts.{special_text, number_text}
+use Rattle.record_wire.proofs.RecordTexts.{special_text}
+use Rattle.listing.proofs.ZoneTexts.{number_text}
 use Rattle.listing.proofs.zone.string.write_quoted.Goals as goal
 
 pub returns-then-is_special : goal.returns-then-is_special

@@ -1,6 +1,6 @@
 -- What is written so far goes on to the whole by the characters that are left and the last quote.
 use Rattle.std.proofs.Common.{◌≡◌, ◌++◌, codes, length, flat_map}
-use Rattle.listing.specs.ListingZone.{word, string_text, string_character}
+use Rattle.record_wire.specs.ZoneText.{word, string_text, string_character}
 use Rattle.listing.specs.Output.{GainsSome}
 use Rattle.listing.proofs.Showing.{GoesOn}
 use Rattle.listing.proofs.zone.string.write_string.Given as goal
