@@ -83,8 +83,6 @@ def known_refusals(packet, kind, reason):
         yield f"{kind} of type {packet.number(field)}: refused as type"
     elif reason == "short" and kind == "icmp6":
         yield "icmp6 of type 130 and 24 bytes (a query of MLD version 1): refused as short"
-    elif reason == "fragment" and packet.all("ipv6.fraghdr.offset") == packet.all("ipv6.fraghdr.more") == ["0"]:
-        yield "the only fragment of its datagram: refused as fragment"
     elif reason == "fragment" and kind == "frame":
         yield "frame: a fragment whose protocol or ports its first header has not: refused as fragment"
     elif reason == "fragment":

@@ -20,7 +20,7 @@ TOP = 0x8000
 def listing(octets, is_multicast, lines):
     """Appends the lines of a message, as far as it reads."""
     if len(octets) < 12:
-        raise Refused("short")
+        raise Refused("short", "fewer than 12 bytes")
     word = be(octets[2:4])
     lines += [
         field("transaction_id", be(octets[0:2])),
@@ -70,15 +70,15 @@ def labels(octets, at, end):
         if length >= 192:
             place = be(octets[at:at + 2]) % 0x4000 if at + 2 <= end else below
             if place >= below:
-                raise Refused("name")
+                raise Refused("name", "a name does not read")
             at, end, below = place, below, place
             continue
         if length > 63 or at + 1 + length > end:
-            raise Refused("name")
+            raise Refused("name", "a name does not read")
         size += 1 + length
         # A name has 255 octets at the most (RFC 1035 section 2.3.4).
         if size > 255:
-            raise Refused("name")
+            raise Refused("name", "a name does not read")
         found.append(octets[at + 1:at + 1 + length])
         at += 1 + length
 
@@ -96,9 +96,13 @@ def name(octets, at, end):
 def name_in(octets, at):
     """Where the name that begins there ends, which has one part in its place."""
     end = part_end(octets, at, len(octets))
-    if end is None:
-        raise Refused("malformed")
+    whole_entry(end is not None)
     return end
+
+
+def whole_entry(is_so):
+    if not is_so:
+        raise Refused("malformed", "a question or record is cut or malformed")
 
 
 # ---- questions and records
@@ -113,8 +117,7 @@ def type_text(number):
 
 def question(octets, at, is_multicast):
     end = name_in(octets, at)
-    if len(octets) < end + 4:
-        raise Refused("malformed")
+    whole_entry(len(octets) >= end + 4)
     kind, of_class = be(octets[end:end + 2]), be(octets[end + 2:end + 4])
     owner = name(octets, at, end)
     behind = " ; unicast-response" if is_multicast and of_class & TOP else ""
@@ -137,8 +140,7 @@ class Record:
 
 def record(octets, at):
     end = name_in(octets, at)
-    if len(octets) < end + 10 or len(octets) < end + 10 + be(octets[end + 8:end + 10]):
-        raise Refused("malformed")
+    whole_entry(len(octets) >= end + 10 and len(octets) >= end + 10 + be(octets[end + 8:end + 10]))
     start = end + 10
     of = Record(name(octets, at, end), be(octets[end:end + 2]), be(octets[end + 2:end + 4]),
                 be(octets[end + 4:end + 8]), start, start + be(octets[end + 8:end + 10]))
@@ -180,7 +182,7 @@ def record_data(octets, of, of_class):
 
 def accept(is_so):
     if not is_so:
-        raise Refused("malformed")
+        raise Refused("malformed", "the data of a record do not read")
 
 
 def last_name(octets, start, end):

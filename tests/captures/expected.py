@@ -10,8 +10,7 @@ import names
 ICMP4_TYPES = (0, 3, 4, 5, 8, 11, 12)
 ICMP6_TYPES = (1, 2, 3, 4, 128, 129, 130, 133, 134, 135, 136, 137, 143)
 IGMP_TYPES = (0x11, 0x12, 0x16, 0x17)
-EXTENSIONS = {0: "ipv6.hopopts", 43: "ipv6.routing", 60: "ipv6.dstopts"}
-FRAGMENT = 44
+EXTENSIONS = {0: "ipv6.hopopts", 43: "ipv6.routing", 44: "ipv6.fraghdr", 60: "ipv6.dstopts"}
 
 # The kinds of packets by what tshark calls them.
 KINDS = {"icmp": "icmp4", "igmp": "igmp", "icmpv6": "icmp6", "dns": "dns", "mdns": "mdns", "dhcp": "dhcp"}
@@ -74,12 +73,17 @@ def version(packet):
 
 
 def headers(packet):
-    """The headers behind that of IP, by their numbers: of a datagram that is not whole the first alone."""
+    """The headers behind that of IP, by their numbers, as far as they are there."""
     if version(packet) == 4:
         return [packet.number("ip.proto")]
     chain = [packet.number("ipv6.nxt")]
-    while not is_cut(packet) and chain[-1] in EXTENSIONS:
+    # What was captured behind the fixed header.
+    room = packet.number("frame.cap_len") - packet.number("frame.len") + packet.number("ipv6.plen")
+    while chain[-1] in EXTENSIONS:
         following = packet.numbers(EXTENSIONS[chain[-1]] + ".nxt")
+        if len(following) < chain.count(chain[-1]) or room < extension_length(packet, chain[-1]):
+            break
+        room -= extension_length(packet, chain[-1])
         chain.append(following[chain.count(chain[-1]) - 1])
     return chain
 
@@ -91,12 +95,13 @@ def is_cut(packet):
 def is_fragment(packet):
     if version(packet) == 4:
         return packet.text("ip.flags.mf") == "1" or packet.number("ip.frag_offset") != 0
-    return FRAGMENT in headers(packet)
+    # A fragment that is a whole datagram alone is read as one (RFC 6946).
+    return packet.all("ipv6.fraghdr.offset") + packet.all("ipv6.fraghdr.more") not in ([], ["0", "0"])
 
 
 def ports(packet):
-    """The ports of the datagram: a fragment that is not the first has none."""
-    if headers(packet)[-1] != 17 or not packet.has("udp.srcport"):
+    """The ports of the datagram: a fragment that is not the first has none, and of IPv6 none is looked into."""
+    if headers(packet)[-1] != 17 or not packet.has("udp.srcport") or version(packet) == 6 and is_fragment(packet):
         return None
     return packet.number("udp.srcport"), packet.number("udp.dstport")
 
@@ -108,7 +113,7 @@ def kind(packet):
     last = headers(packet)[-1]
     if (version(packet), last) in ((4, 1), (4, 2), (6, 58)):
         return {1: "icmp4", 2: "igmp", 58: "icmp6"}[last]
-    if version(packet) == 6 and (last in EXTENSIONS or last == FRAGMENT):
+    if version(packet) == 6 and last in EXTENSIONS:
         return "frame"
     if last != 17:
         return None
@@ -164,7 +169,8 @@ def payload_length(packet):
 
 def extension_length(packet, number):
     """The bytes of the first header of a kind that extends IPv6."""
-    return 8 * packet.number(EXTENSIONS[number] + ".len") + 8
+    length = EXTENSIONS[number] + ".len"
+    return 8 * packet.number(length) + 8 if packet.has(length) else 8
 
 
 # ---- refusals
@@ -192,6 +198,48 @@ def refusal(packet, its_kind):
     if its_kind == "dhcp":
         return None if packet.has("dhcp.option.dhcp") else "malformed"
     return "malformed" if packet.has("_ws.malformed") else None
+
+
+# What is printed of reasons that every packet has in common.
+PHRASES = {"checksum": "the checksum does not hold|no checksum over IPv6",
+           "malformed": "a question or record is cut or malformed|the data of a record do not read|"
+                        "there is no message type|the magic cookie is missing"}
+PROTOCOLS = {0: "Hop-by-Hop", 1: "ICMP", 2: "IGMP", 6: "TCP", 17: "UDP", 43: "IPv6-Route", 44: "IPv6-Frag",
+             58: "ICMPv6", 60: "IPv6-Opts"}
+
+
+def head(packet):
+    """What is told of a datagram that is cut or a fragment, as a pattern: of IPv6 where it is cut the fixed header
+    alone, and else the header of the fragment."""
+    if version(packet) == 6:
+        both = f'{packet.text("ipv6.src")} > {packet.text("ipv6.dst") if is_cut(packet) else destination(packet)}'
+        if is_cut(packet):
+            return re.escape(f'{both} protocol={PROTOCOLS[packet.number("ipv6.nxt")]}')
+        protocol, ident = packet.number("ipv6.fraghdr.nxt"), packet.number("ipv6.fraghdr.ident")
+        offset, more = packet.number("ipv6.fraghdr.offset"), packet.text("ipv6.fraghdr.more")
+    else:
+        both = f'{packet.text("ip.src")} > {packet.text("ip.dst")}'
+        protocol, ident = packet.number("ip.proto"), packet.number("ip.id")
+        offset, more = packet.number("ip.frag_offset"), packet.text("ip.flags.mf")
+    return re.escape(f"{both} protocol={PROTOCOLS[protocol]} ident={ident} frag_offset={8 * offset} "
+                     f'more_frags={"true" if more in ("1", "True") else "false"}')
+
+
+def refused(packet, its_kind, reason):
+    """The pattern of the line that tells why a packet is refused."""
+    if reason == "cut":
+        is_told = packet.has("ip.src") or packet.has("ipv6.src")
+        phrase = "cut short, " + head(packet) if is_told else "fewer bytes than the .* has"
+    elif reason == "fragment":
+        phrase = "a fragment, " + head(packet)
+    elif reason == "type":
+        number = packet.number({"icmp4": "icmp", "icmp6": "icmpv6", "igmp": "igmp"}[its_kind] + ".type")
+        phrase = f"type {number} is not read"
+    elif reason == "short":
+        phrase = "fewer bytes than the header of its type" if its_kind == "icmp6" else "fewer than 12 bytes"
+    else:
+        phrase = PHRASES[reason]
+    return f"refused=({phrase})"
 
 
 # ---- listings
@@ -417,11 +465,11 @@ def dhcp(packet):
 def listing(packet, its_kind, reason):
     """The patterns of a packet's lines, in turn. Before the reason of a refusal stands what was read."""
     if reason in ("cut", "fragment"):
-        return ["refused=" + reason]
+        return [refused(packet, its_kind, reason)]
     lines = hop_by_hop(packet) if version(packet) == 6 and packet.number("ipv6.nxt") == 0 else []
     if reason is None:
         lines += {"icmp4": icmp4, "igmp": igmp, "icmp6": icmp6, "dhcp": dhcp, "dns": names.message,
                   "mdns": names.message}[its_kind](packet)
     elif reason == "malformed" and its_kind in ("dns", "mdns"):
         lines += names.front(packet)
-    return lines + ([] if reason is None else ["refused=" + reason])
+    return lines + ([] if reason is None else [refused(packet, its_kind, reason)])

@@ -14,7 +14,7 @@ frame.number frame.time_epoch frame.len frame.cap_len frame.protocols vlan.id ie
 ip.src ip.dst ip.proto ip.dsfield ip.len ip.id ip.flags.df ip.flags.mf ip.frag_offset ip.ttl ip.hdr_len
 ipv6.src ipv6.dst ipv6.tclass ipv6.flow ipv6.plen ipv6.nxt ipv6.hlim ipv6.hopopts.nxt ipv6.hopopts.len
 ipv6.dstopts.nxt ipv6.dstopts.len ipv6.routing.nxt ipv6.routing.len ipv6.routing.segleft ipv6.routing.type
-ipv6.routing.srh.addr ipv6.fraghdr.offset ipv6.fraghdr.more
+ipv6.routing.srh.addr ipv6.fraghdr.nxt ipv6.fraghdr.offset ipv6.fraghdr.more ipv6.fraghdr.ident
 ipv6.opt.type ipv6.opt.length
 ipv6.opt.router_alert ipv6.opt.padn ipv6.opt.experimental ipv6.opt.unknown
 udp.srcport udp.dstport udp.length udp.checksum.status tcp.srcport tcp.dstport

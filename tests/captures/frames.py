@@ -1,5 +1,5 @@
 """Frames of links, datagrams of IP, and UDP: what their headers say, and what is told of those that are refused."""
-from text import be, is_good, pseudo_sum
+from text import address, be, is_good, pseudo_sum
 
 ETHERTYPES = {0x0800: 4, 0x86DD: 6}
 PPP_PROTOCOLS = {0x0021: 4, 0x0057: 6}
@@ -13,13 +13,21 @@ HOP_BY_HOP, ROUTE, FRAGMENT, DESTINATION_OPTIONS = 0, 43, 44, 60
 EXTENSIONS = (HOP_BY_HOP, ROUTE, DESTINATION_OPTIONS)
 
 
-class Refused(Exception):
-    """A reason why something does not read. `ended` is the reason where octets are missing that a frame or a datagram
-    should have: it is `cut` where the capture kept less than there was, and else `short`."""
+PROTOCOLS = {
+    0: "Hop-by-Hop", 1: "ICMP", 2: "IGMP", 6: "TCP", 17: "UDP", 43: "IPv6-Route", 44: "IPv6-Frag", 50: "IPsec-ESP",
+    51: "IPsec-AH", 58: "ICMPv6", 59: "IPv6-NoNxt", 60: "IPv6-Opts",
+}
 
-    def __init__(self, reason):
-        super().__init__(reason)
+
+class Refused(Exception):
+    """Why something does not read: the reason under which it is counted, and a phrase. `ended` is the reason where
+    octets are missing that a frame or a datagram should have: it is `cut` where the capture kept less than there was,
+    and else `short`."""
+
+    def __init__(self, reason, phrase):
+        super().__init__(phrase)
         self.reason = reason
+        self.phrase = phrase
 
 
 # ---- links
@@ -33,9 +41,9 @@ class Frame:
         self.vlans = list(vlans)
 
 
-def need(octets, length):
+def need(octets, length, phrase="fewer bytes than the header of the link has"):
     if len(octets) < length:
-        raise Refused("ended")
+        raise Refused("ended", phrase)
 
 
 def null(octets):
@@ -76,8 +84,9 @@ def ppp(octets):
 def pppoe(octets):
     need(octets, 6)
     # A header that is not that of data is none.
-    if not is_session(octets):
-        raise Refused("ended")
+    for name, number, wanted in (("version", octets[0] >> 4, 1), ("type", octets[0] % 16, 1), ("code", octets[1], 0)):
+        if number != wanted:
+            raise Refused("malformed", "PPPoE %s %d is not read" % (name, number))
     return protocol(octets[6:])
 
 
@@ -88,16 +97,15 @@ def is_session(octets):
 
 def protocol(octets, vlans=()):
     """A protocol of PPP, in one octet where that is odd, and else in two (RFC 1661 section 6.5)."""
-    need(octets, 1)
-    length = 1 if octets[0] % 2 else 2
-    need(octets, length)
+    length = 1 if octets and octets[0] % 2 else 2
+    need(octets, length, "the PPP protocol is cut short")
     return Frame(PPP_PROTOCOLS.get(be(octets[:length])), octets[length:], vlans)
 
 
 def typed(ethertype, octets):
     vlans = []
     while ethertype in TAGS:
-        need(octets, 4)
+        need(octets, 4, "a VLAN tag is cut short")
         vlans.append(be(octets[:2]) % 4096)
         ethertype = be(octets[2:4])
         octets = octets[4:]
@@ -126,36 +134,91 @@ class Datagram:
         self.hop_by_hop = hop_by_hop
 
 
+FIXED = "fewer bytes than the fixed header has"
+
+
 def datagram(version, octets):
     return datagram4(octets) if version == 4 else datagram6(octets)
 
 
 def datagram4(octets):
     """A datagram of IPv4 (RFC 791 section 3.1), whose header's checksum is not looked at."""
-    need(octets, 20)
+    need(octets, 20, FIXED)
     header_len, total_len = octets[0] % 16 * 4, be(octets[2:4])
-    if octets[0] >> 4 != 4 or header_len < 20 or total_len < header_len:
-        raise Refused("malformed")
-    need(octets, total_len)
+    if octets[0] >> 4 != 4:
+        raise Refused("malformed", "version %d is not read" % (octets[0] >> 4))
+    if header_len < 20:
+        raise Refused("malformed", "a header length of %d is below 20" % header_len)
+    if total_len < header_len:
+        raise Refused("malformed", "a total length of %d is below that of the header" % total_len)
+    flags = be(octets[6:8])
+    head = head_text(octets[12:16], octets[16:20], octets[9], be(octets[4:6]), flags % 0x2000 * 8, flags & 0x2000)
+    need(octets, total_len, "cut short, " + head)
     # More fragments, or an offset.
-    if be(octets[6:8]) & 0x3FFF:
-        raise Refused("fragment")
+    if flags & 0x3FFF:
+        raise Refused("fragment", "a fragment, " + head)
     return Datagram(octets[12:16], octets[16:20], octets[9], octets[header_len:total_len])
+
+
+def head_text(source, destination, number, ident=None, offset=0, more=0):
+    """What is told of a datagram that is cut or a fragment."""
+    text = "%s > %s protocol=%s" % (address(source), address(destination), protocol_name(number))
+    if ident is None:
+        return text
+    return text + " ident=%d frag_offset=%d more_frags=%s" % (ident, offset, "true" if more else "false")
+
+
+def protocol_name(number):
+    return PROTOCOLS.get(number, "0x%02x" % number)
 
 
 def datagram6(octets):
     """A datagram of IPv6 (RFC 8200 section 3), behind the headers that extend it."""
-    need(octets, 40)
+    need(octets, 40, FIXED)
     if octets[0] >> 4 != 6:
-        raise Refused("malformed")
+        raise Refused("malformed", "version %d is not read" % (octets[0] >> 4))
     total_len = 40 + be(octets[4:6])
-    need(octets, total_len)
-    number, payload, destination = octets[6], octets[40:total_len], octets[24:40]
+    need(octets, total_len, "cut short, " + head_text(octets[8:24], octets[24:40], octets[6]))
+    of = pass_headers(octets, octets[40:total_len])
+    if isinstance(of, Torn):
+        raise Refused("malformed", "the extension header %s is cut short" % protocol_name(of.protocol))
+    if isinstance(of, Fragment):
+        head = head_text(of.source, of.destination, of.protocol, of.ident, of.offset, of.more)
+        raise Refused("fragment", "a fragment, " + head)
+    return of
+
+
+class Torn:
+    """A header that extends IPv6 and is not whole, by its protocol."""
+
+    def __init__(self, number):
+        self.protocol = number
+
+
+class Fragment:
+    """What the header of a fragment of IPv6 tells."""
+
+    def __init__(self, source, destination, header):
+        self.source = source
+        self.destination = destination
+        self.protocol = header[0]
+        self.ident = be(header[4:8])
+        self.offset = be(header[2:4]) & 0xFFF8
+        self.more = header[3] & 1
+
+
+def pass_headers(octets, payload):
+    """What the headers lead to that extend IPv6, in the octets behind the fixed header."""
+    number, destination = octets[6], octets[24:40]
     hop_by_hop, is_first = None, True
-    while number in EXTENSIONS:
-        if len(payload) < 8 or len(payload) < 8 * payload[1] + 8:
-            raise Refused("malformed")
-        header, payload = payload[:8 * payload[1] + 8], payload[8 * payload[1] + 8:]
+    while number in EXTENSIONS + (FRAGMENT,):
+        length = 8 if number == FRAGMENT else 8 * payload[1] + 8 if len(payload) >= 8 else 8
+        if len(payload) < length:
+            return Torn(number)
+        header, payload = payload[:length], payload[length:]
+        # A fragment that is a whole datagram alone is passed (RFC 6946).
+        if number == FRAGMENT and be(header[2:4]) & 0xFFF9:
+            return Fragment(octets[8:24], destination, header)
         # Hop-by-hop options stand directly behind the IPv6 header alone (RFC 8200 section 4.3).
         if number == HOP_BY_HOP and is_first:
             hop_by_hop = header[2:]
@@ -163,8 +226,6 @@ def datagram6(octets):
         if number == ROUTE:
             destination = routed(header, destination)
         number = header[0]
-    if number == FRAGMENT:
-        raise Refused("fragment" if len(payload) >= 8 else "malformed")
     return Datagram(octets[8:24], destination, number, payload, hop_by_hop)
 
 
@@ -180,17 +241,33 @@ def routed(header, destination):
 
 
 def known(version, octets):
-    """What the header of a refused datagram tells: its addresses, its protocol, and as its payload what may begin with
-    ports; None where there is no header."""
-    if version == 4:
-        header_len = octets[0] % 16 * 4 if octets else 0
-        if not octets or octets[0] >> 4 != 4 or header_len < 20 or len(octets) < header_len + 8:
-            return None
-        later = be(octets[6:8]) & 0x1FFF
-        return Datagram(octets[12:16], octets[16:20], octets[9], b"" if later else octets[header_len:])
+    """What the headers of a refused datagram tell, as far as it is there: its addresses, its protocol, and as its
+    payload what may begin with ports; None where they tell nothing."""
+    return known4(octets) if version == 4 else known6(octets)
+
+
+def known4(octets):
+    if len(octets) < 20 or octets[0] >> 4 != 4:
+        return None
+    header_len, total_len = octets[0] % 16 * 4, be(octets[2:4])
+    # A total length of 0 is that of a datagram whose segmentation was left to a network card.
+    if header_len < 20 or 0 < total_len < header_len:
+        return None
+    later = be(octets[6:8]) & 0x1FFF
+    return Datagram(octets[12:16], octets[16:20], octets[9], b"" if later else octets[header_len:])
+
+
+def known6(octets):
     if len(octets) < 40 or octets[0] >> 4 != 6:
         return None
-    return Datagram(octets[8:24], octets[24:40], octets[6], octets[40:])
+    total_len = 40 + be(octets[4:6])
+    of = pass_headers(octets, octets[40:total_len])
+    if isinstance(of, Torn):
+        # What is torn was cut, or contradicts itself.
+        return None if len(octets) >= total_len else Datagram(octets[8:24], octets[24:40], octets[6], b"")
+    if isinstance(of, Fragment):
+        return Datagram(of.source, of.destination, of.protocol, b"")
+    return Datagram(of.source, of.destination, of.protocol, of.payload)
 
 
 # ---- UDP
@@ -206,11 +283,17 @@ def udp(of):
     """The data of a datagram of UDP (RFC 768)."""
     octets = of.payload
     if len(octets) < 8:
-        raise Refused("short")
+        raise Refused("short", "fewer than 8 bytes")
     length = be(octets[4:6])
-    if length < 8 or len(octets) < length:
-        raise Refused("short")
-    has_none = len(of.source) == 4 and octets[6:8] == b"\0\0"
-    if not has_none and not is_good(octets[:length], pseudo_sum(of.source, of.destination, UDP, length)):
-        raise Refused("checksum")
+    if length < 8:
+        raise Refused("short", "a length of %d is below 8" % length)
+    if len(octets) < length:
+        raise Refused("short", "fewer than its %d bytes" % length)
+    if be(octets[2:4]) == 0:
+        raise Refused("malformed", "the destination port is 0")
+    has_none = octets[6:8] == b"\0\0"
+    if has_none and len(of.source) == 4:
+        return octets[8:length]
+    if not is_good(octets[:length], pseudo_sum(of.source, of.destination, UDP, length)):
+        raise Refused("checksum", "no checksum over IPv6" if has_none else "the checksum does not hold")
     return octets[8:length]

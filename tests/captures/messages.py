@@ -6,15 +6,18 @@ from text import be, dotted, field, hexadecimal, is_good, pseudo_sum, truth
 TCP = 6
 
 
-def need(octets, length):
+BAD_CHECKSUM = "the checksum does not hold"
+
+
+def need(octets, length, phrase=None):
     """A message has fewer octets than its header takes."""
     if len(octets) < length:
-        raise Refused("short")
+        raise Refused("short", phrase or "fewer than %d bytes" % length)
 
 
-def accept(is_so):
+def accept(is_so, phrase):
     if not is_so:
-        raise Refused("malformed")
+        raise Refused("malformed", phrase)
 
 
 def number(name, octets, at, length):
@@ -29,12 +32,13 @@ MOST_OPTIONS = 8
 
 def hop_by_hop(octets):
     lines, count = [], 0
-    accept(octets)
+    cut = "an option is cut"
+    accept(octets, cut)
     while octets and count <= MOST_OPTIONS:
         # Pad1 is one octet alone.
-        accept(octets[0] == 0 or len(octets) >= 2)
+        accept(octets[0] == 0 or len(octets) >= 2, cut)
         length = 1 if octets[0] == 0 else 2 + octets[1]
-        accept(length <= len(octets) and (octets[0] != 5 or length == 4))
+        accept(length <= len(octets) and (octets[0] != 5 or length == 4), cut)
         if count < MOST_OPTIONS:
             lines += option(octets[:length])
         octets = octets[length:]
@@ -62,26 +66,24 @@ def icmp4(of):
     octets = of.payload
     need(octets, 8)
     if not is_good(octets):
-        raise Refused("checksum")
+        raise Refused("checksum", BAD_CHECKSUM)
     kind = octets[0]
     if kind in (0, 8):
+        accept(octets[1] == 0, "an echo of code %d is not read" % octets[1])
         return echo("EchoRequest" if kind == 8 else "EchoReply", octets)
     if kind not in ERRORS4:
-        raise Refused("type")
+        raise Refused("type", "type %d is not read" % kind)
     return error4(kind, octets)
 
 
 def echo(name, octets):
-    accept(octets[1] == 0)
     return [name, number("ident", octets, 4, 2), number("seq_no", octets, 6, 2),
             field("data", hexadecimal(octets[8:]))]
 
 
 def error4(kind, octets):
     quote = octets[8:]
-    header_len = quote[0] % 16 * 4 if quote else 0
-    if not quote or quote[0] >> 4 != 4 or header_len < 20 or len(quote) < header_len + 8:
-        raise Refused("quote")
+    header_len = quoted_header_len(quote)
     lines = [ERRORS4[kind], number("code", octets, 1, 1)]
     if kind == 3:
         mtu = be(octets[6:8]) if octets[1] == 4 else 0
@@ -91,6 +93,25 @@ def error4(kind, octets):
     elif kind == 12:
         lines.append(number("pointer", octets, 4, 1))
     return lines + ["quoted." + line for line in quote4(quote, header_len)]
+
+
+QUOTE_CUT = "the quoted header is cut"
+
+
+def quoted_header_len(quote):
+    """The length of the header at the front of a datagram, of which 8 octets or more stand behind it."""
+    if len(quote) < 20:
+        raise Refused("quote", QUOTE_CUT)
+    version, header_len = quote[0] >> 4, quote[0] % 16 * 4
+    if version != 4:
+        raise Refused("quote", "the quoted header is of version %d" % version)
+    if header_len < 20:
+        raise Refused("quote", "the quoted header has %d bytes by its own length" % header_len)
+    if len(quote) < header_len:
+        raise Refused("quote", QUOTE_CUT)
+    if len(quote) < header_len + 8:
+        raise Refused("quote", "fewer than 8 bytes stand behind the quoted header")
+    return header_len
 
 
 def quote4(quote, header_len):
@@ -118,9 +139,10 @@ def igmp(of):
     octets = of.payload
     need(octets, 8)
     if octets[0] not in (0x11, 0x12, 0x16, 0x17):
-        raise Refused("type")
+        raise Refused("type", "type %d is not read" % octets[0])
     group = octets[4:8]
-    accept(group == b"\0\0\0\0" or 224 <= group[0] <= 239)
+    accept(group == b"\0\0\0\0" or 224 <= group[0] <= 239,
+           "group %s is neither 0.0.0.0 nor multicast" % dotted(group))
     address = field("group_addr", dotted(group))
     if octets[0] == 0x11:
         code = octets[1]
@@ -146,26 +168,27 @@ HEADERS6 = {1: 8, 2: 8, 3: 8, 4: 8, 128: 8, 129: 8, 130: 28, 133: 8, 134: 16, 13
 
 def icmp6(of):
     octets = of.payload
-    need(octets, 4)
+    need(octets, 8)
     kind = octets[0]
-    # What all messages have in common are four octets (RFC 4443 section 2.1).
-    need(octets, HEADERS6.get(kind, 4))
-    if not is_good(octets, pseudo_sum(of.source, of.destination, ICMP6, len(octets))):
-        raise Refused("checksum")
     if kind not in HEADERS6:
-        raise Refused("type")
+        raise Refused("type", "type %d is not read" % kind)
+    need(octets, HEADERS6[kind], "fewer bytes than the header of its type")
+    if not is_good(octets, pseudo_sum(of.source, of.destination, ICMP6, len(octets))):
+        raise Refused("checksum", BAD_CHECKSUM)
     if kind in ERRORS6:
         return error6(kind, octets)
+    accept(octets[1] == 0, "code %d is not read" % octets[1])
     if kind in (128, 129):
         return echo("EchoRequest" if kind == 128 else "EchoReply", octets)
-    accept(octets[1] == 0)
     return {130: query, 143: report}[kind](octets) if kind in (130, 143) else neighbor(kind, octets)
 
 
 def error6(kind, octets):
     quote = octets[8:]
-    if len(quote) < 40 or quote[0] >> 4 != 6:
-        raise Refused("quote")
+    if len(quote) < 40:
+        raise Refused("quote", QUOTE_CUT)
+    if quote[0] >> 4 != 6:
+        raise Refused("quote", "the quoted header is of version %d" % (quote[0] >> 4))
     lines = [ERRORS6[kind], number("code", octets, 1, 1)]
     if kind == 2:
         lines.append(number("mtu", octets, 4, 4))
@@ -198,7 +221,7 @@ def report(octets):
 # ---- neighbor discovery (RFC 4861 section 4)
 
 def neighbor(kind, octets):
-    found = neighbor_options(octets[HEADERS6[kind]:])
+    found = neighbor_options(octets, HEADERS6[kind])
     source = field("lladdr", hexadecimal(found[1][2:10]) if 1 in found else "none")
     target = field("lladdr", hexadecimal(found[2][2:10]) if 2 in found else "none")
     addr = field("target_addr", octets[8:24].hex())
@@ -219,18 +242,21 @@ def router(octets):
             number("retrans_time", octets, 12, 4)]
 
 
-def neighbor_options(octets):
+def neighbor_options(octets, start):
     """The last option of each type that reads. A prefix or an MTU of other units, and a redirected packet that is not
     whole, are passed over; where the options don't fill the message, it does not read."""
-    found = {}
-    while octets:
-        accept(len(octets) >= 8)
-        length = 8 * octets[1]
-        accept(length and length <= len(octets))
-        block, octets = octets[:length], octets[length:]
-        kind = block[0]
+    found, at = {}, start
+    while at < len(octets):
+        kind = octets[at]
+        option_at = "the option of type %d at byte %d " % (kind, at)
+        accept(len(octets) >= at + 8, option_at + "is cut")
+        units = octets[at + 1]
+        accept(units, option_at + "has length 0")
+        length = 8 * units
+        accept(at + length <= len(octets), option_at + "is cut")
+        block, at = octets[at:at + length], at + length
         # The fixed fields of a prefix and of a redirected packet.
-        accept(length >= {3: 32, 4: 48}.get(kind, 8))
+        accept(length >= {3: 32, 4: 48}.get(kind, 8), option_at + "has length %d, too short for its type" % units)
         quote = block[8:]
         if kind == 3 and length != 32 or kind == 5 and length != 8:
             continue
@@ -268,15 +294,24 @@ def redirected(found):
 SENT_BY = {1: 1, 2: 2, 3: 1, 4: 1, 5: 2, 6: 2, 7: 1, 8: 1}
 
 
+SENT_NAMES = (None, "DISCOVER", "OFFER", "REQUEST", "DECLINE", "ACK", "NAK", "RELEASE", "INFORM")
+OPERATION_NAMES = {1: "BOOTREQUEST", 2: "BOOTREPLY"}
+
+
 def dhcp(octets):
     need(octets, 240)
-    found = dhcp_options(octets[240:])
-    accept(octets[1:3] == b"\x01\x06" and octets[236:240] == bytes.fromhex("63825363"))
+    accept(octets[1] == 1, "hardware type %d is not Ethernet" % octets[1])
+    accept(octets[2] == 6, "a hardware address has %d bytes, not 6" % octets[2])
+    accept(octets[236:240] == bytes.fromhex("63825363"), "the magic cookie is missing")
+    found, cut = dhcp_options(octets[240:])
     # A client identifier of seven octets is an address of Ethernet.
-    accept(all(data[0] == 1 for code, data in found if code == 61 and len(data) == 7))
+    for code, data in found:
+        accept(code != 61 or len(data) != 7 or data[0] == 1,
+               "the client identifier is of hardware type %d, not Ethernet" % (data or b"\0")[0])
     kinds = [data[0] for code, data in found if code == 53 and len(data) == 1]
     kinds = [kind for kind in kinds if SENT_BY.get(kind, 0) == octets[0]]
-    accept(kinds)
+    if not kinds:
+        raise Refused("malformed", no_type([data for code, data in found if code == 53], octets[0], cut))
 
     def last(code, length=None):
         of = [data for c, data in found if c == code and length in (None, len(data))]
@@ -302,16 +337,28 @@ def dhcp(octets):
     ]
 
 
+def no_type(types, operation, cut):
+    """Why no option is a type of message that has the operation of the packet."""
+    if types and len(types[-1]) != 1:
+        return "the message type has %d bytes, not 1" % len(types[-1])
+    if types:
+        kind = types[-1][0]
+        message = SENT_NAMES[kind] if 1 <= kind <= 8 else "unknown %d" % kind
+        return "message type %s does not go with %s" % (
+            message, OPERATION_NAMES.get(operation, "unknown %d" % operation))
+    return "there is no message type" if cut is None else "option %d is cut" % cut
+
+
 def dhcp_options(octets):
-    """Options by code and data. Padding is skipped; the end mark ends them, and so does the end of the octets, also
-    where it comes within an option."""
+    """Options by code and data, and the code of one that is cut. Padding is skipped; the end mark ends them, and so
+    does the end of the octets, also where it comes within an option."""
     found, at = [], 0
     while at < len(octets) and octets[at] != 255:
         if octets[at] == 0:
             at += 1
             continue
         if at + 2 > len(octets) or at + 2 + octets[at + 1] > len(octets):
-            break
+            return found, octets[at]
         found.append((octets[at], octets[at + 2:at + 2 + octets[at + 1]]))
         at += 2 + octets[at + 1]
-    return found
+    return found, None

@@ -30,12 +30,14 @@ ENDINGS = {
 
 
 class Printed:
-    """What a packet prints: its kind, where it is one of those that are printed; why it was refused, or None; what
-    stands in its heading, and its listing. `unread` is the number of a link that is not read."""
+    """What a packet prints: its kind, where it is one of those that are printed; the reason under which a refused one
+    is counted, and the phrase that it prints, or None; what stands in its heading, and its listing. `unread` is the
+    number of a link that is not read."""
 
     def __init__(self):
         self.kind = None
         self.reason = None
+        self.phrase = None
         self.words = []
         self.lines = []
         self.has_options = False
@@ -44,7 +46,7 @@ class Printed:
     def text(self, number, packet):
         when = "-" if packet.nanoseconds is None else time(packet.nanoseconds)
         heading = " ".join([str(number), when] + self.words + [self.kind])
-        lines = self.lines + (["refused=" + self.reason] if self.reason else [])
+        lines = self.lines + (["refused=" + self.phrase] if self.reason else [])
         return heading + "\n" + "".join("  %s\n" % line for line in lines)
 
 
@@ -81,6 +83,7 @@ def show(packet):
         show_datagram(shown, frame, vlans)
     except Refused as refused:
         is_cut = len(packet.octets) < packet.original_len
+        shown.phrase = refused.phrase
         shown.reason = refused.reason if refused.reason != "ended" else "cut" if is_cut else "short"
         # Where the header of the link does not read, no kind is known.
         if shown.kind is None:

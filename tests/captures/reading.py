@@ -24,7 +24,8 @@ READ_KINDS = (SECTION_KIND, INTERFACE, OBSOLETE, SIMPLE, ENHANCED)
 
 
 class Packet:
-    """A packet: when it was captured (None where nothing tells it), of which link it is, how long it was, and what is kept of it."""
+    """A packet: when it was captured (None where nothing tells it), of which link it is, how long it was, and what is
+    kept of it."""
 
     def __init__(self, nanoseconds, link_type, original_len, octets):
         self.nanoseconds = nanoseconds

@@ -1,5 +1,5 @@
 -- The parts of a heading.
-use Rattle.std.proofs.Common.{◌≡◌, ℕ, ◌+◌, ◌*◌, ◌<◌, ◌≤◌, ◌/◌, ◌%◌, List, [], ◌∷◌, ◌++◌, length, take, drop, ◌∙◌, arith}
+use Rattle.std.proofs.Common.{◌≡◌, ℕ, ◌≤◌, List, [], ◌∷◌, ◌++◌, length, take, drop, ◌∙◌, arith}
 use Rattle.std.proofs.Common.{append_assoc}
 use Rattle.pcapdump.specs.Heading.{tag_text, tags_text}
 
@@ -12,10 +12,3 @@ one_tag done (a ∷ b ∷ []) all some is = absurd (omega (arith, some))
 one_tag done (a ∷ b ∷ c ∷ []) all some is = absurd (omega (arith, some))
 one_tag done (a ∷ b ∷ c ∷ d ∷ rest) all some is =
     append_assoc done (tag_text (a ∷ b ∷ c ∷ d ∷ [])) (tags_text rest) ∙ is
-
--- the seconds and the nanoseconds of a time
-pub seconds_in : (s n : ℕ) → n < 1000000000 → (s * 1000000000 + n) / 1000000000 ≡ s
-seconds_in s n few = grind arith
-
-pub nanoseconds_in : (s n : ℕ) → n < 1000000000 → (s * 1000000000 + n) % 1000000000 ≡ n
-nanoseconds_in s n few = grind arith

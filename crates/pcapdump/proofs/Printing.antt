@@ -1,10 +1,12 @@
 -- What an output gains where a packet is listed or refused.
-use Rattle.std.proofs.Common.{◌≡◌, ℕ, List, [], ◌++◌, Option, None, Some, Result, Ok, Err, IfOk, refl}
+use Rattle.std.proofs.Common.{◌≡◌, ℕ, List, [], ◌++◌, Option, None, Some, Result, Ok, Err, IfOk, false, refl}
 use Rattle.listing.specs.Indented.{indented}
 use Rattle.listing.specs.Output.{Gains, GainsSome}
 use Rattle.listing.proofs.Printing.{gains_both}
 use Rattle.pcapdump.specs.Messages.{refusal_text, ListsOrRefuses, lists, refuses, Indents}
+use Rattle.pcapdump.specs.Refusals.{reason_of}
 use Rattle.pcapdump.specs.declared.kind.Reason.{Reason}
+use Rattle.pcapdump.specs.declared.refusal.Refusal.{Refusal}
 
 -- what is kept in an empty page is the text that it gained
 pub page_text : (old new text : List ℕ) → old ≡ [] → Gains (Some old) (Some new) text → new ≡ text
@@ -51,22 +53,22 @@ module _ {E : Type 0} (a b : Option (List ℕ)) (r : Result (Option Reason) E) w
       ]
 
   -- the listing of a value stands in the page, and is gained with each line indented
-  pub lists_page : {V : Type 0} (IsValue : V → Type 0) (listing : V → List ℕ) (Why : Reason → Type 0) (v : V)
-      (page : List ℕ) → IsValue v → page ≡ listing v
+  pub lists_page : {V R : Type 0} (IsValue : V → Type 0) (listing : V → List ℕ) (Refuses : R → Type 0)
+      (of : R → Refusal) (v : V) (page : List ℕ) → IsValue v → page ≡ listing v
       → IfOk r (λ why. Gains a b (indented page) × (why ≡ None))
-      → IfOk r (λ why. GainsSome a b (λ t. ListsOrRefuses IsValue (Indents listing) Why t why))
-  lists_page IsValue listing Why v page is same =
-      gained_one (ListsOrRefuses IsValue (Indents listing) Why) (indented page) None
+      → IfOk r (λ why. GainsSome a b (λ t. ListsOrRefuses IsValue (Indents listing) Refuses of t why))
+  lists_page IsValue listing Refuses of v page is same =
+      gained_one (ListsOrRefuses IsValue (Indents listing) Refuses of) (indented page) None
       (lists v is (rw same refl) refl)
 
   -- there is no value, and why is told
-  pub refuses_all : {V : Type 0} (IsValue : V → Type 0) (Prints : V → List ℕ → Type 0) (Why : Reason → Type 0)
-      (reason : Reason) → ((v : V) → IsValue v → ⊥) → Why reason
-      → IfOk r (λ why. Gains a b (refusal_text reason) × (why ≡ Some reason))
-      → IfOk r (λ why. GainsSome a b (λ t. ListsOrRefuses IsValue Prints Why t why))
-  refuses_all IsValue Prints Why reason none told =
-      gained_one (ListsOrRefuses IsValue Prints Why) (refusal_text reason) (Some reason)
-      (refuses reason none told refl refl)
+  pub refuses_all : {V R : Type 0} (IsValue : V → Type 0) (Prints : V → List ℕ → Type 0) (Refuses : R → Type 0)
+      (of : R → Refusal) (refusal : R) → ((v : V) → IsValue v → ⊥) → Refuses refusal
+      → IfOk r (λ why. Gains a b (refusal_text (of refusal)) × (why ≡ Some (reason_of false (of refusal))))
+      → IfOk r (λ why. GainsSome a b (λ t. ListsOrRefuses IsValue Prints Refuses of t why))
+  refuses_all IsValue Prints Refuses of refusal none told =
+      gained_one (ListsOrRefuses IsValue Prints Refuses of) (refusal_text (of refusal))
+      (Some (reason_of false (of refusal))) (refuses refusal none told (refl, refl))
 
 -- what holds of an answer that is no fault is another fact of it
 pub if_ok : {A E : Type 0} (Holds Other : A → Type 0) (r : Result A E) → ((answer : A) → Holds answer → Other answer)

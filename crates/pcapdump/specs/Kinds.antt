@@ -1,5 +1,5 @@
 -- The kinds of control packets, which datagrams are of which kind, and the reasons for which a packet is refused.
-use Rattle.std.specs.Prelude.{◌≡◌, ℕ, ◌==◌, ◌||◌, ◌&&◌, Bool, if◌then◌else◌, List, codes, Option, None, Some}
+use Rattle.std.specs.Prelude.{ℕ, ◌==◌, ◌||◌, ◌&&◌, Bool, if◌then◌else◌, List, codes, Option, None, Some}
 use Rattle.wirebase.specs.declared.ip.IpProtocol.{IpProtocol}
 use Rattle.wirebase.specs.declared.ip.IpProtocol.TheVariants.{HopByHop, Icmp, Igmp, Udp, Ipv6Route, Ipv6Frag, Icmpv6}
 use Rattle.wirebase.specs.declared.ip.IpProtocol.TheVariants.{Ipv6Opts}
@@ -86,11 +86,3 @@ reason_place reason.UnknownType = 4
 reason_place reason.Quote = 5
 reason_place reason.Name = 6
 reason_place reason.Malformed = 7
-
--- The first that holds of a message: it is not whole, its checksum is not good, its type is not known; and else the
--- last.
-pub data IsFirst (Whole Good Known : Type 0) (last r : Reason) : Type 0 where
-  short : (Whole → ⊥) → r ≡ reason.Short → IsFirst Whole Good Known last r
-  checksum : Whole → (Good → ⊥) → r ≡ reason.Checksum → IsFirst Whole Good Known last r
-  unknown : Whole → Good → (Known → ⊥) → r ≡ reason.UnknownType → IsFirst Whole Good Known last r
-  last_one : Whole → Good → Known → r ≡ last → IsFirst Whole Good Known last r

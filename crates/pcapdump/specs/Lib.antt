@@ -4,6 +4,7 @@ pub mod Fault
 pub mod Heading
 pub mod Kinds
 pub mod Messages
+pub mod Refusals
 pub mod Sight
 pub mod Summary
 pub mod Table

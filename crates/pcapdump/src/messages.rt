@@ -5,22 +5,24 @@
 mod icmp;
 mod udp;
 
-ghost use Rattle.std.specs.Prelude.{◌≡◌, OnOk, IfOk, None, Some};
+ghost use Rattle.std.specs.Prelude.{◌≡◌, OnOk, IfOk, None, Some, false};
 ghost use Rattle.std.specs.Option.{option_map};
 ghost use Rattle.listing.specs.Indented.{indented};
 ghost use Rattle.listing.specs.Output.{Gains, GainsSome};
-ghost use Rattle.pcapdump.specs.Messages.{refusal_text, OptionsPrint, PayloadPrints, ContentPrints, ListingPrints};
+ghost use Rattle.pcapdump.specs.Messages.{refusal_text, OptionsPrint, PayloadPrints, ContentPrints};
+ghost use Rattle.pcapdump.specs.Messages.{ListingPrints};
+ghost use Rattle.pcapdump.specs.Refusals.{reason_of};
 ghost use Rattle.pcapdump.specs.Sight.{headers_of, content_of};
 
 use crate::Fault;
 use crate::kind::{Kind, Reason};
 use crate::messages::icmp::{show_icmp4, show_icmp6, show_igmp};
 use crate::messages::udp::{show_dhcp, show_dns};
+use crate::refusal::Refusal;
 use crate::sight::{Content, Headers};
-use frame_wire::Addresses;
+use frame_wire::{Addresses, udp as udp_wire};
 use listing::hbh::show_hbh;
-use listing::page::{MARGIN, Page, write_indented};
-use listing::printer::part_field;
+use listing::page::{Page, write_indented};
 use std::io;
 use std::io::Write;
 
@@ -67,7 +69,7 @@ fn show_content<W: Write>(
 {
     match content {
         Content::Whole(addresses, octets) => show_payload(output, page, kind, addresses, octets),
-        Content::Refused(reason) => refuse(output, reason),
+        Content::Refused(reason, refusal) => refuse(output, reason, &refusal),
     }
 }
 
@@ -89,22 +91,36 @@ fn show_payload<W: Write>(
             Addresses::V6(src_addr, dst_addr) => {
                 show_icmp6(output, page, &src_addr, &dst_addr, octets)
             }
-            Addresses::V4(_, _) => refuse(output, Reason::Malformed),
+            Addresses::V4(_, _) => {
+                refuse_message(output, &Refusal::Datagram(frame_wire::Refusal::Version(4)))
+            }
         },
         Kind::Dns => show_dns(output, &addresses, octets, false),
         Kind::Mdns => show_dns(output, &addresses, octets, true),
         Kind::Dhcp => show_dhcp(output, page, &addresses, octets),
-        Kind::Frame => refuse(output, Reason::Malformed),
+        Kind::Frame => refuse_message(output, &Refusal::Udp(udp_wire::Refusal::Short)),
     }
 }
 
-/// Prints why a packet is refused.
-fn refuse<W: Write>(output: &mut W, reason: Reason) -> Result<Option<Reason>, Fault>
-    ensures { IfOk result (λ why. Gains (W.contents output.old) (W.contents output.new) (refusal_text reason)
+// Prints why a packet is refused, which is counted under this reason.
+fn refuse<W: Write>(
+    output: &mut W,
+    reason: Reason,
+    refusal: &Refusal,
+) -> Result<Option<Reason>, Fault>
+    ensures { IfOk result (λ why. Gains (W.contents output.old) (W.contents output.new) (refusal_text refusal.now)
         × (why ≡ Some reason)) }
 {
-    part_field(output, MARGIN, "refused", reason.name())?;
+    writeln!(output, "  refused={refusal}")?;
     Ok(Some(reason))
+}
+
+/// Prints why a message is refused, whose datagram is whole.
+fn refuse_message<W: Write>(output: &mut W, refusal: &Refusal) -> Result<Option<Reason>, Fault>
+    ensures { IfOk result (λ why. Gains (W.contents output.old) (W.contents output.new) (refusal_text refusal.now)
+        × (why ≡ Some (reason_of false refusal.now))) }
+{
+    refuse(output, refusal.reason(false), refusal)
 }
 
 // Prints the page, indented.

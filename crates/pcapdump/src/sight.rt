@@ -1,23 +1,22 @@
 //! What the headers of a packet tell.
 
-ghost use Rattle.std.specs.Prelude.{◌≡◌, ◌+◌, ◌*◌, IfOk};
+ghost use Rattle.std.specs.Prelude.{◌≡◌, None, drop};
+ghost use Rattle.wirebase.specs.Ipv4.{header_len_in};
 ghost use Rattle.capture.specs.Capture.{packet_of};
-ghost use Rattle.capture.specs.Packet.{PacketValue};
 ghost use Rattle.frame_wire.specs.Datagram.{value_of as datagram_of};
 ghost use Rattle.frame_wire.specs.Link.{value_of as frame_of};
-ghost use Rattle.listing.specs.ListingQuote.{ipv4_ports};
-ghost use Rattle.listing.specs.Ports.{ports_in};
+ghost use Rattle.frame_wire.specs.LinkRefusal.{IsRead, Refuses};
 ghost use Rattle.pcapdump.specs.Kinds.{kind_of, kind_of_ports};
-ghost use Rattle.pcapdump.specs.Sight.{sight_of, headers_of, content_of, is_v4, content_by, datagram_sight, early};
-ghost use Rattle.pcapdump.specs.Sight.{reason_of, refused_headers, untold, told4, told6, IsRefused4, IsRefused6};
-ghost use Rattle.pcapdump.specs.Sight.{IsFrameSight, IsSight, sight_by};
+ghost use Rattle.pcapdump.specs.Sight.{sight_of, content_of, content_by, datagram_sight, is_cut, untold, told};
+ghost use Rattle.pcapdump.specs.Sight.{told_front, head_of, ports_behind, IsRefused4, IsRefused6, IsFrameSight};
+ghost use Rattle.pcapdump.specs.Sight.{IsSight};
 
 use crate::kind::{Kind, Reason};
+use crate::refusal::Refusal;
 use capture::Record;
-use frame_wire::{Addresses, Datagram, Frame, Link, Network, Refusal};
+use frame_wire::{Addresses, Captured, Datagram, Frame, Head, Link, Network, link, udp};
 use listing::ports::ports_of;
-use quote_wire::quote::{Ipv4Quote, Ipv6Quote};
-use wirebase::IpProtocol;
+use wirebase::{IpProtocol, Ipv4Packet};
 
 /// What the headers of a packet tell.
 #[derive(Debug, PartialEq, Eq, Clone, Copy)]
@@ -52,8 +51,8 @@ pub struct Headers<'a> {
 pub enum Content<'a> {
     /// A payload, between two addresses.
     Whole(Addresses, &'a [u8]),
-    /// None, for this reason.
-    Refused(Reason),
+    /// None: the packet is counted under this reason, and is refused so.
+    Refused(Reason, Refusal),
 }
 
 /// What the headers of a packet tell, which a capture has these octets of.
@@ -65,7 +64,21 @@ pub fn look<'a>(captured: &Record, octets: &'a [u8]) -> Sight<'a>
     };
     match link.frame(octets) {
         Ok(frame) => look_into(captured, octets, &frame),
-        Err(_) => untold(&[], early(captured, octets)),
+        Err(_) => {
+            let refusal = Refusal::Frame(why_no_frame(link, octets));
+            untold(&[], refusal.reason(is_cut(captured, octets)), refusal)
+        }
+    }
+}
+
+// Why this is no frame. There is a reason then, so the one that would stand for it is never told.
+fn why_no_frame(link: Link, octets: &[u8]) -> link::Refusal
+    requires { IsRead link octets.now → ⊥ }
+    ensures { Refuses link octets.now result }
+{
+    match link.refusal(octets) {
+        Some(refusal) => refusal,
+        None => link::Refusal::Short,
     }
 }
 
@@ -77,15 +90,17 @@ fn look_into<'a>(captured: &Record, octets: &[u8], frame: &Frame<'a>) -> Sight<'
         Network::Ipv4 => match Datagram::parse_v4(frame.payload) {
             Ok(datagram) => whole(frame.tags, &datagram),
             Err(refusal) => {
-                let reason = reason_of(captured, octets, refusal);
-                refused_v4(frame.tags, frame.payload, reason)
+                let refusal = Refusal::Datagram(refusal);
+                let reason = refusal.reason(is_cut(captured, octets));
+                refused_v4(frame.tags, frame.payload, reason, refusal)
             }
         },
         Network::Ipv6 => match Datagram::parse_v6(frame.payload) {
             Ok(datagram) => whole(frame.tags, &datagram),
             Err(refusal) => {
-                let reason = reason_of(captured, octets, refusal);
-                refused_v6(frame.tags, frame.payload, reason)
+                let refusal = Refusal::Datagram(refusal);
+                let reason = refusal.reason(is_cut(captured, octets));
+                refused_v6(frame.tags, frame.payload, reason, refusal)
             }
         },
         Network::Other(_) => Sight::Other,
@@ -148,39 +163,21 @@ fn content_by<'a>(kind: Kind, datagram: &Datagram<'a>) -> Content<'a>
     ensures { content_of result ≡ content_by kind datagram.now.addresses datagram.now.payload.now }
 {
     match kind {
-        Kind::Frame => Content::Refused(Reason::Short),
+        Kind::Frame => Content::Refused(Reason::Short, Refusal::Udp(udp::Refusal::Short)),
         _ => Content::Whole(datagram.addresses, datagram.payload),
     }
 }
 
-// Why what ends too early does.
-fn early(captured: &Record, octets: &[u8]) -> Reason
-    ensures { result ≡ early (packet_of captured.now octets.now) }
+// Whether the capture kept less of a packet than there was.
+fn is_cut(captured: &Record, octets: &[u8]) -> bool
+    ensures { result ≡ is_cut (packet_of captured.now octets.now) }
 {
-    if (octets.len() as u64) < captured.original_len as u64 {
-        Reason::Cut
-    } else {
-        Reason::Short
-    }
-}
-
-// Why a datagram is refused.
-fn reason_of(captured: &Record, octets: &[u8], refusal: Refusal) -> Reason
-    ensures { result ≡ reason_of (packet_of captured.now octets.now) refusal }
-{
-    match refusal {
-        Refusal::Short | Refusal::Cut(_) => early(captured, octets),
-        Refusal::Fragment(_) => Reason::Fragment,
-        Refusal::Version(_)
-        | Refusal::HeaderLen(_)
-        | Refusal::TotalLen(_)
-        | Refusal::Extension(_) => Reason::Malformed,
-    }
+    (octets.len() as u64) < captured.original_len as u64
 }
 
 // A packet of which nothing is known but its VLAN tags.
-fn untold(tags: &[u8], reason: Reason) -> Sight<'_>
-    ensures { sight_of result ≡ untold tags.now reason }
+fn untold(tags: &[u8], reason: Reason, refusal: Refusal) -> Sight<'_>
+    ensures { sight_of result ≡ untold tags.now reason refusal }
 {
     Sight::Control(Headers {
         tags,
@@ -188,21 +185,22 @@ fn untold(tags: &[u8], reason: Reason) -> Sight<'_>
         ports: None,
         hop_by_hop: None,
         kind: Kind::Frame,
-        content: Content::Refused(reason),
+        content: Content::Refused(reason, refusal),
     })
 }
 
-// What a datagram of a kind is that is refused.
-fn refused<'a>(
+// A datagram that is refused, of which this is known.
+fn told<'a>(
     tags: &'a [u8],
     addresses: Addresses,
+    protocol: IpProtocol,
     ports: Option<(u16, u16)>,
     reason: Reason,
-    kind: Option<Kind>,
+    refusal: Refusal,
 ) -> Sight<'a>
-    ensures { sight_of result ≡ sight_by kind (refused_headers tags.now (Some addresses) ports reason) }
+    ensures { sight_of result ≡ told tags.now addresses protocol ports reason refusal }
 {
-    let Some(kind) = kind else {
+    let Some(kind) = kind_of(addresses.is_v4(), protocol, ports) else {
         return Sight::Other;
     };
     Sight::Control(Headers {
@@ -211,55 +209,91 @@ fn refused<'a>(
         ports,
         hop_by_hop: None,
         kind,
-        content: Content::Refused(reason),
+        content: Content::Refused(reason, refusal),
     })
 }
 
-// What a datagram of IPv4 is that is refused, as far as its header is there.
-fn refused_v4<'a>(tags: &'a [u8], octets: &'a [u8], reason: Reason) -> Sight<'a>
-    ensures { IsRefused4 tags.now octets.now reason (sight_of result) }
+// A datagram that is refused, of which the front is there.
+fn told_front<'a>(
+    tags: &'a [u8],
+    front: &Datagram<'_>,
+    reason: Reason,
+    refusal: Refusal,
+) -> Sight<'a>
+    ensures { sight_of result ≡ told_front tags.now (datagram_of front.now) reason refusal }
 {
-    match Ipv4Quote::parse(octets) {
-        Ok(header) => told_v4(tags, &header, reason),
-        Err(_) => untold(tags, reason),
+    let ports = ports_of(front.protocol, front.payload);
+    told(
+        tags,
+        front.addresses,
+        front.protocol,
+        ports,
+        reason,
+        refusal,
+    )
+}
+
+// What a datagram of IPv4 is that is refused, as far as it is there.
+fn refused_v4<'a>(tags: &'a [u8], octets: &[u8], reason: Reason, refusal: Refusal) -> Sight<'a>
+    ensures { IsRefused4 tags.now octets.now reason refusal (sight_of result) }
+{
+    match Captured::parse_v4(octets) {
+        Ok(front) => told_front(tags, &front.datagram, reason, refusal),
+        Err(other) => match head_of(other) {
+            Some(head) => {
+                let ports = ports_behind(octets, &head);
+                told(tags, head.addresses, head.protocol, ports, reason, refusal)
+            }
+            None => untold(tags, reason, refusal),
+        },
     }
 }
 
-fn told_v4<'a>(tags: &'a [u8], header: &Ipv4Quote<'_>, reason: Reason) -> Sight<'a>
-    ensures { sight_of result ≡ told4 tags.now header.now reason }
-{
-    let ports = ipv4_ports_of(header);
-    let addresses = Addresses::V4(header.src_addr, header.dst_addr);
-    let kind = kind_of(true, header.next_header, ports);
-    refused(tags, addresses, ports, reason, kind)
-}
-
 // The ports behind a header of IPv4; a fragment that is not the first begins with none.
-fn ipv4_ports_of(header: &Ipv4Quote<'_>) -> Option<(u16, u16)>
-    ensures { result ≡ ipv4_ports header.now }
+fn ports_behind(octets: &[u8], head: &Head) -> Option<(u16, u16)>
+    ensures { result ≡ ports_behind octets.now head.now }
 {
-    if header.frag_offset == 0 {
-        ports_of(header.next_header, header.payload)
+    if head.frag_offset == 0 {
+        ports_of(head.protocol, behind_header(octets))
     } else {
         None
     }
 }
 
-// What a datagram of IPv6 is that is refused, as far as its header is there.
-fn refused_v6<'a>(tags: &'a [u8], octets: &'a [u8], reason: Reason) -> Sight<'a>
-    ensures { IsRefused6 tags.now octets.now reason (sight_of result) }
+// What stands behind a header of IPv4, by the length that it has.
+fn behind_header(octets: &[u8]) -> &[u8]
+    ensures { result.now ≡ drop (header_len_in octets.now) octets.now }
 {
-    match Ipv6Quote::parse(octets) {
-        Ok(header) => told_v6(tags, &header, reason),
-        Err(_) => untold(tags, reason),
+    if octets.is_empty() {
+        return octets;
+    }
+    let header_len = Ipv4Packet::new_unchecked(octets).header_len() as usize;
+    octets.get(header_len..).unwrap_or(&[])
+}
+
+// What a datagram of IPv6 is that is refused, as far as it is there.
+fn refused_v6<'a>(tags: &'a [u8], octets: &[u8], reason: Reason, refusal: Refusal) -> Sight<'a>
+    ensures { IsRefused6 tags.now octets.now reason refusal (sight_of result) }
+{
+    match Captured::parse_v6(octets) {
+        Ok(front) => told_front(tags, &front.datagram, reason, refusal),
+        Err(other) => match head_of(other) {
+            Some(head) => told(tags, head.addresses, head.protocol, None, reason, refusal),
+            None => untold(tags, reason, refusal),
+        },
     }
 }
 
-fn told_v6<'a>(tags: &'a [u8], header: &Ipv6Quote<'_>, reason: Reason) -> Sight<'a>
-    ensures { sight_of result ≡ told6 tags.now header.now reason }
+// What is told of a datagram that has no front.
+fn head_of(refusal: frame_wire::Refusal) -> Option<Head>
+    ensures { result ≡ head_of refusal }
 {
-    let ports = ports_of(header.next_header, header.payload);
-    let addresses = Addresses::V6(header.src_addr, header.dst_addr);
-    let kind = kind_of(false, header.next_header, ports);
-    refused(tags, addresses, ports, reason, kind)
+    match refusal {
+        frame_wire::Refusal::Cut(head) | frame_wire::Refusal::Fragment(head) => Some(head),
+        frame_wire::Refusal::Short
+        | frame_wire::Refusal::Version(_)
+        | frame_wire::Refusal::HeaderLen(_)
+        | frame_wire::Refusal::TotalLen(_)
+        | frame_wire::Refusal::Extension(_) => None,
+    }
 }

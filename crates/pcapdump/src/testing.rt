@@ -4,7 +4,8 @@
 
 ghost use Rattle.std.specs.Prelude.{◌≡◌, true};
 
-use std::fmt::Debug;
+use std::alloc::Global;
+use std::fmt::{Debug, Display};
 use std::process::Abort;
 
 // Ends the test where the two differ, and says what they are of.
@@ -24,4 +25,10 @@ pub(crate) fn holds_of(rt: &impl Abort, of: impl Debug + Drop, is_so: bool)
     ensures { is_so ≡ true }
 {
     same_of(rt, of, is_so, true);
+}
+
+// Ends the test where the value prints another text, or where there is no memory for it.
+pub(crate) fn prints(rt: &impl Abort, alloc: Global, value: &impl Display, text: &str) {
+    let printed = value.to_string(alloc).ok();
+    same_of(rt, text, printed.as_deref(), Some(text));
 }

@@ -2,23 +2,24 @@
 
 #![tactic(auto, using(listing::proofs::Printing::gained, listing::proofs::Printing::gains_both))]
 
-ghost use Rattle.std.specs.Prelude.{◌≡◌, ◌≤◌, ◌↔◌, IfOk, IfErr, IsTrue, length};
-ghost use Rattle.std.specs.Option.{option_map};
+ghost use Rattle.std.specs.Prelude.{◌≡◌, ◌↔◌, IfOk, IfErr};
 ghost use Rattle.wirebase.specs.Bytes.{bytes_of};
 ghost use Rattle.wirebase.specs.Capabilities.{all_of};
 ghost use Rattle.wirebase.specs.declared.capabilities.Checksum.TheVariants.{Both};
-ghost use Rattle.frame_wire.specs.Udp.{BeginsWhole, IsDatagram, payload_field, view_octets};
+ghost use Rattle.dhcp_wire.specs.Dhcpv4Packet.{inner};
+ghost use Rattle.dhcp_wire.specs.Dhcpv4Refusal.{IsRead, Refuses as RefusesPacket};
+ghost use Rattle.frame_wire.specs.Udp.{IsDatagram, payload_field};
+ghost use Rattle.frame_wire.specs.UdpRefusal.{Refuses};
 ghost use Rattle.frame_wire.specs.declared.udp.UdpRepr.{UdpRepr as AnUdpRepr};
-ghost use Rattle.listing.specs.Output.{Gains, GainsSome};
-ghost use Rattle.pcapdump.specs.Kinds.{IsFirst};
-ghost use Rattle.pcapdump.specs.Messages.{HasChecksum, UdpPrints, DhcpPrints, DnsPrints, unread_reason, end_text};
-ghost use Rattle.pcapdump.specs.declared.kind.Reason.TheVariants as reasons;
+ghost use Rattle.listing.specs.Output.{GainsSome};
+ghost use Rattle.pcapdump.specs.Messages.{UdpPrints, DhcpPrints, DnsPrints, unread_refusal};
 
 use crate::Fault;
 use crate::kind::Reason;
-use crate::messages::{refuse, write_page};
+use crate::messages::{refuse_message, write_page};
+use crate::refusal::Refusal;
 use dhcp_wire::dhcpv4;
-use frame_wire::{Addresses, UdpPacket, UdpRepr};
+use frame_wire::{Addresses, UdpPacket, UdpRepr, udp};
 use listing::dhcp::show_packet;
 use listing::message::{Unread, show_message};
 use listing::page::{MARGIN, Page};
@@ -37,7 +38,7 @@ pub fn show_dns<W: Write>(
 {
     match open(addresses, octets) {
         Ok(payload) => show_dns_message(output, payload, is_multicast),
-        Err(reason) => refuse(output, reason),
+        Err(refusal) => refuse_message(output, &Refusal::Udp(refusal)),
     }
 }
 
@@ -53,45 +54,22 @@ pub fn show_dhcp<W: Write>(
 {
     match open(addresses, octets) {
         Ok(payload) => show_dhcp_packet(output, page, payload),
-        Err(reason) => refuse(output, reason),
+        Err(refusal) => refuse_message(output, &Refusal::Udp(refusal)),
     }
 }
 
 // The payload of a datagram of UDP, or why that is refused.
-fn open<'a>(addresses: &Addresses, octets: &'a [u8]) -> Result<&'a [u8], Reason>
+fn open<'a>(addresses: &Addresses, octets: &'a [u8]) -> Result<&'a [u8], udp::Refusal>
     ensures opens { IfOk result (λ payload. (payload.now ≡ bytes_of (payload_field octets.now) octets.now)
         × ((r : AnUdpRepr) × IsDatagram (all_of Both) addresses.now octets.now r)) }
-    ensures refuses { IfErr result (λ reason. IsFirst (BeginsWhole octets.now)
-        (HasChecksum addresses.now octets.now) (Unit {0}) reasons.Malformed reason
+    ensures refuses { IfErr result (λ refusal. Refuses (all_of Both) addresses.now octets.now refusal
         × ((r : AnUdpRepr) → IsDatagram (all_of Both) addresses.now octets.now r → ⊥)) }
 {
     let packet = UdpPacket::new_unchecked(octets);
-    match UdpRepr::parse(&packet, addresses, &ChecksumCapabilities::default()) {
+    match UdpRepr::parse_or_refusal(&packet, addresses, &ChecksumCapabilities::default()) {
         Ok(_) => Ok(packet.payload()),
-        Err(_) => Err(why_no_datagram(addresses, &packet)),
+        Err(refusal) => Err(refusal),
     }
-}
-
-// Why this is no datagram of UDP.
-fn why_no_datagram(addresses: &Addresses, packet: &UdpPacket<&[u8]>) -> Reason
-    ensures { IsFirst (BeginsWhole (view_octets packet.now)) (HasChecksum addresses.now (view_octets packet.now))
-        (Unit {0}) reasons.Malformed result }
-{
-    if packet.check_len().is_err() {
-        return Reason::Short;
-    }
-    if !has_checksum(addresses, packet) {
-        return Reason::Checksum;
-    }
-    Reason::Malformed
-}
-
-// Whether a datagram carries its checksum, or over IPv4 none.
-fn has_checksum(addresses: &Addresses, packet: &UdpPacket<&[u8]>) -> bool
-    requires { BeginsWhole (view_octets packet.now) }
-    ensures { IsTrue result ↔ HasChecksum addresses.now (view_octets packet.now) }
-{
-    (addresses.is_v4() && packet.checksum() == 0) || packet.verify_checksum(addresses)
 }
 
 fn show_dns_message<W: Write>(
@@ -103,20 +81,18 @@ fn show_dns_message<W: Write>(
         (λ text. DnsPrints is_multicast octets.now text why)) }
 {
     match show_message(output, MARGIN, octets, is_multicast)? {
-        Some(unread) => refuse(output, reason_of(octets, unread)),
+        Some(unread) => refuse_message(output, &refusal_of(octets, unread)),
         None => Ok(None),
     }
 }
 
 // Why a message is not listed to its end.
-fn reason_of(octets: &[u8], unread: Unread) -> Reason
-    ensures { result ≡ unread_reason octets.now unread }
+fn refusal_of(octets: &[u8], unread: Unread) -> Refusal
+    ensures { result ≡ unread_refusal octets.now unread }
 {
     match unread {
-        Unread::Entry if octets.len() < 12 => Reason::Short,
-        Unread::Entry => Reason::Malformed,
-        Unread::Name => Reason::Name,
-        Unread::Data => Reason::Malformed,
+        Unread::Entry if octets.len() < 12 => Refusal::DnsHeader,
+        other => Refusal::Dns(other),
     }
 }
 
@@ -128,22 +104,24 @@ fn show_dhcp_packet<W: Write>(
     ensures { IfOk result (λ why. GainsSome (W.contents output.old) (W.contents output.new)
         (λ text. DhcpPrints octets.now text why)) }
 {
-    match dhcpv4::Repr::parse(&dhcpv4::Packet::new_unchecked(octets)) {
+    let packet = dhcpv4::Packet::new_unchecked(octets);
+    match dhcpv4::Repr::parse(&packet) {
         Ok(packet) => {
             page.clear();
             show_packet(page, &packet)?;
             write_page(output, page.as_slice())
         }
-        Err(_) => refuse(output, why_no_packet(octets)),
+        Err(_) => refuse_message(output, &Refusal::Dhcp(why_no_packet(&packet))),
     }
 }
 
-// Why this is no packet of DHCP.
-fn why_no_packet(octets: &[u8]) -> Reason
-    ensures { IsFirst (240 ≤ length octets.now) (Unit {0}) (Unit {0}) reasons.Malformed result }
+// Why this is no packet of DHCP. There is a reason then, so the one that would stand for it is never told.
+fn why_no_packet(packet: &dhcpv4::Packet<&[u8]>) -> dhcpv4::Refusal
+    requires { IsRead (inner packet.now).now → ⊥ }
+    ensures { RefusesPacket (inner packet.now).now result }
 {
-    if octets.len() < 240 {
-        return Reason::Short;
+    match dhcpv4::Repr::refusal(packet) {
+        Some(refusal) => refusal,
+        None => dhcpv4::Refusal::Short,
     }
-    Reason::Malformed
 }

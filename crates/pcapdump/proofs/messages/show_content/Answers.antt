@@ -10,5 +10,6 @@ returns-in-Whole g c = rw c.in-Whole.is c.show_payload.ensures
 pub returns-in-Refused : goal.returns-in-Refused
 returns-in-Refused g c =
     let reason = c.in-Refused.reason in
+    let refusal = c.in-Refused.refusal in
     rw c.in-Refused.is
-    (gained_one _ _ _ (IsRefusal reason) (refusal_text reason) (Some reason) (refl, refl) c.refuse.ensures)
+    (gained_one _ _ _ (IsRefusal reason refusal) (refusal_text refusal) (Some reason) (refl, refl) c.refuse.ensures)

@@ -9,5 +9,6 @@ returns-in-Ok c =
 
 pub returns-in-Err : goal.returns-in-Err
 returns-in-Err c =
-    no_frame c.in-Some.link (sym c.of.ensures ∙ c.in-Some.is) (λ f is. c.in-Err.ensures.complete f is)
-    (rw c.early.ensures at c.untold.ensures)
+    no_frame c.in-Some.link c.why_no_frame.result (sym c.of.ensures ∙ c.in-Some.is)
+    (λ f is. c.in-Err.ensures.complete f is) c.why_no_frame.ensures
+    (rw (c.reason.ensures, c.is_cut.ensures) at c.untold.ensures)

@@ -3,6 +3,6 @@ use Rattle.pcapdump.proofs.messages.udp.open.Goals as goal
 
 pub returns-in-Err-clause-refuses : goal.returns-in-Err-clause-refuses
 returns-in-Err-clause-refuses c = (
-  rw c.new_unchecked-packet.ensures at c.why_no_datagram.ensures,
+  rw (c.new_unchecked-packet.ensures, c.default.ensures) at c.in-Err.ensures.told,
   rw (c.new_unchecked-packet.ensures, c.default.ensures) at c.in-Err.ensures.complete,
 )

@@ -1,25 +1,27 @@
 -- The page holds what the packet prints, or there is none.
-use Rattle.std.proofs.Common.{◌≤◌, length, ◌∙◌}
+use Rattle.std.proofs.Common.{◌∙◌}
 use Rattle.dhcp_wire.specs.Dhcpv4.{IsPacket, value_of}
+use Rattle.dhcp_wire.specs.Dhcpv4Refusal.{Refuses}
 use Rattle.listing.specs.ListingDhcp.{dhcp_listing}
-use Rattle.pcapdump.specs.Kinds.{IsFirst}
 use Rattle.pcapdump.specs.Messages.{Indents}
-use Rattle.pcapdump.specs.declared.kind.Reason.TheVariants as reason
+use Rattle.pcapdump.specs.declared.refusal.Refusal.TheVariants.{Dhcp}
 use Rattle.pcapdump.proofs.Printing.{page_text, lists_page, refuses_all}
 use Rattle.pcapdump.proofs.messages.udp.show_dhcp_packet.Goals as goal
 
 pub returns-in_ok-show_packet-in-Ok : goal.returns-in_ok-show_packet-in-Ok
 returns-in_ok-show_packet-in-Ok g c =
     let octets = c.args.octets.now in
-    lists_page _ _ _ (IsPacket octets) dhcp_listing
-    (IsFirst (240 ≤ length octets) (Unit {0}) (Unit {0}) reason.Malformed)
-    (value_of c.in-Ok.packet) _ (rw c.new_unchecked.ensures at c.in-Ok.ensures.sound)
+    lists_page _ _ _ (IsPacket octets) dhcp_listing (Refuses octets) Dhcp
+    (value_of c.in-Ok.packet) _ (rw c.new_unchecked-packet.ensures at c.in-Ok.ensures.sound)
     (c.as_slice.ensures.value ∙ page_text _ _ _ c.clear.ensures.text c.in_ok-show_packet-in-Ok.ensures)
     c.write_page.ensures
 
 pub returns-in-Err : goal.returns-in-Err
 returns-in-Err g c =
     let octets = c.args.octets.now in
-    refuses_all _ _ _ (IsPacket octets) (Indents dhcp_listing)
-    (IsFirst (240 ≤ length octets) (Unit {0}) (Unit {0}) reason.Malformed) _
-    (rw c.new_unchecked.ensures at c.in-Err.ensures.complete) c.why_no_packet.ensures c.refuse.ensures
+    refuses_all _ _ _ (IsPacket octets) (Indents dhcp_listing) (Refuses octets) Dhcp c.why_no_packet.result
+    (rw c.new_unchecked-packet.ensures at c.in-Err.ensures.complete)
+    (rw c.new_unchecked-packet.ensures at c.why_no_packet.ensures) c.refuse_message.ensures
+
+pub why_no_packet-requires : goal.why_no_packet-requires
+why_no_packet-requires g c = λ read. c.in-Err.ensures.complete read.0 read.1

@@ -1,6 +1,8 @@
 -- The payload prints what it holds, or there is none.
-use Rattle.std.proofs.Common.{Some, refl}
+use Rattle.std.proofs.Common.{Some, false, refl}
 use Rattle.pcapdump.specs.Messages.{UdpPrints, opens, unopened, DnsPrints, refusal_text}
+use Rattle.pcapdump.specs.Refusals.{reason_of}
+use Rattle.pcapdump.specs.declared.refusal.Refusal.TheVariants.{Udp}
 use Rattle.pcapdump.proofs.Printing.{gained_one, gained_other}
 use Rattle.pcapdump.proofs.messages.udp.show_dns.Goals as goal
 
@@ -14,6 +16,7 @@ returns-in-Ok g c =
 pub returns-in-Err : goal.returns-in-Err
 returns-in-Err g c =
     let (first, none) = c.in-Err.ensures.refuses in
+    let refusal = Udp c.in-Err.refusal in
     gained_one _ _ _ (UdpPrints c.args.addresses.now c.args.octets.now (DnsPrints c.args.is_multicast))
-    (refusal_text c.in-Err.reason) (Some c.in-Err.reason) (unopened c.in-Err.reason none first refl refl)
-    c.refuse.ensures
+    (refusal_text refusal) (Some (reason_of false refusal))
+    (unopened c.in-Err.refusal none first (refl, refl)) c.refuse_message.ensures

@@ -1,8 +1,9 @@
 -- What the message prints, and behind it why it is not listed to its end, if it is not.
-use Rattle.std.proofs.Common.{None, Some, refl, ap, sym, ◌∙◌}
+use Rattle.std.proofs.Common.{None, Some, false, refl, ap, sym, ◌∙◌}
 use Rattle.std.proofs.lemmas.List.{append-nil}
 use Rattle.listing.specs.ListingMessage.{MessagePrints}
-use Rattle.pcapdump.specs.Messages.{IsRefusal, DnsPrints, margin, refusal_text}
+use Rattle.pcapdump.specs.Messages.{IsMessageRefusal, DnsPrints, margin, refusal_text}
+use Rattle.pcapdump.specs.Refusals.{reason_of}
 use Rattle.pcapdump.proofs.Printing.{gained_one, gained_behind}
 use Rattle.pcapdump.proofs.messages.udp.show_dns_message.Goals as goal
 
@@ -11,19 +12,19 @@ returns-in-Some g c =
     let octets = c.args.octets.now in
     let is_multicast = c.args.is_multicast in
     let unread = c.in-Some.unread in
-    let reason = c.reason_of.result in
-    gained_behind _ _ c.refuse.result _ (λ text. MessagePrints margin is_multicast octets text (Some unread))
-    (IsRefusal reason) (DnsPrints is_multicast octets)
-    (λ first text why prints refusal. record {
+    let refusal = c.refusal_of.result in
+    gained_behind _ _ c.refuse_message.result _ (λ text. MessagePrints margin is_multicast octets text (Some unread))
+    (IsMessageRefusal refusal) (DnsPrints is_multicast octets)
+    (λ first text why prints is. record {
       listed = first;
       unread_ = Some unread;
       prints = prints;
-      why_ = refusal.1 ∙ ap Some c.reason_of.ensures;
-      text_ = rw (refusal.0, refusal.1) refl;
+      why_ = is.1 ∙ ap (λ r. Some (reason_of false r)) c.refusal_of.ensures;
+      text_ = rw (is.0, c.refusal_of.ensures) refl;
     })
     (rw c.in-Some.is at c.in_ok-unread.ensures)
-    (gained_one _ _ c.refuse.result (IsRefusal reason) (refusal_text reason) (Some reason) (refl, refl)
-    c.refuse.ensures)
+    (gained_one _ _ c.refuse_message.result (IsMessageRefusal refusal) (refusal_text refusal)
+    (Some (reason_of false refusal)) (refl, refl) c.refuse_message.ensures)
 
 pub returns-in-None : goal.returns-in-None
 returns-in-None g c =
