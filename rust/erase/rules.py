@@ -326,6 +326,7 @@ COMMENTS = {
         "/// What holds octets: all that lends a slice of them. The proofs are of `&[u8]` and `&mut [u8]`.",
     "/// What holds octets that may be written: `&mut [u8]` alone.":
         "/// What holds octets that may be written: all that lends a slice of them so. The proofs are of `&mut [u8]`.",
+    "/// crate `quote_wire` read those.": "/// module `quotes` read those.",
 }
 
 

@@ -1,19 +1,19 @@
-//! Prints the control packets of a capture file, a line each:
+//! Prints the control packets of a capture file:
 //!
 //!     cargo run --example captures -- FILE
 
 use capture::Capture;
-use control_wire::dns::Packet;
-use control_wire::frames::{Captured, Datagram, Link, Network, UdpPacket, UdpRepr};
-use control_wire::record::{Entries, Entry, Name};
-use control_wire::{
-    ChecksumCapabilities, IpProtocol, Result, dhcpv4, frames, icmpv4, icmpv6, igmp,
-};
-use std::fmt::Display;
+use control_wire::dns::{MULTICAST_PORT, Packet, SERVER_PORT};
+use control_wire::frames::{Addresses, Captured, CapturedUdp, Datagram, Extent, Link, Network};
+use control_wire::frames::{UdpPacket, UdpRepr};
+use control_wire::quotes::message::{Icmpv4Message, Icmpv6Message};
+use control_wire::record::{Entries, Entry};
+use control_wire::{ChecksumCapabilities, IpProtocol, dhcpv4, igmp};
+use std::error::Error;
 use std::fs::File;
 use std::io::BufReader;
 
-fn main() -> std::result::Result<(), Box<dyn std::error::Error>> {
+fn main() -> Result<(), Box<dyn Error>> {
     let path = std::env::args_os()
         .nth(1)
         .ok_or("give the name of a capture file")?;
@@ -22,98 +22,98 @@ fn main() -> std::result::Result<(), Box<dyn std::error::Error>> {
         let Some(link) = Link::of(record.link_type) else {
             continue;
         };
-        if let Some(line) = line(link, octets) {
-            let time = record.time.map(|time| time.to_string());
-            println!("{} {} {line}", record.number, time.unwrap_or_default());
-        }
+        let text = match frame(link, octets) {
+            Ok(None) => continue,
+            Ok(Some(text)) => text,
+            Err(reason) => format!("refused: {reason}"),
+        };
+        let time = record.time.map(|time| time.to_string());
+        println!("{} {} {text}", record.number, time.unwrap_or_default());
     }
     Ok(())
 }
 
-/// What a frame holds, if it is a control packet.
-fn line(link: Link, octets: &[u8]) -> Option<String> {
-    let Ok(frame) = link.frame(octets) else {
-        return Some(format!("refused: {}", link.refusal(octets)?));
+/// What a frame holds, if it is a control packet, or why it is refused.
+fn frame(link: Link, octets: &[u8]) -> Result<Option<String>, Box<dyn Error>> {
+    let frame = link.frame_or_refusal(octets)?;
+    let Captured { datagram, extent } = match frame.network {
+        Network::Ipv4 => Captured::parse_v4(frame.payload)?,
+        Network::Ipv6 => Captured::parse_v6(frame.payload)?,
+        Network::Other(_) => return Ok(None),
     };
-    let captured = match frame.network {
-        Network::Ipv4 => Captured::parse_v4(frame.payload),
-        Network::Ipv6 => Captured::parse_v6(frame.payload),
-        Network::Other(_) => return None,
+    let message = match extent {
+        // No checksum of a datagram that was cut holds.
+        Extent::Cut { .. } => message(&datagram, &ChecksumCapabilities::ignored())?,
+        _ => message(&datagram, &ChecksumCapabilities::default())?,
     };
-    match captured {
-        Ok(Captured { datagram, .. }) => {
-            Some(format!("{}: {}", datagram.addresses, message(&datagram)?))
-        }
-        Err(refusal) => Some(format!("refused: {refusal}")),
-    }
+    Ok(message.map(|message| format!("{}: {message}", datagram.addresses)))
 }
 
 /// What a datagram holds, if it is a control packet.
-fn message(datagram: &Datagram<'_>) -> Option<String> {
-    let checksums = ChecksumCapabilities::default();
+fn message(
+    datagram: &Datagram<'_>,
+    checksums: &ChecksumCapabilities,
+) -> Result<Option<String>, Box<dyn Error>> {
     let octets = datagram.payload;
-    match (datagram.protocol, datagram.addresses) {
-        (IpProtocol::Icmp, frames::Addresses::V4(..)) => {
-            let packet = icmpv4::Packet::new_unchecked(octets);
-            let message = icmpv4::Repr::parse(&packet, &checksums);
-            Some(text(message, icmpv4::Repr::refusal(&packet, &checksums)))
+    Ok(Some(match (datagram.protocol, datagram.addresses) {
+        (IpProtocol::Icmp, Addresses::V4(..)) => {
+            Icmpv4Message::parse_or_refusal(octets, checksums)?.to_string()
         }
-        (IpProtocol::Igmp, frames::Addresses::V4(..)) => {
-            let packet = igmp::Packet::new_unchecked(octets);
-            let message = igmp::Repr::parse(&packet);
-            Some(text(message, igmp::Repr::refusal(&packet)))
+        (IpProtocol::Igmp, Addresses::V4(..)) => {
+            igmp::Repr::parse_or_refusal(&igmp::Packet::new_unchecked(octets))?.to_string()
         }
-        (IpProtocol::Icmpv6, frames::Addresses::V6(src, dst)) => {
-            let packet = icmpv6::Packet::new_unchecked(octets);
-            let message = icmpv6::Repr::parse(&src, &dst, &packet, &checksums);
-            let refusal = icmpv6::Repr::refusal(&src, &dst, &packet, &checksums);
-            Some(text(message, refusal))
+        (IpProtocol::Icmpv6, Addresses::V6(src, dst)) => {
+            Icmpv6Message::parse_or_refusal(&src, &dst, octets, checksums)?.to_string()
         }
-        (IpProtocol::Udp, _) => {
-            let packet = UdpPacket::new_checked(octets).ok()?;
-            match UdpRepr::parse(&packet, &datagram.addresses, &checksums) {
-                Ok(UdpRepr { src_port, dst_port }) => udp(src_port, dst_port, packet.payload()),
-                Err(_) => UdpRepr::refusal(&packet, &datagram.addresses, &checksums)
-                    .map(|refusal| format!("refused: {refusal}")),
+        (IpProtocol::Udp, addresses) => {
+            let udp = CapturedUdp::parse(octets)?;
+            if udp.extent == Extent::Whole {
+                let packet = UdpPacket::new_unchecked(octets);
+                UdpRepr::parse_or_refusal(&packet, &addresses, checksums)?;
+            }
+            match [udp.src_port, udp.dst_port] {
+                ports if ports.contains(&SERVER_PORT) => dns(udp.payload, false)?,
+                ports if ports.contains(&MULTICAST_PORT) => dns(udp.payload, true)?,
+                ports if ports.contains(&dhcpv4::SERVER_PORT) => dhcp(udp.payload)?,
+                _ => return Ok(None),
             }
         }
-        _ => None,
-    }
+        _ => return Ok(None),
+    }))
 }
 
-/// What a datagram of UDP holds, if it is of DHCP or of DNS.
-fn udp(src_port: u16, dst_port: u16, octets: &[u8]) -> Option<String> {
-    match (src_port, dst_port) {
-        (67 | 68, _) | (_, 67 | 68) => {
-            let packet = dhcpv4::Packet::new_unchecked(octets);
-            let message = dhcpv4::Repr::parse(&packet);
-            Some(text(message, dhcpv4::Repr::refusal(&packet)))
-        }
-        (53 | 5353, _) | (_, 53 | 5353) => {
-            Some(names(octets).unwrap_or_else(|error| format!("DNS: refused: {error}")))
-        }
-        _ => None,
-    }
-}
-
-/// The names that a message of DNS asks for and has records of.
-fn names(octets: &[u8]) -> Result<String> {
+/// The questions and the records of a message of DNS, multicast or not, as lines of a zone file.
+fn dns(octets: &[u8], is_multicast: bool) -> Result<String, Box<dyn Error>> {
     let packet = Packet::new_checked(octets)?;
-    let mut line = format!("DNS {} {}", packet.opcode(), packet.rcode());
-    for entry in Entries::new(&packet) {
-        let (name, type_) = match entry? {
-            Entry::Question(question) => (question.name, question.type_),
-            Entry::Record(_, record) => (record.name, record.type_),
+    let mut text = format!("DNS {} {}", packet.opcode(), packet.rcode());
+    let mut entries = Entries::new(&packet);
+    while let Some(Ok(entry)) = entries.next() {
+        text += &match entry {
+            Entry::Question(question) if is_multicast => {
+                format!("\n    {}?", question.multicast_text(&packet)?)
+            }
+            Entry::Question(question) => format!("\n    {}?", question.text(&packet)?),
+            Entry::Record(section, record) => match record.edns() {
+                Some(edns) => format!("\n    {edns}"),
+                None if is_multicast => {
+                    format!("\n    {section}: {}", record.multicast_text(&packet)?)
+                }
+                None => format!("\n    {section}: {}", record.text(&packet)?),
+            },
         };
-        line += &format!(", {} {type_}", Name::read(&packet, name)?);
     }
-    Ok(line)
+    if let Some((section, reason)) = entries.refusal() {
+        text += &format!("\n    {section} refused: {reason}");
+    }
+    Ok(text)
 }
 
-/// A message, or why it is refused.
-fn text(message: Result<impl Display>, refusal: Option<impl Display>) -> String {
-    match refusal {
-        Some(refusal) => format!("refused: {refusal}"),
-        None => message.map_or_else(|error| error.to_string(), |message| message.to_string()),
+/// A packet of DHCP, and its options in turn.
+fn dhcp(octets: &[u8]) -> Result<String, Box<dyn Error>> {
+    let packet = dhcpv4::Packet::new_unchecked(octets);
+    let mut text = dhcpv4::Repr::parse_or_refusal(&packet)?.to_string();
+    for option in packet.options() {
+        text += &format!("\n    {option}");
     }
+    Ok(text)
 }

@@ -30,5 +30,5 @@ mod testing;
 pub mod udp;
 
 pub use datagram::{Addresses, Captured, Datagram, Extent, Head, Refusal};
-pub use link::{Frame, Link, Network};
-pub use udp::{UdpPacket, UdpRepr};
+pub use link::{EthernetHeader, Frame, Link, Network, VlanTag, VlanTags};
+pub use udp::{CapturedUdp, UdpPacket, UdpRepr};

@@ -26,6 +26,7 @@
 
 pub mod icmpv4_error;
 pub mod icmpv6_error;
+pub mod message;
 pub mod quote;
 #[cfg(test)]
 mod testing;

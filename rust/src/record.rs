@@ -1,6 +1,7 @@
 // Made from crates/record_wire/src/lib.rt by rust/erase.
 //! Messages of the Domain Name System, read whole: their questions and resource records in turn, of any type and class
-//! and also of multicast DNS, the data of records by type, and names, as octets and as text.
+//! and also of multicast DNS, the data of records by type, names as octets and as text, and records as a zone file has
+//! them.
 //!
 //! ```
 //! use control_wire::record::{Entries, Entry, Name};
@@ -33,14 +34,19 @@ pub mod refusal;
 pub mod strings;
 #[cfg(test)]
 mod testing;
+pub mod text;
 pub mod types;
+pub mod update;
 
 pub use classes::ClassName;
-pub use edns::{EdnsOption, EdnsOptions};
+pub use edns::{Edns, EdnsOption, EdnsOptions, OptionRefusal};
 pub use entries::{Entries, Entry, Section};
 pub use name::Name;
 pub use name::refusal::NameRefusal;
+pub use name::text_refusal::NameTextRefusal;
+pub use rdata::refusal::DataRefusal;
 pub use record::{Question, Record};
 pub use refusal::{PartRefusal, Refusal};
 pub use strings::TxtStrings;
-pub use types::TypeName;
+pub use text::refusal::TextRefusal;
+pub use text::{AuthorityText, DataText, QuestionText, RecordText};

@@ -1,6 +1,7 @@
 //! What is written by hand: the calls of addresses, conversions, order, hashes, errors, and views over what lends a
 //! slice.
 
+use control_wire::dns::Type;
 use control_wire::icmpv4::{Packet, Repr};
 use control_wire::record::Name;
 use control_wire::{
@@ -274,4 +275,30 @@ fn names_have_the_traits_of_values() {
     assert!(names.contains(&other));
     assert!(!names.contains(&"www.example.org".parse().unwrap()));
     assert!("a..b".parse::<Name>().is_err());
+}
+
+#[test]
+fn types_of_record_are_read_from_their_mnemonics() {
+    for number in (0..300).chain([4711, 65535]) {
+        let type_ = Type::from(number);
+        assert_eq!(type_.to_string().parse(), Ok(type_));
+        assert_eq!(type_.to_string().to_lowercase().parse(), Ok(type_));
+        assert_eq!(format!("TYPE{number}").parse(), Ok(type_));
+    }
+    for text in [
+        "",
+        "TYPE",
+        "TYPE65536",
+        "TYPE+1",
+        "TYPE-1",
+        "TYP1",
+        "M",
+        "MXX",
+        "MX ",
+        " MX",
+        "15",
+        "TYPÉ1",
+    ] {
+        assert_eq!(text.parse::<Type>(), Err(Error), "{text}");
+    }
 }

@@ -36,10 +36,16 @@ errors! {
     ndiscoption::Refusal,
     quotes::icmpv4_error::Refusal,
     quotes::icmpv6_error::Refusal,
+    quotes::message::Icmpv4Refusal,
+    quotes::message::Icmpv6Refusal,
     quotes::quote::Refusal,
+    record::DataRefusal,
     record::NameRefusal,
+    record::NameTextRefusal,
+    record::OptionRefusal,
     record::PartRefusal,
     record::Refusal,
+    record::TextRefusal,
 }
 
 /// Addresses are ordered and hashed as their octets are.

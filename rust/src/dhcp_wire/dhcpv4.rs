@@ -42,12 +42,15 @@ mod emission;
 mod found;
 mod kinds;
 mod names;
+mod option_printing;
 mod options;
 mod packet;
 mod printing;
 mod refusal;
 mod repr;
+mod table;
 mod tables;
+mod value;
 
 pub use kinds::{
     OPT_ALL_SUBNETS_ARE_LOCAL, OPT_ARP_CACHE_TIMEOUT, OPT_BOOT_FILE_SIZE, OPT_BOOTFILE_NAME,
@@ -76,6 +79,7 @@ pub use packet::Packet;
 pub use refusal::Refusal;
 pub use repr::Repr;
 pub use tables::{Flags, MessageType, OpCode};
+pub use value::{OptionAddresses, OptionValue};
 
 /// The UDP port of servers (RFC 2131 section 4.1).
 pub const SERVER_PORT: u16 = 67;

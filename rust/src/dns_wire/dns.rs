@@ -40,5 +40,11 @@ pub use refusal::{NameRefusal, Refusal};
 pub use repr::Repr;
 pub use tables::{Flags, Opcode, Rcode, Type};
 
+/// The UDP and TCP port of servers (RFC 1035 section 4.2).
+pub const SERVER_PORT: u16 = 53;
+
+/// The UDP port of multicast DNS (RFC 6762 section 3).
+pub const MULTICAST_PORT: u16 = 5353;
+
 #[cfg(test)]
 mod tests;

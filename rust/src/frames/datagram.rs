@@ -11,12 +11,12 @@ mod display;
 
 pub use captured::{Captured, Extent};
 
-/// The two addresses of a datagram.
+/// The two addresses of a datagram, the source first.
 #[derive(Debug, PartialEq, Eq, Clone, Copy)]
 pub enum Addresses {
-    /// Of IPv4: where it comes from, and where it goes to.
+    /// Of IPv4: the source, where it comes from, and the destination, where it goes to.
     V4(Ipv4Address, Ipv4Address),
-    /// The same of IPv6.
+    /// Of IPv6: the source and the destination, in the same order.
     V6(Ipv6Address, Ipv6Address),
 }
 
@@ -56,14 +56,16 @@ pub enum Refusal {
     Cut(Head),
     /// A header that extends IPv6, of this protocol, ends behind the datagram.
     Extension(IpProtocol),
-    /// They are a fragment.
+    /// They are a part of a datagram. An atomic fragment of IPv6 (RFC 6946 section 2), at offset 0 with no more
+    /// fragments behind it, is a whole datagram and no part.
     Fragment(Head),
 }
 
 /// What the headers tell of a datagram that is cut or a fragment.
 #[derive(Debug, PartialEq, Eq, Clone, Copy)]
 pub struct Head {
-    /// Where it comes from, and where it goes to: for a fragment of IPv6 at last, as its routing headers say.
+    /// The source and the destination: for a fragment of IPv6 the last one, as its routing headers say, and else that
+    /// of the fixed header.
     pub addresses: Addresses,
     /// The protocol of the payload. For an IPv6 datagram that is cut this is the next header of the fixed header, since
     /// those that follow may be cut; `Captured::parse_v6` passes them.
@@ -96,7 +98,9 @@ pub struct Head {
 /// ```
 #[derive(Debug, PartialEq, Eq, Clone, Copy)]
 pub struct Datagram<'a> {
-    /// Where it comes from, and where it goes to at last: a routing header that has segments left leads on.
+    /// The source and the destination. The source is that of the fixed header. The destination is the one that
+    /// checksums count (RFC 8200 section 8.1): in IPv6 that of the last hop where a routing header with segments left
+    /// names it, and else, as in IPv4, that of the fixed header.
     pub addresses: Addresses,
     /// The protocol of the payload.
     pub protocol: IpProtocol,
@@ -148,6 +152,8 @@ impl<'a> Datagram<'a> {
 
     /// The datagram of IPv6 at the front of the octets, by its payload length; what stands behind it is no part. Its
     /// hop-by-hop, destination and routing headers are passed, and a hop-by-hop header in its place gives its options.
+    /// The header of an atomic fragment (RFC 6946 section 2), at offset 0 with no more fragments behind it, is passed
+    /// too; every other fragment is refused.
     pub fn parse_v6(octets: &'a [u8]) -> Result<Datagram<'a>, Refusal> {
         if octets.len() < IPV6_HEADER_LEN {
             return Err(Refusal::Short);
@@ -202,8 +208,9 @@ fn head_v6(octets: &[u8]) -> Head {
     }
 }
 
-// The datagram of a fixed header of IPv6 and of what stands behind it.
-#[inline]
+// The datagram of a fixed header of IPv6 and of what stands behind it. It and the passing of headers are inlined, so
+// that a datagram is not copied from call to call.
+#[inline(always)]
 fn read_v6<'a>(octets: &[u8], behind: &'a [u8]) -> Result<Datagram<'a>, Refusal> {
     let packet = Ipv6Packet::new_unchecked(octets);
     let next_header = packet.next_header();
@@ -258,6 +265,7 @@ struct Upper<'a> {
 }
 
 // Passes the headers that extend IPv6. Refused where one of them is not whole, with its protocol.
+#[inline(always)]
 fn pass_headers<'a>(
     next_header: IpProtocol,
     payload: &'a [u8],
@@ -266,11 +274,10 @@ fn pass_headers<'a>(
     let mut protocol = next_header;
     let mut rest = payload;
     let mut dst_addr = dst_addr;
-    while is_extension(protocol) {
-        if !has_extension(rest) {
+    while is_passed(protocol, rest) {
+        let Some(end) = header_end(protocol, rest) else {
             return Err(protocol);
-        }
-        let end = 8 * rest[1] as usize + 8;
+        };
         dst_addr = behind_header(protocol, rest, dst_addr);
         protocol = IpProtocol::from(rest[0]);
         rest = behind(rest, end);
@@ -282,7 +289,12 @@ fn pass_headers<'a>(
     })
 }
 
-// Whether this is a header that is passed.
+// Whether a header is passed.
+fn is_passed(protocol: IpProtocol, header: &[u8]) -> bool {
+    is_extension(protocol) || is_atomic(protocol, header)
+}
+
+// Whether this is a header of options or of routing.
 fn is_extension(protocol: IpProtocol) -> bool {
     protocol == IpProtocol::HopByHop
         || protocol == IpProtocol::Ipv6Route
@@ -292,6 +304,26 @@ fn is_extension(protocol: IpProtocol) -> bool {
 // Whether this is a header before a part of a datagram.
 fn is_fragment(protocol: IpProtocol) -> bool {
     protocol == IpProtocol::Ipv6Frag
+}
+
+// Whether this is the header of a fragment that is a whole datagram.
+fn is_atomic(protocol: IpProtocol, header: &[u8]) -> bool {
+    if !is_fragment(protocol) || header.len() < FRAGMENT_HEADER_LEN {
+        return false;
+    }
+    let offset_and_flag = header.u16_at(2..4);
+    offset_and_flag / 8 == 0 && offset_and_flag % 2 == 0
+}
+
+// Where a header ends that is passed; None where it is not whole, as that of an atomic fragment always is.
+fn header_end(protocol: IpProtocol, header: &[u8]) -> Option<usize> {
+    if is_fragment(protocol) {
+        return Some(FRAGMENT_HEADER_LEN);
+    }
+    if !has_extension(header) {
+        return None;
+    }
+    Some(8 * header[1] as usize + 8)
 }
 
 // The destination behind a header that is passed.

@@ -5,6 +5,13 @@ use crate::wirebase::{Error, Octets, Result};
 use byteorder::{ByteOrder, LittleEndian};
 
 mod display;
+mod ethernet;
+mod refusal;
+mod vlans;
+
+pub use ethernet::EthernetHeader;
+pub use refusal::Refusal;
+pub use vlans::{VlanTag, VlanTags};
 
 /// The links whose frames are read.
 ///
@@ -37,7 +44,10 @@ pub enum Link {
 }
 
 impl Link {
-    /// The link of a link type of a capture file, or None where its frames are not read.
+    /// The link of a link type of a capture file, by the registry of link types of pcap and pcapng, or None where its
+    /// frames are not read. These are read: 0 and 108 (NULL and LOOP); 1 (ETHERNET); 9 and 50 (PPP and PPP_HDLC); 12,
+    /// 14, 101, 228 and 229 (RAW by two older numbers, RAW, IPV4 and IPV6); 51 (PPP_ETHER); 113 (LINUX_SLL); and 276
+    /// (LINUX_SLL2).
     pub fn of(link_type: u16) -> Option<Link> {
         match link_type {
             0 | 108 => Some(Link::Null),
@@ -65,45 +75,6 @@ impl Link {
             Link::LinuxSll2 => typed_at(octets, 0, 20),
         }
     }
-
-    /// Why [`Link::frame`] refuses these octets, by the check that fails first; None where it reads them.
-    pub fn refusal(self, octets: &[u8]) -> Option<Refusal> {
-        match self {
-            Link::Null => match family(octets) {
-                Ok(_) => None,
-                Err(_) => Some(Refusal::Short),
-            },
-            Link::Ethernet => why_not_typed(octets, 12, 14),
-            Link::Ppp => match ppp(octets) {
-                Ok(_) => None,
-                Err(_) => Some(Refusal::Protocol),
-            },
-            Link::PppEther => why_no_session(octets),
-            Link::Raw => match raw(octets) {
-                Ok(_) => None,
-                Err(_) => Some(Refusal::Short),
-            },
-            Link::LinuxSll => why_not_typed(octets, 14, 16),
-            Link::LinuxSll2 => why_not_typed(octets, 0, 20),
-        }
-    }
-}
-
-/// Why octets are no frame of a link that is read: the check that fails first.
-#[derive(Debug, PartialEq, Eq, Clone, Copy)]
-pub enum Refusal {
-    /// Fewer bytes than the header of the link has.
-    Short,
-    /// A VLAN tag of four bytes ends behind the octets.
-    Tag,
-    /// A protocol of PPP, of one byte where that is odd and else of two, ends behind the octets.
-    Protocol,
-    /// The PPPoE version is not 1 but this one (RFC 2516 section 4).
-    SessionVersion(u8),
-    /// The PPPoE type is not 1 but this one.
-    SessionType(u8),
-    /// The PPPoE code is not 0, which session data has, but this one.
-    SessionCode(u8),
 }
 
 /// The network that a frame is of.
@@ -135,7 +106,7 @@ pub struct Frame<'a> {
     /// The network.
     pub network: Network,
     /// The VLAN tags, the outermost first: four bytes each, of which the lower 12 bits of the first two are the VLAN's
-    /// number (IEEE 802.1Q clause 9.6).
+    /// number (IEEE 802.1Q clause 9.6). [`Frame::vlan_tags`] gives them one by one.
     pub tags: &'a [u8],
     /// What stands behind the headers of the link.
     pub payload: &'a [u8],
@@ -276,41 +247,6 @@ fn session(octets: &[u8]) -> Result<Frame<'_>> {
         return Err(Error);
     }
     protocol(behind(octets, 6), &[])
-}
-
-// Why a frame whose EtherType is at `place` and whose payload begins at `start` is refused; None where it is read.
-fn why_not_typed(octets: &[u8], place: usize, start: usize) -> Option<Refusal> {
-    if octets.len() < start {
-        return Some(Refusal::Short);
-    }
-    let Ok(typed) = untagged(octets.u16_at(place..place + 2), behind(octets, start)) else {
-        return Some(Refusal::Tag);
-    };
-    match payload_of(typed) {
-        Ok(_) => None,
-        Err(_) => Some(Refusal::Protocol),
-    }
-}
-
-// Why octets are no data of a PPPoE session; None where they are.
-fn why_no_session(octets: &[u8]) -> Option<Refusal> {
-    if octets.len() < 6 {
-        return Some(Refusal::Short);
-    }
-    let word = octets.u16_at(0..2);
-    if word / 0x1000 != 1 {
-        return Some(Refusal::SessionVersion((word / 0x1000) as u8));
-    }
-    if word / 0x100 % 0x10 != 1 {
-        return Some(Refusal::SessionType((word / 0x100 % 0x10) as u8));
-    }
-    if word % 0x100 != 0 {
-        return Some(Refusal::SessionCode((word % 0x100) as u8));
-    }
-    match protocol(behind(octets, 6), &[]) {
-        Ok(_) => None,
-        Err(_) => Some(Refusal::Protocol),
-    }
 }
 
 // A datagram without a header of a link. Refused where there is nothing.

@@ -6,7 +6,10 @@ use crate::wirebase::{
     ChecksumCapabilities, Error, IpProtocol, Octets, OctetsMut, Result, checksum,
 };
 
+mod captured;
 mod display;
+
+pub use captured::CapturedUdp;
 
 // The fields.
 mod field {
@@ -239,6 +242,19 @@ impl UdpRepr {
             return Some(Refusal::NoChecksum);
         }
         Some(Refusal::Checksum)
+    }
+
+    /// The ports of the datagram at the front of the octets, as [`UdpRepr::parse`] reads them, or else why it refuses
+    /// them, as [`UdpRepr::refusal`] tells it: the check that fails first.
+    pub fn parse_or_refusal<B: AsRef<[u8]> + ?Sized>(
+        packet: &UdpPacket<&B>,
+        addresses: &Addresses,
+        checksum_caps: &ChecksumCapabilities,
+    ) -> core::result::Result<UdpRepr, Refusal> {
+        match UdpRepr::parse(packet, addresses, checksum_caps) {
+            Ok(repr) => Ok(repr),
+            Err(_) => Err(UdpRepr::refusal(packet, addresses, checksum_caps).unwrap()),
+        }
     }
 
     /// The bytes of the header: 8.

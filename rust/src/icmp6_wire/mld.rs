@@ -1,6 +1,11 @@
 // Made from crates/icmp6_wire/src/mld.rt by rust/erase.
 //! Multicast listener discovery, version 2 (RFC 3810).
 //!
+//! Of version 1 (RFC 2710) nothing is read. Its reports (type 131) and its done messages (type 132) are told by
+//! [`icmpv6::Refusal::UnknownType`](crate::icmpv6::Refusal::UnknownType). Its queries have the type of those of version
+//! 2, 130, and 24 bytes where those have 28 or more (RFC 3810 section 8.1): they are told by
+//! [`icmpv6::Refusal::Length`](crate::icmpv6::Refusal::Length).
+//!
 //! ```
 //! use control_wire::Ipv6Address;
 //! use control_wire::icmpv6::Packet;

@@ -25,6 +25,7 @@
 //! ```
 
 use crate::icmp6_wire::icmpv6::Packet;
+use crate::opt_wire::ndiscoption::NdiscOptions;
 use crate::wirebase::{Duration, Ipv6Address, Octets, OctetsMut};
 
 mod display;
@@ -107,6 +108,26 @@ impl<T: Octets> Packet<T> {
     /// The destination that a redirect redirects. Requires at least 40 bytes.
     pub fn dest_addr(&self) -> Ipv6Address {
         Ipv6Address::from_octets(self.buffer.field(field::DEST_ADDR).try_into().unwrap())
+    }
+}
+
+impl<'a, B: AsRef<[u8]> + ?Sized> Packet<&'a B> {
+    /// The options of a message of neighbor discovery in turn, those of unknown types too: what its payload is (RFC
+    /// 4861 section 4). Requires the header of the type.
+    ///
+    /// ```
+    /// use control_wire::icmpv6::Packet;
+    /// use control_wire::ndiscoption::Repr;
+    ///
+    /// // A router solicitation with a nonce (RFC 3971 section 5.3.2).
+    /// let octets = [133, 0, 0, 0, 0, 0, 0, 0, 14, 1, 1, 2, 3, 4, 5, 6];
+    /// let packet = Packet::new_checked(&octets[..])?;
+    /// let nonce = Repr::Unknown { type_: 14, length: 1, data: &[1, 2, 3, 4, 5, 6] };
+    /// assert!(packet.ndisc_options().eq([Ok(nonce)]));
+    /// # Ok::<(), control_wire::Error>(())
+    /// ```
+    pub fn ndisc_options(&self) -> NdiscOptions<'a> {
+        NdiscOptions::new(self.payload())
     }
 }
 

@@ -21,10 +21,12 @@ use crate::wirebase::{
 };
 use core::fmt;
 
+mod options;
 mod refusal;
 mod repr;
 mod tables;
 
+pub use options::NdiscOptions;
 pub use refusal::Refusal;
 pub use repr::{PrefixInformation, RedirectedHeader, Repr};
 pub use tables::{PrefixInfoFlags, Type};
@@ -88,7 +90,8 @@ impl<T: Octets> NdiscOption<T> {
     }
 
     /// The view of these octets, where they begin with a whole option of one unit or more; refused where they don't. On
-    /// refusal the buffer is dropped: to keep a `&mut [u8]`, call `new_unchecked` and then `check_len`.
+    /// refusal the buffer is dropped: to keep a `&mut [u8]`, call `new_unchecked` and then `check_len`, which accepts
+    /// an option that counts no units too.
     pub fn new_checked(buffer: T) -> Result<NdiscOption<T>> {
         let option = NdiscOption::new_unchecked(buffer);
         option.check_len()?;
@@ -100,7 +103,8 @@ impl<T: Octets> NdiscOption<T> {
 
     /// Accepts 8 octets or more that hold all the units that the option counts, which are 4 or more of a prefix and
     /// 6 or more of a redirected header. Then each accessor of its type may be called, but for the data and the
-    /// link-layer address of an option that counts no units.
+    /// link-layer address of an option that counts no units. Such an option is accepted here, and refused by
+    /// `new_checked` and by [`Repr::parse`].
     pub fn check_len(&self) -> Result<()> {
         let len = self.buffer.octets().len();
         if len < UNIT {

@@ -6,7 +6,7 @@ mod refusal;
 
 use super::field;
 use super::writing::write_error;
-use crate::wirebase::{ChecksumCapabilities, Error, Octets, Result, checksum};
+use crate::wirebase::{ChecksumCapabilities, Error, Ipv4Address, Octets, Result, checksum};
 use core::fmt;
 pub use refusal::Refusal;
 
@@ -129,6 +129,23 @@ impl<'a> Repr<'a> {
         let mtu = (self.rest % (1 << 16)) as u16;
         match (self.kind, self.code) {
             (Kind::DstUnreachable, 4) if mtu != 0 => Some(mtu),
+            _ => None,
+        }
+    }
+
+    /// The address of the gateway that a redirect tells of (RFC 792). None for every other error.
+    pub fn gateway(&self) -> Option<Ipv4Address> {
+        match self.kind {
+            Kind::Redirect => Some(Ipv4Address::from_octets(self.rest.to_be_bytes())),
+            _ => None,
+        }
+    }
+
+    /// The place of the byte that a parameter problem is about, counted from the first byte of the quoted header on;
+    /// RFC 792 defines it where the code is 0. None for every other error.
+    pub fn pointer(&self) -> Option<u8> {
+        match self.kind {
+            Kind::ParamProblem => Some((self.rest >> 24) as u8),
             _ => None,
         }
     }

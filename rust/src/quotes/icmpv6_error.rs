@@ -137,6 +137,15 @@ impl<'a> Repr<'a> {
         }
     }
 
+    /// The place of the byte that a parameter problem is about, counted from the first byte of the quoted packet on; it
+    /// may be past what is quoted (RFC 4443 section 3.4). None for every other error.
+    pub fn pointer(&self) -> Option<u32> {
+        match self.kind {
+            Kind::ParamProblem => Some(self.rest),
+            _ => None,
+        }
+    }
+
     /// The bytes that the error takes, at most 1,240.
     pub fn buffer_len(&self) -> usize {
         field::HEADER_END + self.quotable().len()

@@ -21,8 +21,8 @@ const FIXED_END: usize = 20;
 // The version, the traffic class and the flow label of an IPv6 header.
 const FIRST_WORD: Field = 0..4;
 
-/// What an ICMPv4 error quotes (RFC 792): the header of the datagram that it is about (RFC 791 section 3.1), and as much
-/// of its payload as is quoted.
+/// What an ICMPv4 error quotes (RFC 792): the header of the datagram that it is about (RFC 791 section 3.1), and as
+/// much of its payload as is quoted.
 #[derive(Debug, PartialEq, Eq, Clone, Copy)]
 pub struct Ipv4Quote<'a> {
     /// The type of service: the differentiated services field and the congestion notification (RFC 2474, RFC 3168).
@@ -113,8 +113,8 @@ fn fmt_back(f: &mut fmt::Formatter<'_>, header: &Ipv4Quote<'_>) -> fmt::Result {
     )
 }
 
-/// What an ICMPv6 error quotes (RFC 4443 section 3): the header of the packet that it is about (RFC 8200 section 3), and
-/// as much of its payload as is quoted, extension headers included.
+/// What an ICMPv6 error quotes (RFC 4443 section 3): the header of the packet that it is about (RFC 8200 section 3),
+/// and as much of its payload as is quoted, extension headers included.
 ///
 /// ```
 /// use control_wire::quotes::quote::Ipv6Quote;

@@ -31,8 +31,9 @@ impl fmt::Display for ClassName {
     }
 }
 
-// The mnemonic of the class of this number.
-fn mnemonic(number: u16) -> Option<&'static str> {
+/// The mnemonic of the class of this number, as `IN` of 1; None where it has none here.
+#[inline]
+pub fn mnemonic(number: u16) -> Option<&'static str> {
     match number {
         IN => Some("IN"),
         CH => Some("CH"),

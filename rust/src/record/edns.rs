@@ -1,6 +1,9 @@
 // Made from crates/record_wire/src/edns.rt by rust/erase.
-//! The options of OPT records in turn (RFC 6891 section 6.1.2).
+//! OPT records: what they say of their sender and of their message, and their options in turn (RFC 6891 section 6.1).
 
+use crate::record::multicast;
+use crate::record::record::Record;
+use crate::record::text::words::Digits;
 use crate::wirebase::{Error, Octets, Result};
 use core::fmt;
 
@@ -15,6 +18,89 @@ mod field {
     pub const DATA: usize = 4;
 }
 
+// The highest of the flags.
+const DNSSEC_OK: u16 = 0x8000;
+
+/// What an OPT record says (RFC 6891 sections 6.1.2 and 6.1.3): [`Record::edns`] reads it. A message without an OPT
+/// record says nothing of this, and its sender takes UDP payloads of 512 bytes.
+///
+/// ```
+/// use control_wire::record::Record;
+///
+/// // A query of a client that takes payloads of 1,232 bytes and signatures of DNSSEC, and has a cookie.
+/// let octets = b"\0\0\x29\x04\xd0\0\0\x80\0\0\x0c\0\x0a\0\x08cookie!!";
+/// let (_, record) = Record::parse(octets)?;
+/// let edns = record.edns().unwrap();
+/// assert_eq!((edns.payload_size, edns.version, edns.dnssec_ok), (1232, 0, true));
+/// for option in edns.options() {
+///     assert_eq!(option?.code, 10);
+/// }
+/// # Ok::<(), control_wire::Error>(())
+/// ```
+#[derive(Debug, PartialEq, Eq, Clone, Copy)]
+pub struct Edns<'a> {
+    /// The most bytes of UDP payload that the sender takes; below 512 it is to be read as 512 (RFC 6891 section 6.2.3).
+    pub payload_size: u16,
+    /// The upper eight bits of the response code, of which the header has the lower four: [`Edns::rcode`] puts them
+    /// together.
+    pub extended_rcode: u8,
+    /// The version of EDNS: 0 is that of RFC 6891.
+    pub version: u8,
+    /// Whether the sender takes the records of DNSSEC: the flag DO, the highest of the flags (RFC 3225 section 3).
+    pub dnssec_ok: bool,
+    /// All sixteen flags as they are sent, DO among them; the others are reserved (RFC 6891 section 6.1.4).
+    pub flags: u16,
+    /// The bytes of the options: [`Edns::options`] gives them in turn.
+    pub options: &'a [u8],
+}
+
+impl<'a> Record<'a> {
+    /// What the record says where it is an OPT record, of type 41; None of any other type. Its name is not looked at:
+    /// it is to be the root (RFC 6891 section 6.1.2).
+    pub fn edns(&self) -> Option<Edns<'a>> {
+        if !multicast::is_opt(self.type_) {
+            return None;
+        }
+        let flags = (self.ttl % 0x1_0000) as u16;
+        Some(Edns {
+            payload_size: self.class,
+            extended_rcode: (self.ttl / 0x100_0000) as u8,
+            version: (self.ttl / 0x1_0000 % 0x100) as u8,
+            dnssec_ok: flags >= DNSSEC_OK,
+            flags,
+            options: self.data,
+        })
+    }
+}
+
+impl<'a> Edns<'a> {
+    /// The response code of twelve bits (RFC 6891 section 6.1.3): the upper eight are of the OPT record, the lower four
+    /// of the message's header. Of what is given for these, bits above the lowest four do not count.
+    pub fn rcode(&self, header_rcode: u8) -> u16 {
+        self.extended_rcode as u16 * 16 + (header_rcode % 16) as u16
+    }
+
+    /// The options in turn.
+    pub fn options(&self) -> EdnsOptions<'a> {
+        EdnsOptions::new(self.options)
+    }
+}
+
+/// The numbers, whether DNSSEC is taken, and the length of the options.
+impl fmt::Display for Edns<'_> {
+    fn fmt(&self, f: &mut fmt::Formatter<'_>) -> fmt::Result {
+        let size = self.payload_size;
+        let rcode = self.extended_rcode;
+        let dnssec_ok = self.dnssec_ok;
+        let len = self.options.len();
+        write!(
+            f,
+            "EDNS payload_size={size} extended_rcode={rcode} version={} dnssec_ok={dnssec_ok} flags={} len={len}",
+            self.version, self.flags
+        )
+    }
+}
+
 /// An option of an OPT record (RFC 6891 section 6.1.2).
 #[derive(Debug, PartialEq, Eq, Clone, Copy)]
 pub struct EdnsOption<'a> {
@@ -24,15 +110,96 @@ pub struct EdnsOption<'a> {
     pub data: &'a [u8],
 }
 
-/// The code and the length of the data.
+impl<'a> EdnsOption<'a> {
+    /// What stands behind the option at the front of the octets, and the option. Refused where they do not begin with
+    /// a code, a length and as many bytes.
+    pub fn parse(octets: &'a [u8]) -> Result<(&'a [u8], EdnsOption<'a>)> {
+        if octets.len() < field::DATA {
+            return Err(Error);
+        }
+        let len = octets.u16_at(field::LENGTH) as usize;
+        let behind = &octets[field::DATA..];
+        if behind.len() < len {
+            return Err(Error);
+        }
+        let option = EdnsOption {
+            code: octets.u16_at(field::CODE),
+            data: &behind[..len],
+        };
+        Ok((&behind[len..], option))
+    }
+
+    /// Why [`EdnsOption::parse`] refuses these octets, by the check that fails first; None where it reads them.
+    pub fn refusal(octets: &[u8]) -> Option<OptionRefusal> {
+        if octets.len() < field::DATA {
+            return Some(OptionRefusal::Fields);
+        }
+        let len = octets.u16_at(field::LENGTH) as usize;
+        if octets[field::DATA..].len() < len {
+            return Some(OptionRefusal::Data);
+        }
+        None
+    }
+}
+
+impl EdnsOption<'_> {
+    /// What the option is, by IANA's registry of EDNS option codes in lower case and with hyphens, as `client-subnet`;
+    /// None where it has no name here.
+    pub fn name(&self) -> Option<&'static str> {
+        match self.code {
+            3 => Some("nsid"),
+            5 => Some("dau"),
+            6 => Some("dhu"),
+            7 => Some("n3u"),
+            8 => Some("client-subnet"),
+            9 => Some("expire"),
+            10 => Some("cookie"),
+            11 => Some("tcp-keepalive"),
+            12 => Some("padding"),
+            13 => Some("chain"),
+            14 => Some("key-tag"),
+            15 => Some("extended-error"),
+            18 => Some("report-channel"),
+            19 => Some("zone-version"),
+            _ => None,
+        }
+    }
+}
+
+/// The name, or `option-` and the code where it has none here, and the data in hexadecimal, as `cookie=0102030405060708`.
 impl fmt::Display for EdnsOption<'_> {
     fn fmt(&self, f: &mut fmt::Formatter<'_>) -> fmt::Result {
-        write!(f, "option code={} len={}", self.code, self.data.len())
+        let code = self.code;
+        let digits = Digits(self.data);
+        match self.name() {
+            Some(name) => write!(f, "{name}={digits}"),
+            None => write!(f, "option-{code}={digits}"),
+        }
+    }
+}
+
+/// Why octets begin with no option that [`EdnsOption::parse`] reads: the check that fails first.
+#[derive(Debug, PartialEq, Eq, Clone, Copy)]
+pub enum OptionRefusal {
+    /// Fewer bytes than the 4 of a code and a length.
+    Fields,
+    /// Fewer bytes of data than the length says.
+    Data,
+}
+
+/// What is wrong with the option.
+impl fmt::Display for OptionRefusal {
+    fn fmt(&self, f: &mut fmt::Formatter<'_>) -> fmt::Result {
+        match self {
+            OptionRefusal::Fields => write!(f, "the code and the length are cut"),
+            OptionRefusal::Data => write!(f, "the data of the option is cut"),
+        }
     }
 }
 
 /// The options in the data of an OPT record in turn: each one while they read, one refusal where no whole option
-/// stands, and then the end for good.
+/// stands, and then the end for good. A caller who asks where and why reads them by [`EdnsOption::parse`] and
+/// [`EdnsOption::refusal`].
 ///
 /// ```
 /// use control_wire::record::EdnsOptions;
@@ -41,6 +208,7 @@ impl fmt::Display for EdnsOption<'_> {
 /// let mut options = EdnsOptions::new(b"\0\x0a\0\x08cookie!!");
 /// let cookie = options.next().unwrap()?;
 /// assert_eq!((cookie.code, cookie.data), (10, &b"cookie!!"[..]));
+/// assert_eq!(cookie.to_string(), "cookie=636f6f6b69652121");
 /// assert!(options.next().is_none());
 /// # Ok::<(), control_wire::Error>(())
 /// ```
@@ -64,34 +232,17 @@ impl<'a> Iterator for EdnsOptions<'a> {
         if self.left.is_empty() {
             return None;
         }
-        match split_option(self.left) {
-            Some((option, rest)) => {
+        match EdnsOption::parse(self.left) {
+            Ok((rest, option)) => {
                 self.left = rest;
                 Some(Ok(option))
             }
-            None => {
+            Err(error) => {
                 self.left = &[];
-                Some(Err(Error))
+                Some(Err(error))
             }
         }
     }
-}
-
-// The option at the front of octets, and what stands behind it. None where no whole option stands.
-fn split_option(octets: &[u8]) -> Option<(EdnsOption<'_>, &[u8])> {
-    if octets.len() < field::DATA {
-        return None;
-    }
-    let len = octets.u16_at(field::LENGTH) as usize;
-    let behind = &octets[field::DATA..];
-    if behind.len() < len {
-        return None;
-    }
-    let option = EdnsOption {
-        code: octets.u16_at(field::CODE),
-        data: &behind[..len],
-    };
-    Some((option, &behind[len..]))
 }
 
 #[cfg(test)]

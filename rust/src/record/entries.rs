@@ -3,6 +3,7 @@
 
 use crate::dns_wire::dns::Packet;
 use crate::record::record::{Question, Record};
+use crate::record::refusal::Refusal;
 use crate::wirebase::Result;
 use core::fmt;
 
@@ -51,7 +52,8 @@ impl fmt::Display for Entry<'_> {
 }
 
 /// The questions and the records of a message in turn, as many as its header counts: each one while they read, one
-/// refusal where none stands, and then the end for good.
+/// refusal where none stands, and then the end for good. Behind a refusal, [`Entries::refusal`] gives the
+/// reason, and [`Entries::rest`] the bytes that were refused.
 ///
 /// ```
 /// use control_wire::record::{Entries, Entry};
@@ -71,8 +73,10 @@ pub struct Entries<'a> {
     answers: u32,
     authorities: u32,
     all: u32,
-    // How many were given; all of them, behind a refusal.
+    // How many were given.
     taken: u32,
+    // Whether the next one was refused.
+    is_refused: bool,
     // The bytes behind those that were given.
     bytes: &'a [u8],
 }
@@ -91,25 +95,45 @@ impl<'a> Entries<'a> {
             authorities,
             all: authorities + packet.additional_record_count() as u32,
             taken: 0,
+            is_refused: false,
             bytes: packet.payload(),
         }
     }
 
-    // The section of the next entry, where one is left.
-    fn section(&self) -> Option<Section> {
-        if self.taken >= self.all {
+    /// Where an entry was refused: its section, and why none begins there, by the check that fails first. None while
+    /// none was refused.
+    pub fn refusal(&self) -> Option<(Section, Refusal)> {
+        if !self.is_refused {
             return None;
         }
+        let section = self.section();
+        let refusal = why_no_entry(section, self.bytes)?;
+        Some((section, refusal))
+    }
+
+    /// The bytes behind the entries that were given: where the next one begins, or the one that was refused. Behind the
+    /// last entry it is what stands behind the message's records.
+    pub fn rest(&self) -> &'a [u8] {
+        self.bytes
+    }
+
+    // Whether an entry is left.
+    fn is_left(&self) -> bool {
+        !self.is_refused && self.taken < self.all
+    }
+
+    // The section of the entry behind those that were given.
+    fn section(&self) -> Section {
         if self.taken < self.questions {
-            return Some(Section::Question);
+            return Section::Question;
         }
         if self.taken < self.answers {
-            return Some(Section::Answer);
+            return Section::Answer;
         }
         if self.taken < self.authorities {
-            return Some(Section::Authority);
+            return Section::Authority;
         }
-        Some(Section::Additional)
+        Section::Additional
     }
 }
 
@@ -117,18 +141,17 @@ impl<'a> Iterator for Entries<'a> {
     type Item = Result<Entry<'a>>;
 
     fn next(&mut self) -> Option<Result<Entry<'a>>> {
-        let section = match self.section() {
-            Some(section) => section,
-            None => return None,
-        };
-        match read_entry(section, self.bytes) {
+        if !self.is_left() {
+            return None;
+        }
+        match read_entry(self.section(), self.bytes) {
             Ok((rest, entry)) => {
                 self.taken += 1;
                 self.bytes = rest;
                 Some(Ok(entry))
             }
             Err(error) => {
-                self.taken = self.all;
+                self.is_refused = true;
                 Some(Err(error))
             }
         }
@@ -143,6 +166,14 @@ fn read_entry(section: Section, bytes: &[u8]) -> Result<(&[u8], Entry<'_>)> {
     }
     let (rest, record) = Record::parse(bytes)?;
     Ok((rest, Entry::Record(section, record)))
+}
+
+// Why octets begin with no entry of a section; None where one begins there.
+fn why_no_entry(section: Section, bytes: &[u8]) -> Option<Refusal> {
+    if section == Section::Question {
+        return Question::refusal(bytes);
+    }
+    Record::refusal(bytes)
 }
 
 #[cfg(test)]

@@ -5,7 +5,8 @@ pub mod dotted;
 mod label;
 mod part;
 pub mod refusal;
-mod text;
+pub(crate) mod text;
+pub mod text_refusal;
 
 use crate::dns_wire::dns::Packet;
 use crate::dns_wire::message::{Front, follow, octets_of};
@@ -14,6 +15,7 @@ use crate::record::name::label::{push_end, push_octets};
 use crate::record::name::part::read_labels;
 use crate::record::name::refusal::{NameRefusal, why_no_name};
 use crate::record::name::text::{fmt_labels, is_root, put_labels};
+use crate::record::name::text_refusal::{NameTextRefusal, why_no_text};
 use crate::wirebase::{Error, Result};
 use arrayvec::ArrayVec;
 use core::fmt;
@@ -63,7 +65,8 @@ impl Name {
     /// The name of this text: labels with dots between them, a last dot allowed, and a dot alone for the root. A
     /// visible character stands for itself, but `"`, `$`, `(`, `)`, `.`, `;`, `@` and `\` stand behind a backslash;
     /// three digits behind a backslash are the number of a byte. Refused where the text is none, where a label is
-    /// empty or has more than 63 bytes, and where the name has more than 255 octets.
+    /// empty or has more than 63 bytes, and where the name has more than 255 octets: [`Name::from_text_refusal`] says
+    /// why.
     pub fn from_text(text: &[u8]) -> Result<Name> {
         if is_root(text) {
             return Ok(Name::root());
@@ -72,6 +75,22 @@ impl Name {
         put_labels(&mut octets, text)?;
         push_end(&mut octets)?;
         Ok(Name { octets })
+    }
+
+    /// Why [`Name::from_text`] refuses this text, which it reads from its front on, by the check that fails first; None
+    /// where it is that of a name.
+    ///
+    /// ```
+    /// use control_wire::record::{Name, NameTextRefusal};
+    ///
+    /// assert_eq!(Name::from_text_refusal(b"www..com"), Some(NameTextRefusal::EmptyLabel));
+    /// assert_eq!(Name::from_text_refusal(b"www.example.com"), None);
+    /// ```
+    pub fn from_text_refusal(text: &[u8]) -> Option<NameTextRefusal> {
+        match Name::from_text(text) {
+            Ok(_) => None,
+            Err(_) => Some(why_no_text(text)),
+        }
     }
 
     /// The octets: each label behind its length, and then byte 0.

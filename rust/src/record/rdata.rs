@@ -1,6 +1,8 @@
 // Made from crates/record_wire/src/rdata.rt by rust/erase.
 //! The data of resource records by their type (RFC 1035 sections 3.3 and 3.4, RFC 2782, RFC 3596).
 
+pub mod refusal;
+
 use crate::dns_wire::dns::{Type, split_name};
 use crate::record::{classes, multicast, types};
 use crate::wirebase::{Error, Ipv4Address, Ipv6Address, Octets, Result};
@@ -170,8 +172,8 @@ enum Layout {
 }
 
 impl<'a> RData<'a> {
-    /// The data of a record of this type and class. Refused where the bytes are not laid out as the type has it. Of a
-    /// record of multicast DNS, [`RData::parse_multicast`] reads it.
+    /// The data of a record of this type and class. Refused where the bytes are not laid out as the type has it:
+    /// [`RData::refusal`] says why. Of a record of multicast DNS, [`RData::parse_multicast`] reads it.
     pub fn parse(type_: Type, class: u16, octets: &'a [u8]) -> Result<RData<'a>> {
         read(find_layout(type_, class), octets)
     }

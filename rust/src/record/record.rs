@@ -6,7 +6,6 @@ use crate::record::classes::ClassName;
 use crate::record::multicast;
 use crate::record::rdata::RData;
 use crate::record::refusal::{Refusal, why_no_part};
-use crate::record::types::TypeName;
 use crate::wirebase::{Error, Octets, Result};
 use core::fmt;
 
@@ -52,6 +51,7 @@ pub struct Question<'a> {
 impl<'a> Question<'a> {
     /// What stands behind the question at the front of the octets, and the question. Refused where they do not begin
     /// with a name of one part, a type and a class.
+    #[inline]
     pub fn parse(octets: &'a [u8]) -> Result<(&'a [u8], Question<'a>)> {
         let (name, after) = split_name(octets)?;
         if after.len() < field::QUESTION_END {
@@ -93,7 +93,7 @@ impl<'a> Question<'a> {
 impl fmt::Display for Question<'_> {
     fn fmt(&self, f: &mut fmt::Formatter<'_>) -> fmt::Result {
         let name_len = self.name.len();
-        let type_ = TypeName(self.type_);
+        let type_ = self.type_;
         let class = ClassName(self.class);
         write!(f, "question name_len={name_len} type={type_} class={class}")
     }
@@ -131,6 +131,7 @@ pub struct Record<'a> {
 impl<'a> Record<'a> {
     /// What stands behind the record at the front of the octets, and the record. Refused where they do not begin with
     /// a name of one part, a type, a class, a time to live, a length and as many bytes.
+    #[inline]
     pub fn parse(octets: &'a [u8]) -> Result<(&'a [u8], Record<'a>)> {
         let (name, after) = split_name(octets)?;
         Record::read_behind(name, after)
@@ -205,7 +206,7 @@ impl<'a> Record<'a> {
 impl fmt::Display for Record<'_> {
     fn fmt(&self, f: &mut fmt::Formatter<'_>) -> fmt::Result {
         let name_len = self.name.len();
-        let type_ = TypeName(self.type_);
+        let type_ = self.type_;
         let class = ClassName(self.class);
         let len = self.data.len();
         write!(

@@ -1,17 +1,15 @@
 // Made from crates/record_wire/src/types.rt by rust/erase.
-//! Types of records, by IANA's registry of DNS parameters, and the text of a type.
+//! Types of records, by IANA's registry of DNS parameters.
 //!
 //! ```
-//! use control_wire::record::{TypeName, types};
+//! use control_wire::record::types;
 //! use control_wire::dns::Type;
 //!
 //! assert_eq!(types::MX, Type::from(15));
-//! assert_eq!(TypeName(types::MX).to_string(), "MX");
-//! assert_eq!(TypeName(Type::from(4711)).to_string(), "TYPE4711");
+//! assert_eq!(types::MX.to_string(), "MX");
 //! ```
 
 use crate::dns_wire::dns::Type;
-use core::fmt;
 
 /// An IPv4 address (RFC 1035 section 3.4.1).
 pub const A: Type = Type::A;
@@ -93,54 +91,6 @@ pub const ANY: Type = Type::Unknown(255);
 
 /// Who may certify a name (RFC 8659 section 4).
 pub const CAA: Type = Type::Unknown(257);
-
-/// A type that prints its mnemonic, as `MX`, or `TYPE` and its number where it has none here (RFC 3597 section 5).
-#[derive(Debug, PartialEq, Eq, Clone, Copy)]
-pub struct TypeName(pub Type);
-
-impl fmt::Display for TypeName {
-    fn fmt(&self, f: &mut fmt::Formatter<'_>) -> fmt::Result {
-        let number = u16::from(self.0);
-        match mnemonic(number) {
-            Some(mnemonic) => f.write_str(mnemonic),
-            None => write!(f, "TYPE{number}"),
-        }
-    }
-}
-
-// The mnemonic of the type of this number.
-fn mnemonic(number: u16) -> Option<&'static str> {
-    match number {
-        1 => Some("A"),
-        2 => Some("NS"),
-        5 => Some("CNAME"),
-        6 => Some("SOA"),
-        12 => Some("PTR"),
-        13 => Some("HINFO"),
-        15 => Some("MX"),
-        16 => Some("TXT"),
-        28 => Some("AAAA"),
-        33 => Some("SRV"),
-        35 => Some("NAPTR"),
-        39 => Some("DNAME"),
-        41 => Some("OPT"),
-        43 => Some("DS"),
-        44 => Some("SSHFP"),
-        46 => Some("RRSIG"),
-        47 => Some("NSEC"),
-        48 => Some("DNSKEY"),
-        50 => Some("NSEC3"),
-        52 => Some("TLSA"),
-        64 => Some("SVCB"),
-        65 => Some("HTTPS"),
-        99 => Some("SPF"),
-        251 => Some("IXFR"),
-        252 => Some("AXFR"),
-        255 => Some("ANY"),
-        257 => Some("CAA"),
-        _ => None,
-    }
-}
 
 #[cfg(test)]
 mod tests;

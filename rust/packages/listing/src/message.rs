@@ -6,7 +6,7 @@ mod edns;
 mod header;
 mod record;
 
-use crate::message::edns::{OPT, show_opt};
+use crate::message::edns::show_opt;
 use crate::message::header::show_header;
 use crate::message::record::{show_question, show_record};
 use control_wire::dns::Packet;
@@ -85,8 +85,8 @@ fn show_any_record<'a, W: Write>(
     section: Section,
     record: &Record<'a>,
 ) -> io::Result<Option<Unread>> {
-    if u16::from(record.type_) == OPT {
-        return show_opt(output, margin, packet, record);
+    if let Some(edns) = record.edns() {
+        return show_opt(output, margin, packet, record, &edns);
     }
     show_record(output, margin, is_multicast, packet, section, record)
 }

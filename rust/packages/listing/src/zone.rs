@@ -32,7 +32,7 @@ pub fn name_word<W: Write>(output: &mut W, name: &NameText) -> io::Result<()> {
     name.write_to(output)
 }
 
-/// Writes data of any type: the number of bytes, and these in hexadecimal.
+/// Writes data of any type behind a space: the number of bytes, and these in hexadecimal.
 pub fn generic<W: Write>(output: &mut W, octets: &[u8]) -> io::Result<()> {
     word(output, "\\#")?;
     if octets.is_empty() {

@@ -29,7 +29,8 @@ The kinds:
   frame             what can't be read so far that its kind could be told
   hbh               with --only: those that have IPv6 hop-by-hop options, of any kind
 
-A packet that can't be read has the line `refused=REASON`, with the first of these reasons that holds:
+A packet that can't be read has the line `refused=PHRASE`, which tells the check that fails first. It is counted under
+one of these reasons:
 
   cut               the capture kept less of it than it takes
   fragment          it is a fragment of a datagram

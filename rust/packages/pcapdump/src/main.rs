@@ -11,6 +11,7 @@ mod help;
 mod kind;
 mod messages;
 mod options;
+mod refusal;
 mod sight;
 mod summary;
 mod table;

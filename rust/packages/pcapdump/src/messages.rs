@@ -8,11 +8,11 @@ use crate::Fault;
 use crate::kind::{Kind, Reason};
 use crate::messages::icmp::{show_icmp4, show_icmp6, show_igmp};
 use crate::messages::udp::{show_dhcp, show_dns};
+use crate::refusal::Refusal;
 use crate::sight::{Content, Headers};
-use control_wire::frames::Addresses;
+use control_wire::frames::{Addresses, udp as udp_wire};
 use listing::hbh::show_hbh;
-use listing::page::{MARGIN, Page, write_indented};
-use listing::printer::part_field;
+use listing::page::{Page, write_indented};
 use rattle_std::io;
 use rattle_std::io::Write;
 
@@ -50,7 +50,7 @@ fn show_content<W: Write>(
 ) -> Result<Option<Reason>, Fault> {
     match content {
         Content::Whole(addresses, octets) => show_payload(output, page, kind, addresses, octets),
-        Content::Refused(reason) => refuse(output, reason),
+        Content::Refused(reason, refusal) => refuse(output, reason, &refusal),
     }
 }
 
@@ -69,19 +69,31 @@ fn show_payload<W: Write>(
             Addresses::V6(src_addr, dst_addr) => {
                 show_icmp6(output, page, &src_addr, &dst_addr, octets)
             }
-            Addresses::V4(_, _) => refuse(output, Reason::Malformed),
+            Addresses::V4(_, _) => refuse_message(
+                output,
+                &Refusal::Datagram(control_wire::frames::Refusal::Version(4)),
+            ),
         },
         Kind::Dns => show_dns(output, &addresses, octets, false),
         Kind::Mdns => show_dns(output, &addresses, octets, true),
         Kind::Dhcp => show_dhcp(output, page, &addresses, octets),
-        Kind::Frame => refuse(output, Reason::Malformed),
+        Kind::Frame => refuse_message(output, &Refusal::Udp(udp_wire::Refusal::Short)),
     }
 }
 
-/// Prints why a packet is refused.
-fn refuse<W: Write>(output: &mut W, reason: Reason) -> Result<Option<Reason>, Fault> {
-    part_field(output, MARGIN, "refused", reason.name())?;
+// Prints why a packet is refused, which is counted under this reason.
+fn refuse<W: Write>(
+    output: &mut W,
+    reason: Reason,
+    refusal: &Refusal,
+) -> Result<Option<Reason>, Fault> {
+    writeln!(output, "  refused={refusal}")?;
     Ok(Some(reason))
+}
+
+/// Prints why a message is refused, whose datagram is whole.
+fn refuse_message<W: Write>(output: &mut W, refusal: &Refusal) -> Result<Option<Reason>, Fault> {
+    refuse(output, refusal.reason(false), refusal)
 }
 
 // Prints the page, indented.

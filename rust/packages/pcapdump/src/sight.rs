@@ -2,10 +2,10 @@
 //! What the headers of a packet tell.
 
 use crate::kind::{Kind, Reason};
+use crate::refusal::Refusal;
 use capture::Record;
-use control_wire::IpProtocol;
-use control_wire::frames::{Addresses, Datagram, Frame, Link, Network, Refusal};
-use control_wire::quotes::quote::{Ipv4Quote, Ipv6Quote};
+use control_wire::frames::{Addresses, Captured, Datagram, Frame, Head, Link, Network, link, udp};
+use control_wire::{IpProtocol, Ipv4Packet};
 use listing::ports::ports_of;
 
 /// What the headers of a packet tell.
@@ -41,8 +41,8 @@ pub struct Headers<'a> {
 pub enum Content<'a> {
     /// A payload, between two addresses.
     Whole(Addresses, &'a [u8]),
-    /// None, for this reason.
-    Refused(Reason),
+    /// None: the packet is counted under this reason, and is refused so.
+    Refused(Reason, Refusal),
 }
 
 /// What the headers of a packet tell, which a capture has these octets of.
@@ -52,7 +52,18 @@ pub fn look<'a>(captured: &Record, octets: &'a [u8]) -> Sight<'a> {
     };
     match link.frame(octets) {
         Ok(frame) => look_into(captured, octets, &frame),
-        Err(_) => untold(&[], early(captured, octets)),
+        Err(_) => {
+            let refusal = Refusal::Frame(why_no_frame(link, octets));
+            untold(&[], refusal.reason(is_cut(captured, octets)), refusal)
+        }
+    }
+}
+
+// Why this is no frame. There is a reason then, so the one that would stand for it is never told.
+fn why_no_frame(link: Link, octets: &[u8]) -> link::Refusal {
+    match link.refusal(octets) {
+        Some(refusal) => refusal,
+        None => link::Refusal::Short,
     }
 }
 
@@ -62,15 +73,17 @@ fn look_into<'a>(captured: &Record, octets: &[u8], frame: &Frame<'a>) -> Sight<'
         Network::Ipv4 => match Datagram::parse_v4(frame.payload) {
             Ok(datagram) => whole(frame.tags, &datagram),
             Err(refusal) => {
-                let reason = reason_of(captured, octets, refusal);
-                refused_v4(frame.tags, frame.payload, reason)
+                let refusal = Refusal::Datagram(refusal);
+                let reason = refusal.reason(is_cut(captured, octets));
+                refused_v4(frame.tags, frame.payload, reason, refusal)
             }
         },
         Network::Ipv6 => match Datagram::parse_v6(frame.payload) {
             Ok(datagram) => whole(frame.tags, &datagram),
             Err(refusal) => {
-                let reason = reason_of(captured, octets, refusal);
-                refused_v6(frame.tags, frame.payload, reason)
+                let refusal = Refusal::Datagram(refusal);
+                let reason = refusal.reason(is_cut(captured, octets));
+                refused_v6(frame.tags, frame.payload, reason, refusal)
             }
         },
         Network::Other(_) => Sight::Other,
@@ -131,53 +144,38 @@ fn whole<'a>(tags: &'a [u8], datagram: &Datagram<'a>) -> Sight<'a> {
 // What is to be read of a whole datagram of a kind.
 fn content_by<'a>(kind: Kind, datagram: &Datagram<'a>) -> Content<'a> {
     match kind {
-        Kind::Frame => Content::Refused(Reason::Short),
+        Kind::Frame => Content::Refused(Reason::Short, Refusal::Udp(udp::Refusal::Short)),
         _ => Content::Whole(datagram.addresses, datagram.payload),
     }
 }
 
-// Why what ends too early does.
-fn early(captured: &Record, octets: &[u8]) -> Reason {
-    if (octets.len() as u64) < captured.original_len as u64 {
-        Reason::Cut
-    } else {
-        Reason::Short
-    }
-}
-
-// Why a datagram is refused.
-fn reason_of(captured: &Record, octets: &[u8], refusal: Refusal) -> Reason {
-    match refusal {
-        Refusal::Short | Refusal::Cut(_) => early(captured, octets),
-        Refusal::Fragment(_) => Reason::Fragment,
-        Refusal::Version(_)
-        | Refusal::HeaderLen(_)
-        | Refusal::TotalLen(_)
-        | Refusal::Extension(_) => Reason::Malformed,
-    }
+// Whether the capture kept less of a packet than there was.
+fn is_cut(captured: &Record, octets: &[u8]) -> bool {
+    (octets.len() as u64) < captured.original_len as u64
 }
 
 // A packet of which nothing is known but its VLAN tags.
-fn untold(tags: &[u8], reason: Reason) -> Sight<'_> {
+fn untold(tags: &[u8], reason: Reason, refusal: Refusal) -> Sight<'_> {
     Sight::Control(Headers {
         tags,
         addresses: None,
         ports: None,
         hop_by_hop: None,
         kind: Kind::Frame,
-        content: Content::Refused(reason),
+        content: Content::Refused(reason, refusal),
     })
 }
 
-// What a datagram of a kind is that is refused.
-fn refused<'a>(
+// A datagram that is refused, of which this is known.
+fn told<'a>(
     tags: &'a [u8],
     addresses: Addresses,
+    protocol: IpProtocol,
     ports: Option<(u16, u16)>,
     reason: Reason,
-    kind: Option<Kind>,
+    refusal: Refusal,
 ) -> Sight<'a> {
-    let Some(kind) = kind else {
+    let Some(kind) = kind_of(addresses.is_v4(), protocol, ports) else {
         return Sight::Other;
     };
     Sight::Control(Headers {
@@ -186,45 +184,80 @@ fn refused<'a>(
         ports,
         hop_by_hop: None,
         kind,
-        content: Content::Refused(reason),
+        content: Content::Refused(reason, refusal),
     })
 }
 
-// What a datagram of IPv4 is that is refused, as far as its header is there.
-fn refused_v4<'a>(tags: &'a [u8], octets: &'a [u8], reason: Reason) -> Sight<'a> {
-    match Ipv4Quote::parse(octets) {
-        Ok(header) => told_v4(tags, &header, reason),
-        Err(_) => untold(tags, reason),
+// A datagram that is refused, of which the front is there.
+fn told_front<'a>(
+    tags: &'a [u8],
+    front: &Datagram<'_>,
+    reason: Reason,
+    refusal: Refusal,
+) -> Sight<'a> {
+    let ports = ports_of(front.protocol, front.payload);
+    told(
+        tags,
+        front.addresses,
+        front.protocol,
+        ports,
+        reason,
+        refusal,
+    )
+}
+
+// What a datagram of IPv4 is that is refused, as far as it is there.
+fn refused_v4<'a>(tags: &'a [u8], octets: &[u8], reason: Reason, refusal: Refusal) -> Sight<'a> {
+    match Captured::parse_v4(octets) {
+        Ok(front) => told_front(tags, &front.datagram, reason, refusal),
+        Err(other) => match head_of(other) {
+            Some(head) => {
+                let ports = ports_behind(octets, &head);
+                told(tags, head.addresses, head.protocol, ports, reason, refusal)
+            }
+            None => untold(tags, reason, refusal),
+        },
     }
 }
 
-fn told_v4<'a>(tags: &'a [u8], header: &Ipv4Quote<'_>, reason: Reason) -> Sight<'a> {
-    let ports = ipv4_ports_of(header);
-    let addresses = Addresses::V4(header.src_addr, header.dst_addr);
-    let kind = kind_of(true, header.next_header, ports);
-    refused(tags, addresses, ports, reason, kind)
-}
-
 // The ports behind a header of IPv4; a fragment that is not the first begins with none.
-fn ipv4_ports_of(header: &Ipv4Quote<'_>) -> Option<(u16, u16)> {
-    if header.frag_offset == 0 {
-        ports_of(header.next_header, header.payload)
+fn ports_behind(octets: &[u8], head: &Head) -> Option<(u16, u16)> {
+    if head.frag_offset == 0 {
+        ports_of(head.protocol, behind_header(octets))
     } else {
         None
     }
 }
 
-// What a datagram of IPv6 is that is refused, as far as its header is there.
-fn refused_v6<'a>(tags: &'a [u8], octets: &'a [u8], reason: Reason) -> Sight<'a> {
-    match Ipv6Quote::parse(octets) {
-        Ok(header) => told_v6(tags, &header, reason),
-        Err(_) => untold(tags, reason),
+// What stands behind a header of IPv4, by the length that it has.
+fn behind_header(octets: &[u8]) -> &[u8] {
+    if octets.is_empty() {
+        return octets;
+    }
+    let header_len = Ipv4Packet::new_unchecked(octets).header_len() as usize;
+    octets.get(header_len..).unwrap_or(&[])
+}
+
+// What a datagram of IPv6 is that is refused, as far as it is there.
+fn refused_v6<'a>(tags: &'a [u8], octets: &[u8], reason: Reason, refusal: Refusal) -> Sight<'a> {
+    match Captured::parse_v6(octets) {
+        Ok(front) => told_front(tags, &front.datagram, reason, refusal),
+        Err(other) => match head_of(other) {
+            Some(head) => told(tags, head.addresses, head.protocol, None, reason, refusal),
+            None => untold(tags, reason, refusal),
+        },
     }
 }
 
-fn told_v6<'a>(tags: &'a [u8], header: &Ipv6Quote<'_>, reason: Reason) -> Sight<'a> {
-    let ports = ports_of(header.next_header, header.payload);
-    let addresses = Addresses::V6(header.src_addr, header.dst_addr);
-    let kind = kind_of(false, header.next_header, ports);
-    refused(tags, addresses, ports, reason, kind)
+// What is told of a datagram that has no front.
+fn head_of(refusal: control_wire::frames::Refusal) -> Option<Head> {
+    match refusal {
+        control_wire::frames::Refusal::Cut(head)
+        | control_wire::frames::Refusal::Fragment(head) => Some(head),
+        control_wire::frames::Refusal::Short
+        | control_wire::frames::Refusal::Version(_)
+        | control_wire::frames::Refusal::HeaderLen(_)
+        | control_wire::frames::Refusal::TotalLen(_)
+        | control_wire::frames::Refusal::Extension(_) => None,
+    }
 }

@@ -3,7 +3,9 @@
 // where it stands, and through a call of these in a sixth of the time. They take the test's runtime, so that they
 // can't stand once in a library: the gate refuses a public function that may end the process.
 
-use std::fmt::Debug;
+#[allow(unused_imports)]
+use rattle_std::prelude::*;
+use std::fmt::{Debug, Display};
 
 // Ends the test where the two differ, and says what they are of.
 pub(crate) fn same_of<T: PartialEq + Debug>(of: impl Debug, left: T, right: T) {
@@ -13,4 +15,10 @@ pub(crate) fn same_of<T: PartialEq + Debug>(of: impl Debug, left: T, right: T) {
 // Ends the test where this does not hold, and says what it was to hold of.
 pub(crate) fn holds_of(of: impl Debug, is_so: bool) {
     same_of(of, is_so, true);
+}
+
+// Ends the test where the value prints another text, or where there is no memory for it.
+pub(crate) fn prints(value: &impl Display, text: &str) {
+    let printed = value.to_string_in().ok();
+    same_of(text, printed.as_deref(), Some(text));
 }

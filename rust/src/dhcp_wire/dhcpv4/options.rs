@@ -10,6 +10,15 @@ use byteorder::{ByteOrder, LittleEndian};
 const MAX_DATA_LEN: usize = 255;
 
 /// An option: a kind, and at most 255 bytes of data where it is to be written.
+///
+/// ```
+/// use control_wire::dhcpv4::{DhcpOption, OPT_IP_LEASE_TIME, OptionValue};
+///
+/// let lease = DhcpOption { kind: OPT_IP_LEASE_TIME, data: &[0, 0, 0x0e, 0x10] };
+/// assert_eq!(lease.name(), Some("lease-time"));
+/// assert_eq!(lease.value(), OptionValue::Seconds(3_600));
+/// assert_eq!(lease.to_string(), "lease-time=3600");
+/// ```
 #[derive(Debug, PartialEq, Eq, Clone, Copy)]
 pub struct DhcpOption<'a> {
     /// The kind: one of the `OPT_` constants, or any other number.

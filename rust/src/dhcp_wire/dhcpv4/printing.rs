@@ -1,17 +1,9 @@
 // Made from crates/dhcp_wire/src/dhcpv4/printing.rt by rust/erase.
-//! Packets and options as texts.
+//! Packets as texts.
 
-use super::options::DhcpOption;
 use super::repr::Repr;
 use crate::wirebase::{EthernetAddress, Ipv4Address};
 use core::fmt;
-
-/// The kind and the number of bytes of the data, as `option 53 len=1`.
-impl fmt::Display for DhcpOption<'_> {
-    fn fmt(&self, f: &mut fmt::Formatter<'_>) -> fmt::Result {
-        write!(f, "option {} len={}", self.kind, self.data.len())
-    }
-}
 
 /// The type of the message, and each field by its name, as `DHCPv4 DISCOVER xid=1 secs=0 ..`; an option that is not
 /// there is left out.
@@ -158,7 +150,7 @@ impl fmt::Display for NamedNumber<'_> {
 
 // Kinds of option, with commas between them.
 #[derive(Clone, Copy)]
-struct Kinds<'a>(&'a [u8]);
+pub(super) struct Kinds<'a>(pub(super) &'a [u8]);
 
 impl fmt::Display for Kinds<'_> {
     fn fmt(&self, f: &mut fmt::Formatter<'_>) -> fmt::Result {

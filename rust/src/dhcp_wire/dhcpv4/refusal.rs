@@ -77,6 +77,17 @@ impl<'a> Repr<'a> {
         }
         Some(type_refusal(packet))
     }
+
+    /// What a packet says, as [`Repr::parse`] reads it, or else why it refuses it, as [`Repr::refusal`] tells it: the
+    /// check that fails first.
+    pub fn parse_or_refusal<B: AsRef<[u8]> + ?Sized>(
+        packet: &Packet<&'a B>,
+    ) -> core::result::Result<Repr<'a>, Refusal> {
+        match Repr::parse(packet) {
+            Ok(repr) => Ok(repr),
+            Err(_) => Err(Repr::refusal(packet).unwrap()),
+        }
+    }
 }
 
 // Why a packet has no header that is read.

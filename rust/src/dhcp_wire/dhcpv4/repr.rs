@@ -10,9 +10,14 @@ use crate::wirebase::{Error, EthernetAddress, Hardware, Ipv4Address, Result};
 use arrayvec::ArrayVec;
 
 /// What a packet says (RFC 2131 section 2), with the options that a client or a server asks for (RFC 2132).
+///
+/// Where a field comes from an option, it is that of the last option of its kind whose data have the length that the
+/// field names; options of another length are passed over, and the field is None where there is no other.
+/// [`Packet::options`] gives every option with its data, and so what a field has no room for.
 #[derive(Debug, PartialEq, Eq, Clone)]
 pub struct Repr<'a> {
-    /// The type of the message, option 53. The operation of the packet goes with it.
+    /// The type of the message, option 53, of 1 byte. The operation of the packet goes with it: a type that belongs to
+    /// the other operation is passed over.
     pub message_type: MessageType,
     /// The number that the client chose for this exchange.
     pub transaction_id: u32,
@@ -26,31 +31,35 @@ pub struct Repr<'a> {
     pub your_ip: Ipv4Address,
     /// The server to start from, or 0.0.0.0.
     pub server_ip: Ipv4Address,
-    /// The router of the client's network, option 3.
+    /// The router of the client's network, option 3, of exactly 4 bytes: None where the option has two routers or more.
     pub router: Option<Ipv4Address>,
-    /// The mask of the client's network, option 1.
+    /// The mask of the client's network, option 1, of 4 bytes.
     pub subnet_mask: Option<Ipv4Address>,
     /// The relay that the packet came by, or 0.0.0.0.
     pub relay_agent_ip: Ipv4Address,
     /// Whether the answer is to be sent to everyone.
     pub broadcast: bool,
-    /// The address that the client asks for, option 50.
+    /// The address that the client asks for, option 50, of 4 bytes.
     pub requested_ip: Option<Ipv4Address>,
-    /// By what the server knows the client, option 61: an address of Ethernet.
+    /// By what the server knows the client, option 61: an address of Ethernet behind the number of that hardware, 1, in
+    /// 7 bytes. An identifier of another length, as a DUID, gives None; one of 7 bytes with another number refuses the
+    /// packet.
     pub client_identifier: Option<EthernetAddress>,
-    /// The server that the message is from or for, option 54.
+    /// The server that the message is from or for, option 54, of 4 bytes.
     pub server_identifier: Option<Ipv4Address>,
-    /// The kinds of option that the client asks for, option 55; at most 255 where it is to be written.
+    /// The kinds of option that the client asks for, option 55, of any length when it is read, and of at most 255 where
+    /// it is to be written.
     pub parameter_request_list: Option<&'a [u8]>,
-    /// The DNS servers, option 6.
+    /// The DNS servers, option 6, of any length: the first 5 whole addresses, so that the sixth and later ones are left
+    /// out, and so are fewer than 4 bytes at the end. An option of fewer than 4 bytes gives an empty list.
     pub dns_servers: Option<ArrayVec<Ipv4Address, MAX_DNS_SERVER_COUNT>>,
-    /// The greatest packet that the client takes, in bytes, option 57.
+    /// The greatest packet that the client takes, in bytes, option 57, of 2 bytes.
     pub max_size: Option<u16>,
-    /// How long the address may be used, in seconds, option 51.
+    /// How long the address may be used, in seconds, option 51, of 4 bytes; 0xffff_ffff is without end.
     pub lease_duration: Option<u32>,
-    /// When the client is to ask its server for more time, in seconds, option 58.
+    /// When the client is to ask its server for more time, in seconds, option 58, of 4 bytes.
     pub renew_duration: Option<u32>,
-    /// When it is to ask any server, in seconds, option 59.
+    /// When it is to ask any server, in seconds, option 59, of 4 bytes.
     pub rebind_duration: Option<u32>,
     /// Options of other kinds, which are written after those above. None are read.
     pub additional_options: &'a [DhcpOption<'a>],

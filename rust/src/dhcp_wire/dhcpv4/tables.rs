@@ -1,6 +1,7 @@
 // Made from crates/dhcp_wire/src/dhcpv4/tables.rt by rust/erase.
 //! The numbers of DHCP: operations, types of message, flags, and kinds of option (RFC 2131, RFC 2132).
 
+use bitflags::Flags as _;
 use core::fmt;
 
 /// What a packet is, one byte (RFC 2131 section 2).
@@ -144,5 +145,15 @@ bitflags::bitflags! {
     pub struct Flags: u16 {
         /// The client can't receive an answer to its own address yet (RFC 2131 section 4.1).
         const BROADCAST = 0x8000;
+    }
+}
+
+/// `broadcast` where the answer is to be sent to everyone, and else `-`. Bits that have no name are not told.
+impl fmt::Display for Flags {
+    fn fmt(&self, f: &mut fmt::Formatter<'_>) -> fmt::Result {
+        if self.bits() & 0x8000 == 0 {
+            return f.write_str("-");
+        }
+        f.write_str("broadcast")
     }
 }

@@ -4,52 +4,66 @@
 use super::{Flags, Opcode, Question, Rcode, Record, RecordData, Repr, Type};
 use core::fmt;
 
-/// The name of the type, as `AAAA`, or its number where it has none here, as `TYPE34` (RFC 3597 section 5). A number
-/// that is kept as [`Type::Unknown`] has its name too, as `MX`.
-impl fmt::Display for Type {
-    fn fmt(&self, f: &mut fmt::Formatter<'_>) -> fmt::Result {
-        let name = match u16::from(*self) {
-            1 => "A",
-            2 => "NS",
-            5 => "CNAME",
-            6 => "SOA",
-            12 => "PTR",
-            13 => "HINFO",
-            15 => "MX",
-            16 => "TXT",
-            28 => "AAAA",
-            33 => "SRV",
-            35 => "NAPTR",
-            39 => "DNAME",
-            41 => "OPT",
-            43 => "DS",
-            44 => "SSHFP",
-            46 => "RRSIG",
-            47 => "NSEC",
-            48 => "DNSKEY",
-            50 => "NSEC3",
-            52 => "TLSA",
-            64 => "SVCB",
-            65 => "HTTPS",
-            99 => "SPF",
-            251 => "IXFR",
-            252 => "AXFR",
-            255 => "ANY",
-            257 => "CAA",
-            number => return write!(f, "TYPE{number}"),
-        };
-        f.write_str(name)
+impl Type {
+    /// The mnemonic of the type in IANA's registry, as `MX`, also of a number that is kept as [`Type::Unknown`]; None
+    /// where it has none here.
+    pub fn mnemonic(self) -> Option<&'static str> {
+        match u16::from(self) {
+            1 => Some("A"),
+            2 => Some("NS"),
+            5 => Some("CNAME"),
+            6 => Some("SOA"),
+            12 => Some("PTR"),
+            13 => Some("HINFO"),
+            15 => Some("MX"),
+            16 => Some("TXT"),
+            28 => Some("AAAA"),
+            33 => Some("SRV"),
+            35 => Some("NAPTR"),
+            39 => Some("DNAME"),
+            41 => Some("OPT"),
+            43 => Some("DS"),
+            44 => Some("SSHFP"),
+            46 => Some("RRSIG"),
+            47 => Some("NSEC"),
+            48 => Some("DNSKEY"),
+            50 => Some("NSEC3"),
+            52 => Some("TLSA"),
+            64 => Some("SVCB"),
+            65 => Some("HTTPS"),
+            99 => Some("SPF"),
+            251 => Some("IXFR"),
+            252 => Some("AXFR"),
+            255 => Some("ANY"),
+            257 => Some("CAA"),
+            _ => None,
+        }
     }
 }
 
-/// The name of the kind of query, or its number where it has none here, as `OPCODE6`. It goes by the number: of
-/// [`Opcode::Status`], which is 1, it is `IQUERY`, and of `Opcode::Unknown(2)` it is `STATUS` (RFC 1035 section 4.1.1).
+/// The mnemonic of the type, as `AAAA`, or its number where it has none here, as `TYPE34` (RFC 3597 section 5). A number
+/// that is kept as [`Type::Unknown`] has its mnemonic too, as `MX`.
+impl fmt::Display for Type {
+    fn fmt(&self, f: &mut fmt::Formatter<'_>) -> fmt::Result {
+        match self.mnemonic() {
+            Some(mnemonic) => f.write_str(mnemonic),
+            None => write!(f, "TYPE{}", u16::from(*self)),
+        }
+    }
+}
+
+/// The name of the kind of query, or its number where it has none, as `OPCODE7`. It goes by the number: of
+/// [`Opcode::Status`], which is 1, it is `IQUERY`, and of `Opcode::Unknown(2)` it is `STATUS` (RFC 1035 section 4.1.1);
+/// 4 is `NOTIFY` (RFC 1996), 5 `UPDATE` (RFC 2136) and 6 `DSO` (RFC 8490).
 impl fmt::Display for Opcode {
     fn fmt(&self, f: &mut fmt::Formatter<'_>) -> fmt::Result {
         let name = match u8::from(*self) {
             0 => "QUERY",
             1 => "IQUERY",
             2 => "STATUS",
+            4 => "NOTIFY",
+            5 => "UPDATE",
+            6 => "DSO",
             number => return write!(f, "OPCODE{number}"),
         };
         f.write_str(name)

@@ -91,8 +91,8 @@ impl<'a, B: AsRef<[u8]> + ?Sized> Packet<&'a B> {
 }
 
 impl Question<'_> {
-    /// Why [`Question::parse`] refuses these octets, by the check that fails first; None where it reads them. A question
-    /// has no data, so this is [`Refusal::Name`], [`Refusal::Short`] or [`Refusal::Class`].
+    /// Why [`Question::parse`] refuses these octets, by the check that fails first; None where it reads them. A
+    /// question has no data, so this is [`Refusal::Name`], [`Refusal::Short`] or [`Refusal::Class`].
     pub fn refusal(buffer: &[u8]) -> Option<Refusal> {
         let after = match split_or_why(buffer) {
             Ok((_, after)) => after,

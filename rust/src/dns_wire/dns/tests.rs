@@ -1,5 +1,7 @@
 // Made from crates/dns_wire/src/dns/tests.rt by rust/erase.
-use super::{Flags, Opcode, Packet, Question, Rcode, Record, RecordData, Type};
+use super::{
+    Flags, MULTICAST_PORT, Opcode, Packet, Question, Rcode, Record, RecordData, SERVER_PORT, Type,
+};
 use crate::dns_wire::message::{Front, follow, read_front};
 use crate::dns_wire::testing::{fail, same, same_of};
 use crate::wirebase::{Ipv4Address, Ipv6Address};
@@ -8,6 +10,11 @@ pub(super) mod damaged;
 mod printing;
 mod refusals;
 mod written;
+
+#[test]
+fn numbers_of_ports() {
+    same([SERVER_PORT, MULTICAST_PORT], [53, 5353]);
+}
 
 #[test]
 fn numbers_of_kinds_of_query() {

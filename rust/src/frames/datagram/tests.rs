@@ -198,6 +198,57 @@ fn headers_that_extend_ipv6() {
     }
 }
 
+// An atomic fragment behind hop-by-hop options: at offset 0 with no more fragments, two reserved bits set, which do not
+// count, and a reserved byte that is no length. Behind it stand destination options, one byte of ICMPv6, and padding.
+const ATOMIC: &[u8] = &[
+    0x60, 0, 0, 0, 0x00, 0x19, 0x00, 0x40, //
+    0x20, 0x01, 0x0d, 0xb8, 0, 0, 0, 0, 0, 0, 0, 0, 0, 0, 0, 1, //
+    0x20, 0x01, 0x0d, 0xb8, 0, 0, 0, 0, 0, 0, 0, 0, 0, 0, 0, 2, //
+    44, 0, 0x05, 0x02, 0x00, 0x00, 0x01, 0x00, //
+    60, 0x07, 0x00, 0x06, 0xfa, 0xce, 0xb0, 0x0c, //
+    58, 0, 0x01, 0x04, 0, 0, 0, 0, //
+    0x80, 0xff,
+];
+
+#[test]
+fn an_atomic_fragment_is_a_whole_datagram() {
+    let want = Datagram {
+        addresses: head_v6().addresses,
+        protocol: IpProtocol::Icmpv6,
+        hop_limit: 64,
+        hop_by_hop: Some(&[0x05, 0x02, 0, 0, 0x01, 0x00]),
+        payload: &[0x80],
+    };
+    same_of("whole", Datagram::parse_v6(ATOMIC), Ok(want));
+    let captured = Captured {
+        datagram: Datagram {
+            payload: &[],
+            ..want
+        },
+        extent: Extent::Cut { missing: 1 },
+    };
+    let read = Captured::parse_v6(&ATOMIC[..64]);
+    same_of("cut behind it", read, Ok(captured));
+    for len in 49..64 {
+        let read = Captured::parse_v6(&ATOMIC[..len]);
+        same_of(len, read, Err(Refusal::Cut(head_v6())));
+    }
+    // The flag of more fragments, the lowest bit of the offset, and its highest one.
+    let rows = [
+        (51, 0x07, 0, true),
+        (51, 0x08, 8, false),
+        (50, 0x80, 0x8000, false),
+    ];
+    for (place, byte, frag_offset, more_frags) in rows {
+        let mut octets = [0; 66];
+        octets.copy_from_slice(ATOMIC);
+        octets[place] = byte;
+        let fragment = fragment_v6(IpProtocol::Ipv6Opts, 0xface_b00c, frag_offset, more_frags);
+        let read = Datagram::parse_v6(&octets);
+        same_of((place, byte), read, Err(Refusal::Fragment(fragment)));
+    }
+}
+
 // A report that adds ff02::db8 to what a host listens to, with the router alert option (RFC 3810 section 5).
 const REPORT: &[u8] = &[
     0x60, 0, 0, 0, 0x00, 0x24, 0x00, 0x01, //

@@ -1,6 +1,7 @@
 // Made from crates/frame_wire/src/link/tests.rt by rust/erase.
-use super::{Frame, Link, Network, Refusal};
+use super::{EthernetHeader, Frame, Link, Network, Refusal, VlanTag};
 use crate::frames::testing::same_of;
+use crate::wirebase::EthernetAddress;
 
 // A frame of a link, and what it holds.
 type Row = (Link, &'static [u8], Network, &'static [u16], &'static [u8]);
@@ -145,6 +146,12 @@ fn check_frame(of: &[u8], frame: &Frame<'_>, row: &Row) {
     same_of(of, frame.network, network);
     same_of(of, frame.payload, payload);
     same_of(of, frame.vlans(), vlans.len());
+    let mut tags = frame.vlan_tags();
+    for &vlan in vlans {
+        let number = tags.next().map(|tag| tag.number);
+        same_of(of, number, Some(vlan));
+    }
+    same_of(of, tags.next(), None);
     for (i, &vlan) in vlans.iter().enumerate() {
         if i < frame.vlans() {
             same_of(of, frame.vlan(i), vlan);
@@ -156,6 +163,11 @@ fn check_frame(of: &[u8], frame: &Frame<'_>, row: &Row) {
 fn frames_of_each_link() {
     for row in ROWS {
         let &(link, octets, ..) = row;
+        same_of(
+            octets,
+            link.frame_or_refusal(octets).ok(),
+            link.frame(octets).ok(),
+        );
         match link.frame(octets) {
             Ok(frame) => check_frame(octets, &frame, row),
             Err(_) => same_of(octets, false, true),
@@ -291,5 +303,52 @@ fn refusals_of_frames() {
     ];
     for &(link, octets, refusal) in REFUSED {
         same_of((link, octets), link.refusal(octets), refusal);
+        same_of((link, octets), link.frame_or_refusal(octets).err(), refusal);
+    }
+}
+
+#[test]
+fn headers_of_ethernet() {
+    const OCTETS: &[u8] = &[
+        0x33, 0x33, 0, 0, 0, 0x16, 0x02, 0, 0x5e, 0x10, 0, 1, 0x81, 0x00, 0x00,
+    ];
+    let header = EthernetHeader {
+        destination: EthernetAddress([0x33, 0x33, 0, 0, 0, 0x16]),
+        source: EthernetAddress([0x02, 0, 0x5e, 0x10, 0, 1]),
+        kind: 0x8100,
+    };
+    // The tag behind the header may be cut.
+    same_of(15, Link::Ethernet.ethernet(OCTETS), Some(header));
+    same_of(14, Link::Ethernet.ethernet(&OCTETS[..14]), Some(header));
+    same_of(13, Link::Ethernet.ethernet(&OCTETS[..13]), None);
+    same_of(0, Link::LinuxSll.ethernet(OCTETS), None);
+}
+
+#[test]
+fn tags_by_their_bits() {
+    let rows = [
+        (0xe0, 0x00, 7, false, 0),
+        (0x1f, 0xff, 0, true, 4_095),
+        (0x61, 0x02, 3, false, 258),
+        (0x90, 0x01, 4, true, 1),
+    ];
+    for (high, low, priority, drop_eligible, number) in rows {
+        let octets = [
+            2, 0, 0, 0, 0, 2, 2, 0, 0, 0, 0, 1, 0x81, 0x00, high, low, 0x08, 0x00, 0x45,
+        ];
+        let tag = VlanTag {
+            priority,
+            drop_eligible,
+            number,
+        };
+        match Link::Ethernet.frame(&octets) {
+            Ok(frame) => {
+                let mut tags = frame.vlan_tags();
+                same_of((high, low), tags.next(), Some(tag));
+                same_of((high, low), tags.next(), None);
+                same_of((high, low), tags.next(), None);
+            }
+            Err(_) => same_of((high, low), false, true),
+        }
     }
 }

@@ -1,7 +1,7 @@
 // Made from crates/frame_wire/src/udp/tests.rt by rust/erase.
-use super::{Refusal, UdpPacket, UdpRepr};
-use crate::frames::datagram::Addresses;
-use crate::frames::testing::same_of;
+use super::{CapturedUdp, Refusal, UdpPacket, UdpRepr};
+use crate::frames::datagram::{Addresses, Extent};
+use crate::frames::testing::{prints, same_of};
 use crate::wirebase::{ChecksumCapabilities, Ipv4Address, Ipv6Address};
 
 // Three bytes of data to the port of DNS, with the checksum of each pseudo header.
@@ -76,6 +76,9 @@ fn datagrams_with_either_pseudo_header() {
     for (octets, addresses, capabilities, want) in rows {
         let read = UdpRepr::parse(&UdpPacket::new_unchecked(octets), &addresses, &capabilities);
         same_of(octets, read.ok(), want);
+        let packet = UdpPacket::new_unchecked(octets);
+        let told = UdpRepr::parse_or_refusal(&packet, &addresses, &capabilities);
+        same_of(octets, told.ok(), want);
     }
     same_of((), ports.header_len(), 8);
 }
@@ -130,6 +133,8 @@ fn refusals_of_datagrams() {
         let packet = UdpPacket::new_unchecked(octets);
         let refusal = UdpRepr::refusal(&packet, &addresses, &capabilities);
         same_of(octets, refusal, want);
+        let read = UdpRepr::parse_or_refusal(&packet, &addresses, &capabilities);
+        same_of(octets, read.err(), want);
         same_of(
             octets,
             packet.refusal().is_none(),
@@ -156,4 +161,32 @@ fn refusals_of_damaged_datagrams() {
             );
         }
     }
+}
+
+// Each front of a datagram with padding behind it, and one whose length is below that of its header.
+#[test]
+fn a_datagram_that_is_captured_in_part() {
+    const PADDED: &[u8] = &[
+        0xc0, 0x00, 0x00, 0x35, 0x00, 0x0b, 0xa8, 0x37, 0x12, 0x34, 0x01, 0xff,
+    ];
+    let captured = |payload, extent| CapturedUdp {
+        src_port: 49152,
+        dst_port: 53,
+        payload,
+        extent,
+    };
+    for len in 0..13 {
+        let want = match len {
+            0..=7 => Err(Refusal::Short),
+            8 => Ok(captured(&[][..], Extent::Cut { missing: 3 })),
+            9 => Ok(captured(&[0x12][..], Extent::Cut { missing: 2 })),
+            10 => Ok(captured(&[0x12, 0x34][..], Extent::Cut { missing: 1 })),
+            _ => Ok(captured(&[0x12, 0x34, 0x01][..], Extent::Whole)),
+        };
+        same_of(len, CapturedUdp::parse(&PADDED[..len]), want);
+    }
+    let short = [0xc0, 0, 0, 53, 0, 7, 0, 0, 0x12];
+    same_of(7, CapturedUdp::parse(&short), Err(Refusal::Length(7)));
+    let cut = captured(&[0x12][..], Extent::Cut { missing: 2 });
+    prints(&cut, "UDP src=49152 dst=53 len=1 cut missing=2");
 }

@@ -27,22 +27,42 @@ pub enum Refusal {
     /// An error whose quoted header is longer than the total length that stands in it.
     QuotedLength,
     /// An error that quotes fewer bytes than the total length in the quoted header, as routers may. The errors of the
-    /// crate `quote_wire` read those.
+    /// module `quotes` read those.
     QuoteCut,
     /// An error that quotes fewer than 8 bytes behind the header (RFC 792).
     QuotedData,
 }
 
-impl Repr<'_> {
+impl<'a> Repr<'a> {
+    /// The message in the octets, or why [`Repr::parse`] refuses them, by the check that fails first.
+    ///
+    /// ```
+    /// use control_wire::ChecksumCapabilities;
+    /// use control_wire::icmpv4::{Packet, Refusal, Repr};
+    ///
+    /// // An echo request whose last byte was changed on its way.
+    /// let octets = [8, 0, 0x19, 0x2c, 0, 1, 0, 2, b'p', b'i', b'n', b'q'];
+    /// let packet = Packet::new_unchecked(&octets[..]);
+    /// let refusal = Repr::parse_or_refusal(&packet, &ChecksumCapabilities::default()).unwrap_err();
+    /// assert_eq!(refusal, Refusal::Checksum);
+    /// assert_eq!(refusal.to_string(), "the checksum does not hold");
+    /// ```
+    pub fn parse_or_refusal<B: AsRef<[u8]> + ?Sized>(
+        packet: &Packet<&'a B>,
+        checksum_caps: &ChecksumCapabilities,
+    ) -> Result<Repr<'a>, Refusal> {
+        match Repr::parse(packet, checksum_caps) {
+            Ok(repr) => Ok(repr),
+            Err(_) => Err(why(packet, checksum_caps)),
+        }
+    }
+
     /// Why [`Repr::parse`] refuses these octets, by the check that fails first; None exactly where it reads them.
     pub fn refusal<B: AsRef<[u8]> + ?Sized>(
         packet: &Packet<&B>,
         checksum_caps: &ChecksumCapabilities,
     ) -> Option<Refusal> {
-        match Repr::parse(packet, checksum_caps) {
-            Ok(_) => None,
-            Err(_) => Some(why(packet, checksum_caps)),
-        }
+        Repr::parse_or_refusal(packet, checksum_caps).err()
     }
 }
 

@@ -2,7 +2,8 @@
 //! Why octets are no message (RFC 2236 section 2).
 
 use super::packet::Packet;
-use super::repr::{Repr, is_group};
+use super::repr::Repr;
+use super::tables::Message;
 use crate::wirebase::Ipv4Address;
 use core::fmt;
 
@@ -11,20 +12,37 @@ use core::fmt;
 pub enum Refusal {
     /// Fewer than 8 bytes.
     Short,
+    /// A type that is not read, by its number: none of membership query (0x11), version 1 membership report (0x12),
+    /// version 2 membership report (0x16) and leave group (0x17). The membership report of IGMPv3 has type 0x22
+    /// (RFC 3376 section 4.2).
+    UnknownType(u8),
     /// The group address is neither 0.0.0.0 nor multicast; this is the address.
     Group(Ipv4Address),
-    /// A type that is not read, by its number: none of membership query (0x11), version 1 membership report (0x12),
-    /// version 2 membership report (0x16) and leave group (0x17).
-    UnknownType(u8),
 }
 
 impl Repr {
+    /// The message at the front of the octets, or why [`Repr::parse`] refuses them, by the check that fails first.
+    ///
+    /// ```
+    /// use control_wire::igmp::{Packet, Refusal, Repr};
+    ///
+    /// // A report of version 3.
+    /// let octets = [0x22, 0, 0xf9, 0x02, 0, 0, 0, 1, 4, 0, 0, 0, 224, 0, 0, 251];
+    /// let packet = Packet::new_unchecked(&octets[..]);
+    /// let refusal = Repr::parse_or_refusal(&packet).unwrap_err();
+    /// assert_eq!(refusal, Refusal::UnknownType(0x22));
+    /// assert_eq!(refusal.to_string(), "type 34 is not read");
+    /// ```
+    pub fn parse_or_refusal<B: AsRef<[u8]> + ?Sized>(packet: &Packet<&B>) -> Result<Repr, Refusal> {
+        match Repr::parse(packet) {
+            Ok(repr) => Ok(repr),
+            Err(_) => Err(why(packet)),
+        }
+    }
+
     /// Why [`Repr::parse`] refuses these octets, by the check that fails first; None exactly where it reads them.
     pub fn refusal<B: AsRef<[u8]> + ?Sized>(packet: &Packet<&B>) -> Option<Refusal> {
-        match Repr::parse(packet) {
-            Ok(_) => None,
-            Err(_) => Some(why(packet)),
-        }
+        Repr::parse_or_refusal(packet).err()
     }
 }
 
@@ -33,12 +51,13 @@ fn why<B: AsRef<[u8]> + ?Sized>(packet: &Packet<&B>) -> Refusal {
     if packet.check_len().is_err() {
         return Refusal::Short;
     }
-    let group_addr = packet.group_addr();
-    let allowed = is_group(group_addr);
-    if !allowed {
-        return Refusal::Group(group_addr);
+    match packet.msg_type() {
+        Message::MembershipQuery
+        | Message::MembershipReportV1
+        | Message::MembershipReportV2
+        | Message::LeaveGroup => Refusal::Group(packet.group_addr()),
+        other => Refusal::UnknownType(other.into()),
     }
-    Refusal::UnknownType(packet.msg_type().into())
 }
 
 /// The reason as a phrase.
@@ -46,10 +65,10 @@ impl fmt::Display for Refusal {
     fn fmt(&self, f: &mut fmt::Formatter<'_>) -> fmt::Result {
         match self {
             Refusal::Short => f.write_str("fewer than 8 bytes"),
+            Refusal::UnknownType(number) => write!(f, "type {number} is not read"),
             Refusal::Group(group) => {
                 write!(f, "group {group} is neither 0.0.0.0 nor multicast")
             }
-            Refusal::UnknownType(number) => write!(f, "type {number} is not read"),
         }
     }
 }

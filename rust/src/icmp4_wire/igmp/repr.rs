@@ -35,13 +35,15 @@ pub enum IgmpVersion {
 /// ```
 #[derive(Debug, PartialEq, Eq, Clone, Copy)]
 pub enum Repr {
-    /// A router asks which groups have members, or whether this one has.
+    /// A router asks which groups have members, or whether this one has. A query of version 3 begins with the same 8
+    /// bytes, and has 12 or more (RFC 3376 section 7.1): it is read as one of version 2, or of version 1 where its code
+    /// is 0, and what stands behind these bytes is left out. The length of the octets tells it.
     MembershipQuery {
         /// The longest time to answer in.
         max_resp_time: Duration,
         /// The group, or 0.0.0.0 for all.
         group_addr: Ipv4Address,
-        /// The version of the query.
+        /// The version of the query, by its code alone: 1 where that is 0, and else 2.
         version: IgmpVersion,
     },
     /// A host is a member of a group.
@@ -59,8 +61,8 @@ pub enum Repr {
 }
 
 impl Repr {
-    /// The message at the front of the octets. Refused where they are fewer than 8, where the group is neither
-    /// 0.0.0.0 nor multicast, and where the type has no name. The checksum is not verified; the code of a report
+    /// The message at the front of the octets. Refused where they are fewer than 8, where the type has no name, and
+    /// where the group is neither 0.0.0.0 nor multicast. The checksum is not verified; the code of a report
     /// or of a leave message is not looked at.
     #[inline]
     pub fn parse<B: AsRef<[u8]> + ?Sized>(packet: &Packet<&B>) -> Result<Repr> {
@@ -71,6 +73,8 @@ impl Repr {
     #[inline]
     fn read<B: AsRef<[u8]> + ?Sized>(packet: &Packet<&B>) -> Result<Repr> {
         packet.check_len()?;
+        // In front of the match, so that each value is made once it is known to be good: in the other order a host
+        // that reads queries pays for a copy.
         let group_addr = packet.group_addr();
         let allowed = is_group(group_addr);
         if !allowed {

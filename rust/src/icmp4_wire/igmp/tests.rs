@@ -351,14 +351,30 @@ fn check_refusal(octets: &[u8], refusal: Refusal, text: &str) {
 fn messages_that_are_refused() {
     const SHORT: &[u8] = &[0x22, 0, 0, 0, 0xe0, 0, 0x06];
     check_refusal(SHORT, Refusal::Short, "fewer than 8 bytes");
-    let group = Refusal::Group(Ipv4Address::new(10, 0, 0, 1));
+    // A report of IGMPv3, whatever stands where the group of version 2 does: its reserved bytes and one record.
+    let kind = Refusal::UnknownType(0x22);
+    for octets in [
+        [0x22, 0, 0, 0, 0, 0, 0, 1],
+        [0x22, 0, 0, 0, 0xe0, 0, 0x06, 0x96],
+    ] {
+        check_refusal(&octets, kind, "type 34 is not read");
+    }
     let text = "group 10.0.0.1 is neither 0.0.0.0 nor multicast";
-    check_refusal(&[0x22, 0, 0, 0, 10, 0, 0, 1], group, text);
-    let octets: &[u8] = &[0x22, 0, 0, 0, 0xe0, 0, 0x06, 0x96];
-    let kind = Refusal::UnknownType(34);
-    check_refusal(octets, kind, "type 34 is not read");
-    let leave: &[u8] = &[0x17, 0, 0, 0, 0xe0, 0, 0x06, 0x96];
-    same(Repr::refusal(&Packet::new_unchecked(leave)), None);
+    for number in [0x11, 0x12, 0x16, 0x17] {
+        let group = Refusal::Group(Ipv4Address::new(10, 0, 0, 1));
+        check_refusal(&[number, 0, 0, 0, 10, 0, 0, 1], group, text);
+    }
+    let octets: &[u8] = &[0x17, 0, 0, 0, 0xe0, 0, 0x06, 0x96];
+    same(Repr::refusal(&Packet::new_unchecked(octets)), None);
+}
+
+#[test]
+fn messages_are_read_or_told_why_they_are_refused() {
+    let octets: &[u8] = &[0x17, 0, 0, 0, 0xe0, 0, 0x06, 0x96];
+    let whole = Packet::new_unchecked(octets);
+    same(Repr::parse_or_refusal(&whole), Ok(leave()));
+    let cut = Packet::new_unchecked(&octets[..7]);
+    same(Repr::parse_or_refusal(&cut), Err(Refusal::Short));
 }
 
 #[test]

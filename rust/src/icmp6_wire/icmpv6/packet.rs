@@ -59,6 +59,7 @@ impl<T: Octets> Packet<T> {
     }
 
     /// The type. Requires at least 1 byte.
+    #[inline]
     pub fn msg_type(&self) -> Message {
         Message::from(self.buffer.u8_at(field::TYPE))
     }

@@ -16,9 +16,12 @@ use core::fmt;
 pub enum Refusal {
     /// Fewer than 8 bytes.
     Short,
-    /// The type, by its number, is none of those that are read.
+    /// The type, by its number, is none of those that are read: errors of types 1 to 4, echoes, messages of neighbor
+    /// discovery, and of multicast listener discovery queries (130) and reports of version 2 (143). Those of version 1
+    /// (RFC 2710) are 131 for a report and 132 for a done message.
     UnknownType(u8),
-    /// Fewer bytes than the header of the type has.
+    /// Fewer bytes than the header of the type has, as 28 of a query of multicast listener discovery; one of version 1
+    /// has 24.
     Length,
     /// The checksum does not hold (RFC 4443 section 2.3).
     Checksum,
@@ -45,7 +48,34 @@ impl fmt::Display for Refusal {
     }
 }
 
-impl Repr<'_> {
+impl<'a> Repr<'a> {
+    /// The message in the octets, which goes from `src_addr` to `dst_addr`, or why [`Repr::parse`] refuses them, by the
+    /// check that fails first.
+    ///
+    /// ```
+    /// use control_wire::icmpv6::{Packet, Refusal, Repr};
+    /// use control_wire::{ChecksumCapabilities, Ipv6Address};
+    ///
+    /// // A report of version 1 of multicast listener discovery (RFC 2710).
+    /// let mut octets = [0; 24];
+    /// octets[0] = 131;
+    /// let packet = Packet::new_unchecked(&octets[..]);
+    /// let any = Ipv6Address::UNSPECIFIED;
+    /// let read = Repr::parse_or_refusal(&any, &any, &packet, &ChecksumCapabilities::default());
+    /// assert_eq!(read, Err(Refusal::UnknownType(131)));
+    /// ```
+    pub fn parse_or_refusal<B: AsRef<[u8]> + ?Sized>(
+        src_addr: &Ipv6Address,
+        dst_addr: &Ipv6Address,
+        packet: &Packet<&'a B>,
+        checksum_caps: &ChecksumCapabilities,
+    ) -> Result<Repr<'a>, Refusal> {
+        match Repr::parse(src_addr, dst_addr, packet, checksum_caps) {
+            Ok(repr) => Ok(repr),
+            Err(_) => Err(why(src_addr, dst_addr, packet, checksum_caps)),
+        }
+    }
+
     /// Why [`Repr::parse`] refuses these octets, by the check that fails first; None where it reads them.
     pub fn refusal<B: AsRef<[u8]> + ?Sized>(
         src_addr: &Ipv6Address,
@@ -71,6 +101,20 @@ impl Repr<'_> {
             return error_refusal(packet, kind);
         }
         other_refusal(packet, kind)
+    }
+}
+
+// The check that fails first in octets that are not read. `refusal` tells one of all such octets, so `Short` never
+// stands in for it.
+fn why<B: AsRef<[u8]> + ?Sized>(
+    src_addr: &Ipv6Address,
+    dst_addr: &Ipv6Address,
+    packet: &Packet<&B>,
+    checksum_caps: &ChecksumCapabilities,
+) -> Refusal {
+    match Repr::refusal(src_addr, dst_addr, packet, checksum_caps) {
+        Some(refusal) => refusal,
+        None => Refusal::Short,
     }
 }
 

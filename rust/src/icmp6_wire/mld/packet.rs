@@ -3,7 +3,10 @@
 
 use super::field;
 use crate::icmp6_wire::icmpv6::Packet;
-use crate::wirebase::{Ipv6Address, Octets, OctetsMut};
+use crate::wirebase::{Duration, Ipv6Address, Octets, OctetsMut};
+
+// The bit of a code that has an exponent and a mantissa: a code without it is a number of milliseconds.
+const FLOATING: u16 = 0x8000;
 
 // The bit of the flag S; the robustness variable is what stands below it.
 const S_FLAG: u8 = 0x08;
@@ -12,6 +15,18 @@ impl<T: Octets> Packet<T> {
     /// The code of the longest time to answer a query in (RFC 3810 section 5.1.3). Requires at least 6 bytes.
     pub fn max_resp_code(&self) -> u16 {
         self.buffer.u16_at(field::MAX_RESP_CODE)
+    }
+
+    /// The longest time to answer a query in, by its code (RFC 3810 section 5.1.3): whole milliseconds, at most
+    /// 8,387.584 seconds. Requires at least 6 bytes.
+    pub fn max_resp_time(&self) -> Duration {
+        let code = self.max_resp_code();
+        if code < FLOATING {
+            return Duration::from_millis(code as u64);
+        }
+        let exponent = (code >> 12) & 0x7;
+        let mantissa = 0x1000 | (code & 0x0fff);
+        Duration::from_millis((mantissa as u64) << (exponent + 3))
     }
 
     /// The group that a query asks for, or `::` for all (RFC 3810 section 5.1.5). Requires at least 24 bytes.

@@ -34,7 +34,7 @@ use crate::wirebase::{ByteWriter, Error, Ipv6Address, OctetsMut, Result, icmp};
 pub enum Repr<'a> {
     /// A router asks which groups have listeners, or whether this one has.
     Query {
-        /// The code of the longest time to answer in.
+        /// The code of the longest time to answer in, which `icmpv6::Packet::max_resp_time` gives.
         max_resp_code: u16,
         /// The group, or `::` for all.
         mcast_addr: Ipv6Address,

@@ -10,6 +10,7 @@ mod inside_icmpv6;
 mod iterators;
 mod refusals;
 mod texts;
+mod times;
 
 // The octets that stand in a buffer before it is written into.
 const FILLS: &[u8] = &[0x00, 0xff, 0x2a, 0xa5];

@@ -6,7 +6,7 @@ use crate::opt_wire::ndiscoption::{PrefixInformation, RedirectedHeader};
 use crate::wirebase::{Duration, RawHardwareAddress};
 use core::fmt;
 
-/// The message with its fields and the options that are there, flags as the number of their bits, as
+/// The message with its fields and the options that are there, flags by their names, as
 /// `NDISC neighbor solicitation target_addr=fe80::2 lladdr=52:54:00:12:34:56`.
 impl fmt::Display for Repr<'_> {
     fn fmt(&self, f: &mut fmt::Formatter<'_>) -> fmt::Result {
@@ -30,10 +30,9 @@ impl fmt::Display for Repr<'_> {
                     retrans_time: *retrans_time,
                 };
                 let options = RouterOptions(*lladdr, *mtu, *prefix_info);
-                let bits = flags.bits();
                 write!(
                     f,
-                    "NDISC router advertisement hop_limit={hop_limit} flags={bits}{times}{options}"
+                    "NDISC router advertisement hop_limit={hop_limit} flags={flags}{times}{options}"
                 )
             }
             Repr::NeighborSolicit {
@@ -51,11 +50,10 @@ impl fmt::Display for Repr<'_> {
                 target_addr,
                 lladdr,
             } => {
-                let bits = flags.bits();
                 let lladdr = LinkAddress(*lladdr);
                 write!(
                     f,
-                    "NDISC neighbor advertisement flags={bits} target_addr={target_addr}{lladdr}"
+                    "NDISC neighbor advertisement flags={flags} target_addr={target_addr}{lladdr}"
                 )
             }
             Repr::Redirect {

@@ -4,8 +4,8 @@
 use super::{Ipv6Option, Repr};
 use crate::wirebase::Result;
 
-/// The options of a header in turn: each one while they read, one refusal where no option
-/// stands, and then the end for good.
+/// The options of a hop-by-hop or destination options header in turn: each as [`Repr::parse`] reads it, from the front
+/// of the octets to their end. Where it refuses what follows, one refusal comes, and then the end for good.
 #[derive(Debug)]
 pub struct Ipv6OptionsIterator<'a> {
     // The octets after the options that were given.
@@ -14,8 +14,10 @@ pub struct Ipv6OptionsIterator<'a> {
 }
 
 impl<'a> Ipv6OptionsIterator<'a> {
-    /// The options in these octets. The answers to come are those of the one tiling of the octets; where there is
-    /// no refusal among them, the options take up all the octets.
+    /// The options in these octets, which are what stands behind the first two bytes of the header. The first option
+    /// begins at the front, and each other one where the one before it ends. At the first place where [`Repr::parse`]
+    /// reads none, since no option stands whole there or a router alert doesn't count 2 bytes of data, one refusal
+    /// comes, and then the end. Where no refusal comes, the options take up all the octets.
     pub fn new(octets: &'a [u8]) -> Ipv6OptionsIterator<'a> {
         Ipv6OptionsIterator {
             data: octets,

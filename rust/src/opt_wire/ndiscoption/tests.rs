@@ -4,6 +4,7 @@ use super::{NdiscOption, PrefixInfoFlags, PrefixInformation, RedirectedHeader, R
 use crate::opt_wire::testing::{FILLERS, holds_of, prints, same, same_of};
 use crate::wirebase::{Duration, Error, IpProtocol, Ipv6Address, Ipv6Repr, RawHardwareAddress};
 
+mod options;
 mod plain_reader;
 mod refusals;
 mod types;

@@ -20,13 +20,21 @@ pub enum Refusal {
     Quote(quote::Refusal),
 }
 
-impl Repr<'_> {
+impl<'a> Repr<'a> {
+    /// The error in the octets, or why [`Repr::parse`] refuses them, by the check that fails first.
+    pub fn parse_or_refusal(
+        octets: &'a [u8],
+        checksum_caps: &ChecksumCapabilities,
+    ) -> Result<Repr<'a>, Refusal> {
+        match Repr::parse(octets, checksum_caps) {
+            Ok(repr) => Ok(repr),
+            Err(_) => Err(why(octets, checksum_caps)),
+        }
+    }
+
     /// Why [`Repr::parse`] refuses these octets, by the check that fails first; None exactly where it reads them.
     pub fn refusal(octets: &[u8], checksum_caps: &ChecksumCapabilities) -> Option<Refusal> {
-        match Repr::parse(octets, checksum_caps) {
-            Ok(_) => None,
-            Err(_) => Some(why(octets, checksum_caps)),
-        }
+        Repr::parse_or_refusal(octets, checksum_caps).err()
     }
 }
 

@@ -111,6 +111,26 @@ fn mtu_of_the_next_hop() {
 }
 
 #[test]
+fn gateway_and_pointer_are_those_of_their_types() {
+    let rows: &[(Kind, Option<Ipv4Address>, Option<u8>)] = &[
+        (Kind::DstUnreachable, None, None),
+        (Kind::SourceQuench, None, None),
+        (
+            Kind::Redirect,
+            Some(Ipv4Address::new(20, 51, 100, 254)),
+            None,
+        ),
+        (Kind::TimeExceeded, None, None),
+        (Kind::ParamProblem, None, Some(20)),
+    ];
+    for &(kind, gateway, pointer) in rows {
+        let error = about(kind, 0, 0x143364fe, DATAGRAM);
+        same_of(kind, error.gateway(), gateway);
+        same_of(kind, error.pointer(), pointer);
+    }
+}
+
+#[test]
 fn error_is_written_over_other_octets() {
     for before in [0x00, 0x2a, 0xff] {
         let mut octets = [before; 36];

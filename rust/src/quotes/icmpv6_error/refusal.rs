@@ -20,7 +20,21 @@ pub enum Refusal {
     Quote(quote::Refusal),
 }
 
-impl Repr<'_> {
+impl<'a> Repr<'a> {
+    /// The error in the octets of a message from `src_addr` to `dst_addr`, or why [`Repr::parse`] refuses them, by the
+    /// check that fails first.
+    pub fn parse_or_refusal(
+        src_addr: &Ipv6Address,
+        dst_addr: &Ipv6Address,
+        octets: &'a [u8],
+        checksum_caps: &ChecksumCapabilities,
+    ) -> Result<Repr<'a>, Refusal> {
+        match Repr::parse(src_addr, dst_addr, octets, checksum_caps) {
+            Ok(repr) => Ok(repr),
+            Err(_) => Err(why(src_addr, dst_addr, octets, checksum_caps)),
+        }
+    }
+
     /// Why [`Repr::parse`] refuses these octets, by the check that fails first; None exactly where it reads them.
     pub fn refusal(
         src_addr: &Ipv6Address,
@@ -28,10 +42,7 @@ impl Repr<'_> {
         octets: &[u8],
         checksum_caps: &ChecksumCapabilities,
     ) -> Option<Refusal> {
-        match Repr::parse(src_addr, dst_addr, octets, checksum_caps) {
-            Ok(_) => None,
-            Err(_) => Some(why(src_addr, dst_addr, octets, checksum_caps)),
-        }
+        Repr::parse_or_refusal(src_addr, dst_addr, octets, checksum_caps).err()
     }
 }
 

@@ -94,6 +94,15 @@ fn error_is_refused_where_its_quote_has_no_header_of_version_6() {
 }
 
 #[test]
+fn pointer_is_that_of_a_parameter_problem() {
+    for kind in [Kind::DstUnreachable, Kind::PktTooBig, Kind::TimeExceeded] {
+        same_of(kind, about(kind, 0, 1280, &[]).pointer(), None);
+    }
+    let error = about(Kind::ParamProblem, 0, 1280, &[]);
+    same(error.pointer(), Some(1280));
+}
+
+#[test]
 fn error_is_written_over_other_octets() {
     for before in [0x00, 0x2a, 0xff] {
         let mut octets = [before; 52];

@@ -1,7 +1,7 @@
 // Made from crates/record_wire/src/classes/tests.rt by rust/erase.
 //! Classes by their mnemonics.
 
-use super::{ANY, CH, ClassName, HS, IN, NONE};
+use super::{ANY, CH, ClassName, HS, IN, NONE, mnemonic};
 use crate::record::testing::{prints, same_of};
 
 #[test]
@@ -19,4 +19,10 @@ fn classes_of_the_registry() {
         prints(&ClassName(class), mnemonic);
         same_of(mnemonic, class, number);
     }
+}
+
+#[test]
+fn mnemonics_of_classes() {
+    same_of(254, mnemonic(254), Some("NONE"));
+    same_of(253, mnemonic(253), None);
 }

@@ -1,7 +1,9 @@
 // Made from crates/record_wire/src/edns/tests.rt by rust/erase.
-//! The options of OPT records.
+//! OPT records and their options.
 
-use super::{EdnsOption, EdnsOptions};
+use super::{Edns, EdnsOption, EdnsOptions, OptionRefusal};
+use crate::dns_wire::dns::Type;
+use crate::record::record::Record;
 use crate::record::testing::{prints, same_of};
 use crate::wirebase::{Error, Result};
 
@@ -24,7 +26,7 @@ fn options_of_opt_data() {
         code: 10,
         data: b"ABCDEFGH",
     };
-    prints(&cookie, "option code=10 len=8");
+    prints(&cookie, "cookie=4142434445464748");
     let padding = EdnsOption {
         code: 12,
         data: b"",
@@ -35,4 +37,96 @@ fn options_of_opt_data() {
     check(&octets[..11], &[Err(Error)]);
     check(&octets[..3], &[Err(Error)]);
     check(b"", &[]);
+}
+
+// An OPT record of this payload size, with these octets in the place of a time to live, and no options.
+fn opt_record(class: u16, ttl: u32) -> Record<'static> {
+    Record {
+        name: &[0],
+        type_: Type::Unknown(41),
+        class,
+        ttl,
+        data: &[],
+    }
+}
+
+#[test]
+fn what_opt_records_say() {
+    // A response of BADVERS, which is 16 (RFC 6891 section 9), of a server that takes DNSSEC.
+    let record = opt_record(1232, 0x0100_8000);
+    let edns = Edns {
+        payload_size: 1232,
+        extended_rcode: 1,
+        version: 0,
+        dnssec_ok: true,
+        flags: 0x8000,
+        options: &[],
+    };
+    same_of(record, record.edns(), Some(edns));
+    same_of(record, edns.rcode(0), 16);
+    prints(
+        &edns,
+        "EDNS payload_size=1232 extended_rcode=1 version=0 dnssec_ok=true flags=32768 len=0",
+    );
+    // The same fields with other bits set in each.
+    let other = opt_record(512, 0xff02_7fff);
+    let says = Edns {
+        payload_size: 512,
+        extended_rcode: 255,
+        version: 2,
+        dnssec_ok: false,
+        flags: 0x7fff,
+        options: &[],
+    };
+    same_of(other, other.edns(), Some(says));
+    for (header_rcode, rcode) in [(0, 4080), (15, 4095), (0x35, 4085)] {
+        same_of(header_rcode, says.rcode(header_rcode), rcode);
+    }
+    let text = Record {
+        type_: Type::Unknown(16),
+        ..record
+    };
+    same_of(text, text.edns(), None);
+}
+
+#[test]
+fn options_of_an_opt_record() {
+    let record = Record {
+        data: b"\x00\x0c\x00\x00\x00",
+        ..opt_record(4096, 0)
+    };
+    let padding = EdnsOption {
+        code: 12,
+        data: b"",
+    };
+    let Some(edns) = record.edns() else {
+        panic!("no OPT record");
+    };
+    let mut options = edns.options();
+    same_of(record, options.next(), Some(Ok(padding)));
+    same_of(record, options.next(), Some(Err(Error)));
+    same_of(record, options.next(), None);
+}
+
+#[test]
+fn why_an_option_is_refused() {
+    const ROWS: &[(&[u8], Option<OptionRefusal>)] = &[
+        (b"", Some(OptionRefusal::Fields)),
+        (b"\0\x0c\0", Some(OptionRefusal::Fields)),
+        (b"\0\x0c\0\0", None),
+        (b"\0\x0a\0\x02A", Some(OptionRefusal::Data)),
+        (b"\0\x0a\0\x02ABC", None),
+    ];
+    for &(octets, refusal) in ROWS {
+        same_of(octets, EdnsOption::refusal(octets), refusal);
+        same_of(octets, EdnsOption::parse(octets).is_ok(), refusal.is_none());
+    }
+    let option = EdnsOption {
+        code: 10,
+        data: b"AB",
+    };
+    let read: (&[u8], EdnsOption<'_>) = (b"C", option);
+    same_of("a rest", EdnsOption::parse(b"\0\x0a\0\x02ABC"), Ok(read));
+    prints(&OptionRefusal::Fields, "the code and the length are cut");
+    prints(&OptionRefusal::Data, "the data of the option is cut");
 }

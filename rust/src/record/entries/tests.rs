@@ -4,6 +4,7 @@
 use super::{Entries, Entry, Section};
 use crate::dns_wire::dns::{Packet, Type};
 use crate::record::record::{Question, Record};
+use crate::record::refusal::{PartRefusal, Refusal};
 use crate::record::testing::{prints, same, same_of};
 use crate::wirebase::{Error, Result};
 
@@ -191,4 +192,58 @@ fn texts_of_entries() {
 fn entries_of_an_owned_buffer() {
     let buffer = QUERY;
     check_sections(&buffer[..], &[Some(Section::Additional), None]);
+}
+
+// Ends the test unless so many entries of a message read, and then this many bytes are left for this reason.
+fn check_end(message: &[u8], read: u32, rest: usize, refusal: Option<(Section, Refusal)>) {
+    let Ok(packet) = Packet::new_checked(message) else {
+        panic!("no message");
+    };
+    let mut left = Entries::new(&packet);
+    for _ in 0..read {
+        same_of(message, left.refusal(), None);
+        same_of(message, matches!(left.next(), Some(Ok(_))), true);
+    }
+    same_of(message, left.refusal(), None);
+    // Once more behind the end, which changes nothing.
+    for _ in 0..2 {
+        same_of(message, matches!(left.next(), Some(Ok(_))), false);
+        same_of(message, left.refusal(), refusal);
+        same_of(message, left.rest().len(), rest);
+    }
+}
+
+#[test]
+fn why_and_where_entries_end() {
+    check_end(&RESPONSE, 3, 0, None);
+    // The data of the second answer, which begins at 63, is cut; then its fields, then its name.
+    check_end(
+        &RESPONSE[..78],
+        2,
+        15,
+        Some((Section::Answer, Refusal::Data)),
+    );
+    check_end(
+        &RESPONSE[..74],
+        2,
+        11,
+        Some((Section::Answer, Refusal::Fields)),
+    );
+    let cut = Refusal::Name(PartRefusal::Cut);
+    check_end(&RESPONSE[..64], 2, 1, Some((Section::Answer, cut)));
+    // The question, of which the last byte is missing.
+    check_end(
+        &QUERY[..28],
+        0,
+        16,
+        Some((Section::Question, Refusal::Fields)),
+    );
+    let mut authority = RESPONSE;
+    authority[7] = 2;
+    authority[9] = 1;
+    check_end(&authority, 3, 0, Some((Section::Authority, cut)));
+    let mut label = QUERY;
+    label[29] = 0x80;
+    let kind = Refusal::Name(PartRefusal::LabelType(0x80));
+    check_end(&label, 1, 11, Some((Section::Additional, kind)));
 }

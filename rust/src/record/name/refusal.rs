@@ -31,7 +31,7 @@ impl fmt::Display for NameRefusal {
 }
 
 /// Why no name of 255 octets at most begins in bytes and goes on in a message.
-pub(super) fn why_no_name<'a>(message: &'a [u8], bytes: &'a [u8]) -> NameRefusal {
+pub(crate) fn why_no_name<'a>(message: &'a [u8], bytes: &'a [u8]) -> NameRefusal {
     let mut left = bytes;
     // The bytes of the message that are open.
     let mut reach = message;

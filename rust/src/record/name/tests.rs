@@ -87,7 +87,7 @@ fn texts_that_are_no_names() {
 }
 
 // Labels of 63 bytes, so many, and then the rest.
-fn long_name(labels: usize, rest: &str) -> ArrayString<300> {
+pub(super) fn long_name(labels: usize, rest: &str) -> ArrayString<300> {
     let mut text = ArrayString::new();
     for _ in 0..labels {
         let _ =

@@ -40,8 +40,8 @@ pub(super) enum Behind<'a> {
     Other,
 }
 
-// What stands behind the text of a label.
-fn read_behind(text: &[u8]) -> Behind<'_> {
+/// What stands behind the text of a label.
+pub(super) fn read_behind(text: &[u8]) -> Behind<'_> {
     match text {
         [] => Behind::End,
         [b'.'] => Behind::End,
@@ -50,9 +50,9 @@ fn read_behind(text: &[u8]) -> Behind<'_> {
     }
 }
 
-// Reads a label's text, up to where no more characters stand, and gives what stands there. Refused where the label
-// would be empty or has more than 63 bytes.
-fn read_label(text: &[u8]) -> Result<(ArrayVec<u8, MAX_LABEL_LEN>, &[u8])> {
+/// Reads a label's text, up to where no more characters stand, and gives what stands there. Refused where the label
+/// would be empty or has more than 63 bytes.
+pub(super) fn read_label(text: &[u8]) -> Result<(ArrayVec<u8, MAX_LABEL_LEN>, &[u8])> {
     let mut label = ArrayVec::new();
     let mut left = text;
     while let Some((byte, rest)) = read_byte(left) {
@@ -67,8 +67,8 @@ fn read_label(text: &[u8]) -> Result<(ArrayVec<u8, MAX_LABEL_LEN>, &[u8])> {
     Ok((label, left))
 }
 
-// The byte that the first character of a text stands for, and what stands behind the character.
-fn read_byte(text: &[u8]) -> Option<(u8, &[u8])> {
+/// The byte that the first character of a text stands for, and what stands behind the character.
+pub(super) fn read_byte(text: &[u8]) -> Option<(u8, &[u8])> {
     match text {
         [b'\\', rest @ ..] => read_quoted(rest),
         [byte, rest @ ..] if is_plain(*byte) => Some((*byte, rest)),
@@ -180,8 +180,8 @@ fn make_room(
     Ok(0)
 }
 
-// Writes what waits.
-fn write_piece(f: &mut fmt::Formatter<'_>, text: &[u8]) -> fmt::Result {
+/// Writes what waits.
+pub(crate) fn write_piece(f: &mut fmt::Formatter<'_>, text: &[u8]) -> fmt::Result {
     // ASCII is UTF-8.
     f.write_str(core::str::from_utf8(text).unwrap_or(""))
 }

@@ -3,7 +3,7 @@
 
 use super::{
     A, AAAA, ANY, AXFR, CAA, CNAME, DNAME, DNSKEY, DS, HINFO, HTTPS, IXFR, MX, NAPTR, NS, NSEC,
-    NSEC3, OPT, PTR, RRSIG, SOA, SPF, SRV, SSHFP, SVCB, TLSA, TXT, TypeName,
+    NSEC3, OPT, PTR, RRSIG, SOA, SPF, SRV, SSHFP, SVCB, TLSA, TXT,
 };
 use crate::dns_wire::dns::Type;
 use crate::record::testing::{prints, same_of};
@@ -45,7 +45,7 @@ const ROWS: &[(Type, &str, u16)] = &[
 #[test]
 fn types_of_the_registry() {
     for &(type_, mnemonic, number) in ROWS {
-        prints(&TypeName(type_), mnemonic);
+        prints(&type_, mnemonic);
         same_of(mnemonic, u16::from(type_), number);
     }
 }
@@ -59,4 +59,10 @@ fn is_of_signatures(type_: Type) -> bool {
 fn types_in_patterns() {
     same_of("DS", is_of_signatures(Type::from(43)), true);
     same_of("A", is_of_signatures(Type::from(1)), false);
+}
+
+#[test]
+fn mnemonics_of_types() {
+    same_of(257, Type::from(257).mnemonic(), Some("CAA"));
+    same_of(14, Type::from(14).mnemonic(), None);
 }

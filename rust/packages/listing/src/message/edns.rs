@@ -4,51 +4,37 @@
 use crate::message::Unread;
 use crate::printer::{Value, part_field};
 use crate::zone::{NameText, word};
-use control_wire::Octets;
 use control_wire::dns::Packet;
-use control_wire::record::Record;
+use control_wire::record::{Edns, EdnsOption, Record};
 use rattle_std::io;
 use rattle_std::io::Write;
 
-// The fields of an option.
-mod field {
-    use control_wire::Field;
-
-    pub const CODE: Field = 0..2;
-
-    pub const LENGTH: Field = 2..4;
-
-    pub const DATA: usize = 4;
-}
-
-/// The type of an OPT record.
-pub const OPT: u16 = 41;
-
-/// Prints an OPT record.
+/// Prints an OPT record, which says this.
 pub fn show_opt<'a, W: Write>(
     output: &mut W,
     margin: &str,
     packet: &Packet<&'a [u8]>,
     record: &Record<'a>,
+    edns: &Edns<'a>,
 ) -> io::Result<Option<Unread>> {
     let mut owner = NameText::new();
     if !owner.read(packet, record.name) {
         return Ok(Some(Unread::Name));
     }
-    if !are_options(record.data) {
+    if !are_options(edns.options) {
         return Ok(Some(Unread::Data));
     }
-    show_sender(output, margin, record)?;
-    show_options(output, margin, record.data)?;
+    show_sender(output, margin, edns)?;
+    show_options(output, margin, edns.options)?;
     Ok(None)
 }
 
 // Prints what the record says of its sender.
-fn show_sender<W: Write>(output: &mut W, margin: &str, record: &Record<'_>) -> io::Result<()> {
-    opt_field(output, margin, "udp_size", record.class)?;
-    opt_field(output, margin, "extended_rcode", record.ttl >> 24)?;
-    opt_field(output, margin, "version", (record.ttl >> 16) % 256)?;
-    opt_field(output, margin, "flags", record.ttl % 0x10000)
+fn show_sender<W: Write>(output: &mut W, margin: &str, edns: &Edns<'_>) -> io::Result<()> {
+    opt_field(output, margin, "udp_size", edns.payload_size)?;
+    opt_field(output, margin, "extended_rcode", edns.extended_rcode)?;
+    opt_field(output, margin, "version", edns.version)?;
+    opt_field(output, margin, "flags", edns.flags)
 }
 
 // Prints a field of the record.
@@ -62,13 +48,7 @@ fn opt_field<V: Value, W: Write>(
     part_field(output, "opt.", name, value)
 }
 
-// An option.
-#[derive(Clone, Copy)]
-struct EdnsOption<'a> {
-    code: u16,
-    data: &'a [u8],
-}
-
+// The code and the data of an option.
 impl Value for EdnsOption<'_> {
     fn write_to<W: Write>(self, output: &mut W) -> io::Result<()> {
         self.code.write_to(output)?;
@@ -76,30 +56,13 @@ impl Value for EdnsOption<'_> {
     }
 }
 
-// The option at the front of octets, and what stands behind it. None where no whole option stands.
-fn split_option(octets: &[u8]) -> Option<(EdnsOption<'_>, &[u8])> {
-    if octets.len() < field::DATA {
-        return None;
-    }
-    let len = octets.u16_at(field::LENGTH) as usize;
-    let behind = &octets[field::DATA..];
-    if behind.len() < len {
-        return None;
-    }
-    let option = EdnsOption {
-        code: octets.u16_at(field::CODE),
-        data: &behind[..len],
-    };
-    Some((option, &behind[len..]))
-}
-
 // Whether these bytes are options, one after another, and nothing more.
 fn are_options(octets: &[u8]) -> bool {
     let mut left = octets;
     while !left.is_empty() {
-        match split_option(left) {
-            Some((_, rest)) => left = rest,
-            None => return false,
+        match EdnsOption::parse(left) {
+            Ok((rest, _)) => left = rest,
+            Err(_) => return false,
         }
     }
     true
@@ -108,7 +71,7 @@ fn are_options(octets: &[u8]) -> bool {
 // Prints options.
 fn show_options<W: Write>(output: &mut W, margin: &str, octets: &[u8]) -> io::Result<()> {
     let mut left = octets;
-    while let Some((option, rest)) = split_option(left) {
+    while let Ok((rest, option)) = EdnsOption::parse(left) {
         opt_field(output, margin, "option", option)?;
         left = rest;
     }

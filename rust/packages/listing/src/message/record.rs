@@ -4,20 +4,11 @@
 use crate::message::Unread;
 use crate::message::data::show_data;
 use crate::zone::{NameText, class_word, type_word, word};
-use control_wire::Result;
 use control_wire::dns::{Packet, Type};
 use control_wire::record::rdata::RData;
 use control_wire::record::{Question, Record, Section};
 use rattle_std::io;
 use rattle_std::io::Write;
-
-// The bit of a class that is no part of it in multicast DNS.
-const TOP_BIT: u16 = 0x8000;
-
-// The classes of an update's records without data.
-const CLASS_NONE: u16 = 254;
-
-const CLASS_ANY: u16 = 255;
 
 /// Prints a question.
 pub fn show_question<'a, W: Write>(
@@ -32,11 +23,11 @@ pub fn show_question<'a, W: Write>(
         return Ok(Some(Unread::Name));
     }
     write_front(output, margin, Section::Question, &owner)?;
-    class_word(output, class_in(is_multicast, question.class))?;
-    type_word(output, u16::from(question.type_))?;
+    class_word(output, question_class(is_multicast, question))?;
+    type_word(output, question.type_)?;
     end_line(
         output,
-        has_top_bit(is_multicast, question.class),
+        wants_unicast(is_multicast, question),
         "unicast-response",
     )?;
     Ok(None)
@@ -60,31 +51,18 @@ pub fn show_record<'a, W: Write>(
         section,
         owner: &owner,
         ttl: record.ttl,
-        class: class_in(is_multicast, record.class),
-        kind: u16::from(record.type_),
+        class: record_class(is_multicast, record),
+        kind: record.type_,
     };
-    let Ok(data) = read_data(record.type_, line.class, record.data) else {
+    let Ok(data) = RData::parse_update(record.type_, line.class, record.data) else {
         return Ok(Some(Unread::Data));
     };
     let unread = show_data(output, packet, &line, &data)?;
     if unread.is_some() {
         return Ok(unread);
     }
-    end_line(
-        output,
-        has_top_bit(is_multicast, record.class),
-        "cache-flush",
-    )?;
+    end_line(output, flushes_cache(is_multicast, record), "cache-flush")?;
     Ok(None)
-}
-
-// The data of a record. An update has records of class NONE or ANY without data, whatever their type (RFC 2136 section
-// 2.5).
-fn read_data(type_: Type, class: u16, octets: &[u8]) -> Result<RData<'_>> {
-    if octets.is_empty() && (class == CLASS_NONE || class == CLASS_ANY) {
-        return Ok(RData::Other(octets));
-    }
-    RData::parse(type_, class, octets)
 }
 
 /// The line of a record up to its data.
@@ -95,7 +73,7 @@ pub struct Line<'a> {
     owner: &'a NameText,
     ttl: u32,
     class: u16,
-    kind: u16,
+    kind: Type,
 }
 
 /// Writes the line of a record up to its data.
@@ -106,7 +84,8 @@ pub fn write_line<W: Write>(output: &mut W, line: &Line<'_>) -> io::Result<()> {
     type_word(output, line.kind)
 }
 
-// The front of a line, up to the name.
+// The front of a line, up to the name. Inlined, the name of a section that the caller knows is copied without a call.
+#[inline(always)]
 fn write_front<W: Write>(
     output: &mut W,
     margin: &str,
@@ -133,15 +112,28 @@ fn end_line<W: Write>(output: &mut W, is_marked: bool, mark: &str) -> io::Result
     output.write_all(b"\n")
 }
 
-// The class, which in multicast DNS is without its top bit.
-fn class_in(is_multicast: bool, class: u16) -> u16 {
+// The class of a question, which in multicast DNS is without its top bit.
+fn question_class(is_multicast: bool, question: &Question<'_>) -> u16 {
     if is_multicast {
-        return class % TOP_BIT;
+        return question.multicast_class();
     }
-    class
+    question.class
 }
 
-// Whether the top bit is set that is no part of a class.
-fn has_top_bit(is_multicast: bool, class: u16) -> bool {
-    is_multicast && class >= TOP_BIT
+// The class of a record, which in multicast DNS is without its top bit.
+fn record_class(is_multicast: bool, record: &Record<'_>) -> u16 {
+    if is_multicast {
+        return record.multicast_class();
+    }
+    record.class
+}
+
+// Whether a question of multicast DNS wants its answer sent to the asker alone.
+fn wants_unicast(is_multicast: bool, question: &Question<'_>) -> bool {
+    is_multicast && question.wants_unicast()
+}
+
+// Whether a record of multicast DNS tells caches to drop what they have.
+fn flushes_cache(is_multicast: bool, record: &Record<'_>) -> bool {
+    is_multicast && record.flushes_cache()
 }

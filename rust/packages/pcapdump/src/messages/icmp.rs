@@ -3,29 +3,14 @@
 
 use crate::Fault;
 use crate::kind::Reason;
-use crate::messages::{refuse, write_page};
-use control_wire::icmpv6;
-use control_wire::quotes::{icmpv4_error, icmpv6_error};
-use control_wire::{ChecksumCapabilities, Ipv6Address, checksum};
-use control_wire::{icmpv4, igmp};
+use crate::messages::{refuse_message, write_page};
+use crate::refusal::Refusal;
+use control_wire::igmp;
+use control_wire::quotes::message::{Icmpv4Message, Icmpv6Message};
+use control_wire::{ChecksumCapabilities, Ipv6Address};
 use listing::page::{MARGIN, Page};
 use listing::{icmp4, icmp4_error, icmp6, icmp6_error};
 use rattle_std::io::Write;
-
-// The type of a message, and 0 where there is none.
-fn type_of(octets: &[u8]) -> u8 {
-    match octets.first() {
-        Some(number) => *number,
-        None => 0,
-    }
-}
-
-// ---- ICMPv4
-
-// Whether this is the type of an error (RFC 792).
-fn is_error4(number: u8) -> bool {
-    number == 3 || number == 4 || number == 5 || number == 11 || number == 12
-}
 
 /// Prints a message of ICMPv4.
 pub fn show_icmp4<W: Write>(
@@ -33,64 +18,18 @@ pub fn show_icmp4<W: Write>(
     page: &mut Page,
     octets: &[u8],
 ) -> Result<Option<Reason>, Fault> {
-    if is_error4(type_of(octets)) {
-        return show_error4(output, octets);
-    }
-    show_message4(output, page, octets)
-}
-
-fn show_message4<W: Write>(
-    output: &mut W,
-    page: &mut Page,
-    octets: &[u8],
-) -> Result<Option<Reason>, Fault> {
-    let packet = icmpv4::Packet::new_unchecked(octets);
-    match icmpv4::Repr::parse(&packet, &ChecksumCapabilities::default()) {
-        Ok(message) => {
-            icmp4::show_indented(output, page, &message)?;
-            Ok(None)
-        }
-        Err(_) => refuse(output, why_no_message4(octets)),
-    }
-}
-
-fn show_error4<W: Write>(output: &mut W, octets: &[u8]) -> Result<Option<Reason>, Fault> {
-    match icmpv4_error::Repr::parse(octets, &ChecksumCapabilities::default()) {
-        Ok(error) => {
+    match Icmpv4Message::parse_or_refusal(octets, &ChecksumCapabilities::default()) {
+        Ok(Icmpv4Message::Error(error)) => {
             icmp4_error::show_error(output, MARGIN, &error)?;
             Ok(None)
         }
-        Err(_) => refuse(output, why_no_error4(octets)),
+        Ok(Icmpv4Message::Message(message)) => {
+            icmp4::show_indented(output, page, &message)?;
+            Ok(None)
+        }
+        Err(refusal) => refuse_message(output, &Refusal::Icmp4(refusal)),
     }
 }
-
-// Why this is no error.
-fn why_no_error4(octets: &[u8]) -> Reason {
-    if octets.len() < 8 {
-        return Reason::Short;
-    }
-    if !checksum::is_good(octets, 0) {
-        return Reason::Checksum;
-    }
-    Reason::Quote
-}
-
-// Why this is no other message.
-fn why_no_message4(octets: &[u8]) -> Reason {
-    if octets.len() < 8 {
-        return Reason::Short;
-    }
-    if !checksum::is_good(octets, 0) {
-        return Reason::Checksum;
-    }
-    let number = type_of(octets);
-    if number != 8 && number != 0 {
-        return Reason::UnknownType;
-    }
-    Reason::Malformed
-}
-
-// ---- IGMP
 
 /// Prints a message of IGMP.
 pub fn show_igmp<W: Write>(
@@ -98,32 +37,14 @@ pub fn show_igmp<W: Write>(
     page: &mut Page,
     octets: &[u8],
 ) -> Result<Option<Reason>, Fault> {
-    match igmp::Repr::parse(&igmp::Packet::new_unchecked(octets)) {
+    match igmp::Repr::parse_or_refusal(&igmp::Packet::new_unchecked(octets)) {
         Ok(message) => {
             page.clear();
             listing::igmp::show_message(page, message)?;
             write_page(output, page.as_slice())
         }
-        Err(_) => refuse(output, why_no_group(octets)),
+        Err(refusal) => refuse_message(output, &Refusal::Igmp(refusal)),
     }
-}
-
-// Why this is no message of IGMP.
-fn why_no_group(octets: &[u8]) -> Reason {
-    if octets.len() < 8 {
-        return Reason::Short;
-    }
-    match type_of(octets) {
-        0x11 | 0x12 | 0x16 | 0x17 => Reason::Malformed,
-        _ => Reason::UnknownType,
-    }
-}
-
-// ---- ICMPv6
-
-// Whether this is the type of an error (RFC 4443 section 2.1).
-fn is_error6(number: u8) -> bool {
-    number == 1 || number == 2 || number == 3 || number == 4
 }
 
 /// Prints a message of ICMPv6 from one address to another.
@@ -134,88 +55,16 @@ pub fn show_icmp6<W: Write>(
     dst_addr: &Ipv6Address,
     octets: &[u8],
 ) -> Result<Option<Reason>, Fault> {
-    if is_error6(type_of(octets)) {
-        return show_error6(output, src_addr, dst_addr, octets);
-    }
-    show_message6(output, page, src_addr, dst_addr, octets)
-}
-
-fn show_message6<W: Write>(
-    output: &mut W,
-    page: &mut Page,
-    src_addr: &Ipv6Address,
-    dst_addr: &Ipv6Address,
-    octets: &[u8],
-) -> Result<Option<Reason>, Fault> {
-    let packet = icmpv6::Packet::new_unchecked(octets);
-    match icmpv6::Repr::parse(
-        src_addr,
-        dst_addr,
-        &packet,
-        &ChecksumCapabilities::default(),
-    ) {
-        Ok(message) => {
-            icmp6::show_indented(output, page, &message)?;
-            Ok(None)
-        }
-        Err(_) => refuse(output, why_no_message6(src_addr, dst_addr, octets)),
-    }
-}
-
-fn show_error6<W: Write>(
-    output: &mut W,
-    src_addr: &Ipv6Address,
-    dst_addr: &Ipv6Address,
-    octets: &[u8],
-) -> Result<Option<Reason>, Fault> {
-    match icmpv6_error::Repr::parse(src_addr, dst_addr, octets, &ChecksumCapabilities::default()) {
-        Ok(error) => {
+    let checksums = ChecksumCapabilities::default();
+    match Icmpv6Message::parse_or_refusal(src_addr, dst_addr, octets, &checksums) {
+        Ok(Icmpv6Message::Error(error)) => {
             icmp6_error::show_error(output, MARGIN, &error)?;
             Ok(None)
         }
-        Err(_) => refuse(output, why_no_error6(src_addr, dst_addr, octets)),
+        Ok(Icmpv6Message::Message(message)) => {
+            icmp6::show_indented(output, page, &message)?;
+            Ok(None)
+        }
+        Err(refusal) => refuse_message(output, &Refusal::Icmp6(refusal)),
     }
-}
-
-// Whether a message carries its checksum.
-fn is_good6(src_addr: &Ipv6Address, dst_addr: &Ipv6Address, octets: &[u8]) -> bool {
-    icmpv6::Packet::new_unchecked(octets).verify_checksum(src_addr, dst_addr)
-}
-
-// Why this is no error.
-fn why_no_error6(src_addr: &Ipv6Address, dst_addr: &Ipv6Address, octets: &[u8]) -> Reason {
-    if octets.len() < 8 {
-        return Reason::Short;
-    }
-    if !is_good6(src_addr, dst_addr, octets) {
-        return Reason::Checksum;
-    }
-    Reason::Quote
-}
-
-// Why this is no other message.
-fn why_no_message6(src_addr: &Ipv6Address, dst_addr: &Ipv6Address, octets: &[u8]) -> Reason {
-    if octets.len() < 4 {
-        return Reason::Short;
-    }
-    let packet = icmpv6::Packet::new_unchecked(octets);
-    let is_read = is_read(packet.msg_type());
-    if is_read && packet.check_len().is_err() {
-        return Reason::Short;
-    }
-    if !packet.verify_checksum(src_addr, dst_addr) {
-        return Reason::Checksum;
-    }
-    if !is_read {
-        return Reason::UnknownType;
-    }
-    Reason::Malformed
-}
-
-// Whether messages of this type are read.
-fn is_read(message: icmpv6::Message) -> bool {
-    !matches!(
-        message,
-        icmpv6::Message::RplControl | icmpv6::Message::Unknown(_)
-    )
 }

@@ -3,10 +3,11 @@
 
 use crate::Fault;
 use crate::kind::Reason;
-use crate::messages::{refuse, write_page};
+use crate::messages::{refuse_message, write_page};
+use crate::refusal::Refusal;
 use control_wire::ChecksumCapabilities;
 use control_wire::dhcpv4;
-use control_wire::frames::{Addresses, UdpPacket, UdpRepr};
+use control_wire::frames::{Addresses, UdpPacket, UdpRepr, udp};
 use listing::dhcp::show_packet;
 use listing::message::{Unread, show_message};
 use listing::page::{MARGIN, Page};
@@ -21,7 +22,7 @@ pub fn show_dns<W: Write>(
 ) -> Result<Option<Reason>, Fault> {
     match open(addresses, octets) {
         Ok(payload) => show_dns_message(output, payload, is_multicast),
-        Err(reason) => refuse(output, reason),
+        Err(refusal) => refuse_message(output, &Refusal::Udp(refusal)),
     }
 }
 
@@ -34,33 +35,17 @@ pub fn show_dhcp<W: Write>(
 ) -> Result<Option<Reason>, Fault> {
     match open(addresses, octets) {
         Ok(payload) => show_dhcp_packet(output, page, payload),
-        Err(reason) => refuse(output, reason),
+        Err(refusal) => refuse_message(output, &Refusal::Udp(refusal)),
     }
 }
 
 // The payload of a datagram of UDP, or why that is refused.
-fn open<'a>(addresses: &Addresses, octets: &'a [u8]) -> Result<&'a [u8], Reason> {
+fn open<'a>(addresses: &Addresses, octets: &'a [u8]) -> Result<&'a [u8], udp::Refusal> {
     let packet = UdpPacket::new_unchecked(octets);
-    match UdpRepr::parse(&packet, addresses, &ChecksumCapabilities::default()) {
+    match UdpRepr::parse_or_refusal(&packet, addresses, &ChecksumCapabilities::default()) {
         Ok(_) => Ok(packet.payload()),
-        Err(_) => Err(why_no_datagram(addresses, &packet)),
+        Err(refusal) => Err(refusal),
     }
-}
-
-// Why this is no datagram of UDP.
-fn why_no_datagram(addresses: &Addresses, packet: &UdpPacket<&[u8]>) -> Reason {
-    if packet.check_len().is_err() {
-        return Reason::Short;
-    }
-    if !has_checksum(addresses, packet) {
-        return Reason::Checksum;
-    }
-    Reason::Malformed
-}
-
-// Whether a datagram carries its checksum, or over IPv4 none.
-fn has_checksum(addresses: &Addresses, packet: &UdpPacket<&[u8]>) -> bool {
-    (addresses.is_v4() && packet.checksum() == 0) || packet.verify_checksum(addresses)
 }
 
 fn show_dns_message<W: Write>(
@@ -69,18 +54,16 @@ fn show_dns_message<W: Write>(
     is_multicast: bool,
 ) -> Result<Option<Reason>, Fault> {
     match show_message(output, MARGIN, octets, is_multicast)? {
-        Some(unread) => refuse(output, reason_of(octets, unread)),
+        Some(unread) => refuse_message(output, &refusal_of(octets, unread)),
         None => Ok(None),
     }
 }
 
 // Why a message is not listed to its end.
-fn reason_of(octets: &[u8], unread: Unread) -> Reason {
+fn refusal_of(octets: &[u8], unread: Unread) -> Refusal {
     match unread {
-        Unread::Entry if octets.len() < 12 => Reason::Short,
-        Unread::Entry => Reason::Malformed,
-        Unread::Name => Reason::Name,
-        Unread::Data => Reason::Malformed,
+        Unread::Entry if octets.len() < 12 => Refusal::DnsHeader,
+        other => Refusal::Dns(other),
     }
 }
 
@@ -89,20 +72,21 @@ fn show_dhcp_packet<W: Write>(
     page: &mut Page,
     octets: &[u8],
 ) -> Result<Option<Reason>, Fault> {
-    match dhcpv4::Repr::parse(&dhcpv4::Packet::new_unchecked(octets)) {
+    let packet = dhcpv4::Packet::new_unchecked(octets);
+    match dhcpv4::Repr::parse(&packet) {
         Ok(packet) => {
             page.clear();
             show_packet(page, &packet)?;
             write_page(output, page.as_slice())
         }
-        Err(_) => refuse(output, why_no_packet(octets)),
+        Err(_) => refuse_message(output, &Refusal::Dhcp(why_no_packet(&packet))),
     }
 }
 
-// Why this is no packet of DHCP.
-fn why_no_packet(octets: &[u8]) -> Reason {
-    if octets.len() < 240 {
-        return Reason::Short;
+// Why this is no packet of DHCP. There is a reason then, so the one that would stand for it is never told.
+fn why_no_packet(packet: &dhcpv4::Packet<&[u8]>) -> dhcpv4::Refusal {
+    match dhcpv4::Repr::refusal(packet) {
+        Some(refusal) => refusal,
+        None => dhcpv4::Refusal::Short,
     }
-    Reason::Malformed
 }

@@ -53,7 +53,7 @@ pub const PACKETS: &[(&str, &str)] = &[
     (
         "45000028123440004011a45ac0000201c00002359c4000350014df19000000000000000000000001",
         "4 2024-05-01T12:34:59.000000000Z 192.0.2.1:40000 > 192.0.2.53:53 dns\n\
-            \x20 refused=checksum\n",
+            \x20 refused=the checksum does not hold\n",
     ),
     // Multicast DNS.
     (
@@ -192,7 +192,8 @@ pub const PACKETS: &[(&str, &str)] = &[
     (
         "4500002c123400024011e454c0000201c00002359c4000350018df1100000000000000000000000000000000",
         "12 2024-05-01T12:35:07.000000000Z 192.0.2.1 > 192.0.2.53 frame\n\
-            \x20 refused=fragment\n",
+            \x20 refused=a fragment, 192.0.2.1 > 192.0.2.53 protocol=UDP ident=4660 frag_offset=16 \
+            more_frags=false\n",
     ),
     // DNS with a name that leads to itself.
     (
@@ -202,7 +203,7 @@ pub const PACKETS: &[(&str, &str)] = &[
             \x20 flags=rd\n\
             \x20 opcode=0\n\
             \x20 rcode=0\n\
-            \x20 refused=name\n",
+            \x20 refused=a name does not read\n",
     ),
 ];
 

@@ -89,6 +89,8 @@ fn why_headers_are_refused() {
             set(octets.as_mut_slice(), place, byte);
         }
         same_of(bytes, told(octets.as_slice()), Some(wanted));
+        let read = Repr::parse_or_refusal(&Packet::new_unchecked(octets.as_slice()));
+        same_of(bytes, read.err(), Some(wanted));
     }
     same(told(&[1; 239]), Some(Refusal::Short));
     same(told(&[]), Some(Refusal::Short));

@@ -50,7 +50,11 @@ fn kinds_of_query_print_their_names_by_number() {
         (Opcode::Query, "QUERY"),
         (Opcode::Status, "IQUERY"),
         (Opcode::Unknown(2), "STATUS"),
-        (Opcode::Unknown(6), "OPCODE6"),
+        (Opcode::Unknown(3), "OPCODE3"),
+        (Opcode::Unknown(4), "NOTIFY"),
+        (Opcode::Unknown(5), "UPDATE"),
+        (Opcode::Unknown(6), "DSO"),
+        (Opcode::Unknown(7), "OPCODE7"),
     ];
     for (opcode, text) in ROWS {
         prints(opcode, text);

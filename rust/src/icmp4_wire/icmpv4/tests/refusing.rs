@@ -63,6 +63,20 @@ fn quotes_that_are_refused() {
 }
 
 #[test]
+fn messages_are_read_or_told_why_they_are_refused() {
+    let message = Repr::EchoRequest {
+        ident: 0x1234,
+        seq_no: 0xabcd,
+        data: &[0xaa, 0x00, 0x00, 0xff],
+    };
+    let whole = Packet::new_unchecked(&ECHO_REQUEST[..]);
+    same(Repr::parse_or_refusal(&whole, &ALL), Ok(message));
+    let cut = Packet::new_unchecked(&ECHO_REQUEST[..11]);
+    let refusal = Refusal::Checksum;
+    same(Repr::parse_or_refusal(&cut, &ALL), Err(refusal));
+}
+
+#[test]
 fn a_wrong_checksum_is_told_before_the_type() {
     let mut octets = ECHO_REQUEST;
     octets[0] = 0x2a;

@@ -2,7 +2,7 @@
 use super::{ECHO, TOO_BIG, all, behind, destination, source};
 use crate::icmp6_wire::icmpv6::{Packet, Refusal, Repr};
 use crate::icmp6_wire::ndisc;
-use crate::icmp6_wire::testing::{prints, same_of};
+use crate::icmp6_wire::testing::{prints, same, same_of};
 use crate::wirebase::capabilities::Checksum;
 
 // Checks why these octets are refused, where their checksum is verified or not.
@@ -10,6 +10,12 @@ fn check_refusal(octets: &[u8], checksum: Checksum, wanted: Option<Refusal>) {
     let packet = Packet::new_unchecked(octets);
     let refusal = Repr::refusal(&source(), &destination(), &packet, &all(checksum));
     same_of(octets, refusal, wanted);
+}
+
+// Checks what is read in a packet whose checksum is verified, or why it is refused.
+fn check_read(packet: &Packet<&[u8]>, wanted: &Result<Repr<'_>, Refusal>) {
+    let read = Repr::parse_or_refusal(&source(), &destination(), packet, &all(Checksum::Both));
+    same(&read, wanted);
 }
 
 #[test]
@@ -24,6 +30,24 @@ fn the_first_check_that_fails_is_told() {
     check_refusal(&query, Checksum::Both, Some(Refusal::Length));
     let report = [0x8f, 1, 0, 0, 0, 0, 0, 0];
     check_refusal(&report, Checksum::None, Some(Refusal::Code(1)));
+}
+
+#[test]
+fn messages_are_read_or_told_why_they_are_refused() {
+    let whole = Packet::new_unchecked(&ECHO[..]);
+    let message = Repr::EchoRequest {
+        ident: 0x1234,
+        seq_no: 0xabcd,
+        data: &[0xaa, 0x00, 0x00, 0xff],
+    };
+    check_read(&whole, &Ok(message));
+    check_read(&Packet::new_unchecked(&ECHO[..11]), &Err(Refusal::Checksum));
+    // The messages of version 1 of multicast listener discovery but for its queries (RFC 2710 section 3.1).
+    for number in [131, 132] {
+        let octets = [number, 0, 0, 0, 0, 0, 0, 0];
+        let packet = Packet::new_unchecked(&octets[..]);
+        check_read(&packet, &Err(Refusal::UnknownType(number)));
+    }
 }
 
 #[test]

@@ -1,8 +1,10 @@
 // Made from crates/icmp6_wire/src/ndisc/tests/options.rt by rust/erase.
 use super::{REDIRECT, THREE_MTUS, check_read, check_refused, check_written, here, read, there};
+use crate::icmp6_wire::icmpv6::Packet;
 use crate::icmp6_wire::ndisc::Repr;
-use crate::icmp6_wire::testing::{holds_of, same_of};
-use crate::wirebase::RawHardwareAddress;
+use crate::icmp6_wire::testing::{holds_of, same, same_of};
+use crate::opt_wire::ndiscoption;
+use crate::wirebase::{Error, RawHardwareAddress};
 
 // The MTU that a router advertisement with these options tells; nothing where it is refused.
 fn mtu_of(bytes: &[u8]) -> Option<Option<u32>> {
@@ -55,6 +57,15 @@ fn check_option(kind: u8, units: u8, len: usize, wanted: Option<Option<u32>>) {
     octets[17] = units;
     let part = octets.get(..len).expect("64 octets are enough");
     check_mtu(part, wanted);
+}
+
+#[test]
+fn options_of_a_message_in_turn() {
+    let octets: &[u8] = &SKIPPED_FIRST;
+    let mut options = Packet::new_unchecked(octets).ndisc_options();
+    same(options.next(), Some(Err(Error)));
+    same(options.next(), Some(Ok(ndiscoption::Repr::Mtu(1_500))));
+    same(options.next(), None);
 }
 
 #[test]

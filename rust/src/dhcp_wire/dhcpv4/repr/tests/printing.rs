@@ -1,6 +1,6 @@
 // Made from crates/dhcp_wire/src/dhcpv4/repr/tests/printing.rt by rust/erase.
 use super::{bare, five_servers, with_options};
-use crate::dhcp_wire::dhcpv4::{DhcpOption, MessageType, OpCode};
+use crate::dhcp_wire::dhcpv4::{DhcpOption, Flags, MessageType, OpCode};
 use crate::dhcp_wire::testing::{prints, prints_each, takes_writes};
 use crate::wirebase::{EthernetAddress, Ipv4Address};
 
@@ -86,7 +86,10 @@ fn types_operations_and_options() {
     };
     prints_each::<MessageType>(TYPES);
     prints_each::<OpCode>(OPERATIONS);
-    prints(&OPTION, "option 53 len=1");
+    prints(&OPTION, "message-type=DISCOVER");
+    prints(&Flags::BROADCAST, "broadcast");
+    prints(&Flags::from_bits_retain(0xffff), "broadcast");
+    prints(&Flags::from_bits_retain(0x7fff), "-");
 }
 
 #[test]

@@ -1,0 +1,166 @@
+// Made from crates/pcapdump/src/refusal.rt by rust/erase.
+//! Why a control packet is refused.
+
+use crate::kind::Reason;
+use control_wire::dhcpv4;
+use control_wire::frames::{link, udp};
+use control_wire::icmpv6;
+use control_wire::quotes::message::{Icmpv4Refusal, Icmpv6Refusal};
+use control_wire::quotes::{icmpv4_error, icmpv6_error};
+use control_wire::{icmpv4, igmp};
+use listing::message::Unread;
+use std::fmt;
+
+/// Why a control packet is refused, as the library tells it that reads such packets.
+#[derive(Debug, PartialEq, Eq, Clone, Copy)]
+pub enum Refusal {
+    /// The frame of the link is refused.
+    Frame(link::Refusal),
+    /// The datagram of IP is.
+    Datagram(control_wire::frames::Refusal),
+    /// The datagram of UDP is.
+    Udp(udp::Refusal),
+    /// The message of ICMPv4 is.
+    Icmp4(Icmpv4Refusal),
+    /// The message of IGMP is.
+    Igmp(igmp::Refusal),
+    /// The message of ICMPv6 is.
+    Icmp6(Icmpv6Refusal),
+    /// The packet of DHCP is.
+    Dhcp(dhcpv4::Refusal),
+    /// The message of DNS has fewer bytes than its header, 12.
+    DnsHeader,
+    /// The message of DNS is not listed to its end.
+    Dns(Unread),
+}
+
+impl Refusal {
+    /// The reason under which the packet is counted. What ends too early was cut where the capture kept less of the
+    /// packet than there was.
+    pub fn reason(self, is_cut: bool) -> Reason {
+        match self {
+            Refusal::Frame(refusal) => frame_reason(is_cut, refusal),
+            Refusal::Datagram(refusal) => datagram_reason(is_cut, refusal),
+            Refusal::Udp(refusal) => udp_reason(refusal),
+            Refusal::Icmp4(refusal) => icmp4_reason(refusal),
+            Refusal::Igmp(refusal) => igmp_reason(refusal),
+            Refusal::Icmp6(refusal) => icmp6_reason(refusal),
+            Refusal::Dhcp(refusal) => dhcp_reason(refusal),
+            Refusal::DnsHeader => Reason::Short,
+            Refusal::Dns(unread) => dns_reason(unread),
+        }
+    }
+}
+
+// Of what ends too early.
+fn early(is_cut: bool) -> Reason {
+    if is_cut { Reason::Cut } else { Reason::Short }
+}
+
+fn frame_reason(is_cut: bool, refusal: link::Refusal) -> Reason {
+    match refusal {
+        link::Refusal::Short | link::Refusal::Tag | link::Refusal::Protocol => early(is_cut),
+        link::Refusal::SessionVersion(_)
+        | link::Refusal::SessionType(_)
+        | link::Refusal::SessionCode(_) => Reason::Malformed,
+    }
+}
+
+fn datagram_reason(is_cut: bool, refusal: control_wire::frames::Refusal) -> Reason {
+    match refusal {
+        control_wire::frames::Refusal::Short | control_wire::frames::Refusal::Cut(_) => {
+            early(is_cut)
+        }
+        control_wire::frames::Refusal::Fragment(_) => Reason::Fragment,
+        control_wire::frames::Refusal::Version(_)
+        | control_wire::frames::Refusal::HeaderLen(_)
+        | control_wire::frames::Refusal::TotalLen(_)
+        | control_wire::frames::Refusal::Extension(_) => Reason::Malformed,
+    }
+}
+
+fn udp_reason(refusal: udp::Refusal) -> Reason {
+    match refusal {
+        udp::Refusal::Short | udp::Refusal::Length(_) | udp::Refusal::Cut(_) => Reason::Short,
+        udp::Refusal::NoChecksum | udp::Refusal::Checksum => Reason::Checksum,
+        udp::Refusal::Port => Reason::Malformed,
+    }
+}
+
+fn icmp4_reason(refusal: Icmpv4Refusal) -> Reason {
+    match refusal {
+        Icmpv4Refusal::Error(icmpv4_error::Refusal::Short)
+        | Icmpv4Refusal::Message(icmpv4::Refusal::Short) => Reason::Short,
+        Icmpv4Refusal::Error(icmpv4_error::Refusal::Checksum)
+        | Icmpv4Refusal::Message(icmpv4::Refusal::Checksum) => Reason::Checksum,
+        Icmpv4Refusal::Error(icmpv4_error::Refusal::UnknownType(_))
+        | Icmpv4Refusal::Message(icmpv4::Refusal::UnknownType(_)) => Reason::UnknownType,
+        Icmpv4Refusal::Error(icmpv4_error::Refusal::Quote(_)) => Reason::Quote,
+        Icmpv4Refusal::Message(_) => Reason::Malformed,
+    }
+}
+
+fn igmp_reason(refusal: igmp::Refusal) -> Reason {
+    match refusal {
+        igmp::Refusal::Short => Reason::Short,
+        igmp::Refusal::UnknownType(_) => Reason::UnknownType,
+        igmp::Refusal::Group(_) => Reason::Malformed,
+    }
+}
+
+fn icmp6_reason(refusal: Icmpv6Refusal) -> Reason {
+    match refusal {
+        Icmpv6Refusal::Error(icmpv6_error::Refusal::Short)
+        | Icmpv6Refusal::Message(icmpv6::Refusal::Short)
+        | Icmpv6Refusal::Message(icmpv6::Refusal::Length) => Reason::Short,
+        Icmpv6Refusal::Error(icmpv6_error::Refusal::Checksum)
+        | Icmpv6Refusal::Message(icmpv6::Refusal::Checksum) => Reason::Checksum,
+        Icmpv6Refusal::Error(icmpv6_error::Refusal::UnknownType(_))
+        | Icmpv6Refusal::Message(icmpv6::Refusal::UnknownType(_)) => Reason::UnknownType,
+        Icmpv6Refusal::Error(icmpv6_error::Refusal::Quote(_)) => Reason::Quote,
+        Icmpv6Refusal::Message(_) => Reason::Malformed,
+    }
+}
+
+fn dhcp_reason(refusal: dhcpv4::Refusal) -> Reason {
+    match refusal {
+        dhcpv4::Refusal::Short => Reason::Short,
+        _ => Reason::Malformed,
+    }
+}
+
+fn dns_reason(unread: Unread) -> Reason {
+    match unread {
+        Unread::Entry | Unread::Data => Reason::Malformed,
+        Unread::Name => Reason::Name,
+    }
+}
+
+/// The reason as a phrase.
+impl fmt::Display for Refusal {
+    fn fmt(&self, f: &mut fmt::Formatter<'_>) -> fmt::Result {
+        match self {
+            Refusal::Frame(refusal) => write!(f, "{refusal}"),
+            Refusal::Datagram(refusal) => write!(f, "{refusal}"),
+            Refusal::Udp(refusal) => write!(f, "{refusal}"),
+            Refusal::Icmp4(refusal) => write!(f, "{refusal}"),
+            Refusal::Igmp(refusal) => write!(f, "{refusal}"),
+            Refusal::Icmp6(refusal) => write!(f, "{refusal}"),
+            Refusal::Dhcp(refusal) => write!(f, "{refusal}"),
+            Refusal::DnsHeader => f.write_str("fewer than 12 bytes"),
+            Refusal::Dns(unread) => f.write_str(dns_phrase(*unread)),
+        }
+    }
+}
+
+// Why a message is not listed to its end.
+fn dns_phrase(unread: Unread) -> &'static str {
+    match unread {
+        Unread::Entry => "a question or record is cut or malformed",
+        Unread::Name => "a name does not read",
+        Unread::Data => "the data of a record do not read",
+    }
+}
+
+#[cfg(test)]
+mod tests;

@@ -1,0 +1,134 @@
+// Made from crates/dhcp_wire/src/dhcpv4/option_printing.rt by rust/erase.
+//! Options as texts.
+
+use super::options::DhcpOption;
+use super::printing::Kinds;
+use super::value::{OptionValue, first_address};
+use core::fmt;
+
+/// The name of the kind and the data by its format, as `lease-time=3600`; a kind that has no name here prints its
+/// number, as `option-224=01:02`.
+impl fmt::Display for DhcpOption<'_> {
+    fn fmt(&self, f: &mut fmt::Formatter<'_>) -> fmt::Result {
+        let kind = self.kind;
+        let value = self.value();
+        match self.name() {
+            Some(name) => write!(f, "{name}={value}"),
+            None => write!(f, "option-{kind}={value}"),
+        }
+    }
+}
+
+/// Addresses and numbers with commas between them, a type of message by its name, a text in quotation marks, and other
+/// data as two hexadecimal digits a byte, with colons between them. In a text a quotation mark and a backslash stand
+/// behind a backslash, and a byte that is no visible character of ASCII and no space is printed as `\x` and two digits.
+impl fmt::Display for OptionValue<'_> {
+    fn fmt(&self, f: &mut fmt::Formatter<'_>) -> fmt::Result {
+        match *self {
+            OptionValue::Address(address) => write!(f, "{address}"),
+            OptionValue::Addresses(octets) => Addresses(octets).fmt(f),
+            OptionValue::Seconds(seconds) => write!(f, "{seconds}"),
+            OptionValue::Number(number) => write!(f, "{number}"),
+            OptionValue::Byte(byte) => write!(f, "{byte}"),
+            OptionValue::MessageType(message_type) => write!(f, "{message_type}"),
+            OptionValue::Text(octets) => Quoted(octets).fmt(f),
+            OptionValue::Kinds(kinds) => Kinds(kinds).fmt(f),
+            OptionValue::Octets(octets) => HexColons(octets).fmt(f),
+        }
+    }
+}
+
+// The addresses in octets, with commas between them.
+#[derive(Clone, Copy)]
+struct Addresses<'a>(&'a [u8]);
+
+impl fmt::Display for Addresses<'_> {
+    fn fmt(&self, f: &mut fmt::Formatter<'_>) -> fmt::Result {
+        let Some((first, rest)) = first_address(self.0) else {
+            return Ok(());
+        };
+        write!(f, "{first}")?;
+        fmt_more_addresses(f, rest)
+    }
+}
+
+// Prints each address behind a comma.
+fn fmt_more_addresses(f: &mut fmt::Formatter<'_>, octets: &[u8]) -> fmt::Result {
+    let Some((address, rest)) = first_address(octets) else {
+        return Ok(());
+    };
+    write!(f, ",{address}")?;
+    fmt_more_addresses(f, rest)
+}
+
+// A text in quotation marks.
+#[derive(Clone, Copy)]
+struct Quoted<'a>(&'a [u8]);
+
+impl fmt::Display for Quoted<'_> {
+    fn fmt(&self, f: &mut fmt::Formatter<'_>) -> fmt::Result {
+        f.write_str("\"")?;
+        fmt_characters(f, self.0)?;
+        f.write_str("\"")
+    }
+}
+
+// Prints the characters of a text.
+fn fmt_characters(f: &mut fmt::Formatter<'_>, octets: &[u8]) -> fmt::Result {
+    for byte in octets {
+        write!(f, "{}", Character(*byte))?;
+    }
+    Ok(())
+}
+
+// A byte of a text.
+#[derive(Clone, Copy)]
+struct Character(u8);
+
+impl fmt::Display for Character {
+    fn fmt(&self, f: &mut fmt::Formatter<'_>) -> fmt::Result {
+        match self.0 {
+            b'"' => f.write_str("\\\""),
+            b'\\' => f.write_str("\\\\"),
+            visible @ b' '..=b'~' => write!(f, "{}", visible as char),
+            other => write!(f, "\\x{}", HexByte(other)),
+        }
+    }
+}
+
+// A byte as two digits.
+#[derive(Clone, Copy)]
+struct HexByte(u8);
+
+impl fmt::Display for HexByte {
+    fn fmt(&self, f: &mut fmt::Formatter<'_>) -> fmt::Result {
+        let high = self.0 / 16;
+        let low = self.0 % 16;
+        write!(f, "{high:x}{low:x}")
+    }
+}
+
+// Bytes as two digits each, with colons between them.
+#[derive(Clone, Copy)]
+struct HexColons<'a>(&'a [u8]);
+
+impl fmt::Display for HexColons<'_> {
+    fn fmt(&self, f: &mut fmt::Formatter<'_>) -> fmt::Result {
+        let Some((first, rest)) = self.0.split_first() else {
+            return Ok(());
+        };
+        write!(f, "{}", HexByte(*first))?;
+        fmt_behind_colons(f, rest)
+    }
+}
+
+// Prints each byte as two digits, behind a colon.
+fn fmt_behind_colons(f: &mut fmt::Formatter<'_>, octets: &[u8]) -> fmt::Result {
+    for byte in octets {
+        write!(f, ":{}", HexByte(*byte))?;
+    }
+    Ok(())
+}
+
+#[cfg(test)]
+mod tests;

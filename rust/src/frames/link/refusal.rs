@@ -1,0 +1,90 @@
+// Made from crates/frame_wire/src/link/refusal.rt by rust/erase.
+//! Why octets are refused.
+
+use super::{Frame, Link, behind, family, payload_of, ppp, protocol, raw, untagged};
+use crate::wirebase::Octets;
+
+/// Why octets are no frame of a link that is read: the check that fails first.
+#[derive(Debug, PartialEq, Eq, Clone, Copy)]
+pub enum Refusal {
+    /// Fewer bytes than the header of the link has.
+    Short,
+    /// A VLAN tag of four bytes ends behind the octets.
+    Tag,
+    /// A protocol of PPP, of one byte where that is odd and else of two, ends behind the octets.
+    Protocol,
+    /// The PPPoE version is not 1 but this one (RFC 2516 section 4).
+    SessionVersion(u8),
+    /// The PPPoE type is not 1 but this one.
+    SessionType(u8),
+    /// The PPPoE code is not 0, which session data has, but this one.
+    SessionCode(u8),
+}
+
+impl Link {
+    /// The frame in these octets, as [`Link::frame`] reads it, or else why they are refused, as [`Link::refusal`] tells
+    /// it: the check that fails first.
+    pub fn frame_or_refusal(self, octets: &[u8]) -> core::result::Result<Frame<'_>, Refusal> {
+        match self.frame(octets) {
+            Ok(frame) => Ok(frame),
+            Err(_) => Err(self.refusal(octets).unwrap()),
+        }
+    }
+
+    /// Why [`Link::frame`] refuses these octets, by the check that fails first; None where it reads them.
+    pub fn refusal(self, octets: &[u8]) -> Option<Refusal> {
+        match self {
+            Link::Null => match family(octets) {
+                Ok(_) => None,
+                Err(_) => Some(Refusal::Short),
+            },
+            Link::Ethernet => why_not_typed(octets, 12, 14),
+            Link::Ppp => match ppp(octets) {
+                Ok(_) => None,
+                Err(_) => Some(Refusal::Protocol),
+            },
+            Link::PppEther => why_no_session(octets),
+            Link::Raw => match raw(octets) {
+                Ok(_) => None,
+                Err(_) => Some(Refusal::Short),
+            },
+            Link::LinuxSll => why_not_typed(octets, 14, 16),
+            Link::LinuxSll2 => why_not_typed(octets, 0, 20),
+        }
+    }
+}
+
+// Why a frame whose EtherType is at `place` and whose payload begins at `start` is refused; None where it is read.
+fn why_not_typed(octets: &[u8], place: usize, start: usize) -> Option<Refusal> {
+    if octets.len() < start {
+        return Some(Refusal::Short);
+    }
+    let Ok(typed) = untagged(octets.u16_at(place..place + 2), behind(octets, start)) else {
+        return Some(Refusal::Tag);
+    };
+    match payload_of(typed) {
+        Ok(_) => None,
+        Err(_) => Some(Refusal::Protocol),
+    }
+}
+
+// Why octets are no data of a PPPoE session; None where they are.
+fn why_no_session(octets: &[u8]) -> Option<Refusal> {
+    if octets.len() < 6 {
+        return Some(Refusal::Short);
+    }
+    let word = octets.u16_at(0..2);
+    if word / 0x1000 != 1 {
+        return Some(Refusal::SessionVersion((word / 0x1000) as u8));
+    }
+    if word / 0x100 % 0x10 != 1 {
+        return Some(Refusal::SessionType((word / 0x100 % 0x10) as u8));
+    }
+    if word % 0x100 != 0 {
+        return Some(Refusal::SessionCode((word % 0x100) as u8));
+    }
+    match protocol(behind(octets, 6), &[]) {
+        Ok(_) => None,
+        Err(_) => Some(Refusal::Protocol),
+    }
+}

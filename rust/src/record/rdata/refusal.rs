@@ -1,0 +1,148 @@
+// Made from crates/record_wire/src/rdata/refusal.rt by rust/erase.
+//! Why the data of a record is not laid out as its type has it: the check that fails first.
+
+use crate::dns_wire::dns::{Type, split_name};
+use crate::record::multicast;
+use crate::record::rdata::{Layout, RData, field, find_layout};
+use crate::record::record::Record;
+use crate::record::refusal::{PartRefusal, why_no_part};
+use crate::record::update::is_without_data;
+use core::fmt;
+
+/// Why [`RData::parse`] refuses data: the check that fails first.
+///
+/// ```
+/// use control_wire::record::rdata::RData;
+/// use control_wire::record::{DataRefusal, types};
+///
+/// // A name, and a byte behind it.
+/// let refusal = RData::refusal(types::PTR, 1, b"\x02pc\x05local\0!");
+/// assert_eq!(refusal, Some(DataRefusal::BehindName));
+/// ```
+#[derive(Debug, PartialEq, Eq, Clone, Copy)]
+pub enum DataRefusal {
+    /// An address that has another number of bytes than this: 4 of IPv4, 16 of IPv6.
+    Address(usize),
+    /// Fewer bytes than the numbers in front of the name have: 2 of MX, 6 of SRV.
+    Numbers,
+    /// There is no name where one should begin; of SOA, the first.
+    Name(PartRefusal),
+    /// Bytes stand behind the name, where the data should end.
+    BehindName,
+    /// There is no name behind the first one of SOA.
+    Mailbox(PartRefusal),
+    /// Behind the names of SOA stand fewer or more than the 20 bytes of its numbers.
+    Times,
+    /// No bytes, where TXT has one string at least.
+    NoString,
+    /// A string of TXT has fewer bytes than the length in front of it says.
+    String,
+}
+
+/// What is wrong with the data.
+impl fmt::Display for DataRefusal {
+    fn fmt(&self, f: &mut fmt::Formatter<'_>) -> fmt::Result {
+        match self {
+            DataRefusal::Address(len) => write!(f, "the address has other than {len} bytes"),
+            DataRefusal::Numbers => write!(f, "the numbers in front of the name are cut"),
+            DataRefusal::Name(refusal) => write!(f, "{refusal}"),
+            DataRefusal::BehindName => write!(f, "bytes stand behind the name"),
+            DataRefusal::Mailbox(refusal) => write!(f, "behind the first name: {refusal}"),
+            DataRefusal::Times => {
+                write!(f, "the numbers behind the names have other than 20 bytes")
+            }
+            DataRefusal::NoString => write!(f, "there is no string"),
+            DataRefusal::String => write!(f, "a string is cut"),
+        }
+    }
+}
+
+impl RData<'_> {
+    /// Why [`RData::parse`] refuses the data of this type and class, by the check that fails first; None where it reads
+    /// it. Of a record of multicast DNS, the class is the one without the top bit, as
+    /// [`crate::record::multicast::class_of`] gives it.
+    pub fn refusal(type_: Type, class: u16, octets: &[u8]) -> Option<DataRefusal> {
+        match RData::parse(type_, class, octets) {
+            Ok(_) => None,
+            Err(_) => Some(why_no_data(find_layout(type_, class), octets)),
+        }
+    }
+}
+
+impl Record<'_> {
+    /// Why [`Record::rdata`] refuses the record's data, by the check that fails first; None where it reads it.
+    pub fn data_refusal(&self) -> Option<DataRefusal> {
+        RData::refusal(self.type_, self.class, self.data)
+    }
+
+    /// Why [`Record::multicast_rdata`] refuses the data of a record of multicast DNS, by the check that fails first;
+    /// None where it reads it.
+    pub fn multicast_data_refusal(&self) -> Option<DataRefusal> {
+        RData::refusal(self.type_, multicast::class_of(self.class), self.data)
+    }
+}
+
+// Why octets are no data of a record of this type and class, which may be one of an update.
+pub(crate) fn why_no_data_of(type_: Type, class: u16, octets: &[u8]) -> DataRefusal {
+    why_no_data(data_layout(type_, class, octets), octets)
+}
+
+// How the data of a record of this type and class is laid out.
+fn data_layout(type_: Type, class: u16, octets: &[u8]) -> Layout {
+    if is_without_data(class, octets) {
+        return Layout::Opaque;
+    }
+    find_layout(type_, class)
+}
+
+// Why octets are no data of this layout.
+fn why_no_data(layout: Layout, octets: &[u8]) -> DataRefusal {
+    match layout {
+        Layout::Ipv4 => DataRefusal::Address(4),
+        Layout::Ipv6 => DataRefusal::Address(16),
+        // Data of any bytes is not refused.
+        Layout::Name | Layout::Opaque => why_no_name(octets),
+        Layout::Mail => why_not_behind(octets, field::MX_NAME),
+        Layout::Service => why_not_behind(octets, field::SRV_NAME),
+        Layout::Authority => why_no_authority(octets),
+        Layout::Strings => why_no_strings(octets),
+    }
+}
+
+// Why octets are not one part of a name and nothing more.
+fn why_no_name(octets: &[u8]) -> DataRefusal {
+    match split_name(octets) {
+        Ok(_) => DataRefusal::BehindName,
+        Err(_) => DataRefusal::Name(why_no_part(octets)),
+    }
+}
+
+// Why they are not so many bytes of numbers and then one part of a name.
+fn why_not_behind(octets: &[u8], len: usize) -> DataRefusal {
+    if octets.len() < len {
+        return DataRefusal::Numbers;
+    }
+    why_no_name(&octets[len..])
+}
+
+// Why they are not two names and five numbers.
+fn why_no_authority(octets: &[u8]) -> DataRefusal {
+    let Ok((_, behind)) = split_name(octets) else {
+        return DataRefusal::Name(why_no_part(octets));
+    };
+    let Ok(_) = split_name(behind) else {
+        return DataRefusal::Mailbox(why_no_part(behind));
+    };
+    DataRefusal::Times
+}
+
+// Why they are not strings, one at least.
+fn why_no_strings(octets: &[u8]) -> DataRefusal {
+    if octets.is_empty() {
+        return DataRefusal::NoString;
+    }
+    DataRefusal::String
+}
+
+#[cfg(test)]
+mod tests;

@@ -1,0 +1,308 @@
+// Made from crates/record_wire/src/text.rt by rust/erase.
+//! Records as a zone file writes them, a line each (RFC 1035 section 5.1, RFC 3597 section 5).
+//!
+//! ```
+//! use control_wire::record::{Entries, Entry};
+//! use control_wire::dns::Packet;
+//!
+//! // A response with one record: the mail server of example.com.
+//! let octets = b"\x12\x34\x81\x80\0\x01\0\x01\0\0\0\0\x07example\x03com\0\0\x0f\0\x01\
+//!     \xc0\x0c\0\x0f\0\x01\0\0\x0e\x10\0\x09\0\x0a\x04mail\xc0\x0c";
+//! let packet = Packet::new_checked(&octets[..])?;
+//! for entry in Entries::new(&packet) {
+//!     let Entry::Record(_, record) = entry? else { continue };
+//!     let line = record.text(&packet).unwrap().to_string();
+//!     assert_eq!(line, "example.com. 3600 IN MX 10 mail.example.com.");
+//! }
+//! # Ok::<(), control_wire::Error>(())
+//! ```
+
+mod question;
+pub mod refusal;
+pub(crate) mod words;
+
+use crate::dns_wire::dns::{Packet, Type};
+use crate::dns_wire::message::octets_of;
+use crate::record::classes::ClassName;
+use crate::record::name::Name;
+use crate::record::name::refusal::{NameRefusal, why_no_name};
+use crate::record::rdata::refusal::why_no_data_of;
+use crate::record::rdata::{Authority, RData};
+use crate::record::record::Record;
+use crate::record::text::refusal::TextRefusal;
+use crate::record::text::words::{Generic, Strings, Whole};
+use crate::wirebase::{Ipv4Address, Ipv6Address};
+use core::{fmt, result};
+pub use question::QuestionText;
+
+/// A record whose names are read, which prints its line of a zone file: the name with its last dot, the time to live,
+/// the class, the type, and the data. In records that are equal names are compared without regard to the case of ASCII
+/// letters.
+///
+/// ```
+/// use control_wire::record::{Name, types};
+/// use control_wire::record::text::{DataText, RecordText};
+///
+/// let record = RecordText {
+///     name: Name::from_text(b"www.example.com")?,
+///     ttl: 300,
+///     class: 1,
+///     type_: types::TXT,
+///     data: DataText::Txt(b"\x05hello\x03a\"b"),
+/// };
+/// assert_eq!(record.to_string(), r#"www.example.com. 300 IN TXT "hello" "a\"b""#);
+/// # Ok::<(), control_wire::Error>(())
+/// ```
+#[derive(PartialEq, Eq, Clone)]
+pub struct RecordText<'a> {
+    /// The record's name.
+    pub name: Name,
+    /// How long the record may be kept, in seconds.
+    pub ttl: u32,
+    /// The class: 1 is the internet.
+    pub class: u16,
+    /// The type of the data.
+    pub type_: Type,
+    /// The data.
+    pub data: DataText<'a>,
+}
+
+/// The data of a record, with each name read.
+#[derive(PartialEq, Eq, Clone)]
+pub enum DataText<'a> {
+    /// An IPv4 address (RFC 1035 section 3.4.1).
+    A(Ipv4Address),
+    /// An IPv6 address (RFC 3596 section 2.2).
+    Aaaa(Ipv6Address),
+    /// A name, of type CNAME, NS or PTR (RFC 1035 sections 3.3.1, 3.3.11 and 3.3.12).
+    Name(Name),
+    /// A host that takes mail (RFC 1035 section 3.3.9).
+    Mx {
+        /// The lower, the better.
+        preference: u16,
+        /// The host's name.
+        exchange: Name,
+    },
+    /// A host that has a service (RFC 2782).
+    Srv {
+        /// The lower, the earlier it is tried.
+        priority: u16,
+        /// The greater, the more often it is tried among hosts of its priority.
+        weight: u16,
+        /// The port of the service.
+        port: u16,
+        /// The host's name.
+        target: Name,
+    },
+    /// Who is responsible for a zone (RFC 1035 section 3.3.13).
+    Soa(AuthorityText),
+    /// Strings of up to 255 bytes, each behind its length (RFC 1035 section 3.3.14): `TxtStrings` gives them in turn.
+    Txt(&'a [u8]),
+    /// Data of any other type or class, and that of an update's record without data.
+    Other(&'a [u8]),
+}
+
+/// Who is responsible for a zone, and how copies of it are kept (RFC 1035 section 3.3.13). Times are in seconds.
+#[derive(PartialEq, Eq, Clone)]
+pub struct AuthorityText {
+    /// The name of the server that the zone comes from.
+    pub primary: Name,
+    /// The mailbox of who is responsible, with a dot for its at sign.
+    pub mailbox: Name,
+    /// The zone's version.
+    pub serial: u32,
+    /// How long a copy is good before it is looked after.
+    pub refresh: u32,
+    /// How long to wait where that failed.
+    pub retry: u32,
+    /// How long a copy is good at the most.
+    pub expire: u32,
+    /// The least time to live of the zone's records; of answers that there is none (RFC 2308 section 4).
+    pub minimum: u32,
+}
+
+/// The line of a zone file, without its end: names with their last dot, times in seconds, the class and the type by
+/// their mnemonics, or as `CLASS` and `TYPE` with the number, and the data.
+impl fmt::Display for RecordText<'_> {
+    fn fmt(&self, f: &mut fmt::Formatter<'_>) -> fmt::Result {
+        let name = Whole(&self.name);
+        let class = ClassName(self.class);
+        let type_ = self.type_;
+        write!(f, "{name} {} {class} {type_} {}", self.ttl, self.data)
+    }
+}
+
+/// Addresses as addresses, names with their last dot, strings in quotes, and data of other types as `\#`, the number of
+/// bytes, and these in hexadecimal.
+impl fmt::Display for DataText<'_> {
+    fn fmt(&self, f: &mut fmt::Formatter<'_>) -> fmt::Result {
+        match self {
+            DataText::A(address) => write!(f, "{address}"),
+            DataText::Aaaa(address) => write!(f, "{address}"),
+            DataText::Name(name) => write!(f, "{}", Whole(name)),
+            DataText::Mx {
+                preference,
+                exchange,
+            } => {
+                let exchange = Whole(exchange);
+                write!(f, "{preference} {exchange}")
+            }
+            DataText::Srv {
+                priority,
+                weight,
+                port,
+                target,
+            } => {
+                let target = Whole(target);
+                write!(f, "{priority} {weight} {port} {target}")
+            }
+            DataText::Soa(authority) => write!(f, "{authority}"),
+            DataText::Txt(octets) => write!(f, "{}", Strings(octets)),
+            DataText::Other(octets) => write!(f, "{}", Generic(octets)),
+        }
+    }
+}
+
+/// The names with their last dot, and the numbers.
+impl fmt::Display for AuthorityText {
+    fn fmt(&self, f: &mut fmt::Formatter<'_>) -> fmt::Result {
+        let primary = Whole(&self.primary);
+        let mailbox = Whole(&self.mailbox);
+        write!(
+            f,
+            "{primary} {mailbox} {} {} {} {} {}",
+            self.serial, self.refresh, self.retry, self.expire, self.minimum
+        )
+    }
+}
+
+impl<'a> Record<'a> {
+    /// The record with its name and those in its data read, which prints its line of a zone file. An update's record of
+    /// class NONE or ANY may have no data. Refused where a name does not read, and where the data is not laid out as
+    /// its type has it.
+    ///
+    /// ```
+    /// use control_wire::record::{NameRefusal, PartRefusal, Record};
+    /// use control_wire::record::text::refusal::TextRefusal;
+    /// use control_wire::dns::Packet;
+    ///
+    /// let octets = b"\0\0\x84\0\0\0\0\x01\0\0\0\0\x02ns\0\0\x01\0\x01\0\0\0\x3c\0\x04\xc0\0\x02\x01";
+    /// let packet = Packet::new_checked(&octets[..])?;
+    /// let (_, record) = Record::parse(&octets[12..])?;
+    /// assert_eq!(record.text(&packet).unwrap().to_string(), "ns. 60 IN A 192.0.2.1");
+    /// let cut = Record { name: b"\x02n", ..record };
+    /// assert_eq!(cut.text(&packet).err(), Some(TextRefusal::Owner(NameRefusal::Part(PartRefusal::Cut))));
+    /// # Ok::<(), control_wire::Error>(())
+    /// ```
+    pub fn text<B: AsRef<[u8]> + ?Sized>(
+        &self,
+        packet: &Packet<&'a B>,
+    ) -> result::Result<RecordText<'a>, TextRefusal> {
+        self.text_of_class(packet, self.class)
+    }
+
+    /// The same of a record of multicast DNS: its class is without the top bit, which is a flag there (RFC 6762 section
+    /// 10.2); the payload size of an OPT record is left as it is.
+    pub fn multicast_text<B: AsRef<[u8]> + ?Sized>(
+        &self,
+        packet: &Packet<&'a B>,
+    ) -> result::Result<RecordText<'a>, TextRefusal> {
+        self.text_of_class(packet, self.multicast_class())
+    }
+
+    // The same of a record that is taken as one of this class.
+    fn text_of_class<B: AsRef<[u8]> + ?Sized>(
+        &self,
+        packet: &Packet<&'a B>,
+        class: u16,
+    ) -> result::Result<RecordText<'a>, TextRefusal> {
+        let name = match read_name(packet, self.name) {
+            Ok(name) => name,
+            Err(refusal) => return Err(TextRefusal::Owner(refusal)),
+        };
+        let data = match RData::parse_update(self.type_, class, self.data) {
+            Ok(data) => data,
+            Err(_) => {
+                let refusal = why_no_data_of(self.type_, class, self.data);
+                return Err(TextRefusal::Data(refusal));
+            }
+        };
+        match data.text(packet) {
+            Ok(data) => Ok(RecordText {
+                name,
+                ttl: self.ttl,
+                class,
+                type_: self.type_,
+                data,
+            }),
+            Err(refusal) => Err(TextRefusal::DataName(refusal)),
+        }
+    }
+}
+
+impl<'a> RData<'a> {
+    /// The data with each name read. Refused where one does not read.
+    pub fn text<B: AsRef<[u8]> + ?Sized>(
+        &self,
+        packet: &Packet<&'a B>,
+    ) -> result::Result<DataText<'a>, NameRefusal> {
+        match *self {
+            RData::A(address) => Ok(DataText::A(address)),
+            RData::Aaaa(address) => Ok(DataText::Aaaa(address)),
+            RData::Name(octets) => Ok(DataText::Name(read_name(packet, octets)?)),
+            RData::Mx {
+                preference,
+                exchange,
+            } => Ok(DataText::Mx {
+                preference,
+                exchange: read_name(packet, exchange)?,
+            }),
+            RData::Srv {
+                priority,
+                weight,
+                port,
+                target,
+            } => Ok(DataText::Srv {
+                priority,
+                weight,
+                port,
+                target: read_name(packet, target)?,
+            }),
+            RData::Soa(soa) => Ok(DataText::Soa(read_authority(packet, &soa)?)),
+            RData::Txt(octets) => Ok(DataText::Txt(octets)),
+            RData::Other(octets) => Ok(DataText::Other(octets)),
+        }
+    }
+}
+
+// Who is responsible, with the names read.
+fn read_authority<'a, B: AsRef<[u8]> + ?Sized>(
+    packet: &Packet<&'a B>,
+    soa: &Authority<'a>,
+) -> result::Result<AuthorityText, NameRefusal> {
+    let primary = read_name(packet, soa.primary)?;
+    let mailbox = read_name(packet, soa.mailbox)?;
+    Ok(AuthorityText {
+        primary,
+        mailbox,
+        serial: soa.serial,
+        refresh: soa.refresh,
+        retry: soa.retry,
+        expire: soa.expire,
+        minimum: soa.minimum,
+    })
+}
+
+// The name that begins in `bytes` and goes on where its pointers lead in the message, or why there is none.
+pub(crate) fn read_name<'a, B: AsRef<[u8]> + ?Sized>(
+    packet: &Packet<&'a B>,
+    bytes: &'a [u8],
+) -> result::Result<Name, NameRefusal> {
+    match Name::read(packet, bytes) {
+        Ok(name) => Ok(name),
+        Err(_) => Err(why_no_name(octets_of(packet), bytes)),
+    }
+}
+
+#[cfg(test)]
+mod tests;

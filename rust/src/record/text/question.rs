@@ -1,0 +1,75 @@
+// Made from crates/record_wire/src/text/question.rt by rust/erase.
+//! Questions with their names read, a line each.
+
+use crate::dns_wire::dns::{Packet, Type};
+use crate::record::classes::ClassName;
+use crate::record::name::Name;
+use crate::record::name::refusal::NameRefusal;
+use crate::record::record::Question;
+use crate::record::text::read_name;
+use crate::record::text::words::Whole;
+use core::{fmt, result};
+
+/// A question whose name is read, which prints as a record of a zone file without its time to live and its data.
+///
+/// ```
+/// use control_wire::record::{Name, QuestionText, types};
+///
+/// let question = QuestionText { name: Name::from_text(b"example.com")?, class: 1, type_: types::MX };
+/// assert_eq!(question.to_string(), "example.com. IN MX");
+/// # Ok::<(), control_wire::Error>(())
+/// ```
+#[derive(PartialEq, Eq, Clone)]
+pub struct QuestionText {
+    /// The name.
+    pub name: Name,
+    /// The class of the records: 1 is the internet, 255 any.
+    pub class: u16,
+    /// The type of the records.
+    pub type_: Type,
+}
+
+impl<'a> Question<'a> {
+    /// The question with its name read. Refused where the name does not read.
+    pub fn text<B: AsRef<[u8]> + ?Sized>(
+        &self,
+        packet: &Packet<&'a B>,
+    ) -> result::Result<QuestionText, NameRefusal> {
+        self.text_of_class(packet, self.class)
+    }
+
+    /// The same of a question of multicast DNS: its class is without the top bit, which is a flag there (RFC 6762
+    /// section 5.4).
+    pub fn multicast_text<B: AsRef<[u8]> + ?Sized>(
+        &self,
+        packet: &Packet<&'a B>,
+    ) -> result::Result<QuestionText, NameRefusal> {
+        self.text_of_class(packet, self.multicast_class())
+    }
+
+    // The same of a question that is taken as one of this class.
+    fn text_of_class<B: AsRef<[u8]> + ?Sized>(
+        &self,
+        packet: &Packet<&'a B>,
+        class: u16,
+    ) -> result::Result<QuestionText, NameRefusal> {
+        match read_name(packet, self.name) {
+            Ok(name) => Ok(QuestionText {
+                name,
+                class,
+                type_: self.type_,
+            }),
+            Err(refusal) => Err(refusal),
+        }
+    }
+}
+
+/// The name with its last dot, the class and the type by their mnemonics.
+impl fmt::Display for QuestionText {
+    fn fmt(&self, f: &mut fmt::Formatter<'_>) -> fmt::Result {
+        let name = Whole(&self.name);
+        let class = ClassName(self.class);
+        let type_ = self.type_;
+        write!(f, "{name} {class} {type_}")
+    }
+}

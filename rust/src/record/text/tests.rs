@@ -1,0 +1,318 @@
+// Made from crates/record_wire/src/text/tests.rt by rust/erase.
+//! What records of each type print, and which are refused.
+
+use crate::dns_wire::dns::{Packet, Type};
+use crate::record::name::refusal::NameRefusal;
+use crate::record::rdata::RData;
+use crate::record::rdata::refusal::DataRefusal;
+use crate::record::record::{Question, Record};
+use crate::record::refusal::PartRefusal;
+use crate::record::testing::{prints, same, same_of, takes_writes};
+use crate::record::text::refusal::TextRefusal;
+use crate::record::text::{DataText, QuestionText, RecordText};
+use crate::record::{classes, types};
+#[allow(unused_imports)]
+use rattle_std::prelude::*;
+use std::result;
+
+// The message that the records stand in: behind its header the name `example.com` at 12, and `.com` at 20.
+const MESSAGE: &[u8] = b"\0\0\x84\0\0\0\0\0\0\0\0\0\x07example\x03com\0";
+
+// A pointer to the first of these.
+const EXAMPLE: &[u8] = b"\xc0\x0c";
+
+fn record<'a>(name: &'a [u8], type_: Type, class: u16, data: &'a [u8]) -> Record<'a> {
+    Record {
+        name,
+        type_,
+        class,
+        ttl: 3600,
+        data,
+    }
+}
+
+// Ends the test unless the record has a text, which is this line.
+fn check(read: result::Result<RecordText<'_>, TextRefusal>, line: &str) {
+    match read {
+        Ok(read) => prints(&read, line),
+        Err(refusal) => same_of(line, Some(refusal), None),
+    }
+}
+
+#[test]
+fn lines_by_type() {
+    let packet = Packet::new_unchecked(MESSAGE);
+    let rows: [(Type, u16, &[u8], &str); 15] = [
+        (
+            types::A,
+            1,
+            b"\xc0\0\x02\x01",
+            "example.com. 3600 IN A 192.0.2.1",
+        ),
+        (
+            types::AAAA,
+            1,
+            b"\x20\x01\x0d\xb8\0\0\0\0\0\0\0\0\0\0\0\x01",
+            "example.com. 3600 IN AAAA 2001:db8::1",
+        ),
+        (
+            types::CNAME,
+            1,
+            b"\x03www\xc0\x0c",
+            "example.com. 3600 IN CNAME www.example.com.",
+        ),
+        (types::NS, 1, b"\0", "example.com. 3600 IN NS ."),
+        (
+            types::PTR,
+            1,
+            b"\x01a\xc0\x14",
+            "example.com. 3600 IN PTR a.com.",
+        ),
+        (
+            types::MX,
+            1,
+            b"\0\x0a\x04mail\xc0\x0c",
+            "example.com. 3600 IN MX 10 mail.example.com.",
+        ),
+        (
+            types::SRV,
+            1,
+            b"\0\x01\0\x02\x13\xc4\x03sip\xc0\x0c",
+            "example.com. 3600 IN SRV 1 2 5060 sip.example.com.",
+        ),
+        (
+            types::SOA,
+            1,
+            b"\x02ns\xc0\x0c\x05a.b@c\xc0\x0c\0\0\0\x01\0\0\0\x02\0\0\0\x03\0\0\0\x04\0\0\0\x05",
+            "example.com. 3600 IN SOA ns.example.com. a\\.b\\@c.example.com. 1 2 3 4 5",
+        ),
+        (
+            types::TXT,
+            1,
+            b"\x01a\0\x02b ",
+            "example.com. 3600 IN TXT \"a\" \"\" \"b \"",
+        ),
+        (
+            types::TXT,
+            classes::CH,
+            b"\x07\"\\\x1f ~\x7f\xff",
+            "example.com. 3600 CH TXT \"\\\"\\\\\\031 ~\\127\\255\"",
+        ),
+        (
+            types::A,
+            classes::CH,
+            b"\x01\xab",
+            "example.com. 3600 CH A \\# 2 01ab",
+        ),
+        (
+            Type::from(4711),
+            4712,
+            b"",
+            "example.com. 3600 CLASS4712 TYPE4711 \\# 0",
+        ),
+        (
+            types::CAA,
+            1,
+            b"\0\x0f\xf0",
+            "example.com. 3600 IN CAA \\# 3 000ff0",
+        ),
+        (
+            types::MX,
+            classes::ANY,
+            b"",
+            "example.com. 3600 ANY MX \\# 0",
+        ),
+        (
+            types::A,
+            classes::NONE,
+            b"",
+            "example.com. 3600 NONE A \\# 0",
+        ),
+    ];
+    for (type_, class, octets, text) in rows {
+        let read = record(EXAMPLE, type_, class, octets).text(&packet);
+        check(read, text);
+    }
+}
+
+#[test]
+fn lines_of_multicast_dns() {
+    let packet = Packet::new_unchecked(MESSAGE);
+    let address = b"\xc0\0\x02\x01";
+    let rows: [(Type, u16, &[u8], &str); 4] = [
+        (types::A, 0x8001, address, ". 3600 IN A 192.0.2.1"),
+        (types::A, 1, address, ". 3600 IN A 192.0.2.1"),
+        (types::MX, 0x80ff, b"", ". 3600 ANY MX \\# 0"),
+        (
+            types::OPT,
+            0x9000,
+            b"\0\x0a",
+            ". 3600 CLASS36864 OPT \\# 2 000a",
+        ),
+    ];
+    for (type_, class, octets, text) in rows {
+        let read = record(b"\0", type_, class, octets).multicast_text(&packet);
+        check(read, text);
+    }
+    let flagged = record(b"\0", types::A, 0x8001, address).text(&packet);
+    check(flagged, ". 3600 CLASS32769 A \\# 4 c0000201");
+}
+
+#[test]
+fn records_that_are_refused() {
+    const CUT: NameRefusal = NameRefusal::Part(PartRefusal::Cut);
+    const AHEAD: NameRefusal = NameRefusal::Pointer(255);
+    let packet = Packet::new_unchecked(MESSAGE);
+    let rows: [(&[u8], Type, &[u8], TextRefusal); 8] = [
+        (b"\x01", types::A, b"", TextRefusal::Owner(CUT)),
+        (
+            b"\xc0\xff",
+            types::A,
+            b"\xc0\0\x02\x01",
+            TextRefusal::Owner(AHEAD),
+        ),
+        (
+            EXAMPLE,
+            types::A,
+            b"\xc0\0\x02",
+            TextRefusal::Data(DataRefusal::Address(4)),
+        ),
+        (
+            EXAMPLE,
+            types::MX,
+            b"\0\x01\x01a",
+            TextRefusal::Data(DataRefusal::Name(PartRefusal::Cut)),
+        ),
+        (
+            EXAMPLE,
+            types::NS,
+            b"\xc0\xff",
+            TextRefusal::DataName(AHEAD),
+        ),
+        (
+            EXAMPLE,
+            types::MX,
+            b"\0\x01\xc0\xff",
+            TextRefusal::DataName(AHEAD),
+        ),
+        (
+            EXAMPLE,
+            types::SRV,
+            b"\0\x01\0\x01\0\x01\xc0\xff",
+            TextRefusal::DataName(AHEAD),
+        ),
+        (
+            EXAMPLE,
+            types::SOA,
+            b"\0\xc0\xff\0\0\0\x01\0\0\0\x02\0\0\0\x03\0\0\0\x04\0\0\0\x05",
+            TextRefusal::DataName(AHEAD),
+        ),
+    ];
+    for (name, type_, octets, refusal) in rows {
+        let read = record(name, type_, 1, octets).text(&packet);
+        same(read.err(), Some(refusal));
+    }
+}
+
+#[test]
+fn refusals_print() {
+    let long = NameRefusal::TooLong;
+    let rows: [(TextRefusal, &str); 3] = [
+        (
+            TextRefusal::Owner(long),
+            "the owner: the name has more than 255 octets",
+        ),
+        (
+            TextRefusal::Data(DataRefusal::NoString),
+            "the data: there is no string",
+        ),
+        (
+            TextRefusal::DataName(long),
+            "a name in the data: the name has more than 255 octets",
+        ),
+    ];
+    for (refusal, text) in rows {
+        prints(&refusal, text);
+    }
+}
+
+// The record of a mail server of this name and data, with its names read.
+fn mail<'a>(name: &'a [u8], data: &'a [u8]) -> RecordText<'a> {
+    let packet = Packet::new_unchecked(MESSAGE);
+    let Ok(read) = record(name, types::MX, 1, data).text(&packet) else {
+        panic!("no text");
+    };
+    read
+}
+
+#[test]
+fn records_that_are_equal() {
+    let small = mail(EXAMPLE, b"\0\x0a\x04mail\xc0\x0c");
+    let capital = mail(b"\x07EXAMPLE\xc0\x14", b"\0\x0a\x04MAIL\xc0\x0c");
+    let other = mail(EXAMPLE, b"\0\x0a\x04post\xc0\x0c");
+    same(small == capital, true);
+    same(small == other, false);
+    let Ok(copy) = small.try_clone() else {
+        panic!("no copy");
+    };
+    same(copy == small, true);
+}
+
+#[test]
+fn strings_that_are_not_whole_are_left_out() {
+    prints(&DataText::Txt(b""), "");
+    prints(&DataText::Txt(b"\x01a\x02b"), "\"a\"");
+}
+
+#[test]
+fn no_write_fails_unseen() {
+    let packet = Packet::new_unchecked(MESSAGE);
+    let data = RData::Txt(b"\x01a\x01\"");
+    if let Ok(read) = data.text(&packet) {
+        takes_writes(&read, 7);
+    }
+}
+
+// Ends the test unless the question has a text, which is this line.
+fn check_question(read: result::Result<QuestionText, NameRefusal>, line: &str) {
+    match read {
+        Ok(read) => prints(&read, line),
+        Err(refusal) => same_of(line, Some(refusal), None),
+    }
+}
+
+#[test]
+fn questions_with_their_names_read() {
+    let packet = Packet::new_unchecked(MESSAGE);
+    let rows: [(&[u8], Type, u16, &str, &str); 3] = [
+        (
+            EXAMPLE,
+            types::MX,
+            1,
+            "example.com. IN MX",
+            "example.com. IN MX",
+        ),
+        (
+            b"\x03www\xc0\x0c",
+            types::ANY,
+            255,
+            "www.example.com. ANY ANY",
+            "www.example.com. ANY ANY",
+        ),
+        (b"\0", types::A, 0x8001, ". CLASS32769 A", ". IN A"),
+    ];
+    for (name, type_, class, text, multicast_text) in rows {
+        let question = Question { name, type_, class };
+        check_question(question.text(&packet), text);
+        check_question(question.multicast_text(&packet), multicast_text);
+    }
+    let cut = Question {
+        name: b"\x01",
+        type_: types::A,
+        class: 1,
+    };
+    match cut.text(&packet) {
+        Ok(_) => same("a text", "a refusal"),
+        Err(refusal) => same(refusal, NameRefusal::Part(PartRefusal::Cut)),
+    }
+}

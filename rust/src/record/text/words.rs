@@ -1,0 +1,138 @@
+// Made from crates/record_wire/src/text/words.rt by rust/erase.
+//! The words of a line of a zone file (RFC 1035 section 5.1, RFC 3597 section 5).
+
+use crate::record::name::Name;
+use crate::record::name::text::write_piece;
+use crate::record::strings::TxtStrings;
+use core::fmt;
+
+/// A name with its last dot; the root is a dot.
+#[derive(Clone, Copy)]
+pub(super) struct Whole<'a>(pub(super) &'a Name);
+
+impl fmt::Display for Whole<'_> {
+    fn fmt(&self, f: &mut fmt::Formatter<'_>) -> fmt::Result {
+        let name = self.0;
+        // Byte 0 alone is the root.
+        if name.octets().len() == 1 {
+            return f.write_str(".");
+        }
+        write!(f, "{name}.")
+    }
+}
+
+/// Strings, each of which stands behind its length, in quotes and with spaces between them.
+#[derive(Clone, Copy)]
+pub(super) struct Strings<'a>(pub(super) &'a [u8]);
+
+impl fmt::Display for Strings<'_> {
+    fn fmt(&self, f: &mut fmt::Formatter<'_>) -> fmt::Result {
+        let mut strings = TxtStrings::new(self.0);
+        let Some(first) = strings.next() else {
+            return Ok(());
+        };
+        write!(f, "{}", Quoted(first))?;
+        fmt_behind_spaces(f, strings)
+    }
+}
+
+// Writes each string that is left behind a space.
+fn fmt_behind_spaces(f: &mut fmt::Formatter<'_>, mut strings: TxtStrings<'_>) -> fmt::Result {
+    while let Some(string) = strings.next() {
+        write!(f, " {}", Quoted(string))?;
+    }
+    Ok(())
+}
+
+// A string in quotes.
+#[derive(Clone, Copy)]
+struct Quoted<'a>(&'a [u8]);
+
+impl fmt::Display for Quoted<'_> {
+    fn fmt(&self, f: &mut fmt::Formatter<'_>) -> fmt::Result {
+        f.write_str("\"")?;
+        fmt_characters(f, self.0)?;
+        f.write_str("\"")
+    }
+}
+
+// Writes the bytes of a string.
+fn fmt_characters(f: &mut fmt::Formatter<'_>, string: &[u8]) -> fmt::Result {
+    for byte in string {
+        write!(f, "{}", Character(*byte))?;
+    }
+    Ok(())
+}
+
+// A byte of a string: itself, behind a backslash where it has a meaning of its own, or its number behind one.
+#[derive(Clone, Copy)]
+struct Character(u8);
+
+impl fmt::Display for Character {
+    fn fmt(&self, f: &mut fmt::Formatter<'_>) -> fmt::Result {
+        let byte = self.0;
+        if is_special(byte) {
+            return write_piece(f, &[b'\\', byte]);
+        }
+        if is_plain(byte) {
+            return write_piece(f, &[byte]);
+        }
+        write!(f, "\\{}{}{}", byte / 100, byte / 10 % 10, byte % 10)
+    }
+}
+
+// Whether a byte of a string is written as itself.
+fn is_plain(byte: u8) -> bool {
+    matches!(byte, 32..=126) && !is_special(byte)
+}
+
+// Whether a byte of a string has a meaning of its own.
+fn is_special(byte: u8) -> bool {
+    byte == b'"' || byte == b'\\'
+}
+
+/// Data of any type: the number of bytes, and these in hexadecimal.
+#[derive(Clone, Copy)]
+pub(super) struct Generic<'a>(pub(super) &'a [u8]);
+
+impl fmt::Display for Generic<'_> {
+    fn fmt(&self, f: &mut fmt::Formatter<'_>) -> fmt::Result {
+        let len = self.0.len();
+        write!(f, "\\# {len}")?;
+        if self.0.is_empty() {
+            return Ok(());
+        }
+        f.write_str(" ")?;
+        fmt_digits(f, self.0)
+    }
+}
+
+/// Bytes in hexadecimal, two digits each.
+#[derive(Clone, Copy)]
+pub(crate) struct Digits<'a>(pub(crate) &'a [u8]);
+
+impl fmt::Display for Digits<'_> {
+    fn fmt(&self, f: &mut fmt::Formatter<'_>) -> fmt::Result {
+        fmt_digits(f, self.0)
+    }
+}
+
+// Writes bytes as two hexadecimal digits each.
+fn fmt_digits(f: &mut fmt::Formatter<'_>, bytes: &[u8]) -> fmt::Result {
+    for byte in bytes {
+        write!(f, "{}", HexByte(*byte))?;
+    }
+    Ok(())
+}
+
+// A byte as two hexadecimal digits.
+#[derive(Clone, Copy)]
+struct HexByte(u8);
+
+impl fmt::Display for HexByte {
+    fn fmt(&self, f: &mut fmt::Formatter<'_>) -> fmt::Result {
+        let high = self.0 / 16;
+        let low = self.0 % 16;
+        write!(f, "{high:x}{low:x}")
+    }
+}
