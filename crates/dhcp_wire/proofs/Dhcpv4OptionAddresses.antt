@@ -1,7 +1,6 @@
 -- The addresses that stand in bytes.
 use Rattle.std.proofs.Common.{◌≡◌, ℕ, ◌≤◌, ◌<◌, List, [], ◌∷◌, length, drop, Some, refl, ap, arith}
 use Rattle.std.specs.Iterator.{MakesProgress, at_most}
-use Rattle.wirebase.specs.Ipv4.{octets_of}
 use Rattle.wirebase.specs.declared.ipv4.Ipv4Address.{Ipv4Address}
 use Rattle.dhcp_wire.specs.Dhcpv4OptionValue.{addresses_in, first_address}
 

@@ -23,7 +23,8 @@ put-all : (s : Sheet) (text : List ℕ) → length text ≡ length s.free
     → (put s text).written ++ (put s text).free ≡ s.written ++ text
 unfolding put
 put-all s text e =
-    ap (λ (l : List ℕ). (s.written ++ take (length s.free) text) ++ l) (drop_all (length text) s.free (omega (arith, e)))
+    ap (λ (l : List ℕ). (s.written ++ take (length s.free) text) ++ l)
+    (drop_all (length text) s.free (omega (arith, e)))
     ∙ append-nil (s.written ++ take (length s.free) text)
     ∙ ap (λ (l : List ℕ). s.written ++ l) (take_all (length s.free) text (omega (arith, e)))
 

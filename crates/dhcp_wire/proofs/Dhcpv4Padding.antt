@@ -1,6 +1,6 @@
 -- Padding that is passed over eight octets at a time.
-use Rattle.std.proofs.Common.{◌≡◌, ◌≢◌, ℕ, zero, suc, ◌+◌, ◌-◌, ◌*◌, ◌/◌, ◌^◌, ◌≤◌, ◌<◌, List, [], ◌∷◌, length, take, drop}
-use Rattle.std.proofs.Common.{refl, sym, ap, subst, ◌∙◌, inl, inr, arith}
+use Rattle.std.proofs.Common.{◌≡◌, ◌≢◌, ℕ, zero, suc, ◌+◌, ◌-◌, ◌*◌, ◌/◌, ◌^◌, ◌≤◌, ◌<◌, List, [], ◌∷◌, length}
+use Rattle.std.proofs.Common.{take, drop, refl, sym, ap, subst, ◌∙◌, inl, inr, arith}
 use Rattle.std.proofs.lemmas.Bool.{cases_lt}
 use Rattle.std.proofs.lemmas.List.{take_rest}
 use Rattle.std.proofs.lemmas.Nat.Bits.{bit_at-zero, bit_at_cat_low, bit_at_cat_high, same_from_bits_below}
@@ -82,7 +82,8 @@ some_padding (suc k) (b ∷ rest) t l are h =
       | inr long ↦
           let there : suc ((t - 8) / 8) ≡ t / 8 = omega arith in
           let first : b ≡ 0 = is_padding n b t small long whole.1 in
-          let more = some_padding k rest (t - 8) (omega arith) (λ i. are (suc i)) (next_lowest n b t small long whole) in
+          let more = some_padding k rest (t - 8) (omega arith) (λ i. are (suc i))
+          (next_lowest n b t small long whole) in
           subst (λ (i : ℕ). Begins (b ∷ rest) (drop i (b ∷ rest))) there
           (record { same = more.same ∙ behind b rest first; none = more.none })
     ]

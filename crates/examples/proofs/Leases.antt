@@ -61,7 +61,15 @@ pub part-len : (a old : List ℕ) (len n : ℕ) → length a ≡ len → len ≤
     → length (take (n - len) (drop len (a ++ drop len old))) ≡ n - len
 part-len a old len n e room fits =
     length-take-le (n - len) (drop len (a ++ drop len old))
-    (omega (arith, length-drop len (a ++ drop len old), length-append a (drop len old), length-drop len old, e, room, fits))
+    (omega (
+      arith,
+      length-drop len (a ++ drop len old),
+      length-append a (drop len old),
+      length-drop len old,
+      e,
+      room,
+      fits,
+    ))
 
 -- ---- what a server's message says
 

@@ -16,7 +16,8 @@ string_then string rest = Some (string, rest)
 same_pair : (p q : List ℕ × List ℕ) → Some p ≡ Some q → p ≡ q
 same_pair p q e = cc
 
-at_test : (b : Bool) (x y a c : List ℕ) → cond b (string_then x y) None ≡ string_then a c → (b ≡ true) × (x ≡ a) × (y ≡ c)
+at_test : (b : Bool) (x y a c : List ℕ) → cond b (string_then x y) None ≡ string_then a c
+    → (b ≡ true) × (x ≡ a) × (y ≡ c)
 at_test true x y a c e =
     let p = same_pair (x, y) (a, c) e in
     (refl, ap (λ (q : List ℕ × List ℕ). q.0) p, ap (λ (q : List ℕ × List ℕ). q.1) p)

@@ -61,7 +61,8 @@ HasRecord bytes = (value : RecordValue) × (rest : List ℕ) × IsRecord bytes v
 
 abbrev pub part_display : PartRefusal → List ℕ
 part_display part.Cut = codes "the name is cut"
-part_display (part.LabelType n) = pieces (codes "a label that begins with byte " ∷ decimal n ∷ codes " is not read" ∷ [])
+part_display (part.LabelType n) =
+    pieces (codes "a label that begins with byte " ∷ decimal n ∷ codes " is not read" ∷ [])
 
 abbrev pub refusal_display : Refusal → List ℕ
 refusal_display (refusal.Name why) = part_display why

@@ -1,6 +1,6 @@
 -- How a zone file has the parts of a record (RFC 1035 section 5.1, RFC 3597 section 5).
-use Rattle.std.specs.Prelude.{ℕ, ◌/◌, ◌%◌, ◌==◌, ◌||◌, ◌&&◌, not, nat_le, Bool, if◌then◌else◌, List, [], ◌∷◌, ◌++◌, length}
-use Rattle.std.specs.Prelude.{flat_map, codes, decimal}
+use Rattle.std.specs.Prelude.{ℕ, ◌/◌, ◌%◌, ◌==◌, ◌||◌, ◌&&◌, not, nat_le, Bool, if◌then◌else◌, List, [], ◌∷◌, ◌++◌}
+use Rattle.std.specs.Prelude.{length, flat_map, codes, decimal}
 use Rattle.wirebase.specs.Ethernet.{hex_byte}
 use Rattle.record_wire.specs.NameText.{name_text}
 

@@ -199,7 +199,8 @@ impl EdnsOption<'_> {
     }
 }
 
-/// The name, or `option-` and the code where it has none here, and the data in hexadecimal, as `cookie=0102030405060708`.
+/// The name, or `option-` and the code where it has none here, and the data in hexadecimal, as
+/// `cookie=0102030405060708`.
 impl fmt::Display for EdnsOption<'_> {
     ghost use Rattle.std.specs.Prelude.{Some};
     ghost use Rattle.record_wire.specs.RecordDisplay.{option_display};

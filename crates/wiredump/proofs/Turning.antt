@@ -106,7 +106,8 @@ pub all_spelled : (text octets : List ℕ) (i : ℕ) → length octets ≤ i →
     → spelled_by text ≡ Some octets
 all_spelled text octets i all even are so_far =
     spelled text (omega arith) (AllPass-from_list_all is_hex_digit text are)
-    ∙ ap Some (sym so_far ∙ ap (λ (rest : List ℕ). take i octets ++ octets_of rest) (drop_all (2 * i) text (omega arith))
+    ∙ ap Some (sym so_far
+    ∙ ap (λ (rest : List ℕ). take i octets ++ octets_of rest) (drop_all (2 * i) text (omega arith))
     ∙ append-nil (take i octets) ∙ take_all i octets all)
 
 -- ---- digits as the octets of a word
@@ -178,7 +179,8 @@ word_octets (x ∷ y ∷ xs) even all =
     let behind = All-tail IsDigit x (y ∷ xs) all in
     let rest = All-tail IsDigit y xs behind in
     octet_step (word (map value xs)) (places 65536 (map (λ o. 255) (octets_of xs))) (value x) (value y)
-    (value_small x (All-head IsDigit x (y ∷ xs) all)) (value_small y (All-head IsDigit y xs behind)) (lowest_small xs rest)
+    (value_small x (All-head IsDigit x (y ∷ xs) all)) (value_small y (All-head IsDigit y xs behind))
+    (lowest_small xs rest)
     ∙ ap (λ l. l * 65536 + (value x * 16 + value y)) (word_octets xs (omega arith) rest)
 
 -- four octets, moved together

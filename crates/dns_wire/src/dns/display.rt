@@ -7,7 +7,8 @@ ghost use Rattle.dns_wire.specs.DnsTables.{flag_bits, type_number};
 ghost use Rattle.dns_wire.specs.DnsQuestion.{value_of as question_value};
 ghost use Rattle.dns_wire.specs.DnsRecord.{data_value, value_of as record_value};
 ghost use Rattle.dns_wire.specs.DnsRepr.{value_of as query_value};
-ghost use Rattle.dns_wire.specs.DnsDisplay.{type_names, name_in, type_display, opcode_display, rcode_display, flags_display, names_set};
+ghost use Rattle.dns_wire.specs.DnsDisplay.{type_names, name_in, type_display, opcode_display, rcode_display};
+ghost use Rattle.dns_wire.specs.DnsDisplay.{flags_display, names_set};
 ghost use Rattle.dns_wire.specs.DnsDisplay.{question_display, data_display, record_display, query_display};
 
 use super::{Flags, Opcode, Question, Rcode, Record, RecordData, Repr, Type};
@@ -53,8 +54,8 @@ impl Type {
     }
 }
 
-/// The mnemonic of the type, as `AAAA`, or its number where it has none here, as `TYPE34` (RFC 3597 section 5). A number
-/// that is kept as [`Type::Unknown`] has its mnemonic too, as `MX`.
+/// The mnemonic of the type, as `AAAA`, or its number where it has none here, as `TYPE34` (RFC 3597 section 5). A
+/// number that is kept as [`Type::Unknown`] has its mnemonic too, as `MX`.
 impl fmt::Display for Type {
     ghost output = { λ kind. Some (type_display kind) };
 

@@ -1,4 +1,5 @@
-use Rattle.std.proofs.Common.{◌≡◌, ℕ, ◌-◌, ◌≤◌, List, ◌++◌, length, take, drop, replicate, ap, sym, ◌∙◌, arith, length-append}
+use Rattle.std.proofs.Common.{◌≡◌, ℕ, ◌-◌, ◌≤◌, List, ◌++◌, length, take, drop, replicate, ap, sym}
+use Rattle.std.proofs.Common.{◌∙◌, arith, length-append}
 use Rattle.std.proofs.lemmas.List.{length-replicate, take_at, drop_at}
 use Rattle.control_wire.specs.Dhcpv4.{text, value_of}
 use Rattle.control_wire.specs.Dhcpv4Format.{text_len}
@@ -20,7 +21,14 @@ returns-clause-written c =
     let zeros : c.fill.new.self ≡ replicate (n - len) 0 =
     c.fill.ensures.after (λ y e. e) ∙ ap (λ (k : ℕ). replicate k 0) (part-len packet old len n long room fits) in
     let whole : length (packet ++ c.fill.new.self) ≡ n =
-    omega (arith, length-append packet c.fill.new.self, long, ap length zeros, length-replicate {A = ℕ} (n - len) 0, room) in
+    omega (
+      arith,
+      length-append packet c.fill.new.self,
+      long,
+      ap length zeros,
+      length-replicate {A = ℕ} (n - len) 0,
+      room,
+    ) in
     ap (λ (l : List ℕ). take n l) (laid packet c.fill.new.self old len n long room)
     ∙ take_at (packet ++ c.fill.new.self) (drop n old) n whole
     ∙ ap (λ (l : List ℕ). l ++ c.fill.new.self) c.write_whole.ensures
@@ -38,6 +46,13 @@ returns-clause-rest c =
     let zeros : c.fill.new.self ≡ replicate (n - len) 0 =
     c.fill.ensures.after (λ y e. e) ∙ ap (λ (k : ℕ). replicate k 0) (part-len packet old len n long room fits) in
     let whole : length (packet ++ c.fill.new.self) ≡ n =
-    omega (arith, length-append packet c.fill.new.self, long, ap length zeros, length-replicate {A = ℕ} (n - len) 0, room) in
+    omega (
+      arith,
+      length-append packet c.fill.new.self,
+      long,
+      ap length zeros,
+      length-replicate {A = ℕ} (n - len) 0,
+      room,
+    ) in
     ap (λ (l : List ℕ). drop n l) (laid packet c.fill.new.self old len n long room)
     ∙ drop_at (packet ++ c.fill.new.self) (drop n old) n whole

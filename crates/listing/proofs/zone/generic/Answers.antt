@@ -7,7 +7,8 @@ use Rattle.listing.proofs.zone.generic.Goals as goal
 
 pub returns-then-is_empty : goal.returns-then-is_empty
 returns-then-is_empty g c =
-    rw (generic_none c.args.octets.now (eqb-true (length c.args.octets.now) 0 (sym c.is_empty.ensures ∙ c.if-is_empty.true)))
+    rw (generic_none c.args.octets.now
+    (eqb-true (length c.args.octets.now) 0 (sym c.is_empty.ensures ∙ c.if-is_empty.true)))
     (gains_last _ _ _ c.in_ok-word.ensures c.word-then-is_empty.ensures)
 
 pub returns : goal.returns

@@ -29,7 +29,8 @@ returns c =
       puts =
           puts.puts
           ∙ sym (put-fields before (wide_fields kind i s d))
-          ∙ ap (put before) (same_fields kind c.args.ident c.args.seq_no d i s c.to_be_bytes.ensures c.to_be_bytes-2.ensures)
+          ∙ ap (put before)
+          (same_fields kind c.args.ident c.args.seq_no d i s c.to_be_bytes.ensures c.to_be_bytes-2.ensures)
           ∙ put-fields before (echo_fields kind c.args.ident c.args.seq_no d);
       same_slice = puts.same_slice;
     }

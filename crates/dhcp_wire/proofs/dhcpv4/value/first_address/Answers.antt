@@ -1,5 +1,5 @@
 -- The address at the front.
-use Rattle.std.proofs.Common.{◌≡◌, ℕ, ◌∷◌, List, drop, ap, sym, ◌∙◌, rules, arith, length, ◌<◌, length-drop}
+use Rattle.std.proofs.Common.{◌≡◌, ℕ, ◌∷◌, List, drop, ap, sym, ◌∙◌, rules, arith}
 use Rattle.std.proofs.lemmas.Grind.{common_steps}
 use Rattle.wirebase.specs.declared.ipv4.Ipv4Address.{Ipv4Address}
 use Rattle.dhcp_wire.specs.Dhcpv4OptionValue.{addresses_in, first_address}

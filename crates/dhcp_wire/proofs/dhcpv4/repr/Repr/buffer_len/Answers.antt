@@ -10,7 +10,8 @@ fields_len-len-requires c = omega (arith, counted_len-fields (value_of c.args.se
 pub loop-option-init : goal.loop-option-init
 loop-option-init c =
     ap (λ (n : ℕ). n + length (options_text (map value_of_option c.args.self.now.additional_options.now)))
-    (c.fields_len-len.ensures ∙ counted_len-fields (value_of c.args.self.now)) ∙ sym (text_len-fields (value_of c.args.self.now))
+    (c.fields_len-len.ensures ∙ counted_len-fields (value_of c.args.self.now))
+    ∙ sym (text_len-fields (value_of c.args.self.now))
 
 pub overflow_add-len-in-loop-option : goal.overflow_add-len-in-loop-option
 overflow_add-len-in-loop-option c =
