@@ -327,6 +327,7 @@ COMMENTS = {
     "/// What holds octets that may be written: `&mut [u8]` alone.":
         "/// What holds octets that may be written: all that lends a slice of them so. The proofs are of `&mut [u8]`.",
     "/// crate `quote_wire` read those.": "/// module `quotes` read those.",
+    "//! `record_wire::Name` makes it from text.": "//! `record::Name` makes it from text.",
 }
 
 
@@ -339,8 +340,8 @@ USE = re.compile(r"^(\s*//[/!] (?:# )?use )(\w+)(?=::)", re.M)
 
 
 def comments(file, users):
-    """Comments that are not true of the Rust crate are others; examples use what `users` has in the place of a crate, and
-    links of a crate that is a module lead to that module. No token is touched."""
+    """Comments that are not true of the Rust crate are others; examples use what `users` has in the place of a crate,
+    and links of a crate that is a module lead to that module. No token is touched."""
     module = users.get(file.crate, "").partition("::")[2]
     for token in file.tokens:
         for one, other in COMMENTS.items():

@@ -17,6 +17,25 @@ UPDATED = (254, 255)
 TOP = 0x8000
 
 
+class Part:
+    """A part of a message: the reason under which a check of it that fails is counted, and the words that stand before
+    the phrase of that check."""
+
+    def __init__(self, reason, words):
+        self.reason = reason
+        self.words = words
+
+    def accept(self, is_so, phrase):
+        if not is_so:
+            raise Refused(self.reason, "%s: %s" % (self.words, phrase))
+
+
+ASKED_NAME, OWNER = Part("name", "question"), Part("name", "the owner")
+DATA, NAME_IN_DATA = Part("malformed", "the data"), Part("name", "a name in the data")
+BEHIND_FIRST_NAME = Part("malformed", "the data: behind the first name")
+OPTIONS = Part("malformed", "the options")
+
+
 def listing(octets, is_multicast, lines):
     """Appends the lines of a message, as far as it reads."""
     if len(octets) < 12:
@@ -34,7 +53,7 @@ def listing(octets, is_multicast, lines):
                 at, text = question(octets, at, is_multicast)
                 lines.append(field(section, text))
             else:
-                at, of = record(octets, at)
+                at, of = record(octets, at, section)
                 if of.kind == OPT:
                     lines += extensions(octets, of)
                 else:
@@ -43,44 +62,45 @@ def listing(octets, is_multicast, lines):
 
 # ---- names
 
-def part_end(octets, at, end):
-    """Where the part of a name ends that begins there: whole labels, and behind them a zero octet or a pointer."""
-    while at < end:
-        length = octets[at]
-        if length == 0:
-            return at + 1
-        if length >= 192:
-            break
-        if length > 63:
-            break
-        at += 1 + length
-    if at + 2 <= end and octets[at] >= 192:
-        return at + 2
-    return None
+def label_end(octets, at, end, part):
+    """Where the label ends that begins there. The zero octet that ends a name counts as one, and so does a pointer."""
+    part.accept(at < end, "the name is cut")
+    length = octets[at]
+    part.accept(length < 64 or length >= 192, "a label that begins with byte %d is not read" % length)
+    behind = at + (2 if length >= 192 else 1 + length)
+    part.accept(behind <= end, "the name is cut")
+    return behind
 
 
-def labels(octets, at, end):
+def name_end(octets, at, end, part):
+    """Where a name ends in its own place: behind whole labels and a zero octet or a pointer, which is not followed."""
+    while True:
+        behind = label_end(octets, at, end, part)
+        if octets[at] == 0 or octets[at] >= 192:
+            return behind
+        at = behind
+
+
+def labels(octets, at, end, part):
     """The labels of a name. A pointer leads to what stands before the place that the last one led to, and the first one
-    anywhere in the message; a part stands before that place too."""
+    anywhere in the message; what is read there ends before that place too."""
     found, size, below = [], 1, len(octets)
     while True:
-        length = octets[at] if at < end else 64
+        behind = label_end(octets, at, end, part)
+        length = octets[at]
         if length == 0:
-            return found
+            break
         if length >= 192:
-            place = be(octets[at:at + 2]) % 0x4000 if at + 2 <= end else below
-            if place >= below:
-                raise Refused("name", "a name does not read")
+            place = be(octets[at:behind]) % 0x4000
+            part.accept(place < below, "a pointer to place %d leads nowhere or round" % place)
             at, end, below = place, below, place
             continue
-        if length > 63 or at + 1 + length > end:
-            raise Refused("name", "a name does not read")
+        found.append(octets[at + 1:behind])
         size += 1 + length
-        # A name has 255 octets at the most (RFC 1035 section 2.3.4).
-        if size > 255:
-            raise Refused("name", "a name does not read")
-        found.append(octets[at + 1:at + 1 + length])
-        at += 1 + length
+        at = behind
+    # A name that is too long (RFC 1035 section 2.3.4) is read to its end first.
+    part.accept(size <= 255, "the name has more than 255 octets")
+    return found
 
 
 def character(octet):
@@ -89,20 +109,8 @@ def character(octet):
     return chr(octet) if 33 <= octet <= 126 else "\\%03d" % octet
 
 
-def name(octets, at, end):
-    return "".join("".join(map(character, label)) + "." for label in labels(octets, at, end)) or "."
-
-
-def name_in(octets, at):
-    """Where the name that begins there ends, which has one part in its place."""
-    end = part_end(octets, at, len(octets))
-    whole_entry(end is not None)
-    return end
-
-
-def whole_entry(is_so):
-    if not is_so:
-        raise Refused("malformed", "a question or record is cut or malformed")
+def name(octets, at, end, part):
+    return "".join("".join(map(character, label)) + "." for label in labels(octets, at, end, part)) or "."
 
 
 # ---- questions and records
@@ -115,15 +123,21 @@ def type_text(number):
     return TYPES.get(number, "TYPE%d" % number)
 
 
+def fields_end(octets, at, length, entry):
+    """Where the name of a question or record ends, and so many octets of fields behind it."""
+    end = name_end(octets, at, len(octets), entry)
+    entry.accept(len(octets) >= end + length, "the fields behind the name are cut")
+    return end, end + length
+
+
 def question(octets, at, is_multicast):
-    end = name_in(octets, at)
-    whole_entry(len(octets) >= end + 4)
+    end, behind_fields = fields_end(octets, at, 4, Part("malformed", "question"))
     kind, of_class = be(octets[end:end + 2]), be(octets[end + 2:end + 4])
-    owner = name(octets, at, end)
+    owner = name(octets, at, end, ASKED_NAME)
     behind = " ; unicast-response" if is_multicast and of_class & TOP else ""
     if is_multicast:
         of_class %= TOP
-    return end + 4, "%s %s %s%s" % (owner, class_text(of_class), type_text(kind), behind)
+    return behind_fields, "%s %s %s%s" % (owner, class_text(of_class), type_text(kind), behind)
 
 
 class Record:
@@ -138,12 +152,13 @@ class Record:
         self.end = end
 
 
-def record(octets, at):
-    end = name_in(octets, at)
-    whole_entry(len(octets) >= end + 10 and len(octets) >= end + 10 + be(octets[end + 8:end + 10]))
-    start = end + 10
-    of = Record(name(octets, at, end), be(octets[end:end + 2]), be(octets[end + 2:end + 4]),
-                be(octets[end + 4:end + 8]), start, start + be(octets[end + 8:end + 10]))
+def record(octets, at, section):
+    entry = Part("malformed", section)
+    end, start = fields_end(octets, at, 10, entry)
+    data_end = start + be(octets[end + 8:start])
+    entry.accept(len(octets) >= data_end, "the data is cut")
+    of = Record(name(octets, at, end, OWNER), be(octets[end:end + 2]), be(octets[end + 2:end + 4]),
+                be(octets[end + 4:end + 8]), start, data_end)
     return of.end, of
 
 
@@ -161,16 +176,16 @@ def record_data(octets, of, of_class):
     if not data and of_class in UPDATED:
         return "\\# 0"
     if of.kind == A and of_class == INTERNET:
-        accept(len(data) == 4)
+        DATA.accept(len(data) == 4, "the address has other than 4 bytes")
         return dotted(data)
     if of.kind == AAAA and of_class == INTERNET:
-        accept(len(data) == 16)
+        DATA.accept(len(data) == 16, "the address has other than 16 bytes")
         return colons(data)
     if of.kind in (NS, CNAME, PTR):
         return last_name(octets, start, end)
     if of.kind in (MX, SRV):
         count = 1 if of.kind == MX else 3
-        accept(len(data) >= 2 * count)
+        DATA.accept(len(data) >= 2 * count, "the numbers in front of the name are cut")
         numbers = [str(be(data[2 * i:2 * i + 2])) for i in range(count)]
         return " ".join(numbers + [last_name(octets, start + 2 * count, end)])
     if of.kind == SOA:
@@ -180,33 +195,27 @@ def record_data(octets, of, of_class):
     return " ".join(["\\#", str(len(data))] + ([data.hex()] if data else []))
 
 
-def accept(is_so):
-    if not is_so:
-        raise Refused("malformed", "the data of a record do not read")
-
-
 def last_name(octets, start, end):
     """A name that fills the data."""
-    accept(part_end(octets, start, end) == end)
-    return name(octets, start, end)
+    DATA.accept(name_end(octets, start, end, DATA) == end, "bytes stand behind the name")
+    return name(octets, start, end, NAME_IN_DATA)
 
 
 def authority(octets, start, end):
-    """Two names, and five numbers (RFC 1035 section 3.3.13)."""
-    second = part_end(octets, start, end)
-    accept(second is not None)
-    numbers = part_end(octets, second, end)
-    accept(numbers is not None and end - numbers == 20)
-    values = [str(be(octets[numbers + at:numbers + at + 4])) for at in range(0, 20, 4)]
-    return " ".join([name(octets, start, second), name(octets, second, numbers)] + values)
+    """Two names, and five numbers (RFC 1035 section 3.3.13). No pointer is followed before all three stand there."""
+    second = name_end(octets, start, end, DATA)
+    numbers = name_end(octets, second, end, BEHIND_FIRST_NAME)
+    DATA.accept(end - numbers == 20, "the numbers behind the names have other than 20 bytes")
+    both = [name(octets, start, second, NAME_IN_DATA), name(octets, second, numbers, NAME_IN_DATA)]
+    return " ".join(both + [str(be(octets[numbers + at:numbers + at + 4])) for at in range(0, 20, 4)])
 
 
 def strings(data):
     """Strings in quotes, one at least (RFC 1035 section 3.3.14)."""
-    accept(data)
+    DATA.accept(data, "there is no string")
     found = []
     while data:
-        accept(len(data) >= 1 + data[0])
+        DATA.accept(len(data) >= 1 + data[0], "a string is cut")
         found.append('"%s"' % "".join(map(string_character, data[1:1 + data[0]])))
         data = data[1 + data[0]:]
     return found
@@ -226,8 +235,9 @@ def extensions(octets, of):
     ]
     data = octets[of.start:of.end]
     while data:
-        accept(len(data) >= 4 and len(data) >= 4 + be(data[2:4]))
+        OPTIONS.accept(len(data) >= 4, "the code and the length are cut")
         code, length = be(data[0:2]), be(data[2:4])
+        OPTIONS.accept(len(data) >= 4 + length, "the data of the option is cut")
         lines.append(field("opt.option", "%d %s" % (code, hexadecimal(data[4:4 + length]))))
         data = data[4 + length:]
     return lines

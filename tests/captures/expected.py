@@ -200,10 +200,9 @@ def refusal(packet, its_kind):
     return "malformed" if packet.has("_ws.malformed") else None
 
 
-# What is printed of reasons that every packet has in common.
+# What is printed of reasons that every packet has in common. Those of a message of DNS stand in names.py.
 PHRASES = {"checksum": "the checksum does not hold|no checksum over IPv6",
-           "malformed": "a question or record is cut or malformed|the data of a record do not read|"
-                        "there is no message type|the magic cookie is missing"}
+           "malformed": "there is no message type|the magic cookie is missing"}
 PROTOCOLS = {0: "Hop-by-Hop", 1: "ICMP", 2: "IGMP", 6: "TCP", 17: "UDP", 43: "IPv6-Route", 44: "IPv6-Frag",
              58: "ICMPv6", 60: "IPv6-Opts"}
 
@@ -471,5 +470,5 @@ def listing(packet, its_kind, reason):
         lines += {"icmp4": icmp4, "igmp": igmp, "icmp6": icmp6, "dhcp": dhcp, "dns": names.message,
                   "mdns": names.message}[its_kind](packet)
     elif reason == "malformed" and its_kind in ("dns", "mdns"):
-        lines += names.front(packet)
+        return lines + names.front(packet)
     return lines + ([] if reason is None else [refused(packet, its_kind, reason)])

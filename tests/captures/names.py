@@ -18,6 +18,19 @@ TOLD = (1, 2, 5, 6, 12, 15, 16, 28, 33, OPT)
 # The sections of records, and what tshark calls the numbers of their records, in updates as well (RFC 2136).
 SECTIONS = (("answer", "answers", "prerequisites"), ("authority", "auth_rr", "updates"), ("additional", "add_rr"))
 
+# Why there is no name: no label begins with a byte of 64 to 191.
+NO_NAME = r"the name is cut|a label that begins with byte (6[4-9]|[7-9]\d|1[0-8]\d|19[01]) is not read"
+# Why there is no question or record where one should begin; of a question no data are cut.
+NO_QUESTION = NO_NAME + "|the fields behind the name are cut"
+NO_RECORD = NO_QUESTION + "|the data is cut"
+# Why data are not laid out as the type of their record has it.
+NO_LAYOUT = "|".join((
+    NO_NAME, f"behind the first name: ({NO_NAME})", "bytes stand behind the name",
+    "the numbers in front of the name are cut", "the numbers behind the names have other than 20 bytes",
+    "the address has other than (4|16) bytes", "there is no string", "a string is cut"))
+# Why the data of a record that is there do not read.
+NO_DATA = f"the data: ({NO_LAYOUT})|the options: (the code and the length are cut|the data of the option is cut)"
+
 
 def name(text):
     """A name as it stands behind `unescaped`: tshark writes a label's characters as they are, and no last dot."""
@@ -144,25 +157,36 @@ def header(packet):
                                          f"opcode={flags >> 11 & 15}", f"rcode={flags & 15}")]
 
 
+def total(packet, names_of):
+    """The sum of the counts that tshark calls by these names."""
+    return sum(number for count in names_of for number in packet.numbers("dns.count." + count))
+
+
+def sections(packet):
+    """The section of each record, in turn."""
+    return [section for section, *names_of in SECTIONS for _ in range(total(packet, names_of))]
+
+
 def message(packet):
     """The patterns of the lines of a message."""
     lines, records = header(packet) + list(questions(packet)), Records(packet)
-    for section, *names_of in SECTIONS:
-        for _ in range(sum(number for count in names_of for number in packet.numbers("dns.count." + count))):
-            lines += records.lines(section)
+    for section in sections(packet):
+        lines += records.lines(section)
     return lines
 
 
 def front(packet):
-    """The patterns of the lines of a message that ends too early: tshark has no lengths of the data behind the end."""
+    """The patterns of the lines of a message that ends too early, and of the line that tells why behind them: tshark
+    has no lengths of the data behind the end."""
     lines, records = header(packet) + list(questions(packet)), Records(packet)
-    counts = [(section, number) for section, *names_of in SECTIONS for count in names_of
-              for number in packet.numbers("dns.count." + count)]
-    for section in (section for section, number in counts for _ in range(number)):
+    if len(packet.all("dns.qry.name")) < total(packet, ("queries", "zones")):
+        return lines + [f"refused=question: ({NO_QUESTION})"]
+    for section in sections(packet):
+        why = f"refused=({section}: ({NO_RECORD})|{NO_DATA})"
         if not records.lists.get("dns.resp.type") or not records.lists.get("dns.resp.len"):
-            break
+            return lines + [why]
         try:
             lines += records.lines(section)
         except LookupError:
-            break
-    return lines
+            return lines + [why]
+    return lines + [f"refused=({NO_DATA})"]

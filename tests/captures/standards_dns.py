@@ -1,8 +1,8 @@
 """Captures of messages of DNS and of multicast DNS, of raw IP."""
 import struct
 
-from building import (HOST4, HOST6, SERVER4, SERVER6, hexed, message, name, pcap, pointer, question, record, udp4, udp6,
-                      v4, v6)
+from building import (HOST4, HOST6, SERVER4, SERVER6, UDP, hexed, ip4, message, name, pcap, pointer, question, record,
+                      udp, udp4, udp6, v4, v6)
 
 QUERY, ANSWER, MULTICAST, UPDATE = 0x0100, 0x8180, 0x8400, 0x2800
 A, NS, CNAME, SOA, PTR, HINFO, MX, TXT, AAAA, SRV, OPT, ANY = 1, 2, 5, 6, 12, 13, 15, 16, 28, 33, 41, 255
@@ -17,6 +17,11 @@ def asks(octets):
 
 def answers(octets):
     return pcap([udp4(octets, 53, 40000, SERVER4, HOST4)], 101)
+
+
+def unsealed(octets):
+    """An answer that has no checksum (RFC 768), so that the message is looked at also where an octet is damaged."""
+    return pcap([ip4(udp(octets, 53, 40000, seal=False), UDP, SERVER4, HOST4)], 101)
 
 
 def multicast(octets):
@@ -137,6 +142,83 @@ MULTICAST_NAMES = {
     "mdns_refused": multicast(message(0, [question(LOCAL, A)], [record(OWNER, A, b"\1", 1, FLUSH)])),
 }
 
+NUMBERS = struct.pack(">IIIII", 1, 7200, 3600, 1209600, 300)
+LAYOUTS = {
+    "dns_ns_of_an_old_label": answer(NS, b"\3ns1\x7f"),
+    "dns_ptr_that_is_cut_within_a_label": answer(PTR, b"\3ns"),
+    "dns_cname_of_half_a_pointer": answer(CNAME, b"\3ns1\xc0"),
+    "dns_cname_that_leads_nowhere_with_an_octet_behind": answer(CNAME, pointer(500) + b"\0"),
+    "dns_mx_of_no_name": answer(MX, hexed("000a")),
+    "dns_mx_of_an_old_label": answer(MX, hexed("000a bf")),
+    "dns_mx_with_an_octet_behind": answer(MX, hexed("000a") + OWNER + b"\0"),
+    "dns_srv_of_five_octets": answer(SRV, hexed("0000 0005 13")),
+    "dns_srv_of_no_name": answer(SRV, hexed("0000 0005 13c4")),
+    "dns_srv_of_an_old_label": answer(SRV, hexed("0000 0005 13c4 40")),
+    "dns_srv_with_an_octet_behind": answer(SRV, hexed("0000 0005 13c4") + OWNER + b"\0"),
+    "dns_soa_of_no_name": answer(SOA, b"\3ns1"),
+    "dns_soa_of_an_old_label": answer(SOA, b"\3ns1\x80" + OWNER + NUMBERS),
+    "dns_soa_of_one_name": answer(SOA, pointer(500) + b"\x0ahost"),
+    "dns_soa_of_a_name_and_an_old_label": answer(SOA, OWNER + b"\xbe" + NUMBERS),
+    "dns_soa_of_19_octets": answer(SOA, pointer(500) + OWNER + NUMBERS[:-1]),
+    "dns_txt_whose_second_string_is_cut": answer(TXT, b"\1a\2b"),
+    "dns_a_of_five_octets": answer(A, v4("192.0.2.1") + b"\0"),
+    "dns_aaaa_of_17_octets": answer(AAAA, b"\0" * 17),
+    "dns_opt_whose_second_option_is_cut": asks(message(QUERY, (), (), (), [opt(hexed("0003 0000 000a 0001"))])),
+    "dns_opt_whose_second_code_is_cut": asks(message(QUERY, (), (), (), [opt(hexed("0003 0000 0a"))])),
+}
+
+
+def at_section(place, octets):
+    """A message with octets where the first question or record should begin of the section with this number."""
+    return asks(message(QUERY, *[[octets] if at == place else () for at in range(place + 1)]))
+
+
+# What is no question and no record. The last one is a whole question, whose name does not read.
+TORN = {
+    "missing": b"", "of_half_a_name": b"\3www", "of_half_a_pointer": b"\1a\xc0", "of_an_old_label": b"\1a\xbf\0",
+    "with_half_its_fields": OWNER + hexed("0001 00"), "of_cut_data": record(pointer(500), A, b"\0\0\0\0")[:-1],
+}
+ENTRIES = {"dns_%s_%s" % (section, what): at_section(place, octets) for what, octets in TORN.items()
+           for place, section in enumerate(("question", "answer", "authority", "additional"))}
+
+# A question with octets in its label, from place 13 on, that are no names: a label, at place 17 a pointer to it, and at
+# place 19 the first octet of an old label.
+HELD = question(b"\7\3www" + pointer(13) + b"\x80\0", A)
+# Names that do not read, though each is whole in its place.
+UNREAD = {
+    "cut_behind_pointers": pointer(17), "of_an_old_label_behind_a_pointer": b"\1a" + pointer(19),
+    "that_leads_nowhere": b"\1a" + pointer(500), "of_257_octets": LONG * 4 + b"\0",
+    "of_257_octets_and_more_that_leads_nowhere": LONG * 4 + pointer(500),
+}
+
+
+def with_name(octets):
+    """Messages that have a name in each of the places where one is read."""
+    def holding(*records):
+        return answers(message(ANSWER, [HELD], records))
+    return {
+        "question": asks(message(QUERY, [HELD, question(octets, A)])), "owner": holding(record(octets, A, b"")),
+        "owner_of_opt": holding(opt(b"\0", owner=octets)), "ns": holding(record(b"\0", NS, octets)),
+        "mx": holding(record(b"\0", MX, b"\0\1" + octets)), "srv": holding(record(b"\0", SRV, b"\0" * 6 + octets)),
+        "first_of_soa": holding(record(b"\0", SOA, octets + pointer(19) + NUMBERS)),
+        "second_of_soa": holding(record(b"\0", SOA, b"\0" + octets + NUMBERS)),
+    }
+
+
+UNREAD_NAMES = {"name_%s_%s" % (what, where): capture for what, octets in UNREAD.items()
+                for where, capture in with_name(octets).items()}
+
+UNSEALED = {
+    "dns_unsealed_names": unsealed(message(ANSWER, [question(WWW, A)], [
+        record(OWNER, CNAME, b"\1a" + pointer(16)), record(pointer(45), A, v4("192.0.2.1"))], [
+        record(pointer(16), SOA, b"\3ns1" + pointer(16) + b"\1h" + pointer(16) + NUMBERS)])),
+    "dns_unsealed_records": unsealed(message(ANSWER, [question(EXAMPLE, ANY)], [
+        record(OWNER, AAAA, v6("2001:db8::1")), record(OWNER, MX, hexed("000a") + OWNER),
+        record(OWNER, SRV, hexed("0000 0005 13c4") + OWNER)], [record(OWNER, TXT, b"\1a\0")], [
+        record(OWNER, NS, b"\2ns" + OWNER), opt(hexed("000a 0002 0123 0003 0000"))])),
+}
+
 DNS = {}
-for _table in (RECORDS, UPDATES, EXTENSIONS, NAMES, MULTICAST_NAMES):
+for _table in (RECORDS, UPDATES, EXTENSIONS, NAMES, MULTICAST_NAMES, LAYOUTS, ENTRIES, UNREAD_NAMES, UNSEALED):
+    assert not DNS.keys() & _table.keys()
     DNS.update(_table)

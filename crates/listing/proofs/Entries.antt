@@ -1,15 +1,18 @@
 -- The entries of a message in turn, and the whole message.
 use Rattle.std.proofs.Common.{◌≡◌, ℕ, Bool, true, false, List, [], ◌++◌, Option, None, Some, Result, Ok, Err}
-use Rattle.std.proofs.Common.{IfOk, sym, subst, append_assoc}
+use Rattle.std.proofs.Common.{IfOk, IfSome, IsSome, refl, ap, sym, ◌∙◌, subst, append_assoc}
 use Rattle.std.proofs.lemmas.List.{append-nil}
 use Rattle.std.specs.Option.{is_some}
 use Rattle.wirebase.specs.Bytes.{Reaches}
 use Rattle.dns_wire.specs.DnsPacket.{header}
-use Rattle.record_wire.specs.Entries.{EntryValue, Left, IsNext, all_of}
+use Rattle.record_wire.specs.Entries.{EntryValue, Left, IsNext, IsBroken, RefusesEntry, section_at, all_of}
+use Rattle.record_wire.specs.declared.entries.Section.{Section}
 use Rattle.listing.specs.ListingMessage.{header_listing, EntryPrints, EntriesPrint, is_listed, is_unread, MessagePrints}
-use Rattle.listing.specs.ListingMessage.{has_header}
+use Rattle.listing.specs.ListingMessage.{has_header, none_begins}
+use Rattle.listing.specs.ListingParts.{RefusesNext}
 use Rattle.listing.specs.Output.{Gains, GainsSome}
-use Rattle.listing.specs.declared.message.Unread.{Unread}
+use Rattle.listing.specs.declared.message.unread.Unread.{Unread}
+use Rattle.listing.specs.declared.message.unread.Unread.TheVariants as unread
 use Rattle.listing.proofs.Printing.{gains_none, gains_both}
 
 module _ (margin : List ℕ) (is_multicast : Bool) (message : List ℕ) where
@@ -31,6 +34,21 @@ module _ (margin : List ℕ) (is_multicast : Bool) (message : List ℕ) where
     subst (λ (t : List ℕ). EntriesPrint margin is_multicast message all t unread) (append-nil done) (on [] unread is),
     gains,
   )
+
+  -- where the next one is refused
+  pub refused_next : (left after all : Left) (a b : Option (List ℕ)) (unread : Option Unread)
+      → GainsSome a b (AreLeft left all) → IsBroken left after → IfSome unread (RefusesNext after) → IsSome unread
+      → GainsSome a b (λ text. EntriesPrint margin is_multicast message all text unread)
+  refused_next left after all a b None so_far broken told some = cc some
+  refused_next left after all a b (Some why) so_far broken (refusal, is, refuses) some =
+      let place : section_at after.ends after.taken ≡ section_at left.ends left.taken =
+      rw (broken.ends_, broken.taken_) refl in
+      nothing_more left all a b (Some why) so_far
+      (subst (λ (w : Unread). EntriesPrint margin is_multicast message left [] (Some w))
+      (sym (is ∙ ap (λ (s : Section). unread.Entry s refusal) place))
+      (none_begins left after refusal broken
+      (subst (λ (bytes : List ℕ). RefusesEntry (section_at left.ends left.taken) bytes refusal) broken.bytes_
+      (subst (λ (s : Section). RefusesEntry s after.bytes refusal) place refuses))))
 
   -- one entry more
   pub one_listed : (left after all : Left) (entry : EntryValue) (a b c : Option (List ℕ)) (unread : Option Unread)

@@ -1,8 +1,9 @@
 -- The options of OPT.
 use Rattle.std.proofs.Common.{ℕ, ◌<◌, ◌≤◌, List, [], ◌∷◌, ◌++◌, length, drop, refl, sym, ap, ◌∙◌, subst, arith}
-use Rattle.std.proofs.Common.{length-drop}
-use Rattle.record_wire.specs.Edns.{OptionValue, IsOption, option_len}
-use Rattle.listing.specs.ListingEdns.{AreOptions, option_line}
+use Rattle.std.proofs.Common.{length-drop, Option, None, Some, IfSome}
+use Rattle.record_wire.specs.Edns.{OptionValue, IsOption, option_len, RefusesOption}
+use Rattle.record_wire.specs.declared.edns.OptionRefusal.{OptionRefusal}
+use Rattle.listing.specs.ListingEdns.{AreOptions, AreOptionsThen, RefusesOptions, option_line}
 use Rattle.listing.specs.ListingParts.{OptionsShown}
 
 -- an option is followed by fewer octets
@@ -38,3 +39,20 @@ pub option_begins : (octets : List ℕ) → 1 ≤ length octets → (options : L
     → (option : OptionValue) × (rest : List ℕ) × IsOption octets option rest
 option_begins octets some ([], none) = absurd (omega (arith, some, ap length none))
 option_begins octets some (option ∷ options, (rest, is, are)) = (option, rest, is)
+
+-- one option more stands before what is left
+pub one_option_more : (octets left rest : List ℕ) (option : OptionValue) (options : List OptionValue)
+    → AreOptionsThen octets options left → IsOption left option rest
+    → (more : List OptionValue) × AreOptionsThen octets more rest
+one_option_more octets left rest option [] are is =
+    (option ∷ [], (rest, subst (λ (bytes : List ℕ). IsOption bytes option rest) (sym are) is, refl))
+one_option_more octets left rest option (first ∷ options) (others, one, are) is =
+    let (more, then_) = one_option_more others left rest option options are is in
+    (first ∷ more, (others, one, then_))
+
+-- and no option begins in what is left
+pub options_refused : (octets left : List ℕ) (why : Option OptionRefusal)
+    → (options : List OptionValue) × AreOptionsThen octets options left → 1 ≤ length left
+    → IfSome why (λ refusal. RefusesOption left refusal) → IfSome why (RefusesOptions octets)
+options_refused octets left None before some told = tt
+options_refused octets left (Some why) (options, are) some told = (options, left, are, some, told)

@@ -1,36 +1,43 @@
 -- What reads of a record, and what does not.
 use Rattle.std.proofs.Common.{◌≡◌, ℕ, Bool, true, false, ◌&&◌, List, [], ◌∷◌, ◌++◌, Option, None, Some, codes}
-use Rattle.std.proofs.Common.{refl, sym, ◌∙◌, subst, arith}
-use Rattle.std.specs.Option.{is_some}
+use Rattle.std.proofs.Common.{IfSome, IsSome, refl, sym, ◌∙◌, subst, arith}
 use Rattle.dns_wire.specs.DnsName.{IsName}
 use Rattle.record_wire.specs.Labels.{AreOfName}
 use Rattle.record_wire.specs.NameDotted.{dotted, AreUsual}
+use Rattle.record_wire.specs.NameRefusal.{HasName}
 use Rattle.record_wire.specs.Multicast.{flushes}
 use Rattle.record_wire.specs.RData.{RDataValue, IsLaidOut}
 use Rattle.record_wire.specs.Record.{RecordValue}
+use Rattle.record_wire.specs.RecordText.{Names}
 use Rattle.record_wire.specs.Update.{IsDataOf}
 use Rattle.record_wire.specs.declared.entries.Section.{Section}
+use Rattle.record_wire.specs.declared.name.refusal.NameRefusal.{NameRefusal}
 use Rattle.record_wire.specs.declared.rdata.Layout.{Layout}
 use Rattle.record_wire.specs.declared.rdata.Layout.TheVariants as layout
+use Rattle.record_wire.specs.declared.text.refusal.TextRefusal.TheVariants as refusal
 use Rattle.record_wire.proofs.NameDotted.{usual_name}
-use Rattle.listing.specs.ListingParts.{LineShown, HasStrings}
+use Rattle.listing.specs.ListingParts.{LineShown, HasStrings, RefusesData}
 use Rattle.listing.specs.ListingRecord.{NameReads, record_class, line_end, record_front, record_line}
-use Rattle.listing.specs.ListingRecord.{RecordPrints, has, has_no_name_in_data}
+use Rattle.listing.specs.ListingRecord.{RecordPrints, has, has_no_data, has_no_name_in_data}
 use Rattle.record_wire.specs.ZoneText.{whole_name}
 use Rattle.listing.specs.Output.{Gains, GainsSome}
-use Rattle.listing.specs.declared.message.Unread.{Unread}
+use Rattle.listing.specs.declared.message.unread.Unread.{Unread}
+use Rattle.listing.specs.declared.message.unread.Unread.TheVariants as unread
 use Rattle.listing.proofs.Printing.{gains_both}
 
 -- a name that was read
-pub reads : (message bytes : List ℕ) (labels : List (List ℕ)) → IsName bytes message labels → AreOfName labels
+pub reads : (message bytes : List ℕ) (labels : List (List ℕ)) → Names message bytes labels
     → NameReads message bytes (whole_name labels)
-reads message bytes labels name fits = record { labels = labels; name_ = name; fits = fits; is = refl }
+reads message bytes labels names = record { labels = labels; name_ = names.name_; fits = names.fits; is = refl }
 
 -- one that was not
-pub reads_none : (message bytes : List ℕ)
-    → ((labels : List (List ℕ)) → IsName bytes message labels → AreOfName labels → ⊥)
+pub reads_none : (message bytes : List ℕ) → ((labels : List (List ℕ)) → Names message bytes labels → ⊥)
     → (text : List ℕ) → NameReads message bytes text → ⊥
-reads_none message bytes none text is = none is.labels is.name_ is.fits
+reads_none message bytes none text is = none is.labels (record { name_ = is.name_; fits = is.fits })
+
+-- a name that reads is one
+pub reads_has : (message bytes text : List ℕ) → NameReads message bytes text → HasName bytes message
+reads_has message bytes text is = (is.labels, is.name_, is.fits)
 
 -- one whose text was put
 pub reads_usual : (message bytes text : List ℕ) (labels : List (List ℕ)) → AreUsual bytes message labels
@@ -47,34 +54,46 @@ reads_usual message bytes text (label ∷ labels) usual is = record {
 -- ---- records
 
 module _ (margin : List ℕ) (is_multicast : Bool) (message : List ℕ) (section : Section) (r : RecordValue)
+    (owner : List ℕ) (name : NameReads message r.name owner) where
+  -- a record whose data is not what its type has
+  pub data_unread : (unread : Option Unread)
+      → ((value : RDataValue) → IsDataOf r.kind (record_class is_multicast r.kind r.class) r.data_ value → ⊥)
+      → IfSome unread (RefusesData (record_class is_multicast r.kind r.class) r) → IsSome unread
+      → RecordPrints margin is_multicast message section r [] unread
+  data_unread None none told some = cc some
+  data_unread (Some why) none (refused, is, refuses) some =
+      subst (λ (w : Unread). RecordPrints margin is_multicast message section r [] (Some w)) (sym is)
+      (has_no_data owner refused name none refuses)
+
+module _ (margin : List ℕ) (is_multicast : Bool) (message : List ℕ) (section : Section) (r : RecordValue)
     (owner : List ℕ) (value : RDataValue) (name : NameReads message r.name owner)
     (is : IsDataOf r.kind (record_class is_multicast r.kind r.class) r.data_ value) where
   -- a record with a name in its data that does not read
-  pub record_unread : (a b : Option (List ℕ)) (unread : Option Unread) → is_some unread ≡ true
-      → GainsSome a b (λ text. LineShown (record_front margin is_multicast section r owner) message value text unread)
-      → GainsSome a b (λ text. RecordPrints margin is_multicast message section r text unread)
-  record_unread a b None e shown = cc e
-  record_unread a b (Some why) e (text, (is_name, none, empty), gains) = (
+  pub record_unread : (a b : Option (List ℕ)) (why : NameRefusal)
+      → GainsSome a b (λ text.
+      LineShown (record_front margin is_multicast section r owner) message value text (Some why))
+      → GainsSome a b (λ text.
+      RecordPrints margin is_multicast message section r text (Some (unread.Record (refusal.DataName why))))
+  record_unread a b why (text, (none, refused, empty), gains) = (
     text,
-    subst (λ (t : List ℕ). RecordPrints margin is_multicast message section r t (Some why)) (sym empty)
-        (subst (λ (w : Unread). RecordPrints margin is_multicast message section r [] (Some w)) (sym is_name)
-        (has_no_name_in_data owner value name is none)),
+    subst (λ (t : List ℕ).
+        RecordPrints margin is_multicast message section r t (Some (unread.Record (refusal.DataName why)))) (sym empty)
+        (has_no_name_in_data owner value why name is none refused),
     gains,
   )
 
   -- one that reads, and the end of its line
-  pub record_listed : (a b c : Option (List ℕ)) (unread : Option Unread) → is_some unread ≡ false
-      → GainsSome a b (λ text. LineShown (record_front margin is_multicast section r owner) message value text unread)
+  pub record_listed : (a b c : Option (List ℕ))
+      → GainsSome a b (λ text. LineShown (record_front margin is_multicast section r owner) message value text None)
       → Gains b c (line_end (is_multicast && flushes r.kind r.class) (codes "cache-flush"))
       → GainsSome a c (λ text. RecordPrints margin is_multicast message section r text None)
-  record_listed a b c None e (text, (data_, reads, whole), gains) end = (
+  record_listed a b c (text, (data_, reads, whole), gains) end = (
     record_line margin is_multicast section r owner data_,
     has owner data_ value name is reads,
     gains_both a b c (record_front margin is_multicast section r owner ++ data_) _
         (subst (λ t. Gains a b t) whole gains)
         end,
   )
-  record_listed a b c (Some why) e shown end = cc e
 
 -- data that are strings are whole ones
 pub has_strings : (layout : Layout) (bytes : List ℕ) (value : RDataValue) → IsLaidOut layout bytes value

@@ -19,6 +19,7 @@ pub mod ListingNdopt
 pub mod ListingParts
 pub mod ListingQuote
 pub mod ListingRecord
+pub mod ListingUnread
 pub mod Output
 pub mod Page
 pub mod Ports

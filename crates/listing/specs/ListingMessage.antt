@@ -4,15 +4,17 @@ use Rattle.std.specs.Prelude.{◌≡◌, ℕ, ◌/◌, ◌%◌, ◌^◌, ◌<◌
 use Rattle.std.specs.Prelude.{length, flat_map, Option, None, Some, codes, decimal}
 use Rattle.wirebase.specs.Bytes.{Reaches, number_of}
 use Rattle.dns_wire.specs.DnsPacket.{id_field, flags_field, header, opcode_in, rcode_in}
-use Rattle.record_wire.specs.Entries.{EntryValue, question, record_in, Left, all_of, IsNext, IsBroken}
+use Rattle.record_wire.specs.Entries.{EntryValue, question, record_in, Left, all_of, section_at, IsNext, IsBroken}
+use Rattle.record_wire.specs.Entries.{RefusesEntry}
 use Rattle.record_wire.specs.Multicast.{is_opt}
 use Rattle.record_wire.specs.Record.{RecordValue}
 use Rattle.record_wire.specs.declared.entries.Section.{Section}
+use Rattle.record_wire.specs.declared.refusal.Refusal.{Refusal}
 use Rattle.listing.specs.Layout.{part_field}
 use Rattle.listing.specs.ListingEdns.{OptPrints}
 use Rattle.listing.specs.ListingRecord.{QuestionPrints, RecordPrints}
-use Rattle.listing.specs.declared.message.Unread.{Unread}
-use Rattle.listing.specs.declared.message.Unread.TheVariants as unread
+use Rattle.listing.specs.declared.message.unread.Unread.{Unread}
+use Rattle.listing.specs.declared.message.unread.Unread.TheVariants as unread
 
 -- ---- the header
 
@@ -63,8 +65,9 @@ EntryPrints margin is_multicast message (record_in section r) text unread =
 pub data EntriesPrint (margin : List ℕ) (is_multicast : Bool) (message : List ℕ) : Left → List ℕ → Option Unread
     → Type 0 where
   none_left : (left : Left) → left.taken ≡ left.ends.all → EntriesPrint margin is_multicast message left [] None
-  none_begins : (left after : Left) → IsBroken left after
-      → EntriesPrint margin is_multicast message left [] (Some unread.Entry)
+  none_begins : (left after : Left) (why : Refusal) → IsBroken left after
+      → RefusesEntry (section_at left.ends left.taken) left.bytes why
+      → EntriesPrint margin is_multicast message left [] (Some (unread.Entry (section_at left.ends left.taken) why))
   is_listed : (left after : Left) (entry : EntryValue) (first more : List ℕ) (unread : Option Unread)
       → IsNext left entry after → EntryPrints margin is_multicast message entry first None
       → EntriesPrint margin is_multicast message after more unread
@@ -81,4 +84,4 @@ pub data MessagePrints (margin : List ℕ) (is_multicast : Bool) (octets : List 
   has_header : (entries : List ℕ) (unread : Option Unread) → Reaches header octets
       → EntriesPrint margin is_multicast octets (all_of octets) entries unread
       → MessagePrints margin is_multicast octets (header_listing margin octets ++ entries) unread
-  has_no_header : length octets < 12 → MessagePrints margin is_multicast octets [] (Some unread.Entry)
+  has_no_header : length octets < 12 → MessagePrints margin is_multicast octets [] (Some unread.Header)

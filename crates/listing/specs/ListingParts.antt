@@ -5,14 +5,23 @@ use Rattle.std.specs.Borrow.{Bor}
 use Rattle.dns_wire.specs.DnsTables.{type_number}
 use Rattle.record_wire.specs.Mnemonics.{type_text, class_text}
 use Rattle.record_wire.specs.Name.{labels_of}
+use Rattle.record_wire.specs.Entries.{Left, section_at, RefusesEntry}
 use Rattle.record_wire.specs.RData.{RDataValue, strings, AreStrings}
+use Rattle.record_wire.specs.RDataRefusal.{RefusesLayout}
+use Rattle.record_wire.specs.Record.{RecordValue}
+use Rattle.record_wire.specs.RecordText.{RefusesNameIn}
+use Rattle.record_wire.specs.Update.{data_layout}
 use Rattle.record_wire.specs.ZoneText.{word, whole_name}
 use Rattle.record_wire.specs.declared.name.Name.{Name}
+use Rattle.record_wire.specs.declared.name.refusal.NameRefusal.{NameRefusal}
+use Rattle.record_wire.specs.declared.rdata.refusal.DataRefusal.{DataRefusal}
+use Rattle.record_wire.specs.declared.refusal.Refusal.{Refusal}
+use Rattle.record_wire.specs.declared.text.refusal.TextRefusal.TheVariants as refusals
 use Rattle.record_wire.specs.Edns.{OptionValue}
 use Rattle.listing.specs.ListingEdns.{AreOptions, options_listing}
 use Rattle.listing.specs.ListingRecord.{line_front, DataReads}
-use Rattle.listing.specs.declared.message.Unread.{Unread}
-use Rattle.listing.specs.declared.message.Unread.TheVariants as unread
+use Rattle.listing.specs.declared.message.unread.Unread.{Unread}
+use Rattle.listing.specs.declared.message.unread.Unread.TheVariants as unread
 use Rattle.listing.specs.declared.message.record.Line.{Line}
 use Rattle.listing.specs.declared.zone.name_text.NameText.{NameText}
 
@@ -37,10 +46,24 @@ line_text line =
     ++ word (type_text (type_number line.kind))
 
 -- a line was written up to its end, or nothing for a name in its data that does not read
-abbrev pub LineShown : List ℕ → List ℕ → RDataValue → List ℕ → Option Unread → Type 0
+abbrev pub LineShown : List ℕ → List ℕ → RDataValue → List ℕ → Option NameRefusal → Type 0
 LineShown front message value text None = (data_ : List ℕ) × DataReads message value data_ × (text ≡ front ++ data_)
 LineShown front message value text (Some why) =
-    (why ≡ unread.Name) × ((data_ : List ℕ) → DataReads message value data_ → ⊥) × (text ≡ [])
+    ((data_ : List ℕ) → DataReads message value data_ → ⊥) × RefusesNameIn message value why × (text ≡ [])
+
+-- the data of a record, taken as one of a class, is refused, for this reason
+abbrev pub RefusesData : ℕ → RecordValue → Unread → Type 0
+RefusesData class r why =
+    (refusal : DataRefusal) × (why ≡ unread.Record (refusals.Data refusal))
+    × RefusesLayout (data_layout r.kind class r.data_) r.data_ refusal
+
+-- ---- entries
+
+-- the next entry is refused, for this reason, in its section
+abbrev pub RefusesNext : Left → Unread → Type 0
+RefusesNext left why =
+    (refusal : Refusal) × (why ≡ unread.Entry (section_at left.ends left.taken) refusal)
+    × RefusesEntry (section_at left.ends left.taken) left.bytes refusal
 
 -- ---- strings
 

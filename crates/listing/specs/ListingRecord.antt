@@ -8,16 +8,22 @@ use Rattle.dns_wire.specs.DnsTables.{type_number}
 use Rattle.record_wire.specs.Labels.{AreOfName}
 use Rattle.record_wire.specs.Mnemonics.{type_text, class_text}
 use Rattle.record_wire.specs.Multicast.{class_of, has_top_bit, record_class_of, flushes}
+use Rattle.record_wire.specs.NameRefusal.{RefusesName}
 use Rattle.record_wire.specs.RData.{RDataValue, address4, address6, name, mail, service, authority, strings, other}
 use Rattle.record_wire.specs.RData.{AuthorityValue}
+use Rattle.record_wire.specs.RDataRefusal.{RefusesLayout}
 use Rattle.record_wire.specs.Record.{QuestionValue, RecordValue}
-use Rattle.record_wire.specs.Update.{IsDataOf}
+use Rattle.record_wire.specs.RecordText.{RefusesNameIn}
+use Rattle.record_wire.specs.Update.{data_layout, IsDataOf}
 use Rattle.record_wire.specs.ZoneText.{word, whole_name, string_words, generic_text}
 use Rattle.dns_wire.specs.declared.dns.tables.Type.{«Type» as RecordType}
 use Rattle.record_wire.specs.declared.entries.Section.{Section}
 use Rattle.record_wire.specs.declared.entries.Section.TheVariants.{Question, Answer, Authority, Additional}
-use Rattle.listing.specs.declared.message.Unread.{Unread}
-use Rattle.listing.specs.declared.message.Unread.TheVariants as unread
+use Rattle.record_wire.specs.declared.name.refusal.NameRefusal.{NameRefusal}
+use Rattle.record_wire.specs.declared.rdata.refusal.DataRefusal.{DataRefusal}
+use Rattle.record_wire.specs.declared.text.refusal.TextRefusal.TheVariants as refusal
+use Rattle.listing.specs.declared.message.unread.Unread.{Unread}
+use Rattle.listing.specs.declared.message.unread.Unread.TheVariants as unread
 
 -- ---- classes
 
@@ -110,8 +116,8 @@ pub data QuestionPrints (margin : List ℕ) (is_multicast : Bool) (message : Lis
     → Option Unread → Type 0 where
   asks : (owner : List ℕ) → NameReads message q.name owner
       → QuestionPrints margin is_multicast message q (question_line margin is_multicast q owner) None
-  asks_of_no_name : ((owner : List ℕ) → NameReads message q.name owner → ⊥)
-      → QuestionPrints margin is_multicast message q [] (Some unread.Name)
+  asks_of_no_name : (why : NameRefusal) → ((owner : List ℕ) → NameReads message q.name owner → ⊥)
+      → RefusesName q.name message why → QuestionPrints margin is_multicast message q [] (Some (unread.Question why))
 
 -- A record prints its line where all of it reads, and else nothing. First its name is read, then its data are, and
 -- then the names in these.
@@ -120,12 +126,14 @@ pub data RecordPrints (margin : List ℕ) (is_multicast : Bool) (message : List 
   has : (owner data_ : List ℕ) (value : RDataValue) → NameReads message r.name owner
       → IsDataOf r.kind (record_class is_multicast r.kind r.class) r.data_ value → DataReads message value data_
       → RecordPrints margin is_multicast message section r (record_line margin is_multicast section r owner data_) None
-  has_no_name : ((owner : List ℕ) → NameReads message r.name owner → ⊥)
-      → RecordPrints margin is_multicast message section r [] (Some unread.Name)
-  has_no_data : (owner : List ℕ) → NameReads message r.name owner
+  has_no_name : (why : NameRefusal) → ((owner : List ℕ) → NameReads message r.name owner → ⊥)
+      → RefusesName r.name message why
+      → RecordPrints margin is_multicast message section r [] (Some (unread.Record (refusal.Owner why)))
+  has_no_data : (owner : List ℕ) (why : DataRefusal) → NameReads message r.name owner
       → ((value : RDataValue) → IsDataOf r.kind (record_class is_multicast r.kind r.class) r.data_ value → ⊥)
-      → RecordPrints margin is_multicast message section r [] (Some unread.Data)
-  has_no_name_in_data : (owner : List ℕ) (value : RDataValue) → NameReads message r.name owner
+      → RefusesLayout (data_layout r.kind (record_class is_multicast r.kind r.class) r.data_) r.data_ why
+      → RecordPrints margin is_multicast message section r [] (Some (unread.Record (refusal.Data why)))
+  has_no_name_in_data : (owner : List ℕ) (value : RDataValue) (why : NameRefusal) → NameReads message r.name owner
       → IsDataOf r.kind (record_class is_multicast r.kind r.class) r.data_ value
-      → ((data_ : List ℕ) → DataReads message value data_ → ⊥)
-      → RecordPrints margin is_multicast message section r [] (Some unread.Name)
+      → ((data_ : List ℕ) → DataReads message value data_ → ⊥) → RefusesNameIn message value why
+      → RecordPrints margin is_multicast message section r [] (Some (unread.Record (refusal.DataName why)))

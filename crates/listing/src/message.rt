@@ -6,11 +6,13 @@ mod data;
 mod edns;
 mod header;
 mod record;
+pub mod unread;
 
-ghost use Rattle.std.specs.Prelude.{◌≡◌, IfOk};
+ghost use Rattle.std.specs.Prelude.{◌≡◌, true, IfOk, IfSome, IsSome};
 ghost use Rattle.dns_wire.specs.DnsPacket.{view_octets, header as header_field};
 ghost use Rattle.wirebase.specs.Bytes.{Reaches};
 ghost use Rattle.record_wire.specs.Entries.{entry_of, all_of, record_in};
+ghost use Rattle.listing.specs.ListingParts.{RefusesNext};
 ghost use Rattle.record_wire.specs.Record.{record_of};
 ghost use Rattle.listing.specs.ListingMessage.{MessagePrints, EntryPrints, EntriesPrint};
 ghost use Rattle.listing.specs.Output.{GainsSome};
@@ -18,21 +20,11 @@ ghost use Rattle.listing.specs.Output.{GainsSome};
 use crate::message::edns::show_opt;
 use crate::message::header::show_header;
 use crate::message::record::{show_question, show_record};
+pub use crate::message::unread::Unread;
 use dns_wire::dns::Packet;
 use record_wire::{Entries, Entry, Record, Section};
 use std::io;
 use std::io::Write;
-
-/// Why a message is not listed to its end.
-#[derive(Debug, PartialEq, Eq, Clone, Copy)]
-pub enum Unread {
-    /// There are fewer than 12 bytes, or no question or record of its section begins where one should.
-    Entry,
-    /// A name does not read, of a question or record or in its data.
-    Name,
-    /// The data of a record are not what its type and class have.
-    Data,
-}
 
 /// Prints a message, each line behind the margin: the fields of its header, and then each question and record, up to
 /// the last, or to one that does not read; then it answers why. In multicast DNS the top bit of a class is no part of
@@ -47,7 +39,7 @@ pub fn show_message<W: Write>(
         (λ text. MessagePrints margin.now is_multicast octets.now text unread)) }
 {
     let Ok(packet) = Packet::new_checked(octets) else {
-        return Ok(Some(Unread::Entry));
+        return Ok(Some(Unread::Header));
     };
     show_header(output, margin, octets)?;
     show_entries(output, margin, is_multicast, &packet)
@@ -69,13 +61,24 @@ fn show_entries<W: Write>(
     loop {
         let entry = match entries.next() {
             Some(Ok(entry)) => entry,
-            Some(Err(_)) => return Ok(Some(Unread::Entry)),
+            Some(Err(_)) => return Ok(why_no_entry(&entries)),
             None => return Ok(None),
         };
         let unread = show_entry(output, margin, is_multicast, packet, &entry)?;
         if unread.is_some() {
             return Ok(unread);
         }
+    }
+}
+
+// Why the next question or record was refused; None where none was.
+fn why_no_entry(entries: &Entries<'_>) -> Option<Unread>
+    ensures told { IfSome result (RefusesNext entries.now) }
+    ensures exact { entries.now.refused ≡ true → IsSome result }
+{
+    match entries.refusal() {
+        Some((section, refusal)) => Some(Unread::Entry(section, refusal)),
+        None => None,
     }
 }
 

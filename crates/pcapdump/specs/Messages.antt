@@ -30,8 +30,7 @@ use Rattle.listing.specs.ListingIcmp6.{icmp6_listing}
 use Rattle.listing.specs.ListingIcmp6Error.{Icmp6ErrorPrints}
 use Rattle.listing.specs.ListingIgmp.{igmp_listing}
 use Rattle.listing.specs.ListingMessage.{MessagePrints}
-use Rattle.listing.specs.declared.message.Unread.{Unread}
-use Rattle.listing.specs.declared.message.Unread.TheVariants as unread
+use Rattle.listing.specs.declared.message.unread.Unread.{Unread}
 use Rattle.pcapdump.specs.Refusals.{reason_of, refusal_display}
 use Rattle.pcapdump.specs.Sight.{ContentValue, whole, refused, HeadersValue}
 use Rattle.pcapdump.specs.declared.kind.Kind.{Kind}
@@ -105,22 +104,17 @@ abbrev pub DhcpPrints : List ℕ → List ℕ → Option Reason → Type 0
 DhcpPrints octets =
     ListsOrRefuses (IsPacket octets) (Indents dhcp_listing) (dhcp_refusals.Refuses octets) refusal.Dhcp
 
--- why a message of DNS is not listed to its end: its header has 12 bytes (RFC 1035 section 4.1.1)
-abbrev pub unread_refusal : List ℕ → Unread → Refusal
-unread_refusal octets unread.Entry =
-    if nat_lt (length octets) 12 then refusal.DnsHeader else refusal.Dns unread.Entry
-unread_refusal octets u = refusal.Dns u
-
-abbrev pub end_text : List ℕ → Option Unread → List ℕ
-end_text octets None = []
-end_text octets (Some u) = refusal_text (unread_refusal octets u)
+-- behind a message of DNS, why it is not listed to its end
+abbrev pub end_text : Option Unread → List ℕ
+end_text None = []
+end_text (Some unread) = refusal_text (refusal.Dns unread)
 
 pub record DnsPrints (is_multicast : Bool) (octets text : List ℕ) (why : Option Reason) : Type 0 where
   pub listed : List ℕ
   pub unread_ : Option Unread
   pub prints : MessagePrints margin is_multicast octets listed unread_
-  pub why_ : why ≡ option_map (λ u. reason_of false (unread_refusal octets u)) unread_
-  pub text_ : text ≡ listed ++ end_text octets unread_
+  pub why_ : why ≡ option_map (λ u. reason_of false (refusal.Dns u)) unread_
+  pub text_ : text ≡ listed ++ end_text unread_
 
 -- ---- a control packet
 

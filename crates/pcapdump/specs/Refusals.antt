@@ -1,5 +1,5 @@
 -- Why control packets are refused: what the library's refusals print, and the reason under which each is counted.
-use Rattle.std.specs.Prelude.{ℕ, Bool, if◌then◌else◌, List, codes}
+use Rattle.std.specs.Prelude.{ℕ, Bool, if◌then◌else◌, List}
 use Rattle.dhcp_wire.specs.Dhcpv4Refusal as dhcp_texts
 use Rattle.dhcp_wire.specs.declared.dhcpv4.refusal.Refusal.{Refusal as DhcpRefusal}
 use Rattle.dhcp_wire.specs.declared.dhcpv4.refusal.Refusal.TheVariants as dhcp
@@ -25,8 +25,10 @@ use Rattle.quote_wire.specs.declared.message.icmpv4.Icmpv4Refusal.{Icmpv4Refusal
 use Rattle.quote_wire.specs.declared.message.icmpv4.Icmpv4Refusal.TheVariants as icmp4
 use Rattle.quote_wire.specs.declared.message.icmpv6.Icmpv6Refusal.{Icmpv6Refusal}
 use Rattle.quote_wire.specs.declared.message.icmpv6.Icmpv6Refusal.TheVariants as icmp6
-use Rattle.listing.specs.declared.message.Unread.{Unread}
-use Rattle.listing.specs.declared.message.Unread.TheVariants as unread
+use Rattle.record_wire.specs.declared.text.refusal.TextRefusal.TheVariants as text
+use Rattle.listing.specs.ListingUnread.{unread_display}
+use Rattle.listing.specs.declared.message.unread.Unread.{Unread}
+use Rattle.listing.specs.declared.message.unread.Unread.TheVariants as unread
 use Rattle.pcapdump.specs.declared.kind.Reason.{Reason}
 use Rattle.pcapdump.specs.declared.kind.Reason.TheVariants as reason
 use Rattle.pcapdump.specs.declared.refusal.Refusal.{Refusal}
@@ -89,9 +91,13 @@ dhcp_reason dhcp.Short = reason.Short
 dhcp_reason _ = reason.Malformed
 
 abbrev pub dns_reason : Unread → Reason
-dns_reason unread.Entry = reason.Malformed
-dns_reason unread.Name = reason.Name
-dns_reason unread.Data = reason.Malformed
+dns_reason unread.Header = reason.Short
+dns_reason (unread.Entry section why) = reason.Malformed
+dns_reason (unread.Question why) = reason.Name
+dns_reason (unread.Record (text.Owner why)) = reason.Name
+dns_reason (unread.Record (text.Data why)) = reason.Malformed
+dns_reason (unread.Record (text.DataName why)) = reason.Name
+dns_reason (unread.Option why) = reason.Malformed
 
 abbrev pub reason_of : Bool → Refusal → Reason
 reason_of is_cut (refusal.Frame r) = frame_reason is_cut r
@@ -101,15 +107,9 @@ reason_of is_cut (refusal.Icmp4 r) = icmp4_reason r
 reason_of is_cut (refusal.Igmp r) = igmp_reason r
 reason_of is_cut (refusal.Icmp6 r) = icmp6_reason r
 reason_of is_cut (refusal.Dhcp r) = dhcp_reason r
-reason_of is_cut refusal.DnsHeader = reason.Short
 reason_of is_cut (refusal.Dns u) = dns_reason u
 
 -- ---- what they print
-
-abbrev pub dns_display : Unread → List ℕ
-dns_display unread.Entry = codes "a question or record is cut or malformed"
-dns_display unread.Name = codes "a name does not read"
-dns_display unread.Data = codes "the data of a record do not read"
 
 abbrev pub refusal_display : Refusal → List ℕ
 refusal_display (refusal.Frame r) = link_texts.refusal_display r
@@ -119,5 +119,4 @@ refusal_display (refusal.Icmp4 r) = icmp4_texts.refusal_display r
 refusal_display (refusal.Igmp r) = igmp_texts.refusal_display r
 refusal_display (refusal.Icmp6 r) = icmp6_texts.refusal_display r
 refusal_display (refusal.Dhcp r) = dhcp_texts.refusal_display r
-refusal_display refusal.DnsHeader = codes "fewer than 12 bytes"
-refusal_display (refusal.Dns u) = dns_display u
+refusal_display (refusal.Dns u) = unread_display u

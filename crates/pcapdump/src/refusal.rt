@@ -2,7 +2,7 @@
 
 ghost use Rattle.std.specs.Prelude.{◌≡◌, Some};
 ghost use Rattle.pcapdump.specs.Refusals.{early, frame_reason, datagram_reason, udp_reason, icmp4_reason, igmp_reason};
-ghost use Rattle.pcapdump.specs.Refusals.{icmp6_reason, dhcp_reason, dns_reason, dns_display};
+ghost use Rattle.pcapdump.specs.Refusals.{icmp6_reason, dhcp_reason, dns_reason};
 ghost use Rattle.pcapdump.specs.Refusals.{refusal_display, reason_of};
 
 use crate::kind::Reason;
@@ -13,6 +13,7 @@ use icmp6_wire::icmpv6;
 use listing::message::Unread;
 use quote_wire::message::{Icmpv4Refusal, Icmpv6Refusal};
 use quote_wire::{icmpv4_error, icmpv6_error};
+use record_wire::TextRefusal;
 use std::fmt;
 
 /// Why a control packet is refused, as the library tells it that reads such packets.
@@ -32,8 +33,6 @@ pub enum Refusal {
     Icmp6(Icmpv6Refusal),
     /// The packet of DHCP is.
     Dhcp(dhcpv4::Refusal),
-    /// The message of DNS has fewer bytes than its header, 12.
-    DnsHeader,
     /// The message of DNS is not listed to its end.
     Dns(Unread),
 }
@@ -52,7 +51,6 @@ impl Refusal {
             Refusal::Igmp(refusal) => igmp_reason(refusal),
             Refusal::Icmp6(refusal) => icmp6_reason(refusal),
             Refusal::Dhcp(refusal) => dhcp_reason(refusal),
-            Refusal::DnsHeader => Reason::Short,
             Refusal::Dns(unread) => dns_reason(unread),
         }
     }
@@ -153,8 +151,13 @@ fn dns_reason(unread: Unread) -> Reason
     ensures { result ≡ dns_reason unread }
 {
     match unread {
-        Unread::Entry | Unread::Data => Reason::Malformed,
-        Unread::Name => Reason::Name,
+        Unread::Header => Reason::Short,
+        Unread::Question(_)
+        | Unread::Record(TextRefusal::Owner(_))
+        | Unread::Record(TextRefusal::DataName(_)) => Reason::Name,
+        Unread::Entry(..) | Unread::Record(TextRefusal::Data(_)) | Unread::Option(_) => {
+            Reason::Malformed
+        }
     }
 }
 
@@ -171,20 +174,8 @@ impl fmt::Display for Refusal {
             Refusal::Igmp(refusal) => write!(f, "{refusal}"),
             Refusal::Icmp6(refusal) => write!(f, "{refusal}"),
             Refusal::Dhcp(refusal) => write!(f, "{refusal}"),
-            Refusal::DnsHeader => f.write_str("fewer than 12 bytes"),
-            Refusal::Dns(unread) => f.write_str(dns_phrase(*unread)),
+            Refusal::Dns(unread) => write!(f, "{unread}"),
         }
-    }
-}
-
-// Why a message is not listed to its end.
-fn dns_phrase(unread: Unread) -> &'static str
-    ensures { result.now ≡ dns_display unread }
-{
-    match unread {
-        Unread::Entry => "a question or record is cut or malformed",
-        Unread::Name => "a name does not read",
-        Unread::Data => "the data of a record do not read",
     }
 }
 

@@ -5,7 +5,6 @@ ghost use Rattle.wirebase.specs.Ipv4.{header_len_in};
 ghost use Rattle.capture.specs.Capture.{packet_of};
 ghost use Rattle.frame_wire.specs.Datagram.{value_of as datagram_of};
 ghost use Rattle.frame_wire.specs.Link.{value_of as frame_of};
-ghost use Rattle.frame_wire.specs.LinkRefusal.{IsRead, Refuses};
 ghost use Rattle.pcapdump.specs.Kinds.{kind_of, kind_of_ports};
 ghost use Rattle.pcapdump.specs.Sight.{sight_of, content_of, content_by, datagram_sight, is_cut, untold, told};
 ghost use Rattle.pcapdump.specs.Sight.{told_front, head_of, ports_behind, IsRefused4, IsRefused6, IsFrameSight};
@@ -14,7 +13,7 @@ ghost use Rattle.pcapdump.specs.Sight.{IsSight};
 use crate::kind::{Kind, Reason};
 use crate::refusal::Refusal;
 use capture::Record;
-use frame_wire::{Addresses, Captured, Datagram, Frame, Head, Link, Network, link, udp};
+use frame_wire::{Addresses, Captured, Datagram, Frame, Head, Link, Network, udp};
 use listing::ports::ports_of;
 use wirebase::{IpProtocol, Ipv4Packet};
 
@@ -62,23 +61,12 @@ pub fn look<'a>(captured: &Record, octets: &'a [u8]) -> Sight<'a>
     let Some(link) = Link::of(captured.link_type) else {
         return Sight::Unread;
     };
-    match link.frame(octets) {
+    match link.frame_or_refusal(octets) {
         Ok(frame) => look_into(captured, octets, &frame),
-        Err(_) => {
-            let refusal = Refusal::Frame(why_no_frame(link, octets));
+        Err(refusal) => {
+            let refusal = Refusal::Frame(refusal);
             untold(&[], refusal.reason(is_cut(captured, octets)), refusal)
         }
-    }
-}
-
-// Why this is no frame. There is a reason then, so the one that would stand for it is never told.
-fn why_no_frame(link: Link, octets: &[u8]) -> link::Refusal
-    requires { IsRead link octets.now → ⊥ }
-    ensures { Refuses link octets.now result }
-{
-    match link.refusal(octets) {
-        Some(refusal) => refusal,
-        None => link::Refusal::Short,
     }
 }
 

@@ -20,28 +20,24 @@ mod question;
 pub mod refusal;
 pub(crate) mod words;
 
-ghost use Rattle.std.specs.Prelude.{◌≡◌, ℕ, List, IfOk, IsOkAnd, IfErr};
+ghost use Rattle.std.specs.Prelude.{◌≡◌, IfOk, IsOkAnd, IfErr};
 ghost use Rattle.dns_wire.specs.DnsPacket.{view_octets};
 ghost use Rattle.record_wire.specs.Multicast.{record_class_of};
-ghost use Rattle.record_wire.specs.Name.{labels_of};
-ghost use Rattle.record_wire.specs.NameRefusal.{RefusesName};
 ghost use Rattle.record_wire.specs.RData.{rdata_of, authority_of};
 ghost use Rattle.record_wire.specs.Record.{record_of};
 ghost use Rattle.record_wire.specs.RecordText.{AuthorityTextValue, DataTextValue, RecordTextValue};
 ghost use Rattle.record_wire.specs.RecordText.{authority_text_of, data_text_of, record_text_of};
-ghost use Rattle.record_wire.specs.RecordText.{Names, IsAuthorityText, IsDataText, IsRecordText};
+ghost use Rattle.record_wire.specs.RecordText.{IsAuthorityText, IsDataText, IsRecordText};
 ghost use Rattle.record_wire.specs.RecordText.{RefusesNamesOf, RefusesNameIn, RefusesText};
 
 use crate::classes::ClassName;
 use crate::name::Name;
-use crate::name::refusal::{NameRefusal, why_no_name};
-use crate::rdata::refusal::why_no_data_of;
+use crate::name::refusal::NameRefusal;
 use crate::rdata::{Authority, RData};
 use crate::record::Record;
 use crate::text::refusal::TextRefusal;
 use crate::text::words::{Generic, Strings, Whole};
 use dns_wire::dns::{Packet, Type};
-use dns_wire::message::octets_of;
 pub use question::QuestionText;
 use std::{fmt, result};
 use wirebase::{Ipv4Address, Ipv6Address};
@@ -264,16 +260,13 @@ impl<'a> Record<'a> {
         ensures told { IfErr result (λ refusal. RefusesText (view_octets packet.now) class
             (record_of self.now) refusal) }
     {
-        let name = match read_name(packet, self.name) {
+        let name = match Name::read_or_refusal(packet, self.name) {
             Ok(name) => name,
             Err(refusal) => return Err(TextRefusal::Owner(refusal)),
         };
-        let data = match RData::parse_update(self.type_, class, self.data) {
+        let data = match RData::parse_update_or_refusal(self.type_, class, self.data) {
             Ok(data) => data,
-            Err(_) => {
-                let refusal = why_no_data_of(self.type_, class, self.data);
-                return Err(TextRefusal::Data(refusal));
-            }
+            Err(refusal) => return Err(TextRefusal::Data(refusal)),
         };
         match data.text(packet) {
             Ok(data) => Ok(RecordText {
@@ -302,13 +295,13 @@ impl<'a> RData<'a> {
         match *self {
             RData::A(address) => Ok(DataText::A(address)),
             RData::Aaaa(address) => Ok(DataText::Aaaa(address)),
-            RData::Name(octets) => Ok(DataText::Name(read_name(packet, octets)?)),
+            RData::Name(octets) => Ok(DataText::Name(Name::read_or_refusal(packet, octets)?)),
             RData::Mx {
                 preference,
                 exchange,
             } => Ok(DataText::Mx {
                 preference,
-                exchange: read_name(packet, exchange)?,
+                exchange: Name::read_or_refusal(packet, exchange)?,
             }),
             RData::Srv {
                 priority,
@@ -319,7 +312,7 @@ impl<'a> RData<'a> {
                 priority,
                 weight,
                 port,
-                target: read_name(packet, target)?,
+                target: Name::read_or_refusal(packet, target)?,
             }),
             RData::Soa(soa) => Ok(DataText::Soa(read_authority(packet, &soa)?)),
             RData::Txt(octets) => Ok(DataText::Txt(octets)),
@@ -341,8 +334,8 @@ fn read_authority<'a>(
     ensures told { IfErr result (λ refusal. RefusesNamesOf (view_octets packet.now)
         (authority_of soa.now) refusal) }
 {
-    let primary = read_name(packet, soa.primary)?;
-    let mailbox = read_name(packet, soa.mailbox)?;
+    let primary = Name::read_or_refusal(packet, soa.primary)?;
+    let mailbox = Name::read_or_refusal(packet, soa.mailbox)?;
     Ok(AuthorityText {
         primary,
         mailbox,
@@ -352,22 +345,6 @@ fn read_authority<'a>(
         expire: soa.expire,
         minimum: soa.minimum,
     })
-}
-
-// The name that begins in `bytes` and goes on where its pointers lead in the message, or why there is none.
-pub(crate) fn read_name<'a>(
-    packet: &Packet<&'a [u8]>,
-    bytes: &'a [u8],
-) -> result::Result<Name, NameRefusal>
-    ensures sound { IfOk result (λ name. Names (view_octets packet.now) bytes.now (labels_of name)) }
-    ensures complete { (labels : List (List ℕ)) → Names (view_octets packet.now) bytes.now labels
-        → IsOkAnd result (λ name. labels_of name ≡ labels) }
-    ensures told { IfErr result (λ refusal. RefusesName bytes.now (view_octets packet.now) refusal) }
-{
-    match Name::read(packet, bytes) {
-        Ok(name) => Ok(name),
-        Err(_) => Err(why_no_name(octets_of(packet), bytes)),
-    }
 }
 
 #[cfg(test)]

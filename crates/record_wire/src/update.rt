@@ -10,19 +10,23 @@
 //! # Ok::<(), control_wire::Error>(())
 //! ```
 
-ghost use Rattle.std.specs.Prelude.{◌≡◌, IfOk, IsOkAnd};
+ghost use Rattle.std.specs.Prelude.{◌≡◌, IfOk, IfErr, IsOkAnd};
 ghost use Rattle.record_wire.specs.RData.{RDataValue, rdata_of};
-ghost use Rattle.record_wire.specs.Update.{is_without_data, IsDataOf};
+ghost use Rattle.record_wire.specs.RDataRefusal.{RefusesLayout};
+ghost use Rattle.record_wire.specs.Update.{is_without_data, data_layout, IsDataOf};
 
 use crate::classes;
 use crate::rdata::RData;
+use crate::rdata::refusal::{DataRefusal, why_no_data_of};
 use dns_wire::dns::Type;
+use std::result;
 use wirebase::Result;
 
 impl<'a> RData<'a> {
     /// The data of a record of this type and class, which may be one of an update: of class NONE or ANY and without
     /// data it is `RData::Other` of no bytes, whatever its type (RFC 2136 section 2.5), and else what [`RData::parse`]
-    /// gives. Refused where the bytes are not laid out as the type has it.
+    /// gives. Refused where the bytes are not laid out as the type has it:
+    /// [`RData::parse_update_or_refusal`] says why.
     pub fn parse_update(type_: Type, class: u16, octets: &'a [u8]) -> Result<RData<'a>>
         ensures sound { IfOk result (λ read. IsDataOf type_ class octets.now (rdata_of read)) }
         ensures complete { (value : RDataValue) → IsDataOf type_ class octets.now value
@@ -32,6 +36,24 @@ impl<'a> RData<'a> {
             return Ok(RData::Other(octets));
         }
         RData::parse(type_, class, octets)
+    }
+
+    /// The data, as [`RData::parse_update`] reads it, or else why it refuses this: the check that fails first.
+    pub fn parse_update_or_refusal(
+        type_: Type,
+        class: u16,
+        octets: &'a [u8],
+    ) -> result::Result<RData<'a>, DataRefusal>
+        ensures sound { IfOk result (λ read. IsDataOf type_ class octets.now (rdata_of read)) }
+        ensures complete { (value : RDataValue) → IsDataOf type_ class octets.now value
+            → IsOkAnd result (λ read. rdata_of read ≡ value) }
+        ensures told { IfErr result (λ refusal.
+            RefusesLayout (data_layout type_ class octets.now) octets.now refusal) }
+    {
+        match RData::parse_update(type_, class, octets) {
+            Ok(data) => Ok(data),
+            Err(_) => Err(why_no_data_of(type_, class, octets)),
+        }
     }
 }
 

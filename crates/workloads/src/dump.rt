@@ -15,6 +15,8 @@ use std::io::{self, BufReader};
 const SHORT_BUFFER_LEN: usize = 512;
 
 /// Writes a capture in each round, another each time, reads it, and gives a digest of what was read.
+// Apart from the other jobs: inlined beside them, its code decides which registers theirs have.
+#[inline(never)]
 pub fn digest(alloc: Global, seed: u64, rounds: u32) -> io::Result<u64> {
     let mut random = Random::new(seed);
     let pool = Pool::new(alloc, &mut random)?;

@@ -56,8 +56,8 @@ impl FromStr for Name {
     }
 }
 
-/// The type of a mnemonic in IANA's registry, in letters of either case, as `MX`, or of `TYPE` and a number, as `TYPE15`
-/// (RFC 3597 section 5). Refused where the text is neither; the mnemonics are those that a type prints.
+/// The type of a mnemonic in IANA's registry, in letters of either case, as `MX`, or of `TYPE` and a number, as
+/// `TYPE15` (RFC 3597 section 5). Refused where the text is neither; the mnemonics are those that a type prints.
 impl FromStr for Type {
     type Err = Error;
 

@@ -166,7 +166,8 @@ impl EdnsOption<'_> {
     }
 }
 
-/// The name, or `option-` and the code where it has none here, and the data in hexadecimal, as `cookie=0102030405060708`.
+/// The name, or `option-` and the code where it has none here, and the data in hexadecimal, as
+/// `cookie=0102030405060708`.
 impl fmt::Display for EdnsOption<'_> {
     fn fmt(&self, f: &mut fmt::Formatter<'_>) -> fmt::Result {
         let code = self.code;

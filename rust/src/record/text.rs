@@ -22,11 +22,9 @@ pub mod refusal;
 pub(crate) mod words;
 
 use crate::dns_wire::dns::{Packet, Type};
-use crate::dns_wire::message::octets_of;
 use crate::record::classes::ClassName;
 use crate::record::name::Name;
-use crate::record::name::refusal::{NameRefusal, why_no_name};
-use crate::record::rdata::refusal::why_no_data_of;
+use crate::record::name::refusal::NameRefusal;
 use crate::record::rdata::{Authority, RData};
 use crate::record::record::Record;
 use crate::record::text::refusal::TextRefusal;
@@ -216,16 +214,13 @@ impl<'a> Record<'a> {
         packet: &Packet<&'a B>,
         class: u16,
     ) -> result::Result<RecordText<'a>, TextRefusal> {
-        let name = match read_name(packet, self.name) {
+        let name = match Name::read_or_refusal(packet, self.name) {
             Ok(name) => name,
             Err(refusal) => return Err(TextRefusal::Owner(refusal)),
         };
-        let data = match RData::parse_update(self.type_, class, self.data) {
+        let data = match RData::parse_update_or_refusal(self.type_, class, self.data) {
             Ok(data) => data,
-            Err(_) => {
-                let refusal = why_no_data_of(self.type_, class, self.data);
-                return Err(TextRefusal::Data(refusal));
-            }
+            Err(refusal) => return Err(TextRefusal::Data(refusal)),
         };
         match data.text(packet) {
             Ok(data) => Ok(RecordText {
@@ -249,13 +244,13 @@ impl<'a> RData<'a> {
         match *self {
             RData::A(address) => Ok(DataText::A(address)),
             RData::Aaaa(address) => Ok(DataText::Aaaa(address)),
-            RData::Name(octets) => Ok(DataText::Name(read_name(packet, octets)?)),
+            RData::Name(octets) => Ok(DataText::Name(Name::read_or_refusal(packet, octets)?)),
             RData::Mx {
                 preference,
                 exchange,
             } => Ok(DataText::Mx {
                 preference,
-                exchange: read_name(packet, exchange)?,
+                exchange: Name::read_or_refusal(packet, exchange)?,
             }),
             RData::Srv {
                 priority,
@@ -266,7 +261,7 @@ impl<'a> RData<'a> {
                 priority,
                 weight,
                 port,
-                target: read_name(packet, target)?,
+                target: Name::read_or_refusal(packet, target)?,
             }),
             RData::Soa(soa) => Ok(DataText::Soa(read_authority(packet, &soa)?)),
             RData::Txt(octets) => Ok(DataText::Txt(octets)),
@@ -280,8 +275,8 @@ fn read_authority<'a, B: AsRef<[u8]> + ?Sized>(
     packet: &Packet<&'a B>,
     soa: &Authority<'a>,
 ) -> result::Result<AuthorityText, NameRefusal> {
-    let primary = read_name(packet, soa.primary)?;
-    let mailbox = read_name(packet, soa.mailbox)?;
+    let primary = Name::read_or_refusal(packet, soa.primary)?;
+    let mailbox = Name::read_or_refusal(packet, soa.mailbox)?;
     Ok(AuthorityText {
         primary,
         mailbox,
@@ -291,17 +286,6 @@ fn read_authority<'a, B: AsRef<[u8]> + ?Sized>(
         expire: soa.expire,
         minimum: soa.minimum,
     })
-}
-
-// The name that begins in `bytes` and goes on where its pointers lead in the message, or why there is none.
-pub(crate) fn read_name<'a, B: AsRef<[u8]> + ?Sized>(
-    packet: &Packet<&'a B>,
-    bytes: &'a [u8],
-) -> result::Result<Name, NameRefusal> {
-    match Name::read(packet, bytes) {
-        Ok(name) => Ok(name),
-        Err(_) => Err(why_no_name(octets_of(packet), bytes)),
-    }
 }
 
 #[cfg(test)]

@@ -28,6 +28,7 @@ pub enum Refusal {
 impl Link {
     /// The frame in these octets, as [`Link::frame`] reads it, or else why they are refused, as [`Link::refusal`] tells
     /// it: the check that fails first.
+    #[inline]
     pub fn frame_or_refusal(self, octets: &[u8]) -> std::result::Result<Frame<'_>, Refusal>
         ensures sound { IfOk result (λ f. IsFrame self octets.now (value_of f)) }
         ensures complete { (v : FrameValue) → IsFrame self octets.now v → IsOkAnd result (λ f. value_of f ≡ v) }

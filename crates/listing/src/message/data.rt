@@ -8,25 +8,26 @@ ghost use Rattle.record_wire.specs.RData.{rdata_of, name, mail, service, authori
 ghost use Rattle.listing.specs.ListingParts.{line_text, LineShown, HasStrings};
 ghost use Rattle.listing.specs.Output.{GainsSome};
 
-use crate::message::Unread;
 use crate::message::record::{Line, write_line};
 use crate::zone::{NameText, generic, ipv6_word, name_word, strings, word};
 use dns_wire::dns::Packet;
+use record_wire::NameRefusal;
 use record_wire::rdata::{Authority, RData};
 use std::io;
 use std::io::Write;
 
-/// Writes the line of a record up to its end, where the names in its data read.
+/// Writes the line of a record up to its end, where the names in its data read; else nothing, and it answers why the
+/// first that does not read is refused.
 pub fn show_data<'a, W: Write>(
     output: &mut W,
     packet: &Packet<&'a [u8]>,
     line: &Line<'_>,
     data: &RData<'a>,
-) -> io::Result<Option<Unread>>
+) -> io::Result<Option<NameRefusal>>
     requires { HasStrings (rdata_of «data».now) }
-    ensures { IfOk result (λ unread. GainsSome (W.contents output.old) (W.contents output.new)
+    ensures { IfOk result (λ refusal. GainsSome (W.contents output.old) (W.contents output.new)
         (λ text. LineShown (line_text line.now) (view_octets packet.now) (rdata_of «data».now)
-        text unread)) }
+        text refusal)) }
 {
     match *data {
         RData::Name(octets) => show_name(output, packet, line, octets),
@@ -69,14 +70,14 @@ fn show_name<'a, W: Write>(
     packet: &Packet<&'a [u8]>,
     line: &Line<'_>,
     octets: &'a [u8],
-) -> io::Result<Option<Unread>>
-    ensures { IfOk result (λ unread. GainsSome (W.contents output.old) (W.contents output.new)
+) -> io::Result<Option<NameRefusal>>
+    ensures { IfOk result (λ refusal. GainsSome (W.contents output.old) (W.contents output.new)
         (λ text. LineShown (line_text line.now) (view_octets packet.now) (name octets.now)
-        text unread)) }
+        text refusal)) }
 {
     let mut target = NameText::new();
-    if !target.read(packet, octets) {
-        return Ok(Some(Unread::Name));
+    if let Err(refusal) = target.read(packet, octets) {
+        return Ok(Some(refusal));
     }
     write_line(output, line)?;
     name_word(output, &target)?;
@@ -89,14 +90,14 @@ fn show_mail<'a, W: Write>(
     line: &Line<'_>,
     preference: u16,
     exchange: &'a [u8],
-) -> io::Result<Option<Unread>>
-    ensures { IfOk result (λ unread. GainsSome (W.contents output.old) (W.contents output.new)
+) -> io::Result<Option<NameRefusal>>
+    ensures { IfOk result (λ refusal. GainsSome (W.contents output.old) (W.contents output.new)
         (λ text. LineShown (line_text line.now) (view_octets packet.now) (mail preference exchange.now)
-        text unread)) }
+        text refusal)) }
 {
     let mut host = NameText::new();
-    if !host.read(packet, exchange) {
-        return Ok(Some(Unread::Name));
+    if let Err(refusal) = host.read(packet, exchange) {
+        return Ok(Some(refusal));
     }
     write_line(output, line)?;
     word(output, preference)?;
@@ -110,14 +111,14 @@ fn show_service<'a, W: Write>(
     line: &Line<'_>,
     numbers: [u16; 3],
     target: &'a [u8],
-) -> io::Result<Option<Unread>>
-    ensures { IfOk result (λ unread. GainsSome (W.contents output.old) (W.contents output.new)
+) -> io::Result<Option<NameRefusal>>
+    ensures { IfOk result (λ refusal. GainsSome (W.contents output.old) (W.contents output.new)
         (λ text. LineShown (line_text line.now) (view_octets packet.now) (service
-        (slice_index numbers 0) (slice_index numbers 1) (slice_index numbers 2) target.now) text unread)) }
+        (slice_index numbers 0) (slice_index numbers 1) (slice_index numbers 2) target.now) text refusal)) }
 {
     let mut host = NameText::new();
-    if !host.read(packet, target) {
-        return Ok(Some(Unread::Name));
+    if let Err(refusal) = host.read(packet, target) {
+        return Ok(Some(refusal));
     }
     write_line(output, line)?;
     let [priority, weight, port] = numbers;
@@ -133,18 +134,18 @@ fn show_authority<'a, W: Write>(
     packet: &Packet<&'a [u8]>,
     line: &Line<'_>,
     soa: &Authority<'a>,
-) -> io::Result<Option<Unread>>
-    ensures { IfOk result (λ unread. GainsSome (W.contents output.old) (W.contents output.new)
+) -> io::Result<Option<NameRefusal>>
+    ensures { IfOk result (λ refusal. GainsSome (W.contents output.old) (W.contents output.new)
         (λ text. LineShown (line_text line.now) (view_octets packet.now) (authority (authority_of soa.now))
-        text unread)) }
+        text refusal)) }
 {
     let mut primary = NameText::new();
-    if !primary.read(packet, soa.primary) {
-        return Ok(Some(Unread::Name));
+    if let Err(refusal) = primary.read(packet, soa.primary) {
+        return Ok(Some(refusal));
     }
     let mut mailbox = NameText::new();
-    if !mailbox.read(packet, soa.mailbox) {
-        return Ok(Some(Unread::Name));
+    if let Err(refusal) = mailbox.read(packet, soa.mailbox) {
+        return Ok(Some(refusal));
     }
     write_line(output, line)?;
     name_word(output, &primary)?;

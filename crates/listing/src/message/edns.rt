@@ -2,12 +2,12 @@
 
 #![tactic(auto, using(crate::proofs::Printing::gains_both))]
 
-ghost use Rattle.std.specs.Prelude.{◌↔◌, List, IfOk, OnOk, IsTrue};
+ghost use Rattle.std.specs.Prelude.{◌↔◌, List, IfOk, OnOk, IfSome, IsNone};
 ghost use Rattle.dns_wire.specs.DnsPacket.{view_octets};
 ghost use Rattle.record_wire.specs.Edns.{edns_of, IsEdns, OptionValue, option_of};
 ghost use Rattle.record_wire.specs.Record.{record_of};
 ghost use Rattle.listing.specs.ListingEdns.{OptPrints, sender_listing, opt_field as opt_field_text};
-ghost use Rattle.listing.specs.ListingEdns.{AreOptions, option_text};
+ghost use Rattle.listing.specs.ListingEdns.{AreOptions, RefusesOptions, option_text};
 ghost use Rattle.listing.specs.ListingParts.{OptionsShown};
 ghost use Rattle.listing.specs.Output.{Gains, GainsSome};
 
@@ -15,7 +15,7 @@ use crate::message::Unread;
 use crate::printer::{Value, part_field};
 use crate::zone::{NameText, word};
 use dns_wire::dns::Packet;
-use record_wire::{Edns, EdnsOption, Record};
+use record_wire::{Edns, EdnsOption, OptionRefusal, Record, TextRefusal};
 use std::io;
 use std::io::Write;
 
@@ -33,11 +33,11 @@ pub fn show_opt<'a, W: Write>(
         unread)) }
 {
     let mut owner = NameText::new();
-    if !owner.read(packet, record.name) {
-        return Ok(Some(Unread::Name));
+    if let Err(refusal) = owner.read(packet, record.name) {
+        return Ok(Some(Unread::Record(TextRefusal::Owner(refusal))));
     }
-    if !are_options(edns.options) {
-        return Ok(Some(Unread::Data));
+    if let Some(refusal) = why_no_options(edns.options) {
+        return Ok(Some(Unread::Option(refusal)));
     }
     show_sender(output, margin, edns)?;
     show_options(output, margin, edns.options)?;
@@ -80,18 +80,20 @@ impl Value for EdnsOption<'_> {
     }
 }
 
-// Whether these bytes are options, one after another, and nothing more.
-fn are_options(octets: &[u8]) -> bool
-    ensures { IsTrue result ↔ ((options : List OptionValue) × AreOptions octets.now options) }
+// Why no option begins where the first does that does not read; None where these bytes are options, one after another,
+// and nothing more.
+fn why_no_options(octets: &[u8]) -> Option<OptionRefusal>
+    ensures told { IfSome result (RefusesOptions octets.now) }
+    ensures exact { IsNone result ↔ ((options : List OptionValue) × AreOptions octets.now options) }
 {
     let mut left = octets;
     while !left.is_empty() {
         match EdnsOption::parse(left) {
             Ok((rest, _)) => left = rest,
-            Err(_) => return false,
+            Err(_) => return EdnsOption::refusal(left),
         }
     }
-    true
+    None
 }
 
 // Prints options.

@@ -2,14 +2,16 @@
 
 #![tactic(auto, using(crate::proofs::Printing::gains_both))]
 
-ghost use Rattle.std.specs.Prelude.{◌≡◌, ◌&&◌, OnOk, IfOk};
+ghost use Rattle.std.specs.Prelude.{◌≡◌, ◌&&◌, OnOk, IfOk, IfSome, IsSome};
 ghost use Rattle.dns_wire.specs.DnsPacket.{view_octets};
 ghost use Rattle.dns_wire.specs.DnsTables.{type_number};
 ghost use Rattle.record_wire.specs.Multicast.{has_top_bit, flushes};
+ghost use Rattle.record_wire.specs.RData.{RDataValue};
 ghost use Rattle.record_wire.specs.Record.{question_of, record_of};
+ghost use Rattle.record_wire.specs.Update.{IsDataOf};
 ghost use Rattle.listing.specs.ListingRecord.{QuestionPrints, RecordPrints, question_class, record_class};
 ghost use Rattle.listing.specs.ListingRecord.{line_front, line_end};
-ghost use Rattle.listing.specs.ListingParts.{line_text, text_of};
+ghost use Rattle.listing.specs.ListingParts.{line_text, text_of, RefusesData};
 ghost use Rattle.listing.specs.Output.{Gains, GainsSome};
 
 use crate::message::Unread;
@@ -17,7 +19,7 @@ use crate::message::data::show_data;
 use crate::zone::{NameText, class_word, type_word, word};
 use dns_wire::dns::{Packet, Type};
 use record_wire::rdata::RData;
-use record_wire::{Question, Record, Section};
+use record_wire::{Question, Record, Section, TextRefusal};
 use std::io;
 use std::io::Write;
 
@@ -34,8 +36,8 @@ pub fn show_question<'a, W: Write>(
         (question_of question.now) text unread)) }
 {
     let mut owner = NameText::new();
-    if !owner.read(packet, question.name) {
-        return Ok(Some(Unread::Name));
+    if let Err(refusal) = owner.read(packet, question.name) {
+        return Ok(Some(Unread::Question(refusal)));
     }
     write_front(output, margin, Section::Question, &owner)?;
     class_word(output, question_class(is_multicast, question))?;
@@ -62,8 +64,8 @@ pub fn show_record<'a, W: Write>(
         (record_of «record».now) text unread)) }
 {
     let mut owner = NameText::new();
-    if !owner.read(packet, record.name) {
-        return Ok(Some(Unread::Name));
+    if let Err(refusal) = owner.read(packet, record.name) {
+        return Ok(Some(Unread::Record(TextRefusal::Owner(refusal))));
     }
     let line = Line {
         margin,
@@ -74,14 +76,27 @@ pub fn show_record<'a, W: Write>(
         kind: record.type_,
     };
     let Ok(data) = RData::parse_update(record.type_, line.class, record.data) else {
-        return Ok(Some(Unread::Data));
+        return Ok(why_no_data(record, line.class));
     };
-    let unread = show_data(output, packet, &line, &data)?;
-    if unread.is_some() {
-        return Ok(unread);
+    if let Some(refusal) = show_data(output, packet, &line, &data)? {
+        return Ok(Some(Unread::Record(TextRefusal::DataName(refusal))));
     }
     end_line(output, flushes_cache(is_multicast, record), "cache-flush")?;
     Ok(None)
+}
+
+// Why the data of a record, taken as one of this class, is not what its type has; None where it is. It is read again for
+// that, so that where it reads no room is kept for a reason.
+#[inline(never)]
+fn why_no_data(record: &Record<'_>, class: u16) -> Option<Unread>
+    ensures told { IfSome result (RefusesData class (record_of «record».now)) }
+    ensures exact { ((value : RDataValue) → IsDataOf «record».now.type_ class «record».now.«data».now value → ⊥)
+        → IsSome result }
+{
+    match RData::parse_update_or_refusal(record.type_, class, record.data) {
+        Ok(_) => None,
+        Err(refusal) => Some(Unread::Record(TextRefusal::Data(refusal))),
+    }
 }
 
 /// The line of a record up to its data.

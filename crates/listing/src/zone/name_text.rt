@@ -2,15 +2,16 @@
 
 #![tactic(auto, using(crate::proofs::Printing::gained))]
 
-ghost use Rattle.std.specs.Prelude.{◌≡◌, ◌≤◌, ℕ, List, IsTrue, IsFalse, OnOk};
+ghost use Rattle.std.specs.Prelude.{◌≡◌, ◌≤◌, ℕ, List, IfErr, IsErr, OnOk};
 ghost use Rattle.dns_wire.specs.DnsPacket.{view_octets};
 ghost use Rattle.record_wire.specs.Name.{labels_of};
+ghost use Rattle.record_wire.specs.NameRefusal.{RefusesName};
 ghost use Rattle.record_wire.specs.ZoneText.{whole_name};
 ghost use Rattle.listing.specs.Output.{Gains};
 
 use dns_wire::dns::Packet;
-use record_wire::Name;
 use record_wire::name::dotted::{ROOM_LEN, put_dotted};
+use record_wire::{Name, NameRefusal};
 use std::io;
 use std::io::Write;
 
@@ -41,19 +42,25 @@ impl NameText {
     }
 
     /// Reads the name that begins in `bytes`, a part of the message or not, and goes on where its pointers lead in the
-    /// message, and keeps its text. Answers whether there is one, of 255 octets at most.
+    /// message, and keeps its text. Refused where there is none of 255 octets at most.
     #[inline(always)]
-    pub fn read<'a>(&mut self, packet: &Packet<&'a [u8]>, bytes: &'a [u8]) -> bool
-        ensures reads { IsTrue result
-            → NameReads (view_octets packet.entry.now) bytes.entry.now (text_of self.new) }
-        ensures reads_not { IsFalse result → (text : List ℕ)
+    pub fn read<'a>(
+        &mut self,
+        packet: &Packet<&'a [u8]>,
+        bytes: &'a [u8],
+    ) -> Result<(), NameRefusal>
+        ensures reads { OnOk result
+            (NameReads (view_octets packet.entry.now) bytes.entry.now (text_of self.new)) }
+        ensures reads_not { IsErr result → (text : List ℕ)
             → NameReads (view_octets packet.entry.now) bytes.entry.now text → ⊥ }
+        ensures told { IfErr result (λ refusal.
+            RefusesName bytes.entry.now (view_octets packet.entry.now) refusal) }
     {
         match put_dotted(&mut self.room, packet, bytes) {
             Some(len) => {
                 self.len = len;
                 self.other = None;
-                true
+                Ok(())
             }
             None => self.read_other(packet, bytes),
         }
@@ -61,17 +68,25 @@ impl NameText {
 
     // The same by the name's octets.
     #[inline(never)]
-    fn read_other<'a>(&mut self, packet: &Packet<&'a [u8]>, bytes: &'a [u8]) -> bool
-        ensures reads { IsTrue result
-            → NameReads (view_octets packet.entry.now) bytes.entry.now (text_of self.new) }
-        ensures reads_not { IsFalse result → (text : List ℕ)
+    fn read_other<'a>(
+        &mut self,
+        packet: &Packet<&'a [u8]>,
+        bytes: &'a [u8],
+    ) -> Result<(), NameRefusal>
+        ensures reads { OnOk result
+            (NameReads (view_octets packet.entry.now) bytes.entry.now (text_of self.new)) }
+        ensures reads_not { IsErr result → (text : List ℕ)
             → NameReads (view_octets packet.entry.now) bytes.entry.now text → ⊥ }
+        ensures told { IfErr result (λ refusal.
+            RefusesName bytes.entry.now (view_octets packet.entry.now) refusal) }
     {
-        let Ok(name) = Name::read(packet, bytes) else {
-            return false;
-        };
-        self.other = Some(name);
-        true
+        match Name::read_or_refusal(packet, bytes) {
+            Ok(name) => {
+                self.other = Some(name);
+                Ok(())
+            }
+            Err(refusal) => Err(refusal),
+        }
     }
 
     /// Writes the text.

@@ -2,17 +2,15 @@
 
 #![tactic(auto, using(listing::proofs::Printing::gained, listing::proofs::Printing::gains_both))]
 
-ghost use Rattle.std.specs.Prelude.{◌≡◌, ◌↔◌, IfOk, IfErr};
+ghost use Rattle.std.specs.Prelude.{◌≡◌, IfOk, IfErr};
 ghost use Rattle.wirebase.specs.Bytes.{bytes_of};
 ghost use Rattle.wirebase.specs.Capabilities.{all_of};
 ghost use Rattle.wirebase.specs.declared.capabilities.Checksum.TheVariants.{Both};
-ghost use Rattle.dhcp_wire.specs.Dhcpv4Packet.{inner};
-ghost use Rattle.dhcp_wire.specs.Dhcpv4Refusal.{IsRead, Refuses as RefusesPacket};
 ghost use Rattle.frame_wire.specs.Udp.{IsDatagram, payload_field};
 ghost use Rattle.frame_wire.specs.UdpRefusal.{Refuses};
 ghost use Rattle.frame_wire.specs.declared.udp.UdpRepr.{UdpRepr as AnUdpRepr};
 ghost use Rattle.listing.specs.Output.{GainsSome};
-ghost use Rattle.pcapdump.specs.Messages.{UdpPrints, DhcpPrints, DnsPrints, unread_refusal};
+ghost use Rattle.pcapdump.specs.Messages.{UdpPrints, DhcpPrints, DnsPrints};
 
 use crate::Fault;
 use crate::kind::Reason;
@@ -21,7 +19,7 @@ use crate::refusal::Refusal;
 use dhcp_wire::dhcpv4;
 use frame_wire::{Addresses, UdpPacket, UdpRepr, udp};
 use listing::dhcp::show_packet;
-use listing::message::{Unread, show_message};
+use listing::message::show_message;
 use listing::page::{MARGIN, Page};
 use std::io::Write;
 use wirebase::ChecksumCapabilities;
@@ -81,18 +79,8 @@ fn show_dns_message<W: Write>(
         (λ text. DnsPrints is_multicast octets.now text why)) }
 {
     match show_message(output, MARGIN, octets, is_multicast)? {
-        Some(unread) => refuse_message(output, &refusal_of(octets, unread)),
+        Some(unread) => refuse_message(output, &Refusal::Dns(unread)),
         None => Ok(None),
-    }
-}
-
-// Why a message is not listed to its end.
-fn refusal_of(octets: &[u8], unread: Unread) -> Refusal
-    ensures { result ≡ unread_refusal octets.now unread }
-{
-    match unread {
-        Unread::Entry if octets.len() < 12 => Refusal::DnsHeader,
-        other => Refusal::Dns(other),
     }
 }
 
@@ -111,17 +99,9 @@ fn show_dhcp_packet<W: Write>(
             show_packet(page, &packet)?;
             write_page(output, page.as_slice())
         }
-        Err(_) => refuse_message(output, &Refusal::Dhcp(why_no_packet(&packet))),
-    }
-}
-
-// Why this is no packet of DHCP. There is a reason then, so the one that would stand for it is never told.
-fn why_no_packet(packet: &dhcpv4::Packet<&[u8]>) -> dhcpv4::Refusal
-    requires { IsRead (inner packet.now).now → ⊥ }
-    ensures { RefusesPacket (inner packet.now).now result }
-{
-    match dhcpv4::Repr::refusal(packet) {
-        Some(refusal) => refusal,
-        None => dhcpv4::Refusal::Short,
+        Err(_) => {
+            let refusal = dhcpv4::Repr::refusal(&packet).unwrap();
+            refuse_message(output, &Refusal::Dhcp(refusal))
+        }
     }
 }

@@ -10,6 +10,7 @@ use icmp6_wire::icmpv6;
 use listing::message::Unread;
 use quote_wire::message::{Icmpv4Refusal, Icmpv6Refusal};
 use quote_wire::{icmpv4_error, quote};
+use record_wire::{DataRefusal, NameRefusal, OptionRefusal, PartRefusal, Section, TextRefusal};
 
 #[test]
 fn refusals_print_a_phrase_and_are_counted_under_a_reason(rt: HostRuntime) {
@@ -60,16 +61,42 @@ fn refusals_print_a_phrase_and_are_counted_under_a_reason(rt: HostRuntime) {
             Reason::Malformed,
             "the magic cookie is missing",
         ),
-        (Refusal::DnsHeader, Reason::Short, "fewer than 12 bytes"),
         (
-            Refusal::Dns(Unread::Entry),
-            Reason::Malformed,
-            "a question or record is cut or malformed",
+            Refusal::Dns(Unread::Header),
+            Reason::Short,
+            "fewer than 12 bytes",
         ),
         (
-            Refusal::Dns(Unread::Data),
+            Refusal::Dns(Unread::Entry(Section::Additional, record_wire::Refusal::Data)),
             Reason::Malformed,
-            "the data of a record do not read",
+            "additional: the data is cut",
+        ),
+        (
+            Refusal::Dns(Unread::Question(NameRefusal::Pointer(12))),
+            Reason::Name,
+            "question: a pointer to place 12 leads nowhere or round",
+        ),
+        (
+            Refusal::Dns(Unread::Record(TextRefusal::Owner(NameRefusal::TooLong))),
+            Reason::Name,
+            "the owner: the name has more than 255 octets",
+        ),
+        (
+            Refusal::Dns(Unread::Record(TextRefusal::Data(DataRefusal::Address(4)))),
+            Reason::Malformed,
+            "the data: the address has other than 4 bytes",
+        ),
+        (
+            Refusal::Dns(Unread::Record(TextRefusal::DataName(NameRefusal::Part(
+                PartRefusal::LabelType(64),
+            )))),
+            Reason::Name,
+            "a name in the data: a label that begins with byte 64 is not read",
+        ),
+        (
+            Refusal::Dns(Unread::Option(OptionRefusal::Fields)),
+            Reason::Malformed,
+            "the options: the code and the length are cut",
         ),
     ];
     for &(refusal, reason, phrase) in rows {

@@ -1,13 +1,16 @@
 //! Why no name begins in octets: the check that fails first.
 
-ghost use Rattle.std.specs.Prelude.{List, ℕ};
+ghost use Rattle.std.specs.Prelude.{◌≡◌, List, ℕ, IfOk, IfErr, IsOkAnd};
 ghost use Rattle.dns_wire.specs.DnsName.{IsName};
+ghost use Rattle.dns_wire.specs.DnsPacket.{view_octets};
 ghost use Rattle.record_wire.specs.Labels.{AreOfName};
 ghost use Rattle.record_wire.specs.NameRefusal.{RefusesName};
 
+use crate::name::Name;
 use crate::refusal::{PartRefusal, why_torn};
-use dns_wire::message::{Front, follow, read_front};
-use std::fmt;
+use dns_wire::dns::Packet;
+use dns_wire::message::{Front, follow, octets_of, read_front};
+use std::{fmt, result};
 
 /// Why [`crate::Name::read`] refuses octets and their message: the check that fails first.
 #[derive(Debug, PartialEq, Eq, Clone, Copy)]
@@ -35,6 +38,31 @@ impl fmt::Display for NameRefusal {
                 write!(f, "a pointer to place {place} leads nowhere or round")
             }
             NameRefusal::TooLong => write!(f, "the name has more than 255 octets"),
+        }
+    }
+}
+
+impl Name {
+    ghost use Rattle.record_wire.specs.Name.{labels_of};
+    ghost use Rattle.record_wire.specs.RecordText.{Names};
+
+    /// The name, as [`Name::read`] reads it, or else why it refuses this, as [`Name::read_refusal`] tells it: the check
+    /// that fails first.
+    pub fn read_or_refusal<'a>(
+        packet: &Packet<&'a [u8]>,
+        bytes: &'a [u8],
+    ) -> result::Result<Name, NameRefusal>
+        ensures sound { IfOk result (λ name.
+            Names (view_octets packet.entry.now) bytes.entry.now (labels_of name)) }
+        ensures complete { (labels : List (List ℕ))
+            → Names (view_octets packet.entry.now) bytes.entry.now labels
+            → IsOkAnd result (λ name. labels_of name ≡ labels) }
+        ensures told { IfErr result (λ refusal.
+            RefusesName bytes.entry.now (view_octets packet.entry.now) refusal) }
+    {
+        match Name::read(packet, bytes) {
+            Ok(name) => Ok(name),
+            Err(_) => Err(why_no_name(octets_of(packet), bytes)),
         }
     }
 }

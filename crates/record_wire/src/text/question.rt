@@ -12,7 +12,6 @@ use crate::classes::ClassName;
 use crate::name::Name;
 use crate::name::refusal::NameRefusal;
 use crate::record::Question;
-use crate::text::read_name;
 use crate::text::words::Whole;
 use dns_wire::dns::{Packet, Type};
 use std::{fmt, result};
@@ -73,7 +72,7 @@ impl<'a> Question<'a> {
             → IsOkAnd result (λ text. labels_of text.name ≡ labels) }
         ensures told { IfErr result (λ refusal. RefusesName self.now.name.now (view_octets packet.now) refusal) }
     {
-        match read_name(packet, self.name) {
+        match Name::read_or_refusal(packet, self.name) {
             Ok(name) => Ok(QuestionText {
                 name,
                 class,

@@ -2,7 +2,7 @@
 //! A resolver: the query for a name, and the addresses that the response has for it (RFC 1035 section 4).
 //!
 //! A name is given as it is written in messages: labels of 1 to 63 bytes, each after its length, and byte 0;
-//! `record_wire::Name` makes it from text. Names are equal where their labels are, letters of ASCII in either case (RFC
+//! `record::Name` makes it from text. Names are equal where their labels are, letters of ASCII in either case (RFC
 //! 1035 section 2.3.3, RFC 4343).
 
 use control_wire::dns::{Flags, Opcode, Packet, Question, Rcode, Record, RecordData, Repr, Type};

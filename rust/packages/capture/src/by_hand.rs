@@ -1,5 +1,5 @@
-//! What only Rust has, written by hand and not proved: faults and endings are errors, times become those of std, and the
-//! records of a capture are an iterator, which keeps the error of its reader.
+//! What only Rust has, written by hand and not proved: faults and endings are errors, times become those of std, and
+//! the records of a capture are an iterator, which keeps the error of its reader.
 
 use crate::{Capture, Ending, Fault, Next, Record, Time};
 use core::fmt;
@@ -103,7 +103,8 @@ impl<R: BufRead> Records<R> {
     /// # fn show(file: &[u8]) -> Result<(), capture::Error> {
     /// let mut records = Capture::new().records(file);
     /// while let Some((record, octets)) = records.read()? {
-    ///     println!("packet {} has {} bytes, and {} of them are here", record.number, record.original_len, octets.len());
+    ///     let (whole, kept) = (record.original_len, octets.len());
+    ///     println!("packet {} has {whole} bytes, and {kept} of them are here", record.number);
     /// }
     /// # Ok(())
     /// # }

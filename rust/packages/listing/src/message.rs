@@ -5,25 +5,16 @@ mod data;
 mod edns;
 mod header;
 mod record;
+pub mod unread;
 
 use crate::message::edns::show_opt;
 use crate::message::header::show_header;
 use crate::message::record::{show_question, show_record};
+pub use crate::message::unread::Unread;
 use control_wire::dns::Packet;
 use control_wire::record::{Entries, Entry, Record, Section};
 use rattle_std::io;
 use rattle_std::io::Write;
-
-/// Why a message is not listed to its end.
-#[derive(Debug, PartialEq, Eq, Clone, Copy)]
-pub enum Unread {
-    /// There are fewer than 12 bytes, or no question or record of its section begins where one should.
-    Entry,
-    /// A name does not read, of a question or record or in its data.
-    Name,
-    /// The data of a record are not what its type and class have.
-    Data,
-}
 
 /// Prints a message, each line behind the margin: the fields of its header, and then each question and record, up to
 /// the last, or to one that does not read; then it answers why. In multicast DNS the top bit of a class is no part of
@@ -35,7 +26,7 @@ pub fn show_message<W: Write>(
     is_multicast: bool,
 ) -> io::Result<Option<Unread>> {
     let Ok(packet) = Packet::new_checked(octets) else {
-        return Ok(Some(Unread::Entry));
+        return Ok(Some(Unread::Header));
     };
     show_header(output, margin, octets)?;
     show_entries(output, margin, is_multicast, &packet)
@@ -52,13 +43,21 @@ fn show_entries<W: Write>(
     loop {
         let entry = match entries.next() {
             Some(Ok(entry)) => entry,
-            Some(Err(_)) => return Ok(Some(Unread::Entry)),
+            Some(Err(_)) => return Ok(why_no_entry(&entries)),
             None => return Ok(None),
         };
         let unread = show_entry(output, margin, is_multicast, packet, &entry)?;
         if unread.is_some() {
             return Ok(unread);
         }
+    }
+}
+
+// Why the next question or record was refused; None where none was.
+fn why_no_entry(entries: &Entries<'_>) -> Option<Unread> {
+    match entries.refusal() {
+        Some((section, refusal)) => Some(Unread::Entry(section, refusal)),
+        None => None,
     }
 }
 

@@ -7,6 +7,7 @@ use control_wire::frames::{link, udp};
 use control_wire::icmpv6;
 use control_wire::quotes::message::{Icmpv4Refusal, Icmpv6Refusal};
 use control_wire::quotes::{icmpv4_error, icmpv6_error};
+use control_wire::record::TextRefusal;
 use control_wire::{icmpv4, igmp};
 use listing::message::Unread;
 use std::fmt;
@@ -28,8 +29,6 @@ pub enum Refusal {
     Icmp6(Icmpv6Refusal),
     /// The packet of DHCP is.
     Dhcp(dhcpv4::Refusal),
-    /// The message of DNS has fewer bytes than its header, 12.
-    DnsHeader,
     /// The message of DNS is not listed to its end.
     Dns(Unread),
 }
@@ -46,7 +45,6 @@ impl Refusal {
             Refusal::Igmp(refusal) => igmp_reason(refusal),
             Refusal::Icmp6(refusal) => icmp6_reason(refusal),
             Refusal::Dhcp(refusal) => dhcp_reason(refusal),
-            Refusal::DnsHeader => Reason::Short,
             Refusal::Dns(unread) => dns_reason(unread),
         }
     }
@@ -131,8 +129,13 @@ fn dhcp_reason(refusal: dhcpv4::Refusal) -> Reason {
 
 fn dns_reason(unread: Unread) -> Reason {
     match unread {
-        Unread::Entry | Unread::Data => Reason::Malformed,
-        Unread::Name => Reason::Name,
+        Unread::Header => Reason::Short,
+        Unread::Question(_)
+        | Unread::Record(TextRefusal::Owner(_))
+        | Unread::Record(TextRefusal::DataName(_)) => Reason::Name,
+        Unread::Entry(..) | Unread::Record(TextRefusal::Data(_)) | Unread::Option(_) => {
+            Reason::Malformed
+        }
     }
 }
 
@@ -147,18 +150,8 @@ impl fmt::Display for Refusal {
             Refusal::Igmp(refusal) => write!(f, "{refusal}"),
             Refusal::Icmp6(refusal) => write!(f, "{refusal}"),
             Refusal::Dhcp(refusal) => write!(f, "{refusal}"),
-            Refusal::DnsHeader => f.write_str("fewer than 12 bytes"),
-            Refusal::Dns(unread) => f.write_str(dns_phrase(*unread)),
+            Refusal::Dns(unread) => write!(f, "{unread}"),
         }
-    }
-}
-
-// Why a message is not listed to its end.
-fn dns_phrase(unread: Unread) -> &'static str {
-    match unread {
-        Unread::Entry => "a question or record is cut or malformed",
-        Unread::Name => "a name does not read",
-        Unread::Data => "the data of a record do not read",
     }
 }
 

@@ -4,7 +4,7 @@
 use crate::kind::{Kind, Reason};
 use crate::refusal::Refusal;
 use capture::Record;
-use control_wire::frames::{Addresses, Captured, Datagram, Frame, Head, Link, Network, link, udp};
+use control_wire::frames::{Addresses, Captured, Datagram, Frame, Head, Link, Network, udp};
 use control_wire::{IpProtocol, Ipv4Packet};
 use listing::ports::ports_of;
 
@@ -50,20 +50,12 @@ pub fn look<'a>(captured: &Record, octets: &'a [u8]) -> Sight<'a> {
     let Some(link) = Link::of(captured.link_type) else {
         return Sight::Unread;
     };
-    match link.frame(octets) {
+    match link.frame_or_refusal(octets) {
         Ok(frame) => look_into(captured, octets, &frame),
-        Err(_) => {
-            let refusal = Refusal::Frame(why_no_frame(link, octets));
+        Err(refusal) => {
+            let refusal = Refusal::Frame(refusal);
             untold(&[], refusal.reason(is_cut(captured, octets)), refusal)
         }
-    }
-}
-
-// Why this is no frame. There is a reason then, so the one that would stand for it is never told.
-fn why_no_frame(link: Link, octets: &[u8]) -> link::Refusal {
-    match link.refusal(octets) {
-        Some(refusal) => refusal,
-        None => link::Refusal::Short,
     }
 }
 

@@ -16,6 +16,8 @@ const CHAIN_EVERY: u32 = 64;
 const CAPTURE_EVERY: u32 = 16;
 
 /// Reads packets of all kinds, in each round others, and gives a digest of what was read.
+// Apart from the other jobs: inlined beside them, its code decides which registers theirs have.
+#[inline(never)]
 pub fn digest(seed: u64, rounds: u32) -> io::Result<u64> {
     let mut random = Random::new(seed);
     let pool = Pool::new(&mut random)?;

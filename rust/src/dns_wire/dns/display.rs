@@ -41,8 +41,8 @@ impl Type {
     }
 }
 
-/// The mnemonic of the type, as `AAAA`, or its number where it has none here, as `TYPE34` (RFC 3597 section 5). A number
-/// that is kept as [`Type::Unknown`] has its mnemonic too, as `MX`.
+/// The mnemonic of the type, as `AAAA`, or its number where it has none here, as `TYPE34` (RFC 3597 section 5). A
+/// number that is kept as [`Type::Unknown`] has its mnemonic too, as `MX`.
 impl fmt::Display for Type {
     fn fmt(&self, f: &mut fmt::Formatter<'_>) -> fmt::Result {
         match self.mnemonic() {

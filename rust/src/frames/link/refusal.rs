@@ -24,6 +24,7 @@ pub enum Refusal {
 impl Link {
     /// The frame in these octets, as [`Link::frame`] reads it, or else why they are refused, as [`Link::refusal`] tells
     /// it: the check that fails first.
+    #[inline]
     pub fn frame_or_refusal(self, octets: &[u8]) -> core::result::Result<Frame<'_>, Refusal> {
         match self.frame(octets) {
             Ok(frame) => Ok(frame),

@@ -39,13 +39,15 @@ impl<T: Octets> Packet<T> {
             return Err(Error);
         }
         let kind = self.msg_type();
+        // In front of the length: behind it, the compiler sets the length of a query before it looks up the type, for
+        // messages of all types.
+        if let Message::RplControl | Message::Unknown(_) = kind {
+            return Err(Error);
+        }
         if len < header_len_of(kind) {
             return Err(Error);
         }
-        match kind {
-            Message::RplControl | Message::Unknown(_) => Err(Error),
-            _ => Ok(kind),
-        }
+        Ok(kind)
     }
 
     /// What the view was made from, as it is now.

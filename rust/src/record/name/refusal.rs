@@ -1,9 +1,11 @@
 // Made from crates/record_wire/src/name/refusal.rt by rust/erase.
 //! Why no name begins in octets: the check that fails first.
 
-use crate::dns_wire::message::{Front, follow, read_front};
+use crate::dns_wire::dns::Packet;
+use crate::dns_wire::message::{Front, follow, octets_of, read_front};
+use crate::record::name::Name;
 use crate::record::refusal::{PartRefusal, why_torn};
-use core::fmt;
+use core::{fmt, result};
 
 /// Why [`crate::record::Name::read`] refuses octets and their message: the check that fails first.
 #[derive(Debug, PartialEq, Eq, Clone, Copy)]
@@ -26,6 +28,20 @@ impl fmt::Display for NameRefusal {
                 write!(f, "a pointer to place {place} leads nowhere or round")
             }
             NameRefusal::TooLong => write!(f, "the name has more than 255 octets"),
+        }
+    }
+}
+
+impl Name {
+    /// The name, as [`Name::read`] reads it, or else why it refuses this, as [`Name::read_refusal`] tells it: the check
+    /// that fails first.
+    pub fn read_or_refusal<'a, B: AsRef<[u8]> + ?Sized>(
+        packet: &Packet<&'a B>,
+        bytes: &'a [u8],
+    ) -> result::Result<Name, NameRefusal> {
+        match Name::read(packet, bytes) {
+            Ok(name) => Ok(name),
+            Err(_) => Err(why_no_name(octets_of(packet), bytes)),
         }
     }
 }

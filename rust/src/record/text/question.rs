@@ -6,7 +6,6 @@ use crate::record::classes::ClassName;
 use crate::record::name::Name;
 use crate::record::name::refusal::NameRefusal;
 use crate::record::record::Question;
-use crate::record::text::read_name;
 use crate::record::text::words::Whole;
 use core::{fmt, result};
 
@@ -53,7 +52,7 @@ impl<'a> Question<'a> {
         packet: &Packet<&'a B>,
         class: u16,
     ) -> result::Result<QuestionText, NameRefusal> {
-        match read_name(packet, self.name) {
+        match Name::read_or_refusal(packet, self.name) {
             Ok(name) => Ok(QuestionText {
                 name,
                 class,

@@ -2,17 +2,17 @@
 use Rattle.std.proofs.Common.{Some, None, sym, ◌∙◌, inl, inr}
 use Rattle.dns_wire.specs.DnsPacket.{view_octets}
 use Rattle.record_wire.specs.Entries.{all_of, entry_of}
-use Rattle.listing.specs.ListingMessage.{none_left, none_begins}
-use Rattle.listing.specs.declared.message.Unread.TheVariants as unread
-use Rattle.listing.proofs.Entries.{nothing_more, one_listed, one_unread}
+use Rattle.listing.specs.ListingMessage.{none_left}
+use Rattle.listing.proofs.Entries.{nothing_more, refused_next, one_listed, one_unread}
 use Rattle.listing.proofs.message.show_entries.Goals as goal
 
 pub returns-in-Some-Err : goal.returns-in-Some-Err
 returns-in-Some-Err g c =
     let octets = view_octets c.args.packet.now in
     let broken = rw c.in-Some-Err.field-0-is at c.in-Some-Err.ensures.steps in
-    nothing_more c.args.margin.now c.args.is_multicast octets c.loop-entry.entries (all_of octets) _ _
-    (Some unread.Entry) c.loop-entry.invariant.so_far (none_begins _ _ broken)
+    refused_next c.args.margin.now c.args.is_multicast octets c.loop-entry.entries c.next.new.self (all_of octets) _ _
+    c.why_no_entry.result c.loop-entry.invariant.so_far broken c.why_no_entry.ensures.told
+    (c.why_no_entry.ensures.exact broken.refused_)
 
 pub returns-in-None : goal.returns-in-None
 returns-in-None g c =

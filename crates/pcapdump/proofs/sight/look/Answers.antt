@@ -9,6 +9,6 @@ returns-in-Ok c =
 
 pub returns-in-Err : goal.returns-in-Err
 returns-in-Err c =
-    no_frame c.in-Some.link c.why_no_frame.result (sym c.of.ensures ∙ c.in-Some.is)
-    (λ f is. c.in-Err.ensures.complete f is) c.why_no_frame.ensures
+    no_frame c.in-Some.link c.in-Err.refusal (sym c.of.ensures ∙ c.in-Some.is)
+    (λ f is. c.in-Err.ensures.complete f is) c.in-Err.ensures.told
     (rw (c.reason.ensures, c.is_cut.ensures) at c.untold.ensures)

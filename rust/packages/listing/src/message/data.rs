@@ -1,21 +1,22 @@
 // Made from crates/listing/src/message/data.rt by rust/erase.
 //! The data of records.
 
-use crate::message::Unread;
 use crate::message::record::{Line, write_line};
 use crate::zone::{NameText, generic, ipv6_word, name_word, strings, word};
 use control_wire::dns::Packet;
+use control_wire::record::NameRefusal;
 use control_wire::record::rdata::{Authority, RData};
 use rattle_std::io;
 use rattle_std::io::Write;
 
-/// Writes the line of a record up to its end, where the names in its data read.
+/// Writes the line of a record up to its end, where the names in its data read; else nothing, and it answers why the
+/// first that does not read is refused.
 pub fn show_data<'a, W: Write>(
     output: &mut W,
     packet: &Packet<&'a [u8]>,
     line: &Line<'_>,
     data: &RData<'a>,
-) -> io::Result<Option<Unread>> {
+) -> io::Result<Option<NameRefusal>> {
     match *data {
         RData::Name(octets) => show_name(output, packet, line, octets),
         RData::Mx {
@@ -57,10 +58,10 @@ fn show_name<'a, W: Write>(
     packet: &Packet<&'a [u8]>,
     line: &Line<'_>,
     octets: &'a [u8],
-) -> io::Result<Option<Unread>> {
+) -> io::Result<Option<NameRefusal>> {
     let mut target = NameText::new();
-    if !target.read(packet, octets) {
-        return Ok(Some(Unread::Name));
+    if let Err(refusal) = target.read(packet, octets) {
+        return Ok(Some(refusal));
     }
     write_line(output, line)?;
     name_word(output, &target)?;
@@ -73,10 +74,10 @@ fn show_mail<'a, W: Write>(
     line: &Line<'_>,
     preference: u16,
     exchange: &'a [u8],
-) -> io::Result<Option<Unread>> {
+) -> io::Result<Option<NameRefusal>> {
     let mut host = NameText::new();
-    if !host.read(packet, exchange) {
-        return Ok(Some(Unread::Name));
+    if let Err(refusal) = host.read(packet, exchange) {
+        return Ok(Some(refusal));
     }
     write_line(output, line)?;
     word(output, preference)?;
@@ -90,10 +91,10 @@ fn show_service<'a, W: Write>(
     line: &Line<'_>,
     numbers: [u16; 3],
     target: &'a [u8],
-) -> io::Result<Option<Unread>> {
+) -> io::Result<Option<NameRefusal>> {
     let mut host = NameText::new();
-    if !host.read(packet, target) {
-        return Ok(Some(Unread::Name));
+    if let Err(refusal) = host.read(packet, target) {
+        return Ok(Some(refusal));
     }
     write_line(output, line)?;
     let [priority, weight, port] = numbers;
@@ -109,14 +110,14 @@ fn show_authority<'a, W: Write>(
     packet: &Packet<&'a [u8]>,
     line: &Line<'_>,
     soa: &Authority<'a>,
-) -> io::Result<Option<Unread>> {
+) -> io::Result<Option<NameRefusal>> {
     let mut primary = NameText::new();
-    if !primary.read(packet, soa.primary) {
-        return Ok(Some(Unread::Name));
+    if let Err(refusal) = primary.read(packet, soa.primary) {
+        return Ok(Some(refusal));
     }
     let mut mailbox = NameText::new();
-    if !mailbox.read(packet, soa.mailbox) {
-        return Ok(Some(Unread::Name));
+    if let Err(refusal) = mailbox.read(packet, soa.mailbox) {
+        return Ok(Some(refusal));
     }
     write_line(output, line)?;
     name_word(output, &primary)?;

@@ -5,7 +5,7 @@ use crate::message::Unread;
 use crate::printer::{Value, part_field};
 use crate::zone::{NameText, word};
 use control_wire::dns::Packet;
-use control_wire::record::{Edns, EdnsOption, Record};
+use control_wire::record::{Edns, EdnsOption, OptionRefusal, Record, TextRefusal};
 use rattle_std::io;
 use rattle_std::io::Write;
 
@@ -18,11 +18,11 @@ pub fn show_opt<'a, W: Write>(
     edns: &Edns<'a>,
 ) -> io::Result<Option<Unread>> {
     let mut owner = NameText::new();
-    if !owner.read(packet, record.name) {
-        return Ok(Some(Unread::Name));
+    if let Err(refusal) = owner.read(packet, record.name) {
+        return Ok(Some(Unread::Record(TextRefusal::Owner(refusal))));
     }
-    if !are_options(edns.options) {
-        return Ok(Some(Unread::Data));
+    if let Some(refusal) = why_no_options(edns.options) {
+        return Ok(Some(Unread::Option(refusal)));
     }
     show_sender(output, margin, edns)?;
     show_options(output, margin, edns.options)?;
@@ -56,16 +56,17 @@ impl Value for EdnsOption<'_> {
     }
 }
 
-// Whether these bytes are options, one after another, and nothing more.
-fn are_options(octets: &[u8]) -> bool {
+// Why no option begins where the first does that does not read; None where these bytes are options, one after another,
+// and nothing more.
+fn why_no_options(octets: &[u8]) -> Option<OptionRefusal> {
     let mut left = octets;
     while !left.is_empty() {
         match EdnsOption::parse(left) {
             Ok((rest, _)) => left = rest,
-            Err(_) => return false,
+            Err(_) => return EdnsOption::refusal(left),
         }
     }
-    true
+    None
 }
 
 // Prints options.

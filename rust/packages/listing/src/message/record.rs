@@ -6,7 +6,7 @@ use crate::message::data::show_data;
 use crate::zone::{NameText, class_word, type_word, word};
 use control_wire::dns::{Packet, Type};
 use control_wire::record::rdata::RData;
-use control_wire::record::{Question, Record, Section};
+use control_wire::record::{Question, Record, Section, TextRefusal};
 use rattle_std::io;
 use rattle_std::io::Write;
 
@@ -19,8 +19,8 @@ pub fn show_question<'a, W: Write>(
     question: &Question<'a>,
 ) -> io::Result<Option<Unread>> {
     let mut owner = NameText::new();
-    if !owner.read(packet, question.name) {
-        return Ok(Some(Unread::Name));
+    if let Err(refusal) = owner.read(packet, question.name) {
+        return Ok(Some(Unread::Question(refusal)));
     }
     write_front(output, margin, Section::Question, &owner)?;
     class_word(output, question_class(is_multicast, question))?;
@@ -43,8 +43,8 @@ pub fn show_record<'a, W: Write>(
     record: &Record<'a>,
 ) -> io::Result<Option<Unread>> {
     let mut owner = NameText::new();
-    if !owner.read(packet, record.name) {
-        return Ok(Some(Unread::Name));
+    if let Err(refusal) = owner.read(packet, record.name) {
+        return Ok(Some(Unread::Record(TextRefusal::Owner(refusal))));
     }
     let line = Line {
         margin,
@@ -55,14 +55,23 @@ pub fn show_record<'a, W: Write>(
         kind: record.type_,
     };
     let Ok(data) = RData::parse_update(record.type_, line.class, record.data) else {
-        return Ok(Some(Unread::Data));
+        return Ok(why_no_data(record, line.class));
     };
-    let unread = show_data(output, packet, &line, &data)?;
-    if unread.is_some() {
-        return Ok(unread);
+    if let Some(refusal) = show_data(output, packet, &line, &data)? {
+        return Ok(Some(Unread::Record(TextRefusal::DataName(refusal))));
     }
     end_line(output, flushes_cache(is_multicast, record), "cache-flush")?;
     Ok(None)
+}
+
+// Why the data of a record, taken as one of this class, is not what its type has; None where it is. It is read again for
+// that, so that where it reads no room is kept for a reason.
+#[inline(never)]
+fn why_no_data(record: &Record<'_>, class: u16) -> Option<Unread> {
+    match RData::parse_update_or_refusal(record.type_, class, record.data) {
+        Ok(_) => None,
+        Err(refusal) => Some(Unread::Record(TextRefusal::Data(refusal))),
+    }
 }
 
 /// The line of a record up to its data.

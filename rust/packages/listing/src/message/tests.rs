@@ -1,6 +1,9 @@
 // Made from crates/listing/src/message/tests.rt by rust/erase.
 use crate::message::{Unread, show_message};
 use crate::testing::{holds_of, same_of};
+use control_wire::record::{
+    DataRefusal, NameRefusal, OptionRefusal, PartRefusal, Refusal, Section, TextRefusal,
+};
 #[allow(unused_imports)]
 use rattle_std::prelude::*;
 
@@ -149,14 +152,16 @@ fn updates() {
             \0\0\x02\0\x03\0\0\0\0\0\0",
             false,
             "  transaction_id=1\n  flags=-\n  opcode=5\n  rcode=0\n",
-            Some(Unread::Data),
+            Some(Unread::Record(TextRefusal::Data(DataRefusal::Name(
+                PartRefusal::Cut,
+            )))),
         ),
         (
             b"\0\x01\x28\0\0\0\0\0\0\x01\0\0\
             \0\0\x02\0\xff\0\0\0\0\0\x02\0\0",
             false,
             "  transaction_id=1\n  flags=-\n  opcode=5\n  rcode=0\n",
-            Some(Unread::Data),
+            Some(Unread::Record(TextRefusal::Data(DataRefusal::BehindName))),
         ),
         // The top bit is part of the class but in multicast DNS.
         (
@@ -164,7 +169,9 @@ fn updates() {
             \0\0\x02\x80\xff\0\0\0\0\0\0",
             false,
             "  transaction_id=1\n  flags=qr,aa\n  opcode=0\n  rcode=0\n",
-            Some(Unread::Data),
+            Some(Unread::Record(TextRefusal::Data(DataRefusal::Name(
+                PartRefusal::Cut,
+            )))),
         ),
         (
             b"\0\x01\x84\0\0\0\0\x01\0\0\0\0\
@@ -282,92 +289,92 @@ const HEADER: &str = "  transaction_id=1\n  flags=-\n  opcode=0\n  rcode=0\n";
 #[test]
 fn messages_that_do_not_read_to_their_end() {
     const ROWS: &[Row] = &[
-        (b"", false, "", Some(Unread::Entry)),
-        (b"\0\x01\0\0\0\0\0\0\0\0\0", false, "", Some(Unread::Entry)),
+        (b"", false, "", Some(Unread::Header)),
+        (b"\0\x01\0\0\0\0\0\0\0\0\0", false, "", Some(Unread::Header)),
         // A question, of which one byte of the class is missing, and one that is missing itself.
         (
             b"\0\x01\0\0\0\x01\0\0\0\0\0\0\0\0\x01\0",
             false,
             HEADER,
-            Some(Unread::Entry),
+            Some(Unread::Entry(Section::Question, Refusal::Fields)),
         ),
         (
             b"\0\x01\0\0\0\x02\0\0\0\0\0\0\0\0\x01\0\x01",
             false,
             "  transaction_id=1\n  flags=-\n  opcode=0\n  rcode=0\n  question=. IN A\n",
-            Some(Unread::Entry),
+            Some(Unread::Entry(Section::Question, Refusal::Name(PartRefusal::Cut))),
         ),
         // A name that leads to itself; what stands behind it is not looked at.
         (
             b"\0\x01\0\0\0\x02\0\0\0\0\0\0\xc0\x0c\0\x01\0\x01\0\0\x01\0\x01",
             false,
             HEADER,
-            Some(Unread::Name),
+            Some(Unread::Question(NameRefusal::Pointer(12))),
         ),
         // Names in data that lead to themselves, and one that goes on where the message ends.
         (
             b"\0\x01\0\0\0\0\0\x01\0\0\0\0\0\0\x05\0\x01\0\0\0\0\0\x02\xc0\x17",
             false,
             HEADER,
-            Some(Unread::Name),
+            Some(Unread::Record(TextRefusal::DataName(NameRefusal::Pointer(23)))),
         ),
         (
             b"\0\x01\0\0\0\0\0\x01\0\0\0\0\
             \0\0\x06\0\x01\0\0\0\0\0\x17\0\xc0\x18\0\0\0\x01\0\0\0\x02\0\0\0\x03\0\0\0\x04\0\0\0\x05",
             false,
             HEADER,
-            Some(Unread::Name),
+            Some(Unread::Record(TextRefusal::DataName(NameRefusal::Pointer(24)))),
         ),
         (
             b"\0\x01\0\0\0\0\0\x01\0\0\0\0\0\0\x0f\0\x01\0\0\0\0\0\x04\0\x01\xc0\xff",
             false,
             HEADER,
-            Some(Unread::Name),
+            Some(Unread::Record(TextRefusal::DataName(NameRefusal::Pointer(255)))),
         ),
         // Data that are not what their type has: an address of three bytes, no string, a byte behind a name.
         (
             b"\0\x01\0\0\0\0\0\x01\0\0\0\0\0\0\x01\0\x01\0\0\0\0\0\x03\x0a\0\0",
             false,
             HEADER,
-            Some(Unread::Data),
+            Some(Unread::Record(TextRefusal::Data(DataRefusal::Address(4)))),
         ),
         (
             b"\0\x01\0\0\0\0\0\x01\0\0\0\0\0\0\x10\0\x01\0\0\0\0\0\0",
             false,
             HEADER,
-            Some(Unread::Data),
+            Some(Unread::Record(TextRefusal::Data(DataRefusal::NoString))),
         ),
         (
             b"\0\x01\0\0\0\0\0\x01\0\0\0\0\0\0\x02\0\x01\0\0\0\0\0\x02\0\0",
             false,
             HEADER,
-            Some(Unread::Data),
+            Some(Unread::Record(TextRefusal::Data(DataRefusal::BehindName))),
         ),
         // An option of one byte more than there are, and one without its length.
         (
             b"\0\x01\0\0\0\0\0\0\0\0\0\x01\0\0\x29\x02\0\0\0\0\0\0\x05\0\x0a\0\x02\x2a",
             false,
             HEADER,
-            Some(Unread::Data),
+            Some(Unread::Option(OptionRefusal::Data)),
         ),
         (
             b"\0\x01\0\0\0\0\0\0\0\0\0\x01\0\0\x29\x02\0\0\0\0\0\0\x03\0\x0a\0",
             false,
             HEADER,
-            Some(Unread::Data),
+            Some(Unread::Option(OptionRefusal::Fields)),
         ),
         // The name of a record is read before its data.
         (
             b"\0\x01\0\0\0\0\0\x01\0\0\0\0\xc0\x0c\0\x01\0\x01\0\0\0\0\0\x03\x0a\0\0",
             false,
             HEADER,
-            Some(Unread::Name),
+            Some(Unread::Record(TextRefusal::Owner(NameRefusal::Pointer(12)))),
         ),
         (
             b"\0\x01\0\0\0\0\0\0\0\0\0\x01\xc0\x0c\0\x29\x02\0\0\0\0\0\0\x01\0",
             false,
             HEADER,
-            Some(Unread::Name),
+            Some(Unread::Record(TextRefusal::Owner(NameRefusal::Pointer(12)))),
         ),
     ];
     check(ROWS);

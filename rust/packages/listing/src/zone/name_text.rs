@@ -2,8 +2,8 @@
 //! The texts of the names in a message.
 
 use control_wire::dns::Packet;
-use control_wire::record::Name;
 use control_wire::record::name::dotted::{ROOM_LEN, put_dotted};
+use control_wire::record::{Name, NameRefusal};
 use rattle_std::io;
 use rattle_std::io::Write;
 
@@ -29,14 +29,18 @@ impl NameText {
     }
 
     /// Reads the name that begins in `bytes`, a part of the message or not, and goes on where its pointers lead in the
-    /// message, and keeps its text. Answers whether there is one, of 255 octets at most.
+    /// message, and keeps its text. Refused where there is none of 255 octets at most.
     #[inline(always)]
-    pub fn read<'a>(&mut self, packet: &Packet<&'a [u8]>, bytes: &'a [u8]) -> bool {
+    pub fn read<'a>(
+        &mut self,
+        packet: &Packet<&'a [u8]>,
+        bytes: &'a [u8],
+    ) -> Result<(), NameRefusal> {
         match put_dotted(&mut self.room, packet, bytes) {
             Some(len) => {
                 self.len = len;
                 self.other = None;
-                true
+                Ok(())
             }
             None => self.read_other(packet, bytes),
         }
@@ -44,12 +48,18 @@ impl NameText {
 
     // The same by the name's octets.
     #[inline(never)]
-    fn read_other<'a>(&mut self, packet: &Packet<&'a [u8]>, bytes: &'a [u8]) -> bool {
-        let Ok(name) = Name::read(packet, bytes) else {
-            return false;
-        };
-        self.other = Some(name);
-        true
+    fn read_other<'a>(
+        &mut self,
+        packet: &Packet<&'a [u8]>,
+        bytes: &'a [u8],
+    ) -> Result<(), NameRefusal> {
+        match Name::read_or_refusal(packet, bytes) {
+            Ok(name) => {
+                self.other = Some(name);
+                Ok(())
+            }
+            Err(refusal) => Err(refusal),
+        }
     }
 
     /// Writes the text.

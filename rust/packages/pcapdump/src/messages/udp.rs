@@ -9,7 +9,7 @@ use control_wire::ChecksumCapabilities;
 use control_wire::dhcpv4;
 use control_wire::frames::{Addresses, UdpPacket, UdpRepr, udp};
 use listing::dhcp::show_packet;
-use listing::message::{Unread, show_message};
+use listing::message::show_message;
 use listing::page::{MARGIN, Page};
 use rattle_std::io::Write;
 
@@ -54,16 +54,8 @@ fn show_dns_message<W: Write>(
     is_multicast: bool,
 ) -> Result<Option<Reason>, Fault> {
     match show_message(output, MARGIN, octets, is_multicast)? {
-        Some(unread) => refuse_message(output, &refusal_of(octets, unread)),
+        Some(unread) => refuse_message(output, &Refusal::Dns(unread)),
         None => Ok(None),
-    }
-}
-
-// Why a message is not listed to its end.
-fn refusal_of(octets: &[u8], unread: Unread) -> Refusal {
-    match unread {
-        Unread::Entry if octets.len() < 12 => Refusal::DnsHeader,
-        other => Refusal::Dns(other),
     }
 }
 
@@ -79,14 +71,9 @@ fn show_dhcp_packet<W: Write>(
             show_packet(page, &packet)?;
             write_page(output, page.as_slice())
         }
-        Err(_) => refuse_message(output, &Refusal::Dhcp(why_no_packet(&packet))),
-    }
-}
-
-// Why this is no packet of DHCP. There is a reason then, so the one that would stand for it is never told.
-fn why_no_packet(packet: &dhcpv4::Packet<&[u8]>) -> dhcpv4::Refusal {
-    match dhcpv4::Repr::refusal(packet) {
-        Some(refusal) => refusal,
-        None => dhcpv4::Refusal::Short,
+        Err(_) => {
+            let refusal = dhcpv4::Repr::refusal(&packet).unwrap();
+            refuse_message(output, &Refusal::Dhcp(refusal))
+        }
     }
 }

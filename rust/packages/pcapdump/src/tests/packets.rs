@@ -203,7 +203,7 @@ pub const PACKETS: &[(&str, &str)] = &[
             \x20 flags=rd\n\
             \x20 opcode=0\n\
             \x20 rcode=0\n\
-            \x20 refused=a name does not read\n",
+            \x20 refused=question: a pointer to place 12 leads nowhere or round\n",
     ),
 ];
 

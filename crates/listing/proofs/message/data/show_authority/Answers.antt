@@ -5,8 +5,8 @@ use Rattle.listing.proofs.message.data.show_authority.Goals as goal
 
 pub returns : goal.returns
 returns g c =
-    let primary = c.read.ensures.reads c.if-not-read.false in
-    let mailbox = c.read-2.ensures.reads c.if-not-read-2.false in
+    let primary = c.in_default.ensures.reads in
+    let mailbox = c.in_default-read.ensures.reads in
     let names = behind _ _ _ (c.in_ok-write_line.ensures then c.in_ok-name_word.ensures) c.in_ok-name_word-2.ensures in
     let two = behind _ _ _ (behind _ _ _ names c.in_ok-word.ensures) c.in_ok-word-2.ensures in
     let four = behind _ _ _ (behind _ _ _ two c.in_ok-word-3.ensures) c.in_ok-word-4.ensures in

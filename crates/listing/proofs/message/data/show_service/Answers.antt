@@ -6,7 +6,7 @@ use Rattle.listing.proofs.message.data.show_service.Goals as goal
 pub returns : goal.returns
 returns g c = (
   _,
-  (_, (_, c.read.ensures.reads c.if-not-read.false, refl), refl),
+  (_, (_, c.in_default.ensures.reads, refl), refl),
   behind _ _ _
       (behind _ _ _ (behind _ _ _ (c.in_ok-write_line.ensures then c.in_ok-word.ensures) c.in_ok-word-2.ensures)
       c.in_ok-word-3.ensures)

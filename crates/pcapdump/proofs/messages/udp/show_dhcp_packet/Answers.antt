@@ -2,6 +2,7 @@
 use Rattle.std.proofs.Common.{◌∙◌}
 use Rattle.dhcp_wire.specs.Dhcpv4.{IsPacket, value_of}
 use Rattle.dhcp_wire.specs.Dhcpv4Refusal.{Refuses}
+use Rattle.dhcp_wire.proofs.Dhcpv4Refusal.{told_some}
 use Rattle.listing.specs.ListingDhcp.{dhcp_listing}
 use Rattle.pcapdump.specs.Messages.{Indents}
 use Rattle.pcapdump.specs.declared.refusal.Refusal.TheVariants.{Dhcp}
@@ -19,9 +20,11 @@ returns-in_ok-show_packet-in-Ok g c =
 pub returns-in-Err : goal.returns-in-Err
 returns-in-Err g c =
     let octets = c.args.octets.now in
-    refuses_all _ _ _ (IsPacket octets) (Indents dhcp_listing) (Refuses octets) Dhcp c.why_no_packet.result
+    refuses_all _ _ _ (IsPacket octets) (Indents dhcp_listing) (Refuses octets) Dhcp c.unwrap-refusal.result
     (rw c.new_unchecked-packet.ensures at c.in-Err.ensures.complete)
-    (rw c.new_unchecked-packet.ensures at c.why_no_packet.ensures) c.refuse_message.ensures
+    (rw c.new_unchecked-packet.ensures at rw c.unwrap-refusal.ensures at c.refusal.ensures.told)
+    c.refuse_message.ensures
 
-pub why_no_packet-requires : goal.why_no_packet-requires
-why_no_packet-requires g c = λ read. c.in-Err.ensures.complete read.0 read.1
+pub unwrap-refusal-requires : goal.unwrap-refusal-requires
+unwrap-refusal-requires g c =
+    told_some _ c.refusal.ensures.exact (λ read. c.in-Err.ensures.complete read.0 read.1)

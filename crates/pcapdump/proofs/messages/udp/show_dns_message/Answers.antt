@@ -1,9 +1,10 @@
 -- What the message prints, and behind it why it is not listed to its end, if it is not.
-use Rattle.std.proofs.Common.{None, Some, false, refl, ap, sym, ◌∙◌}
+use Rattle.std.proofs.Common.{None, Some, false, refl, sym}
 use Rattle.std.proofs.lemmas.List.{append-nil}
 use Rattle.listing.specs.ListingMessage.{MessagePrints}
 use Rattle.pcapdump.specs.Messages.{IsMessageRefusal, DnsPrints, margin, refusal_text}
 use Rattle.pcapdump.specs.Refusals.{reason_of}
+use Rattle.pcapdump.specs.declared.refusal.Refusal.TheVariants.{Dns}
 use Rattle.pcapdump.proofs.Printing.{gained_one, gained_behind}
 use Rattle.pcapdump.proofs.messages.udp.show_dns_message.Goals as goal
 
@@ -12,15 +13,15 @@ returns-in-Some g c =
     let octets = c.args.octets.now in
     let is_multicast = c.args.is_multicast in
     let unread = c.in-Some.unread in
-    let refusal = c.refusal_of.result in
+    let refusal = Dns unread in
     gained_behind _ _ c.refuse_message.result _ (λ text. MessagePrints margin is_multicast octets text (Some unread))
     (IsMessageRefusal refusal) (DnsPrints is_multicast octets)
     (λ first text why prints is. record {
       listed = first;
       unread_ = Some unread;
       prints = prints;
-      why_ = is.1 ∙ ap (λ r. Some (reason_of false r)) c.refusal_of.ensures;
-      text_ = rw (is.0, c.refusal_of.ensures) refl;
+      why_ = is.1;
+      text_ = rw is.0 refl;
     })
     (rw c.in-Some.is at c.in_ok-unread.ensures)
     (gained_one _ _ c.refuse_message.result (IsMessageRefusal refusal) (refusal_text refusal)

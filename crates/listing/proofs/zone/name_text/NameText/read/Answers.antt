@@ -4,4 +4,4 @@ use Rattle.listing.proofs.zone.name_text.NameText.read.Goals as goal
 
 pub returns-in-Some-clause-reads : goal.returns-in-Some-clause-reads
 returns-in-Some-clause-reads c =
-    let (labels, usual, is) = c.in-Some.ensures.text in λ yes. reads_usual _ _ _ labels usual is
+    let (labels, usual, is) = c.in-Some.ensures.text in reads_usual _ _ _ labels usual is
