@@ -11,12 +11,14 @@
 -- | what is quoted
 -- +- - - -
 use Rattle.std.specs.Prelude.{◌≡◌, ◌≢◌, ℕ, ◌+◌, ◌<◌, ◌^◌, true, min, List, [], ◌∷◌, length, take}
+use Rattle.std.specs.Prelude.{Option, None, Some, codes, decimal}
 use Rattle.wirebase.specs.declared.capabilities.Checksum.{Checksum}
 use Rattle.wirebase.specs.declared.capabilities.Checksum.TheVariants.{Rx}
 use Rattle.wirebase.specs.Bytes.{Field, field, Reaches, byte_of, number_of, over}
 use Rattle.wirebase.specs.ByteWriter.{be8, be16, be32, fields}
 use Rattle.wirebase.specs.Capabilities.{is_verified, is_computed, sealed_where}
 use Rattle.wirebase.specs.Checksum.{IsGood}
+use Rattle.wirebase.specs.Display.{pieces}
 use Rattle.wirebase.specs.Format.{Format, RoundTrips}
 use Rattle.wirebase.specs.Icmp.{type_field, code_field, checksum_field, header, data_in}
 
@@ -134,3 +136,12 @@ module _ {K : Type 0} (p : Protocol K) where
     pub good : is_computed p.checksum ≡ true → IsGood new (p.extra (length new))
     pub reads_back : length old ≡ text_len v → Fills → IsCanonical v → IsError new (norm v)
     pub round_trips : RoundTrips format v
+
+-- what the next link's MTU and the place of what is wrong print where an error tells them: nothing where it does not
+unfoldable pub mtu_display : Option ℕ → List ℕ
+mtu_display None = []
+mtu_display (Some mtu) = pieces (codes " mtu=" ∷ decimal mtu ∷ [])
+
+unfoldable pub pointer_display : Option ℕ → List ℕ
+pointer_display None = []
+pointer_display (Some place) = pieces (codes " pointer=" ∷ decimal place ∷ [])

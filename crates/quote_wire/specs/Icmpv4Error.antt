@@ -2,6 +2,7 @@
 -- time that was exceeded, a parameter that is wrong.
 use Rattle.std.specs.Prelude.{◌≡◌, ℕ, zero, ◌+◌, ◌/◌, ◌%◌, ◌==◌, ◌<◌, ◌≤◌, ◌^◌, List, [], ◌∷◌, length}
 use Rattle.std.specs.Prelude.{if◌then◌else◌, Option, Some, None, codes, decimal}
+use Rattle.std.specs.List.{join_by}
 use Rattle.wirebase.specs.declared.capabilities.ChecksumCapabilities.{ChecksumCapabilities}
 use Rattle.wirebase.specs.Bytes.{byte_of}
 use Rattle.wirebase.specs.ByteWriter.{be32}
@@ -13,6 +14,7 @@ use Rattle.quote_wire.specs.declared.icmpv4_error.Repr.{Repr}
 use Rattle.quote_wire.specs.declared.icmpv4_error.refusal.Refusal.{Refusal}
 use Rattle.quote_wire.specs.declared.icmpv4_error.refusal.Refusal.TheVariants as refusal
 use Rattle.quote_wire.specs.Error.{Protocol, ErrorValue, RefusesChecksum, RefusesType, RefusesQuote}
+use Rattle.quote_wire.specs.Error.{mtu_display, pointer_display}
 use Rattle.quote_wire.specs.Icmpv4Reason.{reason_of}
 use Rattle.quote_wire.specs.Quote.{RefusesIpv4}
 use Rattle.quote_wire.specs.Quote.{refusal_display as quote_display}
@@ -70,15 +72,22 @@ kind_display kind.Redirect = codes "redirect"
 kind_display kind.TimeExceeded = codes "time exceeded"
 kind_display kind.ParamProblem = codes "parameter problem"
 
--- with what its code says
+-- the gateway's address by its octets, in decimal with dots between them; nothing where the error tells none
+unfoldable pub gateway_display : Option (List ℕ) → List ℕ
+gateway_display None = []
+gateway_display (Some octets) = pieces (codes " gateway=" ∷ join_by decimal (codes ".") octets ∷ [])
+
+-- with what its code says, and what it tells behind the checksum
 abbrev pub shown : ErrorValue Kind → Option (List ℕ) → List ℕ
 shown v None =
     pieces (codes "ICMPv4 " ∷ kind_display v.kind ∷ codes " code=" ∷ decimal v.code
+    ∷ mtu_display (next_hop_mtu_in v) ∷ gateway_display (gateway_in v) ∷ pointer_display (pointer_in v)
     ∷ codes " quoted=" ∷ decimal (length v.quoted) ∷ [])
 shown v (Some reason) =
     pieces (codes "ICMPv4 " ∷ kind_display v.kind ∷ codes " code=" ∷ decimal v.code
-    ∷ codes " (" ∷ reason
-    ∷ codes ") quoted=" ∷ decimal (length v.quoted) ∷ [])
+    ∷ codes " (" ∷ reason ∷ codes ")"
+    ∷ mtu_display (next_hop_mtu_in v) ∷ gateway_display (gateway_in v) ∷ pointer_display (pointer_in v)
+    ∷ codes " quoted=" ∷ decimal (length v.quoted) ∷ [])
 
 abbrev pub repr_display : ErrorValue Kind → List ℕ
 repr_display v = shown v (reason_of v.kind v.code)

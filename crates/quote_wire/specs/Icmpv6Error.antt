@@ -13,6 +13,7 @@ use Rattle.quote_wire.specs.declared.icmpv6_error.Repr.{Repr}
 use Rattle.quote_wire.specs.declared.icmpv6_error.refusal.Refusal.{Refusal}
 use Rattle.quote_wire.specs.declared.icmpv6_error.refusal.Refusal.TheVariants as refusal
 use Rattle.quote_wire.specs.Error.{Protocol, ErrorValue, RefusesChecksum, RefusesType, RefusesQuote}
+use Rattle.quote_wire.specs.Error.{mtu_display, pointer_display}
 use Rattle.quote_wire.specs.Icmpv6Reason.{reason_of}
 use Rattle.quote_wire.specs.Quote.{RefusesIpv6}
 use Rattle.quote_wire.specs.Quote.{refusal_display as quote_display}
@@ -62,15 +63,17 @@ kind_display kind.PktTooBig = codes "packet too big"
 kind_display kind.TimeExceeded = codes "time exceeded"
 kind_display kind.ParamProblem = codes "parameter problem"
 
--- with what its code says
+-- with what its code says, and what it tells behind the checksum
 abbrev pub shown : ErrorValue Kind → Option (List ℕ) → List ℕ
 shown v None =
     pieces (codes "ICMPv6 " ∷ kind_display v.kind ∷ codes " code=" ∷ decimal v.code
+    ∷ mtu_display (mtu_in v) ∷ pointer_display (pointer_in v)
     ∷ codes " quoted=" ∷ decimal (length v.quoted) ∷ [])
 shown v (Some reason) =
     pieces (codes "ICMPv6 " ∷ kind_display v.kind ∷ codes " code=" ∷ decimal v.code
-    ∷ codes " (" ∷ reason
-    ∷ codes ") quoted=" ∷ decimal (length v.quoted) ∷ [])
+    ∷ codes " (" ∷ reason ∷ codes ")"
+    ∷ mtu_display (mtu_in v) ∷ pointer_display (pointer_in v)
+    ∷ codes " quoted=" ∷ decimal (length v.quoted) ∷ [])
 
 abbrev pub repr_display : ErrorValue Kind → List ℕ
 repr_display v = shown v (reason_of v.kind v.code)

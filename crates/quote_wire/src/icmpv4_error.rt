@@ -11,17 +11,17 @@ ghost use Rattle.wirebase.specs.Ipv4.{octets_of};
 ghost use Rattle.quote_wire.specs.Error.{ErrorValue, IsError, error_fields, text_len, packet_text};
 ghost use Rattle.quote_wire.specs.Error.{seal as sealed_octets, format, Emits};
 ghost use Rattle.quote_wire.specs.Icmpv4Error.{kind_number, IsDatagram, protocol, value_of};
-ghost use Rattle.quote_wire.specs.Icmpv4Error.{next_hop_mtu_in, gateway_in, pointer_in, kind_display, repr_display};
+ghost use Rattle.quote_wire.specs.Icmpv4Error.{next_hop_mtu_in, gateway_in, pointer_in};
 ghost use Rattle.quote_wire.specs.declared.icmpv4_error.Kind.{Kind as AnyKind};
 ghost use Rattle.wirebase.specs.declared.capabilities.ChecksumCapabilities.{ChecksumCapabilities as AnyCapabilities};
 
+mod display;
 mod reason;
 mod refusal;
 
 use super::field;
 use super::writing::write_error;
 pub use refusal::Refusal;
-use std::fmt;
 use wirebase::{ChecksumCapabilities, Error, Ipv4Address, Octets, Result, are_bytes, checksum};
 
 /// The bytes of a datagram that an error quotes at most: with the error's own headers they are 576, which every host
@@ -93,7 +93,10 @@ impl Kind {
 /// let mut octets = [0; 64];
 /// let octets = &mut octets[..error.buffer_len()];
 /// error.emit_into(octets, &checksums);
-/// assert_eq!(Repr::parse(octets, &checksums)?.next_hop_mtu(), Some(1400));
+/// let read = Repr::parse(octets, &checksums)?;
+/// assert_eq!(read.next_hop_mtu(), Some(1400));
+/// let text = "ICMPv4 destination unreachable code=4 (fragmentation required, and DF flag set) mtu=1400 quoted=28";
+/// assert_eq!(read.to_string(), text);
 /// # Ok::<(), control_wire::Error>(())
 /// ```
 #[derive(Debug, PartialEq, Eq, Clone, Copy)]
@@ -103,10 +106,13 @@ pub struct Repr<'a> {
     /// The code, by the type.
     pub code: u8,
     /// The four bytes behind the checksum: of a redirect the gateway's address, of a parameter problem the pointer in
-    /// the first of them, and of a datagram that had to be fragmented the next hop's MTU in the last two; else unused.
+    /// the first of them, and of a datagram that had to be fragmented the next hop's MTU in the last two. Of an error
+    /// with extensions the second has the length of what is quoted of the datagram, in units of 4 bytes (RFC 4884
+    /// section 4). Else unused.
     pub rest: u32,
-    /// What is quoted: the datagram from its header on, of version 4, with at least 8 bytes behind the header. An error
-    /// that is written quotes at most the first 548 bytes.
+    /// All that stands behind the header: the datagram that is quoted, of version 4, from its header on, with at least
+    /// 8 bytes behind it. A router may append zeros and extensions, such as MPLS labels, which stand here too (RFC
+    /// 4884 sections 4.6 and 5). An error that is written has at most the first 548 bytes.
     pub quoted: &'a [u8],
 }
 
@@ -234,37 +240,6 @@ impl<'a> Repr<'a> {
         ensures len { length result.now ≡ min (length self.now.quoted.now) 548 }
     {
         &self.quoted[..self.quoted.len().min(MAX_QUOTED)]
-    }
-}
-
-/// The type by its name, the code and what it says, and the number of bytes that are quoted.
-impl fmt::Display for Repr<'_> {
-    ghost output = { λ repr. Some (repr_display (value_of repr)) };
-
-    fn fmt<W: fmt::Write>(&self, f: &mut fmt::Formatter<W>) -> fmt::Result {
-        let kind = self.kind;
-        let code = self.code;
-        let len = self.quoted.len();
-        match self.reason() {
-            Some(reason) => write!(f, "ICMPv4 {kind} code={code} ({reason}) quoted={len}"),
-            None => write!(f, "ICMPv4 {kind} code={code} quoted={len}"),
-        }
-    }
-}
-
-/// The name of the type.
-impl fmt::Display for Kind {
-    ghost output = { λ kind. Some (kind_display kind) };
-
-    fn fmt<W: fmt::Write>(&self, f: &mut fmt::Formatter<W>) -> fmt::Result {
-        let name = match self {
-            Kind::DstUnreachable => "destination unreachable",
-            Kind::SourceQuench => "source quench",
-            Kind::Redirect => "redirect",
-            Kind::TimeExceeded => "time exceeded",
-            Kind::ParamProblem => "parameter problem",
-        };
-        f.write_str(name)
     }
 }
 

@@ -11,16 +11,16 @@ ghost use Rattle.wirebase.specs.declared.ipv6.address.Ipv6Address.{Ipv6Address a
 ghost use Rattle.quote_wire.specs.Error.{ErrorValue, IsError, error_fields, text_len, packet_text};
 ghost use Rattle.quote_wire.specs.Error.{seal as sealed_octets, format, Emits};
 ghost use Rattle.quote_wire.specs.Icmpv6Error.{kind_number, IsPacketFront, protocol, extra_sum, value_of, mtu_in};
-ghost use Rattle.quote_wire.specs.Icmpv6Error.{pointer_in, kind_display, repr_display};
+ghost use Rattle.quote_wire.specs.Icmpv6Error.{pointer_in};
 ghost use Rattle.quote_wire.specs.declared.icmpv6_error.Kind.{Kind as AnyKind};
 
+mod display;
 mod reason;
 mod refusal;
 
 use super::field;
 use super::writing::write_error;
 pub use refusal::Refusal;
-use std::fmt;
 use wirebase::{
     ChecksumCapabilities, Error, IPV6_HEADER_LEN, IpProtocol, Ipv6Address, Octets, Result,
     are_bytes, checksum,
@@ -89,7 +89,9 @@ impl Kind {
 /// let mut octets = [0; 64];
 /// let octets = &mut octets[..error.buffer_len()];
 /// error.emit_into(&router, &host, octets, &checksums);
-/// assert_eq!(Repr::parse(&router, &host, octets, &checksums)?.mtu(), Some(1280));
+/// let read = Repr::parse(&router, &host, octets, &checksums)?;
+/// assert_eq!(read.mtu(), Some(1280));
+/// assert_eq!(read.to_string(), "ICMPv6 packet too big code=0 mtu=1280 quoted=40");
 /// # Ok::<(), control_wire::Error>(())
 /// ```
 #[derive(Debug, PartialEq, Eq, Clone, Copy)]
@@ -99,10 +101,12 @@ pub struct Repr<'a> {
     /// The code, by the type.
     pub code: u8,
     /// The four bytes behind the checksum: of a packet that is too big the next link's MTU, of a parameter problem the
-    /// place of the field, in bytes from the packet's first on; else unused.
+    /// place of the field, in bytes from the packet's first on. Of an error with extensions the first of them has the
+    /// length of what is quoted of the packet, in units of 8 bytes (RFC 4884 section 4). Else unused.
     pub rest: u32,
-    /// What is quoted: the packet from its header on, of version 6. An error that is written quotes at most the first
-    /// 1,232 bytes.
+    /// All that stands behind the header: the packet that is quoted, of version 6, from its header on. A router may
+    /// append zeros and extensions to a destination that is unreachable and to a time that was exceeded, which stand
+    /// here too (RFC 4884 sections 4.6 and 5). An error that is written has at most the first 1,232 bytes.
     pub quoted: &'a [u8],
 }
 
@@ -247,36 +251,6 @@ impl<'a> Repr<'a> {
         ensures len { length result.now ≡ min (length self.now.quoted.now) 1232 }
     {
         &self.quoted[..self.quoted.len().min(MAX_QUOTED)]
-    }
-}
-
-/// The type by its name, the code and what it says, and the number of bytes that are quoted.
-impl fmt::Display for Repr<'_> {
-    ghost output = { λ repr. Some (repr_display (value_of repr)) };
-
-    fn fmt<W: fmt::Write>(&self, f: &mut fmt::Formatter<W>) -> fmt::Result {
-        let kind = self.kind;
-        let code = self.code;
-        let len = self.quoted.len();
-        match self.reason() {
-            Some(reason) => write!(f, "ICMPv6 {kind} code={code} ({reason}) quoted={len}"),
-            None => write!(f, "ICMPv6 {kind} code={code} quoted={len}"),
-        }
-    }
-}
-
-/// The name of the type.
-impl fmt::Display for Kind {
-    ghost output = { λ kind. Some (kind_display kind) };
-
-    fn fmt<W: fmt::Write>(&self, f: &mut fmt::Formatter<W>) -> fmt::Result {
-        let name = match self {
-            Kind::DstUnreachable => "destination unreachable",
-            Kind::PktTooBig => "packet too big",
-            Kind::TimeExceeded => "time exceeded",
-            Kind::ParamProblem => "parameter problem",
-        };
-        f.write_str(name)
     }
 }
 

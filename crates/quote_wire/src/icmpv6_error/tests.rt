@@ -73,6 +73,20 @@ fn packet_too_big_is_read_with_its_quote(rt: HostRuntime) {
 }
 
 #[test]
+fn padding_and_extensions_stand_in_the_payload_of_a_quote(rt: HostRuntime) {
+    // A header without a payload, zeros up to 128 bytes, and an extension of 4: its header alone (RFC 4884 section 7).
+    let mut quoted = [0; 132];
+    quoted[0] = 0x60;
+    quoted[128] = 0x20;
+    let quote = Ipv6Quote::parse(&quoted).ok();
+    same(&rt, quote.is_some(), true);
+    if let Some(quote) = quote {
+        same(&rt, quote.payload_len, 0);
+        same(&rt, quote.payload, &quoted[40..]);
+    }
+}
+
+#[test]
 fn error_is_refused_where_its_quote_has_no_header_of_version_6(rt: HostRuntime) {
     let caps = ChecksumCapabilities::ignored();
     for len in 0..48 {
@@ -277,31 +291,54 @@ fn what_codes_say(rt: HostRuntime) {
 
 #[test]
 fn what_errors_print(rt: HostRuntime) {
-    let rows: &[(Kind, u8, &str)] = &[
+    // An MTU and a pointer are told by their types alone, also of codes that say nothing.
+    let rows: &[(Kind, u8, u32, &str)] = &[
         (
             Kind::DstUnreachable,
             4,
+            1280,
             "ICMPv6 destination unreachable code=4 (port unreachable) quoted=44",
         ),
-        (Kind::PktTooBig, 0, "ICMPv6 packet too big code=0 quoted=44"),
+        (
+            Kind::DstUnreachable,
+            7,
+            1280,
+            "ICMPv6 destination unreachable code=7 quoted=44",
+        ),
+        (
+            Kind::PktTooBig,
+            0,
+            1280,
+            "ICMPv6 packet too big code=0 mtu=1280 quoted=44",
+        ),
+        (
+            Kind::PktTooBig,
+            1,
+            0,
+            "ICMPv6 packet too big code=1 mtu=0 quoted=44",
+        ),
         (
             Kind::TimeExceeded,
             1,
+            1280,
             "ICMPv6 time exceeded code=1 (fragment reassembly time exceeded) quoted=44",
         ),
         (
             Kind::ParamProblem,
             2,
-            "ICMPv6 parameter problem code=2 (unrecognized IPv6 option.) quoted=44",
+            42,
+            "ICMPv6 parameter problem code=2 (unrecognized IPv6 option.) pointer=42 quoted=44",
+        ),
+        (
+            Kind::ParamProblem,
+            3,
+            u32::MAX,
+            "ICMPv6 parameter problem code=3 pointer=4294967295 quoted=44",
         ),
     ];
-    for &(kind, code, text) in rows {
-        prints(
-            &rt,
-            rt.alloc(),
-            &about(kind, code, 0, &PACKET_TOO_BIG[8..]),
-            text,
-        );
+    for &(kind, code, rest, text) in rows {
+        let error = about(kind, code, rest, &PACKET_TOO_BIG[8..]);
+        prints(&rt, rt.alloc(), &error, text);
         same_of(&rt, code, Kind::from_number(kind.number()), Some(kind));
     }
 }

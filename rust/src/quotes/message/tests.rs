@@ -18,6 +18,13 @@ const TIME_EXCEEDED: &[u8] = &[
     0x00, 0x28, 0xab, 0xcd,
 ];
 
+// The same datagram, which had to be fragmented for a link of 1,400 bytes.
+const FRAGMENTATION_REQUIRED: &[u8] = &[
+    0x03, 0x04, 0x46, 0x57, 0x00, 0x00, 0x05, 0x78, 0x45, 0x00, 0x00, 0x3c, 0x12, 0x34, 0x40, 0x00,
+    0x01, 0x11, 0x7b, 0x46, 0xc0, 0x00, 0x02, 0x01, 0xc6, 0x33, 0x64, 0x02, 0x82, 0x9b, 0x82, 0x9b,
+    0x00, 0x28, 0xab, 0xcd,
+];
+
 // A packet that is too big for a link of 1,280 bytes, with the header and the first four bytes of one of 1,500.
 const PACKET_TOO_BIG: &[u8] = &[
     0x02, 0x00, 0x8f, 0x1c, 0x00, 0x00, 0x05, 0x00, 0x6b, 0xb1, 0x23, 0x45, 0x05, 0xb4, 0x06, 0x3f,
@@ -83,6 +90,12 @@ fn messages_of_icmpv4_are_read_by_their_type() {
             TIME_EXCEEDED,
             Ok("ICMPv4 time exceeded code=0 (time-to-live exceeded in transit) quoted=28"),
         ),
+        (
+            FRAGMENTATION_REQUIRED,
+            Ok(
+                "ICMPv4 destination unreachable code=4 (fragmentation required, and DF flag set) mtu=1400 quoted=28",
+            ),
+        ),
         (&[], Err("fewer than 8 bytes")),
         (&TIME_EXCEEDED[..7], Err("fewer than 8 bytes")),
         (&TIME_EXCEEDED[..35], Err("the checksum does not hold")),
@@ -107,7 +120,10 @@ fn messages_of_icmpv4_are_read_by_their_type() {
 #[test]
 fn messages_of_icmpv6_are_read_by_their_type() {
     let rows: &[(&[u8], Result<&str, &str>)] = &[
-        (PACKET_TOO_BIG, Ok("ICMPv6 packet too big code=0 quoted=44")),
+        (
+            PACKET_TOO_BIG,
+            Ok("ICMPv6 packet too big code=0 mtu=1280 quoted=44"),
+        ),
         (ROUTER_SOLICIT, Ok("NDISC router solicitation")),
         (&[], Err("fewer than 8 bytes")),
         (&PACKET_TOO_BIG[..7], Err("fewer than 8 bytes")),

@@ -109,40 +109,95 @@ fn what_codes_say() {
 
 #[test]
 fn what_errors_print() {
-    let rows: &[(Kind, u8, &str)] = &[
+    let rows: &[(Kind, u8, u32, &str)] = &[
         (
             Kind::DstUnreachable,
             3,
+            1400,
             "ICMPv4 destination unreachable code=3 (destination port unreachable) quoted=28",
         ),
         (
             Kind::SourceQuench,
             0,
+            u32::MAX,
             "ICMPv4 source quench code=0 quoted=28",
+        ),
+        (
+            Kind::TimeExceeded,
+            1,
+            u32::MAX,
+            "ICMPv4 time exceeded code=1 (fragment reassembly time exceeded) quoted=28",
+        ),
+        (
+            Kind::TimeExceeded,
+            2,
+            u32::MAX,
+            "ICMPv4 time exceeded code=2 quoted=28",
+        ),
+    ];
+    print_so(rows);
+}
+
+#[test]
+fn errors_print_what_they_tell_behind_the_checksum() {
+    // An MTU alone, and with other bytes unused; none; gateways and pointers, also of codes that say nothing.
+    let rows: &[(Kind, u8, u32, &str)] = &[
+        (
+            Kind::DstUnreachable,
+            4,
+            1400,
+            "ICMPv4 destination unreachable code=4 (fragmentation required, and DF flag set) mtu=1400 quoted=28",
+        ),
+        (
+            Kind::DstUnreachable,
+            4,
+            0xabcdffff,
+            "ICMPv4 destination unreachable code=4 (fragmentation required, and DF flag set) mtu=65535 quoted=28",
+        ),
+        (
+            Kind::DstUnreachable,
+            4,
+            0xabcd0000,
+            "ICMPv4 destination unreachable code=4 (fragmentation required, and DF flag set) quoted=28",
         ),
         (
             Kind::Redirect,
             1,
-            "ICMPv4 redirect code=1 (redirect for the host) quoted=28",
+            0xc0000201,
+            "ICMPv4 redirect code=1 (redirect for the host) gateway=192.0.2.1 quoted=28",
         ),
         (
-            Kind::TimeExceeded,
-            1,
-            "ICMPv4 time exceeded code=1 (fragment reassembly time exceeded) quoted=28",
+            Kind::Redirect,
+            4,
+            0,
+            "ICMPv4 redirect code=4 gateway=0.0.0.0 quoted=28",
+        ),
+        (
+            Kind::ParamProblem,
+            0,
+            0x14ffffff,
+            "ICMPv4 parameter problem code=0 (pointer indicates the error) pointer=20 quoted=28",
         ),
         (
             Kind::ParamProblem,
             2,
-            "ICMPv4 parameter problem code=2 (bad length) quoted=28",
+            0,
+            "ICMPv4 parameter problem code=2 (bad length) pointer=0 quoted=28",
         ),
         (
-            Kind::TimeExceeded,
-            2,
-            "ICMPv4 time exceeded code=2 quoted=28",
+            Kind::ParamProblem,
+            3,
+            u32::MAX,
+            "ICMPv4 parameter problem code=3 pointer=255 quoted=28",
         ),
     ];
-    for &(kind, code, text) in rows {
-        prints(&about(kind, code, 0, DATAGRAM), text);
+    print_so(rows);
+}
+
+// Ends the test unless errors about the datagram, with this code and this behind the checksum, print this.
+fn print_so(rows: &[(Kind, u8, u32, &str)]) {
+    for &(kind, code, rest, text) in rows {
+        prints(&about(kind, code, rest, DATAGRAM), text);
         same_of(code, Kind::from_number(kind.number()), Some(kind));
     }
 }

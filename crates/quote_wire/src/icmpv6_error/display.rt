@@ -1,0 +1,76 @@
+//! What errors and their types print, each in one line.
+
+ghost use Rattle.std.specs.Prelude.{Some};
+ghost use Rattle.quote_wire.specs.Error.{mtu_display, pointer_display};
+ghost use Rattle.quote_wire.specs.Icmpv6Error.{value_of, kind_display, repr_display};
+
+use super::{Kind, Repr};
+use std::fmt;
+
+/// The type by its name, the code and what it says, the next link's MTU or the pointer where the error tells one, and
+/// the number of bytes that are quoted, as `ICMPv6 packet too big code=0 mtu=1280 quoted=48`.
+impl fmt::Display for Repr<'_> {
+    ghost output = { λ repr. Some (repr_display (value_of repr)) };
+
+    fn fmt<W: fmt::Write>(&self, f: &mut fmt::Formatter<W>) -> fmt::Result {
+        let kind = self.kind;
+        let code = self.code;
+        let mtu = Mtu(self.mtu());
+        let pointer = Pointer(self.pointer());
+        let len = self.quoted.len();
+        match self.reason() {
+            Some(reason) => write!(
+                f,
+                "ICMPv6 {kind} code={code} ({reason}){mtu}{pointer} quoted={len}"
+            ),
+            None => write!(f, "ICMPv6 {kind} code={code}{mtu}{pointer} quoted={len}"),
+        }
+    }
+}
+
+/// The name of the type.
+impl fmt::Display for Kind {
+    ghost output = { λ kind. Some (kind_display kind) };
+
+    fn fmt<W: fmt::Write>(&self, f: &mut fmt::Formatter<W>) -> fmt::Result {
+        let name = match self {
+            Kind::DstUnreachable => "destination unreachable",
+            Kind::PktTooBig => "packet too big",
+            Kind::TimeExceeded => "time exceeded",
+            Kind::ParamProblem => "parameter problem",
+        };
+        f.write_str(name)
+    }
+}
+
+// What is told or not, with its name in front: nothing where it is not.
+
+#[derive(Clone, Copy)]
+struct Mtu(Option<u32>);
+
+impl fmt::Display for Mtu {
+    ghost output = { λ field. Some (mtu_display field.0) };
+
+    #[tactic(auto, unfolding(crate::specs::Error::mtu_display))]
+    fn fmt<W: fmt::Write>(&self, f: &mut fmt::Formatter<W>) -> fmt::Result {
+        match self.0 {
+            Some(mtu) => write!(f, " mtu={mtu}"),
+            None => Ok(()),
+        }
+    }
+}
+
+#[derive(Clone, Copy)]
+struct Pointer(Option<u32>);
+
+impl fmt::Display for Pointer {
+    ghost output = { λ field. Some (pointer_display field.0) };
+
+    #[tactic(auto, unfolding(crate::specs::Error::pointer_display))]
+    fn fmt<W: fmt::Write>(&self, f: &mut fmt::Formatter<W>) -> fmt::Result {
+        match self.0 {
+            Some(place) => write!(f, " pointer={place}"),
+            None => Ok(()),
+        }
+    }
+}
