@@ -1,5 +1,6 @@
--- What an error quotes of a datagram: the fields of its header, and as much of its payload as is quoted, whatever its
--- own length says. The headers are those of IPv4 (RFC 791 section 3.1) and of IPv6 (RFC 8200 section 3).
+-- What an error quotes of a datagram: the fields of its header, and all that stands behind it, whatever its own length
+-- says: as much of its payload as is quoted, and extensions where there are any (RFC 4884 section 4.6). The headers are
+-- those of IPv4 (RFC 791 section 3.1) and of IPv6 (RFC 8200 section 3).
 use Rattle.std.specs.Prelude.{◌≡◌, ◌≢◌, ◌↔◌, ℕ, ◌+◌, ◌/◌, ◌%◌, ◌^◌, ◌<◌, ◌≤◌, ◌⊎◌, List, [], ◌∷◌, ◌++◌, length, drop}
 use Rattle.std.specs.Prelude.{IsTrue, Bool, if◌then◌else◌, slice_index, codes, decimal}
 use Rattle.wirebase.specs.Bytes.{Field, field, bytes_of, byte_of, number_of}

@@ -1,4 +1,4 @@
-//! What an error quotes of a datagram: the fields of its header, and as much of its payload as is quoted.
+//! What an error quotes of a datagram: the fields of its header, and all that stands behind it.
 
 ghost use Rattle.std.specs.Prelude.{◌↔◌, IfOk, IsOk, Some};
 ghost use Rattle.std.specs.Fmt.{WritesOnOk};
@@ -27,8 +27,8 @@ const FIXED_END: usize = 20;
 // The version, the traffic class and the flow label of an IPv6 header.
 const FIRST_WORD: Field = 0..4;
 
-/// What an ICMPv4 error quotes (RFC 792): the header of the datagram that it is about (RFC 791 section 3.1), and as
-/// much of its payload as is quoted.
+/// What an ICMPv4 error quotes (RFC 792): the header of the datagram that it is about (RFC 791 section 3.1), and all
+/// that stands behind it, which begins with as much of its payload as is quoted.
 #[derive(Debug, PartialEq, Eq, Clone, Copy)]
 pub struct Ipv4Quote<'a> {
     /// The type of service: the differentiated services field and the congestion notification (RFC 2474, RFC 3168).
@@ -53,7 +53,10 @@ pub struct Ipv4Quote<'a> {
     pub dst_addr: Ipv4Address,
     /// The options, 0 to 40 bytes.
     pub options: &'a [u8],
-    /// The payload, as much of it as is quoted.
+    /// All that stands behind the header: the payload, as much of it as is quoted, and where a router appends extensions
+    /// to its error, such as MPLS labels, these too (RFC 4884 sections 4.6 and 5). They stand behind the first 128 bytes
+    /// of the datagram or more, with zeros in front where it has fewer. Nothing is cut at `total_len`, which may be less
+    /// than is there; the second byte of the error's `rest` tells where extensions begin.
     pub payload: &'a [u8],
 }
 
@@ -129,7 +132,7 @@ fn fmt_back<W: fmt::Write>(f: &mut fmt::Formatter<W>, header: &Ipv4Quote<'_>) ->
 }
 
 /// What an ICMPv6 error quotes (RFC 4443 section 3): the header of the packet that it is about (RFC 8200 section 3),
-/// and as much of its payload as is quoted, extension headers included.
+/// and all that stands behind it, which begins with as much of its payload as is quoted, extension headers included.
 ///
 /// ```
 /// use quote_wire::quote::Ipv6Quote;
@@ -158,7 +161,10 @@ pub struct Ipv6Quote<'a> {
     pub src_addr: Ipv6Address,
     /// The address of the receiver.
     pub dst_addr: Ipv6Address,
-    /// The payload, as much of it as is quoted.
+    /// All that stands behind the header: the payload, as much of it as is quoted, and where a router appends extensions
+    /// to its error, these too (RFC 4884 sections 4.6 and 5). They stand behind the first 128 bytes of the packet or
+    /// more, with zeros in front where it has fewer. Nothing is cut at `payload_len`, which may be less than is there;
+    /// the first byte of the error's `rest` tells where extensions begin.
     pub payload: &'a [u8],
 }
 

@@ -132,3 +132,19 @@ fn options_of_a_quoted_header(rt: HostRuntime) {
     };
     same(&rt, Ipv4Quote::parse(quoted), Ok(report));
 }
+
+#[test]
+fn padding_and_extensions_stand_in_the_payload_of_a_quote(rt: HostRuntime) {
+    // The datagram, zeros up to 128 bytes, and an extension of 12: its header, and one MPLS label of an object of 8
+    // bytes (RFC 4884 section 7, RFC 4950).
+    let mut quoted = [0; 140];
+    quoted[..28].copy_from_slice(DATAGRAM);
+    quoted[3] = 28;
+    quoted[128..].copy_from_slice(&[0x20, 0, 0, 0, 0, 8, 1, 1, 0x00, 0x01, 0x01, 0x01]);
+    let quote = Ipv4Quote::parse(&quoted).ok();
+    same(&rt, quote.is_some(), true);
+    if let Some(quote) = quote {
+        same(&rt, quote.total_len, 28);
+        same(&rt, quote.payload, &quoted[20..]);
+    }
+}
