@@ -1,5 +1,5 @@
 -- What an error quotes of a datagram: the fields of its header, and all that stands behind it, whatever its own length
--- says: as much of its payload as is quoted, and extensions where there are any (RFC 4884 section 4.6). The headers are
+-- says: as much of its payload as is quoted, and extensions where there are any (RFC 4884 section 7). The headers are
 -- those of IPv4 (RFC 791 section 3.1) and of IPv6 (RFC 8200 section 3).
 use Rattle.std.specs.Prelude.{◌≡◌, ◌≢◌, ◌↔◌, ℕ, ◌+◌, ◌/◌, ◌%◌, ◌^◌, ◌<◌, ◌≤◌, ◌⊎◌, List, [], ◌∷◌, ◌++◌, length, drop}
 use Rattle.std.specs.Prelude.{IsTrue, Bool, if◌then◌else◌, slice_index, codes, decimal}

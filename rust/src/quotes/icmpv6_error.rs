@@ -87,7 +87,7 @@ pub struct Repr<'a> {
     pub rest: u32,
     /// All that stands behind the header: the packet that is quoted, of version 6, from its header on. A router may
     /// append zeros and extensions to a destination that is unreachable and to a time that was exceeded, which stand
-    /// here too (RFC 4884 sections 4.6 and 5). An error that is written has at most the first 1,232 bytes.
+    /// here too (RFC 4884 sections 4 and 7). An error that is written has at most the first 1,232 bytes.
     pub quoted: &'a [u8],
 }
 
