@@ -93,7 +93,7 @@ pub struct Repr<'a> {
     pub rest: u32,
     /// All that stands behind the header: the datagram that is quoted, of version 4, from its header on, with at least
     /// 8 bytes behind it. A router may append zeros and extensions, such as MPLS labels, which stand here too (RFC
-    /// 4884 sections 4.6 and 5). An error that is written has at most the first 548 bytes.
+    /// 4884 sections 4 and 7). An error that is written has at most the first 548 bytes.
     pub quoted: &'a [u8],
 }
 
