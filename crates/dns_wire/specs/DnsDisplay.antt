@@ -1,13 +1,19 @@
 -- What messages and their parts print, by the names of IANA's registry of DNS parameters.
-use Rattle.std.specs.Prelude.{ℕ, ◌==◌, if◌then◌else◌, List, [], ◌∷◌, ◌++◌, length, Option, None, Some, codes, decimal}
+use Rattle.std.specs.Prelude.{ℕ, ◌==◌, if◌then◌else◌, List, [], ◌∷◌, ◌++◌, length, nat_lt, Option, None, Some}
+use Rattle.std.specs.Prelude.{codes, decimal}
 use Rattle.std.specs.Int.Bits.{bit_and}
+use Rattle.wirebase.specs.Bytes.{number_of}
 use Rattle.wirebase.specs.Display.{pieces}
 use Rattle.wirebase.specs.Ipv4 as ipv4
 use Rattle.wirebase.specs.Ipv6Address as ipv6
-use Rattle.dns_wire.specs.DnsTables.{opcode_number, rcode_number, type_number}
+use Rattle.dns_wire.specs.DnsTables.{opcode_number, opcode_of, rcode_number, rcode_of, type_number, flag_bits}
+use Rattle.dns_wire.specs.DnsPacket.{id_field, flags_field, question_count_field, answer_count_field}
+use Rattle.dns_wire.specs.DnsPacket.{authority_count_field, additional_count_field, flags_in, opcode_in, rcode_in}
 use Rattle.dns_wire.specs.DnsQuestion.{QuestionValue}
 use Rattle.dns_wire.specs.DnsRecord.{DataValue, address4, address6, canonical_name, other, RecordValue}
 use Rattle.dns_wire.specs.DnsRepr.{QueryValue}
+use Rattle.dns_wire.specs.declared.dns.display.Counts.{Counts}
+use Rattle.dns_wire.specs.declared.dns.display.Header.{Header}
 use Rattle.dns_wire.specs.declared.dns.tables.Opcode.{Opcode}
 use Rattle.dns_wire.specs.declared.dns.tables.Rcode.{Rcode}
 use Rattle.dns_wire.specs.declared.dns.tables.Type.{«Type» as RecordType}
@@ -110,3 +116,75 @@ query_display query =
     ∷ codes " opcode=" ∷ opcode_display query.kind
     ∷ codes " flags=" ∷ flags_display query.flags
     ∷ codes " " ∷ question_fields_display query.asks ∷ [])
+
+-- ---- headers
+
+-- how many questions and records a header tells
+pub record CountsValue : Type 0 where
+  pub questions : ℕ
+  pub answers : ℕ
+  pub authorities : ℕ
+  pub additionals : ℕ
+
+-- a header by its content; the flags are their bits
+pub record HeaderValue : Type 0 where
+  pub id : ℕ
+  pub kind : Opcode
+  pub flags : ℕ
+  pub outcome : Rcode
+  pub counts : CountsValue
+
+-- the content of what the library prints
+abbrev pub counts_value : Counts → CountsValue
+counts_value counts = record {
+  questions = counts.questions;
+  answers = counts.answers;
+  authorities = counts.authorities;
+  additionals = counts.additionals;
+}
+
+abbrev pub header_value : Header → HeaderValue
+header_value header = record {
+  id = header.id;
+  kind = header.opcode;
+  flags = flag_bits header.flags;
+  outcome = header.rcode;
+  counts = counts_value header.counts;
+}
+
+-- the header that the octets of a message begin with
+abbrev pub counts_in : List ℕ → CountsValue
+counts_in bytes = record {
+  questions = number_of question_count_field bytes;
+  answers = number_of answer_count_field bytes;
+  authorities = number_of authority_count_field bytes;
+  additionals = number_of additional_count_field bytes;
+}
+
+abbrev pub header_in : List ℕ → HeaderValue
+header_in bytes = record {
+  id = number_of id_field bytes;
+  kind = opcode_of (opcode_in (number_of flags_field bytes));
+  flags = flags_in (number_of flags_field bytes);
+  outcome = rcode_of (rcode_in (number_of flags_field bytes));
+  counts = counts_in bytes;
+}
+
+abbrev pub counts_display : CountsValue → List ℕ
+counts_display counts =
+    pieces (codes "questions=" ∷ decimal counts.questions
+    ∷ codes " answers=" ∷ decimal counts.answers
+    ∷ codes " authorities=" ∷ decimal counts.authorities
+    ∷ codes " additionals=" ∷ decimal counts.additionals ∷ [])
+
+abbrev pub header_display : HeaderValue → List ℕ
+header_display header =
+    pieces (codes "DNS id=" ∷ decimal header.id
+    ∷ codes " opcode=" ∷ opcode_display header.kind
+    ∷ codes " flags=" ∷ flags_display header.flags
+    ∷ codes " rcode=" ∷ rcode_display header.outcome
+    ∷ codes " " ∷ counts_display header.counts ∷ [])
+
+-- what a view prints: the header, or that there are too few octets for one
+abbrev pub view_display : List ℕ → List ℕ
+view_display bytes = if nat_lt (length bytes) 12 then codes "DNS (wire::Error)" else header_display (header_in bytes)

@@ -3,17 +3,22 @@
 ghost use Rattle.std.specs.Prelude.{◌≡◌, [], ◌∷◌, Some, None, codes, map};
 ghost use Rattle.std.specs.Fmt.{WritesOnOk};
 ghost use Rattle.std.specs.Option.{option_map};
+ghost use Rattle.wirebase.specs.Bytes.{Reaches};
 ghost use Rattle.dns_wire.specs.DnsTables.{flag_bits, type_number};
+ghost use Rattle.dns_wire.specs.DnsPacket.{inner, header};
 ghost use Rattle.dns_wire.specs.DnsQuestion.{value_of as question_value};
 ghost use Rattle.dns_wire.specs.DnsRecord.{data_value, value_of as record_value};
 ghost use Rattle.dns_wire.specs.DnsRepr.{value_of as query_value};
 ghost use Rattle.dns_wire.specs.DnsDisplay.{type_names, name_in, type_display, opcode_display, rcode_display};
 ghost use Rattle.dns_wire.specs.DnsDisplay.{flags_display, names_set};
 ghost use Rattle.dns_wire.specs.DnsDisplay.{question_display, data_display, record_display, query_display};
+ghost use Rattle.dns_wire.specs.DnsDisplay.{counts_value, header_value, header_in};
+ghost use Rattle.dns_wire.specs.DnsDisplay.{counts_display, header_display, view_display};
 
-use super::{Flags, Opcode, Question, Rcode, Record, RecordData, Repr, Type};
+use super::{Flags, Opcode, Packet, Question, Rcode, Record, RecordData, Repr, Type};
 use bitflags::Flags as _;
 use std::fmt;
+use wirebase::Octets;
 
 impl Type {
     /// The mnemonic of the type in IANA's registry, as `MX`, also of a number that is kept as [`Type::Unknown`]; None
@@ -215,5 +220,93 @@ impl fmt::Display for Repr<'_> {
             f,
             "DNS query id={transaction_id} opcode={opcode} flags={flags} name_len={name_len} type={type_}"
         )
+    }
+}
+
+/// The header of the message (RFC 1035 section 4.1.1), as `DNS id=4660 opcode=QUERY flags=rd rcode=NOERROR questions=1
+/// answers=0 authorities=0 additionals=0`; of fewer than 12 octets `DNS (wire::Error)`. Questions and records are told
+/// by their counts alone.
+impl<T: Octets> fmt::Display for Packet<T> {
+    ghost output = { λ view. Some (view_display (T.bytes (inner view))) };
+
+    fn fmt<W: fmt::Write>(&self, f: &mut fmt::Formatter<W>) -> fmt::Result {
+        if let Err(error) = self.check_len() {
+            return write!(f, "DNS ({error})");
+        }
+        let header = read_header(self);
+        write!(f, "{header}")
+    }
+}
+
+// What is printed of a header.
+#[derive(Drop)]
+struct Header {
+    id: u16,
+    opcode: Opcode,
+    flags: Flags,
+    rcode: Rcode,
+    counts: Counts,
+}
+
+impl fmt::Display for Header {
+    ghost output = { λ header. Some (header_display (header_value header)) };
+
+    fn fmt<W: fmt::Write>(&self, f: &mut fmt::Formatter<W>) -> fmt::Result {
+        let Header {
+            id,
+            opcode,
+            flags,
+            rcode,
+            counts,
+        } = self;
+        write!(
+            f,
+            "DNS id={id} opcode={opcode} flags={flags} rcode={rcode} {counts}"
+        )
+    }
+}
+
+// How many questions and records a header tells.
+#[derive(Drop)]
+struct Counts {
+    questions: u16,
+    answers: u16,
+    authorities: u16,
+    additionals: u16,
+}
+
+impl fmt::Display for Counts {
+    ghost output = { λ counts. Some (counts_display (counts_value counts)) };
+
+    fn fmt<W: fmt::Write>(&self, f: &mut fmt::Formatter<W>) -> fmt::Result {
+        let Counts {
+            questions,
+            answers,
+            authorities,
+            additionals,
+        } = self;
+        write!(
+            f,
+            "questions={questions} answers={answers} authorities={authorities} additionals={additionals}"
+        )
+    }
+}
+
+// The header of the message.
+fn read_header<T: Octets>(packet: &Packet<T>) -> Header
+    requires { Reaches header (T.bytes (inner packet.now)) }
+    ensures { header_value result ≡ header_in (T.bytes (inner packet.now)) }
+{
+    Header {
+        id: packet.transaction_id(),
+        opcode: packet.opcode(),
+        flags: packet.flags(),
+        rcode: packet.rcode(),
+        counts: Counts {
+            questions: packet.question_count(),
+            answers: packet.answer_record_count(),
+            authorities: packet.authority_record_count(),
+            additionals: packet.additional_record_count(),
+        },
     }
 }

@@ -1,7 +1,8 @@
 // Made from crates/dns_wire/src/dns/display.rt by rust/erase.
 //! What messages and their parts print, by the names of IANA's registry of DNS parameters.
 
-use super::{Flags, Opcode, Question, Rcode, Record, RecordData, Repr, Type};
+use super::{Flags, Opcode, Packet, Question, Rcode, Record, RecordData, Repr, Type};
+use crate::wirebase::Octets;
 use core::fmt;
 
 impl Type {
@@ -183,5 +184,82 @@ impl fmt::Display for Repr<'_> {
             f,
             "DNS query id={transaction_id} opcode={opcode} flags={flags} name_len={name_len} type={type_}"
         )
+    }
+}
+
+/// The header of the message (RFC 1035 section 4.1.1), as `DNS id=4660 opcode=QUERY flags=rd rcode=NOERROR questions=1
+/// answers=0 authorities=0 additionals=0`; of fewer than 12 octets `DNS (wire::Error)`. Questions and records are told
+/// by their counts alone.
+impl<T: Octets> fmt::Display for Packet<T> {
+    fn fmt(&self, f: &mut fmt::Formatter<'_>) -> fmt::Result {
+        if let Err(error) = self.check_len() {
+            return write!(f, "DNS ({error})");
+        }
+        let header = read_header(self);
+        write!(f, "{header}")
+    }
+}
+
+// What is printed of a header.
+struct Header {
+    id: u16,
+    opcode: Opcode,
+    flags: Flags,
+    rcode: Rcode,
+    counts: Counts,
+}
+
+impl fmt::Display for Header {
+    fn fmt(&self, f: &mut fmt::Formatter<'_>) -> fmt::Result {
+        let Header {
+            id,
+            opcode,
+            flags,
+            rcode,
+            counts,
+        } = self;
+        write!(
+            f,
+            "DNS id={id} opcode={opcode} flags={flags} rcode={rcode} {counts}"
+        )
+    }
+}
+
+// How many questions and records a header tells.
+struct Counts {
+    questions: u16,
+    answers: u16,
+    authorities: u16,
+    additionals: u16,
+}
+
+impl fmt::Display for Counts {
+    fn fmt(&self, f: &mut fmt::Formatter<'_>) -> fmt::Result {
+        let Counts {
+            questions,
+            answers,
+            authorities,
+            additionals,
+        } = self;
+        write!(
+            f,
+            "questions={questions} answers={answers} authorities={authorities} additionals={additionals}"
+        )
+    }
+}
+
+// The header of the message.
+fn read_header<T: Octets>(packet: &Packet<T>) -> Header {
+    Header {
+        id: packet.transaction_id(),
+        opcode: packet.opcode(),
+        flags: packet.flags(),
+        rcode: packet.rcode(),
+        counts: Counts {
+            questions: packet.question_count(),
+            answers: packet.answer_record_count(),
+            authorities: packet.authority_record_count(),
+            additionals: packet.additional_record_count(),
+        },
     }
 }

@@ -32,7 +32,19 @@ const OPCODE_BITS: u16 = 0x7800;
 
 const OPCODE_SHIFT: u32 = 11;
 
-/// A view of the octets of a message.
+/// A view of the octets of a message. It prints its header.
+///
+/// ```
+/// use control_wire::dns::Packet;
+///
+/// let octets = b"\x12\x34\x01\x00\x00\x01\x00\x00\x00\x00\x00\x00\x07example\x03com\x00\x00\x01\x00\x01";
+/// let packet = Packet::new_checked(&octets[..])?;
+/// assert_eq!(
+///     packet.to_string(),
+///     "DNS id=4660 opcode=QUERY flags=rd rcode=NOERROR questions=1 answers=0 authorities=0 additionals=0",
+/// );
+/// # Ok::<(), control_wire::Error>(())
+/// ```
 #[derive(Debug)]
 pub struct Packet<T: Octets> {
     pub(crate) buffer: T,

@@ -1,7 +1,9 @@
 // Made from crates/dns_wire/src/dns/tests/printing.rt by rust/erase.
 //! What messages and their parts print.
 
-use crate::dns_wire::dns::{Flags, Opcode, Question, Rcode, Record, RecordData, Repr, Type};
+use crate::dns_wire::dns::{
+    Flags, Opcode, Packet, Question, Rcode, Record, RecordData, Repr, Type,
+};
 use crate::dns_wire::testing::{prints, takes_writes};
 use crate::wirebase::{Ipv4Address, Ipv6Address};
 
@@ -149,9 +151,46 @@ fn records_print_their_fields() {
 }
 
 #[test]
+fn views_print_their_headers() {
+    const ROWS: &[(&[u8], &str)] = &[
+        (b"", "DNS (wire::Error)"),
+        (b"\x12\x34\x01\0\0\x01\0\0\0\0\0", "DNS (wire::Error)"),
+        (
+            b"\x12\x34\x01\0\0\x01\0\0\0\0\0\0",
+            "DNS id=4660 opcode=QUERY flags=rd rcode=NOERROR \
+                questions=1 answers=0 authorities=0 additionals=0",
+        ),
+        // A response that the name does not exist, and the front of its question.
+        (
+            b"\xab\xcd\x85\xb3\0\x01\0\x02\0\x03\0\x04\x03com",
+            "DNS id=43981 opcode=QUERY flags=qr,aa,rd,ra,ad,cd rcode=NXDOMAIN \
+                questions=1 answers=2 authorities=3 additionals=4",
+        ),
+        // An update, and the bit that has no name.
+        (
+            b"\0\0\x28\x40\0\0\xff\xff\0\0\x01\0",
+            "DNS id=0 opcode=UPDATE flags=- rcode=NOERROR \
+                questions=0 answers=65535 authorities=0 additionals=256",
+        ),
+        // Each bit of the word of flags.
+        (
+            b"\xff\xff\xff\xff\0\0\0\0\xff\xff\0\0",
+            "DNS id=65535 opcode=OPCODE15 flags=qr,aa,tc,rd,ra,ad,cd rcode=RCODE15 \
+                questions=0 answers=0 authorities=65535 additionals=0",
+        ),
+    ];
+    for &(octets, text) in ROWS {
+        prints(&Packet::new_unchecked(octets), text);
+    }
+}
+
+#[test]
 fn printing_fails_only_with_its_writer() {
     takes_writes(&QUERY, 12);
     takes_writes(&QUERY.question, 4);
+    let header: &[u8] = b"\x12\x34\x01\0\0\x01\0\0\0\0\0\0";
+    takes_writes(&Packet::new_unchecked(header), 19);
+    takes_writes(&Packet::new_unchecked(&header[..11]), 3);
     takes_writes(&Type::Unknown(34), 2);
     takes_writes(&Flags::empty(), 1);
     takes_writes(&(Flags::RESPONSE | Flags::TRUNCATED), 5);
