@@ -21,7 +21,7 @@ use Rattle.opt_wire.specs.declared.ndiscoption.repr.PrefixInformation.{PrefixInf
 use Rattle.opt_wire.specs.declared.ndiscoption.tables.Type as Kind
 use Rattle.opt_wire.specs.declared.ndiscoption.tables.Type.TheVariants as kind
 
-tested : (b : Bool) → (b ≡ true) ⊎ (b ≡ false)
+pub tested : (b : Bool) → (b ≡ true) ⊎ (b ≡ false)
 tested true = inl refl
 tested false = inr refl
 
@@ -32,7 +32,7 @@ number-type bytes k is =
     sym (number-case_in type_number kind.Unknown (λ n. refl) types (byte_of type_field bytes)) ∙ ap type_number is
 
 -- units enough are a block
-block : (bytes : List ℕ) → HasUnits bytes → (byte_of type_field bytes ≡ 3 → 4 ≤ units_in bytes)
+pub block : (bytes : List ℕ) → HasUnits bytes → (byte_of type_field bytes ≡ 3 → 4 ≤ units_in bytes)
     → (byte_of type_field bytes ≡ 4 → 6 ≤ units_in bytes) → BeginsWithBlock bytes
 block bytes u p r =
     record { whole = record { fixed = u.fixed; counted = u.whole; prefix_ = p; redirected = r }; some = u.some }
@@ -79,11 +79,16 @@ prefix-read bytes u three four =
       },
     )
 
+-- a redirected packet of units that fit it is a block
+pub packet-block : (bytes : List ℕ) → HasPacket bytes → BeginsWithBlock bytes
+packet-block bytes there =
+    block bytes there.units (λ e. absurd (omega (arith, e, there.kind))) (λ e. there.fits)
+
 packet-read : (bytes : List ℕ) (h : Ipv6Repr) → HasPacket bytes → ipv6.IsPacket (packet_in bytes) h → IsRead bytes
 packet-read bytes h there packet = (
   redirected h (bytes_of (ipv6.payload_field (packet_in bytes)) (packet_in bytes)),
   record {
-    block = block bytes there.units (λ e. absurd (omega (arith, e, there.kind))) (λ e. there.fits);
+    block = packet-block bytes there;
     reading = record { kind = there.kind; packet = packet; payload = refl };
   },
 )

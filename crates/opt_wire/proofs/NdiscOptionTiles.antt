@@ -1,18 +1,26 @@
 -- The tiling of bytes by blocks: it exists, and it is one.
 use Rattle.std.proofs.Common.{◌≡◌, Bool, true, false, ℕ, zero, suc, ◌*◌, ◌<◌, ◌≤◌, List, [], ◌∷◌, ◌++◌, length, take}
-use Rattle.std.proofs.Common.{drop, Some, Result, Ok, Err, inr, refl, sym, ap, subst, ◌∙◌, arith}
+use Rattle.std.proofs.Common.{drop, Some, Result, Ok, Err, inl, inr, refl, sym, ap, subst, ◌∙◌, arith}
 use Rattle.std.specs.Prelude.{nat_le, ◌&&◌}
 use Rattle.std.specs.Iterator.{MakesProgress, at_most}
-use Rattle.std.specs.Result.{IfOk, IsOkAnd}
-use Rattle.std.proofs.lemmas.Bool.{leb-true, le-leb}
+use Rattle.std.specs.Result.{IfOk, IfErr, IsErr}
+use Rattle.std.proofs.lemmas.Bool.{leb-true, leb-false, le-leb, lt-leb}
 use Rattle.std.proofs.lemmas.List.{take-append-drop, length-take-le, length-drop, take_at, drop_at}
 use Rattle.wirebase.specs.Bytes.{byte_of}
-use Rattle.wirebase.specs.declared.error.Error.{Error}
 use Rattle.opt_wire.specs.NdiscOption.{type_field, units_in, BeginsWithBlock}
-use Rattle.opt_wire.specs.NdiscOptionRepr.{OptionValue, value_of, BeginsWith}
+use Rattle.opt_wire.specs.NdiscOptionRepr.{value_of, BeginsWith}
 use Rattle.opt_wire.specs.NdiscOptionBlocks.{Answer, Tile, ends, goes_on, breaks, GivesOption, least_units}
-use Rattle.opt_wire.specs.NdiscOptionBlocks.{begins_with_block, after_block, blocks_within, blocks_of}
+use Rattle.opt_wire.specs.NdiscOptionBlocks.{IsUnread, begins_with_block, reason_by, reason_of, after_block}
+use Rattle.opt_wire.specs.NdiscOptionBlocks.{blocks_within, blocks_of}
+use Rattle.opt_wire.specs.NdiscOptionTables.{type_of}
+use Rattle.opt_wire.specs.NdiscOptionRefusal.{HasUnits, Refuses, IsMisfit}
+use Rattle.opt_wire.specs.declared.ndiscoption.refusal.Refusal.{Refusal}
+use Rattle.opt_wire.specs.declared.ndiscoption.refusal.Refusal.TheVariants.{Short, Zero, Cut, Length, PacketCut}
+use Rattle.opt_wire.specs.declared.ndiscoption.refusal.Refusal.TheVariants.{PacketVersion}
 use Rattle.opt_wire.specs.declared.ndiscoption.repr.Repr.{Repr}
+use Rattle.opt_wire.specs.declared.ndiscoption.tables.Type as Kind
+use Rattle.opt_wire.specs.declared.ndiscoption.tables.Type.TheVariants as kind
+use Rattle.opt_wire.proofs.NdiscOptionRefusals.{tested, block, packet-block, misfit}
 
 -- ---- whether a block stands at the front
 
@@ -61,6 +69,78 @@ begins-block bytes b =
       le-leb (8 * n) (length bytes) (omega (arith, b.whole.counted)),
     ) refl
 
+-- ---- why none does
+
+-- a redirected packet that is no block has too few units
+few_units : (bytes : List ℕ) → HasUnits bytes → (BeginsWithBlock bytes → ⊥) → byte_of type_field bytes ≡ 4
+    → units_in bytes < 6
+few_units bytes units none four = elim (tested (nat_le 6 (units_in bytes))) [
+  | inl a ↦
+      let fits : 6 ≤ units_in bytes = leb-true 6 (units_in bytes) a in
+      absurd (none (block bytes units (λ e. absurd (omega (arith, e, four))) (λ e. fits)))
+  | inr a ↦ leb-false 6 (units_in bytes) a
+]
+
+told_by : (bytes : List ℕ) → (BeginsWithBlock bytes → ⊥) → (fixed some whole : Bool)
+    → nat_le 8 (length bytes) ≡ fixed → nat_le 1 (units_in bytes) ≡ some
+    → nat_le (8 * units_in bytes) (length bytes) ≡ whole → Refuses bytes (reason_by fixed some whole bytes)
+told_by bytes none false some whole f s w = leb-false 8 (length bytes) f
+told_by bytes none true false whole f s w =
+    let zero_ : units_in bytes < 1 = leb-false 1 (units_in bytes) s in
+    (leb-true 8 (length bytes) f, omega (arith, zero_))
+told_by bytes none true true false f s w =
+    let fixed = leb-true 8 (length bytes) f in
+    let some = leb-true 1 (units_in bytes) s in
+    let cut = leb-false (8 * units_in bytes) (length bytes) w in
+    (fixed, some, cut, refl)
+told_by bytes none true true true f s w =
+    let units : HasUnits bytes = record {
+      fixed = leb-true 8 (length bytes) f;
+      some = leb-true 1 (units_in bytes) s;
+      whole = leb-true (8 * units_in bytes) (length bytes) w;
+    } in
+    (units, refl, misfit bytes units (λ read. none read.1.block) (few_units bytes units none))
+
+-- the reason that is computed is told of the bytes
+pub reason-told : (bytes : List ℕ) → (BeginsWithBlock bytes → ⊥) → Refuses bytes (reason_of bytes)
+reason-told bytes none = told_by bytes none _ _ _ refl refl refl
+
+misfit_type : (bytes : List ℕ) (k : Kind.Type) (n : ℕ) → IsMisfit bytes k n → type_of (byte_of type_field bytes) ≡ k
+misfit_type bytes kind.SourceLinkLayerAddr n m = absurd m
+misfit_type bytes kind.TargetLinkLayerAddr n m = absurd m
+misfit_type bytes kind.PrefixInformation n m = ap type_of m.0
+misfit_type bytes kind.RedirectedHeader n m = ap type_of m.0
+misfit_type bytes kind.Mtu n m = ap type_of m.0
+misfit_type bytes (kind.Unknown t) n m = absurd m
+
+-- and no other is
+reason-one : (bytes : List ℕ) (refusal : Refusal) → (BeginsWithBlock bytes → ⊥) → Refuses bytes refusal
+    → reason_of bytes ≡ refusal
+reason-one bytes Short none h = rw (lt-leb 8 (length bytes) h) refl
+reason-one bytes Zero none h =
+    let zero_ : units_in bytes < 1 = omega (arith, h.1) in
+    rw (le-leb 8 (length bytes) h.0, lt-leb 1 (units_in bytes) zero_) refl
+reason-one bytes (Cut n) none h =
+    let cut : length bytes < 8 * units_in bytes = omega (arith, h.2, h.3) in
+    rw (
+      le-leb 8 (length bytes) h.0,
+      le-leb 1 (units_in bytes) h.1,
+      lt-leb (8 * units_in bytes) (length bytes) cut,
+    ) (ap Cut (sym h.3))
+reason-one bytes (Length k n) none h =
+    let units : HasUnits bytes = h.0 in
+    let type_ : type_of (byte_of type_field bytes) ≡ k = misfit_type bytes k n h.2 in
+    rw (
+      le-leb 8 (length bytes) units.fixed,
+      le-leb 1 (units_in bytes) units.some,
+      le-leb (8 * units_in bytes) (length bytes) units.whole,
+    ) (ap (λ (t : Kind.Type). Length t (units_in bytes)) type_ ∙ ap (λ (m : ℕ). Length k m) (sym h.1))
+reason-one bytes (PacketCut n) none h = absurd (none (packet-block bytes h.0))
+reason-one bytes (PacketVersion n) none h = absurd (none (packet-block bytes h.0))
+
+abbrev refused : Refusal → List Answer
+refused refusal = Err refusal ∷ []
+
 -- ---- the tiling
 
 tile_front : (most : ℕ) (bytes : List ℕ)
@@ -68,7 +148,8 @@ tile_front : (most : ℕ) (bytes : List ℕ)
     → length bytes ≤ suc most → (begins : Bool) → begins_with_block bytes ≡ begins
     → Tile bytes (after_block begins (8 * units_in bytes) bytes (blocks_within most))
 tile_front most bytes go some l false e =
-    breaks (record {}) some (λ b. let is = begins-block bytes b in cc)
+    let none : BeginsWithBlock bytes → ⊥ = λ b. let is = begins-block bytes b in cc in
+    breaks (reason_of bytes) some none (reason-told bytes none)
 tile_front most bytes go some l true e =
     let b = block-begins bytes e in
     let n : ℕ = 8 * units_in bytes in
@@ -95,7 +176,7 @@ pub tile-unique : (bytes : List ℕ) (answers others : List Answer) → Tile byt
     → answers ≡ others
 tile-unique bytes answers others ends ends = refl
 tile-unique bytes answers others ends (goes_on f r b l t e) = absurd (none_in_nothing b)
-tile-unique bytes answers others ends (breaks x some none) = absurd (some refl)
+tile-unique bytes answers others ends (breaks x some none told) = absurd (some refl)
 tile-unique bytes answers others (goes_on f r b l t e) ends = absurd (none_in_nothing b)
 tile-unique bytes answers others (goes_on {answers = a} f r b l t e) (goes_on {answers = c} g s d k u i) =
     let n : ℕ = 8 * units_in bytes in
@@ -103,10 +184,11 @@ tile-unique bytes answers others (goes_on {answers = a} f r b l t e) (goes_on {a
     let rests : r ≡ s = sym (drop_at f r n l) ∙ ap (λ (x : List ℕ). drop n x) (sym e ∙ i) ∙ drop_at g s n k in
     let more : a ≡ c = tile-unique r a c t (subst (λ (x : List ℕ). Tile x c) (sym rests) u) in
     ap (λ (x : List ℕ). Ok x ∷ a) fronts ∙ ap (λ (x : List Answer). Ok g ∷ x) more
-tile-unique bytes answers others (goes_on f r b l t e) (breaks x some none) = absurd (none b)
-tile-unique bytes answers others (breaks x some none) ends = absurd (some refl)
-tile-unique bytes answers others (breaks x some none) (goes_on f r b l t e) = absurd (none b)
-tile-unique bytes answers others (breaks x some none) (breaks y more nothing) = refl
+tile-unique bytes answers others (goes_on f r b l t e) (breaks x some none told) = absurd (none b)
+tile-unique bytes answers others (breaks x some none told) ends = absurd (some refl)
+tile-unique bytes answers others (breaks x some none told) (goes_on f r b l t e) = absurd (none b)
+tile-unique bytes answers others (breaks x some none told) (breaks y more nothing said) =
+    ap refused (sym (reason-one bytes x none told) ∙ reason-one bytes y none said)
 
 -- ---- what a call of `next` gives
 
@@ -129,19 +211,18 @@ next-block bytes block rest b is behind =
     ∙ ap (λ (x : List ℕ). block ++ x) (sym behind) in
     tile-unique bytes _ _ (tile_of bytes) (goes_on block rest b long (tile_of rest) whole)
 
-pub next-refusal : (bytes rest : List ℕ) (refusal : Error) → 0 < length bytes → (BeginsWithBlock bytes → ⊥)
-    → length rest ≡ 0 → blocks_of bytes ≡ Err refusal ∷ blocks_of rest
-next-refusal bytes rest refusal some none e =
-    tile-unique bytes _ _ (tile_of bytes) (breaks refusal (λ z. absurd (omega (arith, some, ap length z))) none)
+pub next-refusal : (bytes rest : List ℕ) (refusal : Refusal) → 0 < length bytes → (BeginsWithBlock bytes → ⊥)
+    → Refuses bytes refusal → length rest ≡ 0 → blocks_of bytes ≡ Err refusal ∷ blocks_of rest
+next-refusal bytes rest refusal some none told e =
+    tile-unique bytes _ _ (tile_of bytes) (breaks refusal (λ z. absurd (omega (arith, some, ap length z))) none told)
     ∙ ap (λ (x : List Answer). Err refusal ∷ x) (sym (next-end rest e))
 
--- what is read in a block
-pub gives : (result : Result Repr Error) (block : List ℕ) (old new : List Answer)
-    → IfOk result (λ r. BeginsWith block (value_of r))
-    → ((v : OptionValue) → BeginsWith block v → IsOkAnd result (λ r. value_of r ≡ v)) → old ≡ Ok block ∷ new
-    → GivesOption old (Some result) new
-gives (Ok r) block old new sound complete e = (block, sound, e)
-gives (Err refusal) block old new sound complete e = inr (block, complete, e)
+-- what is read in a block, or why nothing is
+pub gives : (result : Result Repr Refusal) (bytes : List ℕ) (old new : List Answer)
+    → IfOk result (λ r. BeginsWith bytes (value_of r)) → (IsErr result → IsUnread bytes)
+    → IfErr result (λ refusal. Refuses bytes refusal) → old ≡ Ok bytes ∷ new → GivesOption old (Some result) new
+gives (Ok r) bytes old new sound unread told e = (bytes, sound, e)
+gives (Err refusal) bytes old new sound unread told e = inr (bytes, unread refl, told, e)
 
 -- an answer that is taken off leaves fewer
 pub first_off : {A : Type 0} (old new : List Answer) (first : Answer) (given : A) → old ≡ first ∷ new

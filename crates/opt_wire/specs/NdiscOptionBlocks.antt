@@ -2,36 +2,40 @@
 use Rattle.std.specs.Prelude.{◌≡◌, ◌⊎◌, ℕ, zero, suc, ◌*◌, ◌==◌, nat_le, Bool, true, false, ◌&&◌, if◌then◌else◌}
 use Rattle.std.specs.Prelude.{List, [], ◌∷◌, ◌++◌, length, take, drop, Option, None, Some, Result, Ok, Err}
 use Rattle.wirebase.specs.Bytes.{byte_of}
-use Rattle.wirebase.specs.declared.error.Error.{Error}
 use Rattle.opt_wire.specs.NdiscOption.{type_field, units_in, BeginsWithBlock}
+use Rattle.opt_wire.specs.NdiscOptionTables.{type_of}
 use Rattle.opt_wire.specs.NdiscOptionRepr.{OptionValue, value_of, BeginsWith}
+use Rattle.opt_wire.specs.NdiscOptionRefusal.{Refuses}
+use Rattle.opt_wire.specs.declared.ndiscoption.refusal.Refusal.{Refusal}
+use Rattle.opt_wire.specs.declared.ndiscoption.refusal.Refusal.TheVariants.{Short, Zero, Cut, Length}
 use Rattle.opt_wire.specs.declared.ndiscoption.repr.Repr.{Repr}
 
--- an answer: all the bytes of a block, or the refusal of what follows
+-- an answer: all the bytes of a block, or why none follows
 abbrev pub Answer : Type 0
-Answer = Result (List ℕ) Error
+Answer = Result (List ℕ) Refusal
 
 -- Blocks one after another up to the end of the bytes, or up to a place where none stands, which is answered by one
--- refusal.
+-- refusal: by the reason why the bytes from there on begin with no option.
 pub data Tile : List ℕ → List Answer → Type 0 where
   ends : Tile [] []
   goes_on : {bytes : List ℕ} {answers : List Answer} (block rest : List ℕ)
       → BeginsWithBlock bytes → length block ≡ 8 * units_in bytes → Tile rest answers → bytes ≡ block ++ rest
       → Tile bytes (Ok block ∷ answers)
-  breaks : {bytes : List ℕ} (refusal : Error)
-      → (bytes ≡ [] → ⊥) → (BeginsWithBlock bytes → ⊥) → Tile bytes (Err refusal ∷ [])
+  breaks : {bytes : List ℕ} (refusal : Refusal)
+      → (bytes ≡ [] → ⊥) → (BeginsWithBlock bytes → ⊥) → Refuses bytes refusal → Tile bytes (Err refusal ∷ [])
 
 -- no option is read in the block
 abbrev pub IsUnread : List ℕ → Type 0
 IsUnread block = (value : OptionValue) → BeginsWith block value → ⊥
 
--- A call of `next` takes off the first answer, and gives what is read in that block, or a refusal where no option is or
--- where no block stands; where no answer is left it gives None, and none is left still.
-abbrev pub GivesOption : List Answer → Option (Result Repr Error) → List Answer → Type 0
+-- A call of `next` takes off the first answer, and gives what is read in that block, or why no option is read in it or
+-- no block stands there; where no answer is left it gives None, and none is left still.
+abbrev pub GivesOption : List Answer → Option (Result Repr Refusal) → List Answer → Type 0
 GivesOption old None new = (old ≡ []) × (new ≡ [])
 GivesOption old (Some (Ok repr)) new = (block : List ℕ) × BeginsWith block (value_of repr) × (old ≡ Ok block ∷ new)
 GivesOption old (Some (Err refusal)) new =
-    (old ≡ Err refusal ∷ new) ⊎ ((block : List ℕ) × IsUnread block × (old ≡ Ok block ∷ new))
+    (old ≡ Err refusal ∷ new)
+    ⊎ ((block : List ℕ) × IsUnread block × Refuses block refusal × (old ≡ Ok block ∷ new))
 
 -- ---- the answers as they are computed, which the iterator's model needs
 
@@ -45,10 +49,21 @@ begins_with_block bytes =
     nat_le 8 (length bytes) && (nat_le (least_units (byte_of type_field bytes)) (units_in bytes)
     && nat_le (8 * units_in bytes) (length bytes))
 
+-- why bytes begin with no block, by whether they are 8 or more, count one unit or more, and hold all that they count
+abbrev pub reason_by : Bool → Bool → Bool → List ℕ → Refusal
+reason_by false some whole bytes = Short
+reason_by true false whole bytes = Zero
+reason_by true true false bytes = Cut (8 * units_in bytes)
+reason_by true true true bytes = Length (type_of (byte_of type_field bytes)) (units_in bytes)
+
+abbrev pub reason_of : List ℕ → Refusal
+reason_of bytes =
+    reason_by (nat_le 8 (length bytes)) (nat_le 1 (units_in bytes)) (nat_le (8 * units_in bytes) (length bytes)) bytes
+
 -- the answers, in at most so many blocks; a block takes a byte at least
 abbrev pub after_block : Bool → ℕ → List ℕ → (List ℕ → List Answer) → List Answer
 after_block true len bytes go = Ok (take len bytes) ∷ go (drop len bytes)
-after_block false len bytes go = Err (record {}) ∷ []
+after_block false len bytes go = Err (reason_of bytes) ∷ []
 
 unfoldable pub blocks_within : ℕ → List ℕ → List Answer
 blocks_within most [] = []

@@ -1,12 +1,12 @@
 -- Options of neighbor discovery (RFC 4861 section 4.6) by their content: their text, what is read in a block, and the
 -- format.
 use Rattle.std.specs.Prelude.{◌≡◌, ◌≢◌, ℕ, ◌+◌, ◌-◌, ◌*◌, ◌/◌, ◌≤◌, ◌<◌, ◌^◌, nat_lt, if◌then◌else◌, List, [], ◌∷◌}
-use Rattle.std.specs.Prelude.{◌++◌, codes, decimal, length, replicate}
+use Rattle.std.specs.Prelude.{◌++◌, codes, decimal, flat_map, length, replicate}
 use Rattle.wirebase.specs.Bytes.{bytes_of, byte_of, number_of, over}
 use Rattle.wirebase.specs.ByteWriter.{be8, be16, be32, fields}
 use Rattle.wirebase.specs.Display.{pieces}
 use Rattle.wirebase.specs.Duration.{micros_of, seconds_of, whole_seconds, duration_text}
-use Rattle.wirebase.specs.Ethernet.{hex_colons}
+use Rattle.wirebase.specs.Ethernet.{hex_byte, hex_colons}
 use Rattle.wirebase.specs.Format.{Format, RoundTrips}
 use Rattle.wirebase.specs.HardwareAddress.{raw_bytes}
 use Rattle.wirebase.specs.Ip.{protocol_number, protocol_rows}
@@ -229,15 +229,6 @@ pub record Emits (v : OptionValue) (old new : List ℕ) : Type 0 where
 
 -- ---- what an option prints
 
-abbrev pub display : OptionValue → List ℕ
-display (source address) = codes "NDISC Option: SourceLinkLayer addr=" ++ hex_colons address
-display (target address) = codes "NDISC Option: TargetLinkLayer addr=" ++ hex_colons address
-display (prefix_ p) =
-    codes "NDISC Option: PrefixInformation prefix=" ++ address_text p.prefix ++ codes "/" ++ decimal p.prefix_len
-display (redirected h d) = codes "NDISC Option: RedirectedHeader header=" ++ header_display h
-display (mtu n) = codes "NDISC Option: MTU mtu=" ++ decimal n
-display (unknown t n d) = codes "NDISC Option: Unknown(" ++ decimal t ++ codes ") length=" ++ decimal n
-
 -- a prefix and a redirected packet, by all that they hold
 abbrev pub prefix_display : PrefixInformation → List ℕ
 prefix_display p =
@@ -250,6 +241,22 @@ prefix_display p =
 abbrev pub redirected_display : Ipv6Repr → List ℕ → List ℕ
 redirected_display h d =
     pieces (codes "RedirectedHeader header=" ∷ header_display h ∷ codes " len=" ∷ decimal (length d) ∷ [])
+
+-- an option, by all that it holds; of an unknown type the data in hexadecimal
+abbrev pub display : OptionValue → List ℕ
+display (source address) = codes "NDISC Option: SourceLinkLayer addr=" ++ hex_colons address
+display (target address) = codes "NDISC Option: TargetLinkLayer addr=" ++ hex_colons address
+display (prefix_ p) =
+    pieces (codes "NDISC Option: PrefixInformation prefix=" ∷ address_text p.prefix
+    ∷ codes "/" ∷ decimal p.prefix_len
+    ∷ codes " flags=" ∷ flags_text (flag_bits p.flags)
+    ∷ codes " valid_lifetime=" ∷ duration_text p.valid_lifetime
+    ∷ codes " preferred_lifetime=" ∷ duration_text p.preferred_lifetime ∷ [])
+display (redirected h d) = codes "NDISC Option: " ++ redirected_display h d
+display (mtu n) = codes "NDISC Option: MTU mtu=" ++ decimal n
+display (unknown t n d) =
+    pieces (codes "NDISC Option: Unknown(" ∷ decimal t ∷ codes ") length=" ∷ decimal n
+    ∷ codes " data=" ∷ flat_map hex_byte d ∷ [])
 
 -- octets that are read as no option
 abbrev pub refusal_display : List ℕ

@@ -34,6 +34,7 @@ use bitflags::Flags as _;
 use std::fmt;
 use wirebase::{Duration, Error, Ipv6Address, Octets, OctetsMut, RawHardwareAddress, Result};
 
+mod digits;
 mod options;
 mod refusal;
 mod repr;

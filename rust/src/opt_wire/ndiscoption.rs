@@ -21,6 +21,7 @@ use crate::wirebase::{
 };
 use core::fmt;
 
+mod digits;
 mod options;
 mod refusal;
 mod repr;

@@ -43,7 +43,7 @@ impl<'a> Repr<'a> {
 }
 
 // Why the octets, which begin with no option, don't.
-fn why_none(opt: &NdiscOption<&[u8]>) -> Refusal
+pub(super) fn why_none(opt: &NdiscOption<&[u8]>) -> Refusal
     requires { IsRead (view_octets opt.now) → ⊥ }
     ensures { Refuses (view_octets opt.now) result }
 {

@@ -16,6 +16,7 @@ ghost use Rattle.opt_wire.specs.NdiscOptionRepr.{BeginsWith, IsValidPrefix, form
 ghost use Rattle.opt_wire.specs.NdiscOptionRepr.{prefix_display, redirected_display};
 ghost use Rattle.opt_wire.specs.declared.ndiscoption.repr.PrefixInformation.{PrefixInformation};
 
+use super::digits::Digits;
 use super::{NdiscOption, PrefixInfoFlags, Type, field};
 use crate::writing;
 use crate::writing::UNIT;
@@ -292,7 +293,7 @@ fn read_redirected(octets: &[u8]) -> Result<(Ipv6Repr, &[u8])>
     Ok((header, packet.payload()))
 }
 
-/// What the option has, as `NDISC Option: MTU mtu=1500`.
+/// All that the option has, as `NDISC Option: MTU mtu=1500`; the data of an option of unknown type in hexadecimal.
 impl fmt::Display for Repr<'_> {
     ghost output = { λ repr. Some (display (value_of repr)) };
 
@@ -305,15 +306,13 @@ impl fmt::Display for Repr<'_> {
                 write!(f, "NDISC Option: TargetLinkLayer addr={addr}")
             }
             Repr::PrefixInformation(info) => fmt_prefix(f, info),
-            Repr::RedirectedHeader(redirected) => {
-                write!(
-                    f,
-                    "NDISC Option: RedirectedHeader header={}",
-                    redirected.header
-                )
-            }
+            Repr::RedirectedHeader(redirected) => write!(f, "NDISC Option: {redirected}"),
             Repr::Mtu(mtu) => write!(f, "NDISC Option: MTU mtu={mtu}"),
-            Repr::Unknown { type_, length, .. } => fmt_unknown(f, *type_, *length),
+            Repr::Unknown {
+                type_,
+                length,
+                data,
+            } => fmt_unknown(f, *type_, *length, data),
         }
     }
 }
@@ -322,16 +321,32 @@ impl fmt::Display for Repr<'_> {
 fn fmt_prefix<W: fmt::Write>(f: &mut fmt::Formatter<W>, info: &PrefixInformation) -> fmt::Result
     ensures { WritesOnOk W.write_str_gives f.old result (display (prefix_ info.now)) f.new }
 {
+    let PrefixInformation {
+        prefix_len,
+        flags,
+        valid_lifetime,
+        preferred_lifetime,
+        prefix,
+    } = *info;
     write!(
         f,
-        "NDISC Option: PrefixInformation prefix={}/{}",
-        info.prefix, info.prefix_len
+        "NDISC Option: PrefixInformation prefix={prefix}/{prefix_len} flags={flags} \
+         valid_lifetime={valid_lifetime} preferred_lifetime={preferred_lifetime}"
     )
 }
 
-// What an option of any other type prints, whatever its data.
-fn fmt_unknown<W: fmt::Write>(f: &mut fmt::Formatter<W>, type_: u8, length: u8) -> fmt::Result
-    ensures { WritesOnOk W.write_str_gives f.old result (display (unknown type_ length [])) f.new }
+// What an option of any other type prints.
+fn fmt_unknown<W: fmt::Write>(
+    f: &mut fmt::Formatter<W>,
+    type_: u8,
+    length: u8,
+    data: &[u8],
+) -> fmt::Result
+    ensures { WritesOnOk W.write_str_gives f.old result (display (unknown type_ length «data».now)) f.new }
 {
-    write!(f, "NDISC Option: Unknown({type_}) length={length}")
+    write!(
+        f,
+        "NDISC Option: Unknown({type_}) length={length} data={}",
+        Digits(data)
+    )
 }

@@ -1,26 +1,31 @@
 // Made from crates/opt_wire/src/ndiscoption/options.rt by rust/erase.
 //! The options of a message of neighbor discovery in turn (RFC 4861 section 4.6).
 
-use super::{NdiscOption, Repr};
+use super::refusal::why_none;
+use super::{NdiscOption, Refusal, Repr};
 use crate::opt_wire::writing::UNIT;
-use crate::wirebase::{Error, Result};
 
 /// The options of a message of neighbor discovery in turn, those of unknown types too.
 ///
-/// A whole option in which [`Repr::parse`] reads none is answered by a refusal, and the one behind it comes next: a
+/// A whole option in which [`Repr::parse`] reads none is answered by the reason, and the one behind it comes next: a
 /// prefix of more than 4 units, an MTU of other than 1, or a redirected header that holds no whole packet of version 6.
-/// Where the octets end before an option does, or where one counts fewer units than its type has, as none at all, one
-/// refusal comes, and then the end for good. Hosts discard such a message (RFC 4861 section 6.1).
+/// Where the octets end before an option does, or where one counts fewer units than its type has, as none at all, the
+/// reason comes once, and then the end for good. Hosts discard such a message (RFC 4861 section 6.1). The reason is
+/// the check that fails first, as [`Repr::refusal`] tells it.
 ///
 /// ```
-/// use control_wire::ndiscoption::{NdiscOptions, Repr};
+/// use control_wire::ndiscoption::{NdiscOptions, Refusal, Repr, Type};
 ///
 /// // An MTU of 1500 bytes, and a nonce (RFC 3971 section 5.3.2).
 /// let octets = [5, 1, 0, 0, 0, 0, 0x05, 0xdc, 14, 1, 1, 2, 3, 4, 5, 6];
 /// let options: Vec<Repr> = NdiscOptions::new(&octets).collect::<Result<_, _>>()?;
 /// let nonce = Repr::Unknown { type_: 14, length: 1, data: &[1, 2, 3, 4, 5, 6] };
 /// assert_eq!(options, [Repr::Mtu(1500), nonce]);
-/// # Ok::<(), control_wire::Error>(())
+///
+/// // A prefix of one unit.
+/// let mut options = NdiscOptions::new(&[3, 1, 64, 0, 0, 0, 0, 0]);
+/// assert_eq!(options.next(), Some(Err(Refusal::Length(Type::PrefixInformation, 1))));
+/// # Ok::<(), Refusal>(())
 /// ```
 #[derive(Debug)]
 pub struct NdiscOptions<'a> {
@@ -36,29 +41,39 @@ impl<'a> NdiscOptions<'a> {
 }
 
 impl<'a> Iterator for NdiscOptions<'a> {
-    type Item = Result<Repr<'a>>;
+    type Item = Result<Repr<'a>, Refusal>;
 
-    fn next(&mut self) -> Option<Result<Repr<'a>>> {
+    fn next(&mut self) -> Option<Result<Repr<'a>, Refusal>> {
         if self.rest.is_empty() {
             return None;
         }
         match split_block(self.rest) {
             Ok((block, behind)) => {
                 self.rest = behind;
-                Some(Repr::parse(&NdiscOption::new_unchecked(block)))
+                Some(read_block(block))
             }
-            Err(error) => {
+            Err(refusal) => {
                 self.rest = &[];
-                Some(Err(error))
+                Some(Err(refusal))
             }
         }
     }
 }
 
-// The block at the front, and what stands behind it. Refused where the octets don't begin with a block.
-fn split_block(octets: &[u8]) -> Result<(&[u8], &[u8])> {
+// The option in a block, or why none is read there.
+#[inline(always)]
+fn read_block(block: &[u8]) -> Result<Repr<'_>, Refusal> {
+    let option = NdiscOption::new_unchecked(block);
+    match Repr::parse(&option) {
+        Ok(repr) => Ok(repr),
+        Err(_) => Err(why_none(&option)),
+    }
+}
+
+// The block at the front, and what stands behind it; or why the octets don't begin with a block.
+fn split_block(octets: &[u8]) -> Result<(&[u8], &[u8]), Refusal> {
     let Ok(option) = NdiscOption::new_checked(octets) else {
-        return Err(Error);
+        return Err(why_none(&NdiscOption::new_unchecked(octets)));
     };
     Ok(octets.split_at(UNIT * option.data_len() as usize))
 }

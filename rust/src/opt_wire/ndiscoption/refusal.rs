@@ -36,7 +36,7 @@ impl<'a> Repr<'a> {
 }
 
 // Why the octets, which begin with no option, don't.
-fn why_none<B: AsRef<[u8]> + ?Sized>(opt: &NdiscOption<&B>) -> Refusal {
+pub(super) fn why_none<B: AsRef<[u8]> + ?Sized>(opt: &NdiscOption<&B>) -> Refusal {
     let len = opt.buffer.as_ref().len();
     if len < UNIT {
         return Refusal::Short;

@@ -1,6 +1,7 @@
 // Made from crates/opt_wire/src/ndiscoption/repr.rt by rust/erase.
 //! The values of options of neighbor discovery (RFC 4861 section 4.6).
 
+use super::digits::Digits;
 use super::{NdiscOption, PrefixInfoFlags, Type, field};
 use crate::opt_wire::writing;
 use crate::opt_wire::writing::UNIT;
@@ -219,7 +220,7 @@ fn read_redirected(octets: &[u8]) -> Result<(Ipv6Repr, &[u8])> {
     Ok((header, packet.payload()))
 }
 
-/// What the option has, as `NDISC Option: MTU mtu=1500`.
+/// All that the option has, as `NDISC Option: MTU mtu=1500`; the data of an option of unknown type in hexadecimal.
 impl fmt::Display for Repr<'_> {
     fn fmt(&self, f: &mut fmt::Formatter<'_>) -> fmt::Result {
         match self {
@@ -230,29 +231,38 @@ impl fmt::Display for Repr<'_> {
                 write!(f, "NDISC Option: TargetLinkLayer addr={addr}")
             }
             Repr::PrefixInformation(info) => fmt_prefix(f, info),
-            Repr::RedirectedHeader(redirected) => {
-                write!(
-                    f,
-                    "NDISC Option: RedirectedHeader header={}",
-                    redirected.header
-                )
-            }
+            Repr::RedirectedHeader(redirected) => write!(f, "NDISC Option: {redirected}"),
             Repr::Mtu(mtu) => write!(f, "NDISC Option: MTU mtu={mtu}"),
-            Repr::Unknown { type_, length, .. } => fmt_unknown(f, *type_, *length),
+            Repr::Unknown {
+                type_,
+                length,
+                data,
+            } => fmt_unknown(f, *type_, *length, data),
         }
     }
 }
 
 // What a prefix prints.
 fn fmt_prefix(f: &mut fmt::Formatter<'_>, info: &PrefixInformation) -> fmt::Result {
+    let PrefixInformation {
+        prefix_len,
+        flags,
+        valid_lifetime,
+        preferred_lifetime,
+        prefix,
+    } = *info;
     write!(
         f,
-        "NDISC Option: PrefixInformation prefix={}/{}",
-        info.prefix, info.prefix_len
+        "NDISC Option: PrefixInformation prefix={prefix}/{prefix_len} flags={flags} \
+         valid_lifetime={valid_lifetime} preferred_lifetime={preferred_lifetime}"
     )
 }
 
-// What an option of any other type prints, whatever its data.
-fn fmt_unknown(f: &mut fmt::Formatter<'_>, type_: u8, length: u8) -> fmt::Result {
-    write!(f, "NDISC Option: Unknown({type_}) length={length}")
+// What an option of any other type prints.
+fn fmt_unknown(f: &mut fmt::Formatter<'_>, type_: u8, length: u8, data: &[u8]) -> fmt::Result {
+    write!(
+        f,
+        "NDISC Option: Unknown({type_}) length={length} data={}",
+        Digits(data)
+    )
 }

@@ -360,13 +360,20 @@ fn options_in_words() {
             TARGET,
             "NDISC Option: TargetLinkLayer addr=52:54:00:12:34:56",
         ),
-        (&PREFIX, "NDISC Option: PrefixInformation prefix=fe80::1/64"),
+        (
+            &PREFIX,
+            "NDISC Option: PrefixInformation prefix=fe80::1/64 flags=on_link,addrconf \
+             valid_lifetime=900.000s preferred_lifetime=1000.000s",
+        ),
         (
             &REDIRECTED,
-            "NDISC Option: RedirectedHeader header=IPv6 src=fe80::1 dst=fe80::2 nxt_hdr=17 hop_limit=64",
+            "NDISC Option: RedirectedHeader header=IPv6 src=fe80::1 dst=fe80::2 nxt_hdr=17 hop_limit=64 len=4",
         ),
         (&MTU, "NDISC Option: MTU mtu=1500"),
-        (&UNKNOWN, "NDISC Option: Unknown(14) length=1"),
+        (
+            &UNKNOWN,
+            "NDISC Option: Unknown(14) length=1 data=010203040506",
+        ),
     ];
     for &(bytes, text) in ROWS {
         check_printed(bytes, text);

@@ -1,4 +1,4 @@
-use super::{MTU, PREFIX, here};
+use super::{MTU, PREFIX, UNKNOWN, here};
 use crate::ndiscoption::{NdiscOption, PrefixInfoFlags, Type};
 use crate::testing::{prints, same, takes_writes};
 use bitflags::Flags as _;
@@ -83,7 +83,11 @@ fn views_in_words(rt: HostRuntime) {
             &[0x05, 0x01, 0, 0, 0, 0, 0x05, 0xdc],
             "NDISC Option: MTU mtu=1500",
         ),
-        (&PREFIX, "NDISC Option: PrefixInformation prefix=fe80::1/64"),
+        (
+            &PREFIX,
+            "NDISC Option: PrefixInformation prefix=fe80::1/64 flags=on_link,addrconf \
+             valid_lifetime=900.000s preferred_lifetime=1000.000s",
+        ),
         (
             &[0x05, 0x02, 0, 0, 0, 0, 0x05, 0xdc],
             "NDISC Option (wire::Error)",
@@ -97,7 +101,7 @@ fn views_in_words(rt: HostRuntime) {
 
 #[test]
 fn printing_fails_only_with_its_writer(rt: HostRuntime) {
-    const ROWS: &[(&[u8], u32)] = &[(&MTU, 2), (&PREFIX, 6), (&[], 3)];
+    const ROWS: &[(&[u8], u32)] = &[(&MTU, 2), (&PREFIX, 22), (&UNKNOWN, 17), (&[], 3)];
     for &(bytes, calls) in ROWS {
         takes_writes(&rt, &NdiscOption::new_unchecked(bytes), calls);
     }

@@ -2,9 +2,9 @@
 //! The options of a message in turn.
 
 use super::{PREFIX, REDIRECTED};
-use crate::opt_wire::ndiscoption::{NdiscOption, NdiscOptions, Repr};
+use crate::opt_wire::ndiscoption::{NdiscOption, NdiscOptions, Refusal, Repr, Type};
 use crate::opt_wire::testing::{holds_of, same, same_of};
-use crate::wirebase::{Error, RawHardwareAddress};
+use crate::wirebase::RawHardwareAddress;
 
 #[test]
 fn options_in_turn() {
@@ -23,40 +23,69 @@ fn options_in_turn() {
     let mut options = NdiscOptions::new(OCTETS);
     same(options.next(), Some(Ok(Repr::SourceLinkLayerAddr(address))));
     same(options.next(), Some(Ok(nonce)));
-    same(options.next(), Some(Err(Error)));
+    same(options.next(), Some(Err(Refusal::Length(Type::Mtu, 2))));
     same(options.next(), Some(Ok(Repr::Mtu(1_500))));
-    same(options.next(), Some(Err(Error)));
+    same(options.next(), Some(Err(Refusal::Short)));
     same(options.next(), None);
     same(options.next(), None);
 }
 
-// Ends the test unless so many options are read in the octets, and then a refusal comes or none, and the end.
-fn check_options(octets: &[u8], count: usize, is_refused: bool) {
+// Ends the test unless so many options are read in the octets, and then this refusal comes or none, and the end.
+fn check_options(octets: &[u8], count: usize, refusal: Option<Refusal>) {
     let mut options = NdiscOptions::new(octets);
     for _ in 0..count {
         holds_of(octets, matches!(options.next(), Some(Ok(_))));
     }
-    same_of(octets, matches!(options.next(), Some(Err(_))), is_refused);
+    let told = match options.next() {
+        Some(Err(told)) => Some(told),
+        _ => None,
+    };
+    same_of(octets, told, refusal);
     holds_of(octets, options.next().is_none());
     holds_of(octets, options.next().is_none());
 }
 
 #[test]
 fn octets_that_end_before_an_option_does_are_refused_once() {
-    for len in 0..=PREFIX.len() {
-        check_options(&PREFIX[..len], len / 32, len % 32 != 0);
+    check_options(&[], 0, None);
+    for len in 1..8 {
+        check_options(&PREFIX[..len], 0, Some(Refusal::Short));
     }
-    check_options(&REDIRECTED, 1, false);
+    for len in 8..PREFIX.len() {
+        check_options(&PREFIX[..len], 0, Some(Refusal::Cut(32)));
+    }
+    check_options(&PREFIX, 1, None);
+    check_options(&REDIRECTED, 1, None);
     let mut two = [0; 64];
     two[..32].copy_from_slice(&PREFIX);
-    check_options(&two[..32], 1, false);
+    check_options(&two[..32], 1, None);
     // A type 0 that counts no units.
-    check_options(&two, 1, true);
+    check_options(&two, 1, Some(Refusal::Zero));
     two[32..].copy_from_slice(&PREFIX);
-    check_options(&two, 2, false);
+    check_options(&two, 2, None);
     // A prefix of 3 units, which the type does not have.
     two[33] = 3;
-    check_options(&two, 1, true);
+    let three = Refusal::Length(Type::PrefixInformation, 3);
+    check_options(&two, 1, Some(three));
+}
+
+// Ends the test unless the one option in the octets is answered by this refusal.
+fn check_unread(octets: &[u8], refusal: Refusal) {
+    check_options(octets, 0, Some(refusal));
+}
+
+#[test]
+fn reasons_of_whole_options_that_are_not_read() {
+    // A prefix of 5 units.
+    let mut longer = [0; 40];
+    longer[..2].copy_from_slice(&[0x03, 0x05]);
+    check_unread(&longer, Refusal::Length(Type::PrefixInformation, 5));
+    // The redirected packet has room for 8 bytes of payload.
+    let mut packet = REDIRECTED;
+    packet[8] = 0x45;
+    check_unread(&packet, Refusal::PacketVersion(4));
+    packet[13] = 9;
+    check_unread(&packet, Refusal::PacketCut(49));
 }
 
 #[test]

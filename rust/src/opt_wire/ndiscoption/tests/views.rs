@@ -1,5 +1,5 @@
 // Made from crates/opt_wire/src/ndiscoption/tests/views.rt by rust/erase.
-use super::{MTU, PREFIX, here};
+use super::{MTU, PREFIX, UNKNOWN, here};
 use crate::opt_wire::ndiscoption::{NdiscOption, PrefixInfoFlags, Type};
 use crate::opt_wire::testing::{prints, same, takes_writes};
 use crate::wirebase::{Duration, RawHardwareAddress};
@@ -80,7 +80,11 @@ fn views_in_words() {
             &[0x05, 0x01, 0, 0, 0, 0, 0x05, 0xdc],
             "NDISC Option: MTU mtu=1500",
         ),
-        (&PREFIX, "NDISC Option: PrefixInformation prefix=fe80::1/64"),
+        (
+            &PREFIX,
+            "NDISC Option: PrefixInformation prefix=fe80::1/64 flags=on_link,addrconf \
+             valid_lifetime=900.000s preferred_lifetime=1000.000s",
+        ),
         (
             &[0x05, 0x02, 0, 0, 0, 0, 0x05, 0xdc],
             "NDISC Option (wire::Error)",
@@ -94,7 +98,7 @@ fn views_in_words() {
 
 #[test]
 fn printing_fails_only_with_its_writer() {
-    const ROWS: &[(&[u8], u32)] = &[(&MTU, 2), (&PREFIX, 6), (&[], 3)];
+    const ROWS: &[(&[u8], u32)] = &[(&MTU, 2), (&PREFIX, 22), (&UNKNOWN, 17), (&[], 3)];
     for &(bytes, calls) in ROWS {
         takes_writes(&NdiscOption::new_unchecked(bytes), calls);
     }

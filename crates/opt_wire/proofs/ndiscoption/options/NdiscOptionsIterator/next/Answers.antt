@@ -15,9 +15,8 @@ returns-in-Ok-clause-steps c =
     let parts = c.in-Ok.ensures in
     let first = sym c.self.view_is
     ∙ next-block c.self.inside.rest.now c.in-Ok.block.now c.in-Ok.behind.now parts.begins parts.block parts.behind in
-    gives c.parse.result c.in-Ok.block.now _ _
-    (rw c.new_unchecked.ensures at c.parse.ensures.sound)
-    (rw c.new_unchecked.ensures at c.parse.ensures.complete) first
+    gives c.read_block.result c.in-Ok.block.now _ _ c.read_block.ensures.sound c.read_block.ensures.unread
+    c.read_block.ensures.told first
 
 pub returns-in-Ok-clause-goes : goal.returns-in-Ok-clause-goes
 returns-in-Ok-clause-goes c =
@@ -31,12 +30,14 @@ returns-in-Err-clause-steps c =
     let rest = c.self.inside.rest.now in
     let some : 0 < length rest =
     omega (arith, eqb-false (length rest) 0 (sym c.is_empty.ensures ∙ c.if-is_empty.false)) in
-    inl (sym c.self.view_is ∙ next-refusal rest [] c.in-Err.error some (c.in-Err.ensures.refuses refl) refl)
+    let none = c.in-Err.ensures.refuses refl in
+    inl (sym c.self.view_is ∙ next-refusal rest [] c.in-Err.refusal some none c.in-Err.ensures.told refl)
 
 pub returns-in-Err-clause-goes : goal.returns-in-Err-clause-goes
 returns-in-Err-clause-goes c =
     let rest = c.self.inside.rest.now in
     let some : 0 < length rest =
     omega (arith, eqb-false (length rest) 0 (sym c.is_empty.ensures ∙ c.if-is_empty.false)) in
+    let none = c.in-Err.ensures.refuses refl in
     first_off _ _ _ _
-    (sym c.self.view_is ∙ next-refusal rest [] c.in-Err.error some (c.in-Err.ensures.refuses refl) refl)
+    (sym c.self.view_is ∙ next-refusal rest [] c.in-Err.refusal some none c.in-Err.ensures.told refl)

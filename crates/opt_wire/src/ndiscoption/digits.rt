@@ -1,0 +1,43 @@
+//! Bytes as hexadecimal digits.
+
+ghost use Rattle.std.specs.Prelude.{Some, flat_map};
+ghost use Rattle.std.specs.Fmt.{WritesOnOk};
+ghost use Rattle.wirebase.specs.Ethernet.{hex_byte};
+
+use std::fmt;
+
+/// Bytes in hexadecimal, two digits each.
+#[derive(Clone, Copy)]
+pub(super) struct Digits<'a>(pub(super) &'a [u8]);
+
+impl fmt::Display for Digits<'_> {
+    ghost output = { λ bytes. Some (flat_map hex_byte bytes.0.now) };
+
+    fn fmt<W: fmt::Write>(&self, f: &mut fmt::Formatter<W>) -> fmt::Result {
+        fmt_digits(f, self.0)
+    }
+}
+
+// Writes bytes as two hexadecimal digits each.
+fn fmt_digits<W: fmt::Write>(f: &mut fmt::Formatter<W>, bytes: &[u8]) -> fmt::Result
+    ensures { WritesOnOk W.write_str_gives f.old result (flat_map hex_byte bytes.now) f.new }
+{
+    for byte in bytes {
+        write!(f, "{}", HexByte(*byte))?;
+    }
+    Ok(())
+}
+
+// A byte as two hexadecimal digits.
+#[derive(Clone, Copy)]
+struct HexByte(u8);
+
+impl fmt::Display for HexByte {
+    ghost output = { λ byte. Some (hex_byte byte.0) };
+
+    fn fmt<W: fmt::Write>(&self, f: &mut fmt::Formatter<W>) -> fmt::Result {
+        let high = self.0 / 16;
+        let low = self.0 % 16;
+        write!(f, "{high:x}{low:x}")
+    }
+}
