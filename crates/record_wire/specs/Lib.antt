@@ -11,6 +11,7 @@ pub mod Entries
 pub mod RData
 pub mod Ahead
 pub mod RecordText
+pub mod EntryText
 pub mod Strings
 pub mod Edns
 pub mod Mnemonics

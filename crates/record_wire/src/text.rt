@@ -16,6 +16,7 @@
 //! # Ok::<(), control_wire::Error>(())
 //! ```
 
+mod entry;
 mod question;
 pub mod refusal;
 pub(crate) mod words;
@@ -38,6 +39,7 @@ use crate::record::Record;
 use crate::text::refusal::TextRefusal;
 use crate::text::words::{Generic, Strings, Whole};
 use dns_wire::dns::{Packet, Type};
+pub use entry::EntryText;
 pub use question::QuestionText;
 use std::{fmt, result};
 use wirebase::{Ipv4Address, Ipv6Address};

@@ -62,7 +62,7 @@ impl<'a> Question<'a> {
     }
 
     // The same of a question that is taken as one of this class.
-    fn text_of_class(
+    pub(crate) fn text_of_class(
         &self,
         packet: &Packet<&'a [u8]>,
         class: u16,
