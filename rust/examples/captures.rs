@@ -6,32 +6,29 @@ use capture::Capture;
 use control_wire::dns::{MULTICAST_PORT, Packet, SERVER_PORT};
 use control_wire::frames::{Addresses, Captured, CapturedUdp, Extent, Link, Network};
 use control_wire::frames::{UdpPacket, UdpRepr};
-use control_wire::quotes::message::{Icmpv4Message, Icmpv6Message};
-use control_wire::record::{Entries, Entry};
-use control_wire::{ChecksumCapabilities, IpProtocol, dhcpv4, igmp};
-use std::error::Error;
-use std::fmt::Display;
-use std::{fs::File, io::BufReader};
+use control_wire::icmpv6::Repr::{Mld, Ndisc};
+use control_wire::mld::{Records, Repr::Report};
+use control_wire::quotes::message::{Icmpv4Message, Icmpv6Message, Icmpv6Message::Message};
+use control_wire::{ChecksumCapabilities, IpProtocol, dhcpv4, icmpv6, igmp, record::Entries};
+use std::{error::Error, fmt::Display, fs::File, io::BufReader};
 
 fn main() -> Result<(), Box<dyn Error>> {
     let path = std::env::args_os().nth(1).ok_or("give a capture file")?;
     let mut records = Capture::new().records(BufReader::new(File::open(path)?));
     while let Some((record, octets)) = records.read()? {
-        let Some(link) = Link::of(record.link_type) else {
-            continue;
+        let told = match Link::of(record.link_type) {
+            Some(link) => frame(link, octets),
+            None => Err(format!("link type {} is not read", record.link_type).into()),
         };
-        let text = match frame(link, octets) {
-            Ok(None) => continue,
-            Ok(Some(text)) => text,
-            Err(reason) => format!("refused: {reason}"),
-        };
-        let time = record.time.map(|time| time.to_string());
-        println!("{} {} {text}", record.number, time.unwrap_or_default());
+        if let Some(told) = told.transpose() {
+            let time = record.time.map(|time| time.to_string()).unwrap_or_default();
+            println!("{} {time} {}", record.number, or_reason(told));
+        }
     }
     Ok(())
 }
 
-/// What a frame holds, if it is a control packet, or why it is refused.
+/// What a frame holds, between which addresses; None if it is no control packet.
 fn frame(link: Link, octets: &[u8]) -> Result<Option<String>, Box<dyn Error>> {
     let frame = link.frame_or_refusal(octets)?;
     let captured = match frame.network {
@@ -39,10 +36,12 @@ fn frame(link: Link, octets: &[u8]) -> Result<Option<String>, Box<dyn Error>> {
         Network::Ipv6 => Captured::parse_v6(frame.payload)?,
         Network::Other(_) => return Ok(None),
     };
-    Ok(message(&captured)?.map(|text| format!("{}: {text}", captured.datagram.addresses)))
+    let (addresses, protocol) = (captured.datagram.addresses, captured.datagram.protocol);
+    let told = message(&captured).transpose();
+    Ok(told.map(|told| format!("{addresses} {protocol}: {}", or_reason(told))))
 }
 
-/// What a datagram holds, if it is a control packet.
+/// What a datagram holds.
 fn message(captured: &Captured<'_>) -> Result<Option<String>, Box<dyn Error>> {
     let (octets, addresses) = (captured.datagram.payload, captured.datagram.addresses);
     // No checksum of a datagram that was cut holds.
@@ -56,10 +55,22 @@ fn message(captured: &Captured<'_>) -> Result<Option<String>, Box<dyn Error>> {
             Icmpv4Message::parse_or_refusal(octets, &checksums)?.to_string()
         }
         (IpProtocol::Igmp, Addresses::V4(..)) => {
-            igmp::Repr::parse_or_refusal(&igmp::Packet::new_unchecked(octets))?.to_string()
+            let packet = igmp::Packet::new_unchecked(octets);
+            let text = igmp::Repr::parse_or_refusal(&packet)?.to_string();
+            let checked = (is_cut || packet.verify_checksum()).then_some(text);
+            checked.ok_or("the checksum does not hold")?
         }
         (IpProtocol::Icmpv6, Addresses::V6(src, dst)) => {
-            Icmpv6Message::parse_or_refusal(&src, &dst, octets, &checksums)?.to_string()
+            let message = Icmpv6Message::parse_or_refusal(&src, &dst, octets, &checksums)?;
+            let packet = icmpv6::Packet::new_unchecked(octets);
+            message.to_string()
+                + &match message {
+                    Message(Ndisc(_)) => lines(packet.ndisc_options()),
+                    Message(Mld(Report { .. })) => {
+                        lines(Records::new(packet.nr_mcast_addr_rcrds(), packet.payload()))
+                    }
+                    _ => String::new(),
+                }
         }
         (IpProtocol::Udp, _) => {
             let udp = CapturedUdp::parse(octets)?;
@@ -69,50 +80,40 @@ fn message(captured: &Captured<'_>) -> Result<Option<String>, Box<dyn Error>> {
                 ports if ports.contains(&dhcpv4::SERVER_PORT) => dhcp(udp.payload)?,
                 _ => return Ok(None),
             };
-            if !is_cut {
-                let packet = UdpPacket::new_unchecked(octets);
-                UdpRepr::parse_or_refusal(&packet, &addresses, &checksums)?;
-            }
-            text
+            let packet = UdpPacket::new_unchecked(octets);
+            let whole = UdpRepr::parse_or_refusal(&packet, &addresses, &checksums);
+            if is_cut { text } else { whole.map(|_| text)? }
         }
         _ => return Ok(None),
     }))
 }
 
-/// The questions and the records of a message of DNS, multicast or not, as lines of a zone file.
+/// A message of DNS, multicast or not: its header, and its entries as lines of a zone file.
 fn dns(octets: &[u8], is_multicast: bool) -> Result<String, Box<dyn Error>> {
     let packet = Packet::new_checked(octets).map_err(|_| "fewer than 12 bytes")?;
-    let mut text = format!("DNS {} {}", packet.opcode(), packet.rcode());
     let mut entries = Entries::new(&packet);
-    while let Some(Ok(entry)) = entries.next() {
-        text += "\n    ";
-        text += &match entry {
-            Entry::Question(question) if is_multicast => {
-                or_reason(question.multicast_text(&packet))
-            }
-            Entry::Question(question) => or_reason(question.text(&packet)),
-            Entry::Record(_, record) => match record.edns() {
-                Some(edns) => edns.to_string(),
-                None if is_multicast => or_reason(record.multicast_text(&packet)),
-                None => or_reason(record.text(&packet)),
-            },
-        };
-    }
+    let read = entries.by_ref().flatten();
+    let lines = lines(read.map(|entry| entry.text(&packet, is_multicast)));
+    let mut text = format!("{packet}{lines}");
     if let Some((section, reason)) = entries.refusal() {
-        text += &format!("\n    {section} refused: {reason}");
+        text += &format!("\n    refused: {section}: {reason}");
     }
     Ok(text)
-}
-
-/// A text, or why there is none.
-fn or_reason(text: Result<impl Display, impl Display>) -> String {
-    text.map_or_else(|why| format!("refused: {why}"), |it| it.to_string())
 }
 
 /// A packet of DHCP, and its options in turn.
 fn dhcp(octets: &[u8]) -> Result<String, Box<dyn Error>> {
     let packet = dhcpv4::Packet::new_unchecked(octets);
-    let mut text = dhcpv4::Repr::parse_or_refusal(&packet)?.to_string();
-    text.extend(packet.options().map(|option| format!("\n    {option}")));
-    Ok(text)
+    let text = dhcpv4::Repr::parse_or_refusal(&packet)?.to_string();
+    Ok(text + &lines(packet.options().map(Ok::<_, String>)))
+}
+
+/// A line for each item, or why it is refused.
+fn lines<T: Display, R: Display>(items: impl Iterator<Item = Result<T, R>>) -> String {
+    items.map(|it| format!("\n    {}", or_reason(it))).collect()
+}
+
+/// A text, or why there is none.
+fn or_reason(text: Result<impl Display, impl Display>) -> String {
+    text.map_or_else(|why| format!("refused: {why}"), |it| it.to_string())
 }

@@ -17,6 +17,7 @@
 //! # Ok::<(), control_wire::Error>(())
 //! ```
 
+mod entry;
 mod question;
 pub mod refusal;
 pub(crate) mod words;
@@ -31,6 +32,7 @@ use crate::record::text::refusal::TextRefusal;
 use crate::record::text::words::{Generic, Strings, Whole};
 use crate::wirebase::{Ipv4Address, Ipv6Address};
 use core::{fmt, result};
+pub use entry::EntryText;
 pub use question::QuestionText;
 
 /// A record whose names are read, which prints its line of a zone file: the name with its last dot, the time to live,

@@ -47,7 +47,7 @@ impl<'a> Question<'a> {
     }
 
     // The same of a question that is taken as one of this class.
-    fn text_of_class<B: AsRef<[u8]> + ?Sized>(
+    pub(crate) fn text_of_class<B: AsRef<[u8]> + ?Sized>(
         &self,
         packet: &Packet<&'a B>,
         class: u16,

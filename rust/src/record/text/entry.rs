@@ -1,0 +1,162 @@
+// Made from crates/record_wire/src/text/entry.rt by rust/erase.
+//! Entries of a message with their names read, a line each.
+
+use crate::dns_wire::dns::Packet;
+use crate::record::entries::{Entry, Section};
+use crate::record::record::{Question, Record};
+use crate::record::text::RecordText;
+use crate::record::text::question::QuestionText;
+use crate::record::text::refusal::TextRefusal;
+use core::{fmt, result};
+
+/// A question or a record whose names are read, which prints its line: the section, the question or the record as a
+/// zone file has it, and a mark where its flag of multicast DNS is set. [`Entry::text`] reads it.
+#[derive(PartialEq, Eq, Clone)]
+pub enum EntryText<'a> {
+    /// A question.
+    Question {
+        /// The question, with its name read.
+        text: QuestionText,
+        /// Whether its answer is wanted by the asker alone (RFC 6762 section 5.4); false where the message is not one
+        /// of multicast DNS.
+        wants_unicast: bool,
+    },
+    /// A record.
+    Record {
+        /// The section that it stands in.
+        section: Section,
+        /// The record, with its names read.
+        text: RecordText<'a>,
+        /// Whether caches are to drop the older records of its name, type and class (RFC 6762 section 10.2); false
+        /// where the message is not one of multicast DNS.
+        flushes_cache: bool,
+    },
+}
+
+impl<'a> Entry<'a> {
+    /// The entry with its names read, which prints its line. A message is one of multicast DNS where it came from or
+    /// goes to port 5353 of UDP (RFC 6762 section 3), which its octets do not tell: the top bit of a class is a flag
+    /// there (RFC 6762 sections 5.4 and 10.2), and a part of the class elsewhere. Refused where a name does not read,
+    /// that of a question as [`TextRefusal::Owner`], and where the data of a record is not laid out as its type has it.
+    ///
+    /// ```
+    /// use control_wire::record::Entries;
+    /// use control_wire::dns::Packet;
+    ///
+    /// // What a printer answers to a query of multicast DNS that asks for an answer to the asker alone.
+    /// let octets = b"\0\0\x84\0\0\x01\0\x01\0\0\0\0\x07printer\x05local\0\0\x01\x80\x01\
+    ///     \xc0\x0c\0\x01\x80\x01\0\0\0\x78\0\x04\xc0\0\x02\x07";
+    /// let packet = Packet::new_checked(&octets[..])?;
+    /// let mut lines = String::new();
+    /// for entry in Entries::new(&packet) {
+    ///     match entry?.text(&packet, true) {
+    ///         Ok(text) => lines += &format!("{text}\n"),
+    ///         Err(refusal) => lines += &format!("an entry that can't be read: {refusal}\n"),
+    ///     }
+    /// }
+    /// assert_eq!(
+    ///     lines,
+    ///     "question printer.local. IN A ; unicast-response\n\
+    ///      answer printer.local. 120 IN A 192.0.2.7 ; cache-flush\n",
+    /// );
+    /// # Ok::<(), control_wire::Error>(())
+    /// ```
+    pub fn text<B: AsRef<[u8]> + ?Sized>(
+        &self,
+        packet: &Packet<&'a B>,
+        is_multicast: bool,
+    ) -> result::Result<EntryText<'a>, TextRefusal> {
+        match self {
+            Entry::Question(question) => read_question(packet, question, is_multicast),
+            Entry::Record(section, record) => read_record(packet, *section, record, is_multicast),
+        }
+    }
+}
+
+// A question with its name read, and its flag.
+fn read_question<'a, B: AsRef<[u8]> + ?Sized>(
+    packet: &Packet<&'a B>,
+    question: &Question<'a>,
+    is_multicast: bool,
+) -> result::Result<EntryText<'a>, TextRefusal> {
+    let wants_unicast = wants_unicast(question, is_multicast);
+    match question.text_of_class(packet, question_class(question, is_multicast)) {
+        Ok(text) => Ok(EntryText::Question {
+            text,
+            wants_unicast,
+        }),
+        Err(refusal) => Err(TextRefusal::Owner(refusal)),
+    }
+}
+
+// A record with its names read, and its flag.
+fn read_record<'a, B: AsRef<[u8]> + ?Sized>(
+    packet: &Packet<&'a B>,
+    section: Section,
+    record: &Record<'a>,
+    is_multicast: bool,
+) -> result::Result<EntryText<'a>, TextRefusal> {
+    let flushes_cache = flushes_cache(record, is_multicast);
+    match record.text_of_class(packet, record_class(record, is_multicast)) {
+        Ok(text) => Ok(EntryText::Record {
+            section,
+            text,
+            flushes_cache,
+        }),
+        Err(refusal) => Err(refusal),
+    }
+}
+
+// The class of a question, which in multicast DNS is without its top bit.
+fn question_class(question: &Question<'_>, is_multicast: bool) -> u16 {
+    if is_multicast {
+        return question.multicast_class();
+    }
+    question.class
+}
+
+// The class of a record, which in multicast DNS is without its top bit.
+fn record_class(record: &Record<'_>, is_multicast: bool) -> u16 {
+    if is_multicast {
+        return record.multicast_class();
+    }
+    record.class
+}
+
+// Whether a question of multicast DNS wants its answer sent to the asker alone.
+fn wants_unicast(question: &Question<'_>, is_multicast: bool) -> bool {
+    is_multicast && question.wants_unicast()
+}
+
+// Whether a record of multicast DNS tells caches to drop what they have.
+fn flushes_cache(record: &Record<'_>, is_multicast: bool) -> bool {
+    is_multicast && record.flushes_cache()
+}
+
+/// The section, the question or the record as a zone file has it, and behind it ` ; unicast-response` or
+/// ` ; cache-flush` where its flag is set.
+impl fmt::Display for EntryText<'_> {
+    fn fmt(&self, f: &mut fmt::Formatter<'_>) -> fmt::Result {
+        match self {
+            EntryText::Question {
+                text,
+                wants_unicast,
+            } => {
+                if *wants_unicast {
+                    return write!(f, "question {text} ; unicast-response");
+                }
+                write!(f, "question {text}")
+            }
+            EntryText::Record {
+                section,
+                text,
+                flushes_cache,
+            } => {
+                if *flushes_cache {
+                    return write!(f, "{section} {text} ; cache-flush");
+                }
+                write!(f, "{section} {text}")
+            }
+        }
+    }
+}
