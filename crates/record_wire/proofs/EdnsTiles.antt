@@ -1,12 +1,13 @@
 -- The options in octets.
 use Rattle.std.proofs.Common.{◌≡◌, ℕ, zero, suc, ◌<◌, ◌≤◌, Bool, true, false, cond, leb, ◌&&◌, List, [], ◌∷◌}
-use Rattle.std.proofs.Common.{length, take, drop, Option, None, Some, Ok, Err, refl, sym, ap, ◌∙◌, subst, arith}
+use Rattle.std.proofs.Common.{length, take, drop, Option, None, Some, Ok, Err, inl, inr, refl, sym, ap, ◌∙◌, subst, arith}
 use Rattle.std.proofs.Common.{length-drop}
-use Rattle.std.proofs.lemmas.Bool.{leb-true, le-leb}
+use Rattle.std.proofs.lemmas.Bool.{leb-true, le-leb, lt-leb, cases_lt}
 use Rattle.wirebase.specs.Bytes.{number_of}
-use Rattle.wirebase.specs.declared.error.Error.{Error}
+use Rattle.record_wire.specs.declared.edns.OptionRefusal.{OptionRefusal}
+use Rattle.record_wire.specs.declared.edns.OptionRefusal.TheVariants as refusal
 use Rattle.record_wire.specs.Edns.{OptionValue, IsOption, HasOption, option_len, code_field, Answer, Tile}
-use Rattle.record_wire.specs.Edns.{option_at, answer_by, answer_at, answers_in}
+use Rattle.record_wire.specs.Edns.{RefusesOption, option_at, why_none, answer_by, answer_at, answers_in}
 use Rattle.record_wire.proofs.Characters.{both}
 use Rattle.record_wire.proofs.Ahead.{Shrinks, none, one, front, ahead_none, ahead_some}
 
@@ -69,22 +70,49 @@ pub option_shrinks : (bytes rest : List ℕ) (option : OptionValue) → IsOption
 option_shrinks bytes rest option is =
     omega (arith, is.reaches, ap length is.rest_, length-drop (option_len bytes) (drop 4 bytes), length-drop 4 bytes)
 
+-- ---- why none is at the front
+
+why_at : (enough : Bool) → enough ≡ true → cond enough refusal.Data refusal.Fields ≡ refusal.Data
+why_at enough e = rw e refl
+
+why_short : (enough : Bool) → enough ≡ false → cond enough refusal.Data refusal.Fields ≡ refusal.Fields
+why_short enough e = rw e refl
+
+-- octets have one reason
+why_one : (bytes : List ℕ) (why : OptionRefusal) → RefusesOption bytes why → why_none bytes ≡ why
+why_one bytes refusal.Fields short = why_short (leb 4 (length bytes)) (lt-leb 4 (length bytes) short)
+why_one bytes refusal.Data (reaches, cut) = why_at (leb 4 (length bytes)) (le-leb 4 (length bytes) reaches)
+
+pub data_cut : (bytes : List ℕ) → 4 ≤ length bytes → (HasOption bytes → ⊥) → RefusesOption bytes refusal.Data
+data_cut bytes reaches none_ = elim (cases_lt (length (drop 4 bytes)) (option_len bytes)) [
+  | inl cut ↦ (reaches, cut)
+  | inr fits ↦ absurd (none_ (option_here bytes reaches fits))
+]
+
+why_told : (bytes : List ℕ) → (HasOption bytes → ⊥) → RefusesOption bytes (why_none bytes)
+why_told bytes none_ = elim (cases_lt (length bytes) 4) [
+  | inl short ↦ subst (RefusesOption bytes) (sym (why_one bytes refusal.Fields short)) short
+  | inr reaches ↦
+      let told = data_cut bytes reaches none_ in
+      subst (RefusesOption bytes) (sym (why_one bytes refusal.Data told)) told
+]
+
 -- ---- answers
 
 -- how an answer came about
 pub data Given (bytes : List ℕ) (answer : Answer) (rest : List ℕ) : Type 0 where
   read : (option : OptionValue) → answer ≡ Ok option → IsOption bytes option rest → Given bytes answer rest
-  broken : (refusal : Error) → answer ≡ Err refusal → rest ≡ [] → 1 ≤ length bytes → option_at bytes ≡ None
+  broken : answer ≡ Err (why_none bytes) → rest ≡ [] → 1 ≤ length bytes → option_at bytes ≡ None
       → Given bytes answer rest
 
 same_pair : (p q : Answer × List ℕ) → Some p ≡ Some q → p ≡ q
 same_pair p q e = cc
 
 given_by : (bytes rest : List ℕ) (answer : Answer) (o : Option (OptionValue × List ℕ)) → 1 ≤ length bytes
-    → option_at bytes ≡ o → answer_by o ≡ Some (answer, rest) → Given bytes answer rest
+    → option_at bytes ≡ o → answer_by bytes o ≡ Some (answer, rest) → Given bytes answer rest
 given_by bytes rest answer None some e f =
-    let same = same_pair (answer, rest) (Err (record {}), []) (sym f) in
-    broken (record {}) (ap (λ (p : Answer × List ℕ). p.0) same) (ap (λ (p : Answer × List ℕ). p.1) same) some e
+    let same = same_pair (answer, rest) (Err (why_none bytes), []) (sym f) in
+    broken (ap (λ (p : Answer × List ℕ). p.0) same) (ap (λ (p : Answer × List ℕ). p.1) same) some e
 given_by bytes rest answer (Some (option, after)) some e f =
     let same = same_pair (answer, rest) (Ok option, after) (sym f) in
     read option (ap (λ (p : Answer × List ℕ). p.0) same)
@@ -98,19 +126,19 @@ given (x ∷ xs) rest answer e = given_by (x ∷ xs) rest answer (option_at (x �
 pub answers_shrink : Shrinks answer_at
 answers_shrink bytes rest answer e = elim (given bytes rest answer e) [
   | read option f is ↦ option_shrinks bytes rest option is
-  | broken refusal f none_ some g ↦ omega (arith, some, ap length none_)
+  | broken f none_ some g ↦ omega (arith, some, ap length none_)
 ]
 
-some_answer : {A : Type 0} (o : Option (OptionValue × List ℕ)) → answer_by o ≡ None → A
-some_answer None e = cc
-some_answer (Some (option, rest)) e = cc
+some_answer : {A : Type 0} (bytes : List ℕ) (o : Option (OptionValue × List ℕ)) → answer_by bytes o ≡ None → A
+some_answer bytes None e = cc
+some_answer bytes (Some (option, rest)) e = cc
 
 pub nothing_left : (bytes : List ℕ) → answer_at bytes ≡ None → bytes ≡ []
 nothing_left [] e = refl
-nothing_left (x ∷ xs) e = some_answer (option_at (x ∷ xs)) e
+nothing_left (x ∷ xs) e = some_answer (x ∷ xs) (option_at (x ∷ xs)) e
 
 -- the next answer is of an option, or of none, or there is none
-answer_some : (bytes : List ℕ) → 1 ≤ length bytes → answer_at bytes ≡ answer_by (option_at bytes)
+answer_some : (bytes : List ℕ) → 1 ≤ length bytes → answer_at bytes ≡ answer_by bytes (option_at bytes)
 answer_some [] some = absurd (omega (arith, some))
 answer_some (x ∷ xs) some = refl
 
@@ -118,25 +146,24 @@ pub answers_option : (bytes rest : List ℕ) (option : OptionValue) → IsOption
     → answers_in bytes ≡ Ok option ∷ answers_in rest
 answers_option bytes rest option is =
     ahead_some answer_at answers_shrink bytes rest (Ok option)
-    (answer_some bytes (omega (arith, is.reaches)) ∙ ap answer_by (option_first bytes rest option is))
+    (answer_some bytes (omega (arith, is.reaches)) ∙ ap (answer_by bytes) (option_first bytes rest option is))
 
 pub answers_nothing : answers_in [] ≡ []
 answers_nothing = ahead_none answer_at answers_shrink [] refl
 
-pub no_option : (bytes : List ℕ) → ((option : OptionValue) (rest : List ℕ) → IsOption bytes option rest → ⊥)
-    → option_at bytes ≡ None
+no_option : (bytes : List ℕ) → (HasOption bytes → ⊥) → option_at bytes ≡ None
 no_option bytes none_ = elim (front option_at bytes) [
   | none e ↦ e
-  | one option rest e ↦ absurd (none_ option rest (option_is bytes rest option e))
+  | one option rest e ↦ absurd (none_ (option, rest, option_is bytes rest option e))
 ]
 
-pub answers_broken : (bytes : List ℕ) (refusal : Error) → 1 ≤ length bytes
-    → ((option : OptionValue) (rest : List ℕ) → IsOption bytes option rest → ⊥)
-    → answers_in bytes ≡ Err refusal ∷ []
-answers_broken bytes refusal some none_ =
-    ahead_some answer_at answers_shrink bytes [] (Err refusal)
-    (answer_some bytes some ∙ ap answer_by (no_option bytes none_))
-    ∙ ap (λ (more : List Answer). Err refusal ∷ more) answers_nothing
+pub answers_broken : (bytes : List ℕ) (why : OptionRefusal) → 1 ≤ length bytes → (HasOption bytes → ⊥)
+    → RefusesOption bytes why → answers_in bytes ≡ Err why ∷ []
+answers_broken bytes why some none_ told =
+    ahead_some answer_at answers_shrink bytes [] (Err why)
+    (answer_some bytes some ∙ (ap (answer_by bytes) (no_option bytes none_)
+    ∙ ap (λ (w : OptionRefusal). Some (Err w, [])) (why_one bytes why told)))
+    ∙ ap (λ (more : List Answer). Err why ∷ more) answers_nothing
 
 -- ---- the tiling
 
@@ -144,19 +171,20 @@ pub tile_one : (bytes : List ℕ) (answers : List Answer) → Tile bytes answers
 tile_one bytes [] tile = sym (ap answers_in tile ∙ answers_nothing)
 tile_one bytes (Ok option ∷ answers) (rest, is, more) =
     ap (λ (l : List Answer). Ok option ∷ l) (tile_one rest answers more) ∙ sym (answers_option bytes rest option is)
-tile_one bytes (Err refusal ∷ answers) (some, none_, last) =
-    ap (λ (l : List Answer). Err refusal ∷ l) last ∙ sym (answers_broken bytes refusal some none_)
+tile_one bytes (Err why ∷ answers) (some, none_, told, last) =
+    ap (λ (l : List Answer). Err why ∷ l) last ∙ sym (answers_broken bytes why some none_ told)
 
-none_at : (bytes : List ℕ) → option_at bytes ≡ None → (option : OptionValue) (rest : List ℕ)
-    → IsOption bytes option rest → ⊥
-none_at bytes e option rest is = let f = sym e ∙ option_first bytes rest option is in cc
+none_at : (bytes : List ℕ) → option_at bytes ≡ None → HasOption bytes → ⊥
+none_at bytes e (option, rest, is) = let f = sym e ∙ option_first bytes rest option is in cc f
 
 tile_turn : (bytes rest : List ℕ) (answer : Answer) → Given bytes answer rest → Tile rest (answers_in rest)
     → Tile bytes (answers_in bytes)
 tile_turn bytes rest answer (read option e is) more =
     subst (Tile bytes) (sym (answers_option bytes rest option is)) (rest, is, more)
-tile_turn bytes rest answer (broken refusal e last some f) more =
-    subst (Tile bytes) (sym (answers_broken bytes refusal some (none_at bytes f))) (some, none_at bytes f, refl)
+tile_turn bytes rest answer (broken e last some f) more =
+    let none_ = none_at bytes f in
+    let told = why_told bytes none_ in
+    subst (Tile bytes) (sym (answers_broken bytes (why_none bytes) some none_ told)) (some, none_, told, refl)
 
 tile_end : (bytes : List ℕ) → answer_at bytes ≡ None → Tile bytes (answers_in bytes)
 tile_end bytes e = subst (Tile bytes) (sym (ahead_none answer_at answers_shrink bytes e)) (nothing_left bytes e)

@@ -16,7 +16,6 @@ use Rattle.std.specs.Prelude.{◌≡◌, ℕ, ◌+◌, ◌*◌, ◌/◌, ◌%◌
 use Rattle.std.specs.Prelude.{List, [], ◌∷◌, length, take, drop}
 use Rattle.std.specs.Prelude.{Option, None, Some, Result, Ok, Err}
 use Rattle.wirebase.specs.Bytes.{Field, field, Reaches, number_of}
-use Rattle.wirebase.specs.declared.error.Error.{Error}
 use Rattle.record_wire.specs.Ahead.{ahead}
 use Rattle.record_wire.specs.Record.{RecordValue}
 use Rattle.record_wire.specs.declared.edns.Edns.{Edns}
@@ -94,17 +93,16 @@ abbrev pub RefusesOption : List ℕ → OptionRefusal → Type 0
 RefusesOption bytes refusal.Fields = length bytes < 4
 RefusesOption bytes refusal.Data = Reaches option_length_field bytes × (length (drop 4 bytes) < option_len bytes)
 
--- an answer: an option, or the refusal of what follows
+-- an answer: an option, or why none follows
 abbrev pub Answer : Type 0
-Answer = Result OptionValue Error
+Answer = Result OptionValue OptionRefusal
 
--- Options one after another up to the end of the bytes, or up to a place where none stands, which is answered by one
--- refusal.
+-- Options one after another up to the end of the bytes, or up to a place where none stands, which is answered by the
+-- reason for that.
 abbrev pub Tile : List ℕ → List Answer → Type 0
 Tile bytes [] = bytes ≡ []
 Tile bytes (Ok option ∷ answers) = (rest : List ℕ) × IsOption bytes option rest × Tile rest answers
-Tile bytes (Err refusal ∷ answers) =
-    (1 ≤ length bytes) × ((option : OptionValue) (rest : List ℕ) → IsOption bytes option rest → ⊥) × (answers ≡ [])
+Tile bytes (Err why ∷ answers) = (1 ≤ length bytes) × (HasOption bytes → ⊥) × RefusesOption bytes why × (answers ≡ [])
 
 -- ---- as they are computed
 
@@ -117,13 +115,17 @@ option_at bytes =
     )
     else None
 
-abbrev pub answer_by : Option (OptionValue × List ℕ) → Option (Answer × List ℕ)
-answer_by None = Some (Err (record {}), [])
-answer_by (Some (option, rest)) = Some (Ok option, rest)
+-- why none begins in bytes in which none begins
+abbrev pub why_none : List ℕ → OptionRefusal
+why_none bytes = if nat_le 4 (length bytes) then refusal.Data else refusal.Fields
+
+abbrev pub answer_by : List ℕ → Option (OptionValue × List ℕ) → Option (Answer × List ℕ)
+answer_by bytes None = Some (Err (why_none bytes), [])
+answer_by bytes (Some (option, rest)) = Some (Ok option, rest)
 
 abbrev pub answer_at : List ℕ → Option (Answer × List ℕ)
 answer_at [] = None
-answer_at (x ∷ xs) = answer_by (option_at (x ∷ xs))
+answer_at (x ∷ xs) = answer_by (x ∷ xs) (option_at (x ∷ xs))
 
 abbrev pub answers_in : List ℕ → List Answer
 answers_in bytes = ahead answer_at bytes

@@ -11,8 +11,8 @@ ghost use Rattle.record_wire.specs.Edns.{HasOption, Answer, Tile};
 use crate::multicast;
 use crate::record::Record;
 use crate::text::words::Digits;
-use std::fmt;
 use std::marker::Model;
+use std::{fmt, result};
 use wirebase::{Error, Octets, Result};
 
 // The fields of an option; their picture is in specs/Edns.antt.
@@ -43,7 +43,7 @@ const DNSSEC_OK: u16 = 0x8000;
 /// for option in edns.options() {
 ///     assert_eq!(option?.code, 10);
 /// }
-/// # Ok::<(), control_wire::Error>(())
+/// # Ok::<(), Box<dyn std::error::Error>>(())
 /// ```
 #[derive(Debug, PartialEq, Eq, Clone, Copy)]
 pub struct Edns<'a> {
@@ -242,11 +242,10 @@ impl fmt::Display for OptionRefusal {
 }
 
 /// The options in the data of an OPT record in turn: each one while they read, one refusal where no whole option
-/// stands, and then the end for good. A caller who asks where and why reads them by [`EdnsOption::parse`] and
-/// [`EdnsOption::refusal`].
+/// stands, which says why, as [`EdnsOption::refusal`] does, and then the end for good.
 ///
 /// ```
-/// use record_wire::EdnsOptions;
+/// use record_wire::{EdnsOptions, OptionRefusal};
 ///
 /// // A cookie of a client (RFC 7873 section 4).
 /// let mut options = EdnsOptions::new(b"\0\x0a\0\x08cookie!!");
@@ -254,7 +253,10 @@ impl fmt::Display for OptionRefusal {
 /// assert_eq!((cookie.code, cookie.data), (10, &b"cookie!!"[..]));
 /// assert_eq!(cookie.to_string(), "cookie=636f6f6b69652121");
 /// assert!(options.next().is_none());
-/// # Ok::<(), control_wire::Error>(())
+/// let mut cut = EdnsOptions::new(b"\0\x0a\0\x08cookie!");
+/// assert_eq!(cut.next(), Some(Err(OptionRefusal::Data)));
+/// assert!(cut.next().is_none());
+/// # Ok::<(), OptionRefusal>(())
 /// ```
 #[derive(Debug, Drop)]
 pub struct EdnsOptions<'a> {
@@ -284,13 +286,13 @@ impl<'a> EdnsOptions<'a> {
 impl<'a> Iterator for EdnsOptions<'a> {
     ghost use Rattle.std.specs.Iterator.{at_most};
 
-    type Item = Result<EdnsOption<'a>>;
+    type Item = result::Result<EdnsOption<'a>, OptionRefusal>;
 
     ghost next_gives = { GivesFirst option_of };
 
     ghost remaining = { λ answers. at_most (length answers) };
 
-    fn next(&mut self) -> Option<Result<EdnsOption<'a>>> {
+    fn next(&mut self) -> Option<result::Result<EdnsOption<'a>, OptionRefusal>> {
         if self.left.is_empty() {
             return None;
         }
@@ -299,12 +301,24 @@ impl<'a> Iterator for EdnsOptions<'a> {
                 self.left = rest;
                 Some(Ok(option))
             }
-            Err(error) => {
+            Err(_) => {
+                let refusal = why_no_option(self.left);
                 self.left = &[];
-                Some(Err(error))
+                Some(Err(refusal))
             }
         }
     }
+}
+
+// Why octets that begin with no option do not.
+fn why_no_option(octets: &[u8]) -> OptionRefusal
+    requires { HasOption octets.now → ⊥ }
+    ensures { RefusesOption octets.now result }
+{
+    if octets.len() < field::DATA {
+        return OptionRefusal::Fields;
+    }
+    OptionRefusal::Data
 }
 
 #[cfg(test)]

@@ -5,10 +5,14 @@ use crate::record::Record;
 use crate::testing::{prints, same_of};
 use dns_wire::dns::Type;
 use std::process::Abort;
-use wirebase::{Error, Result};
+use std::result;
 
 // Ends the test unless these octets have these options and no more.
-fn check(rt: &impl Abort, octets: &[u8], options: &[Result<EdnsOption<'_>>]) {
+fn check(
+    rt: &impl Abort,
+    octets: &[u8],
+    options: &[result::Result<EdnsOption<'_>, OptionRefusal>],
+) {
     let mut left = EdnsOptions::new(octets);
     for &option in options {
         same_of(rt, octets, left.next(), Some(option));
@@ -32,10 +36,14 @@ fn options_of_opt_data(rt: HostRuntime) {
         data: b"",
     };
     check(&rt, octets, &[Ok(cookie), Ok(padding)]);
-    check(&rt, &octets[..15], &[Ok(cookie), Err(Error)]);
+    check(
+        &rt,
+        &octets[..15],
+        &[Ok(cookie), Err(OptionRefusal::Fields)],
+    );
     check(&rt, &octets[..12], &[Ok(cookie)]);
-    check(&rt, &octets[..11], &[Err(Error)]);
-    check(&rt, &octets[..3], &[Err(Error)]);
+    check(&rt, &octets[..11], &[Err(OptionRefusal::Data)]);
+    check(&rt, &octets[..3], &[Err(OptionRefusal::Fields)]);
     check(&rt, b"", &[]);
 }
 
@@ -106,7 +114,12 @@ fn options_of_an_opt_record(rt: HostRuntime) {
     };
     let mut options = edns.options();
     same_of(&rt, record, options.next(), Some(Ok(padding)));
-    same_of(&rt, record, options.next(), Some(Err(Error)));
+    same_of(
+        &rt,
+        record,
+        options.next(),
+        Some(Err(OptionRefusal::Fields)),
+    );
     same_of(&rt, record, options.next(), None);
 }
 

@@ -22,14 +22,19 @@ returns-in-Ok-clause-steps c =
 pub returns-in-Ok-clause-goes : goal.returns-in-Ok-clause-goes
 returns-in-Ok-clause-goes c = answer-progress option_of _ _ _ (returns-in-Ok-clause-steps c)
 
+pub why_no_option-refusal-requires : goal.why_no_option-refusal-requires
+why_no_option-refusal-requires c (option, rest, is) = absurd (c.in-Err.ensures.complete option rest is)
+
 pub returns-in-Err-clause-steps : goal.returns-in-Err-clause-steps
 returns-in-Err-clause-steps c =
     let left = c.self.inside.left.now in
+    let why = c.why_no_option-refusal.result in
     let some : 1 ≤ length left =
     omega (arith, eqb-false (length left) 0 (sym c.is_empty.ensures ∙ c.if-is_empty.false)) in
     sym c.self.view_is
-    ∙ (answers_broken left _ some (λ option rest is. absurd (c.in-Err.ensures.complete option rest is))
-    ∙ ap (λ (more : List Answer). Err (record {}) ∷ more) (sym answers_nothing))
+    ∙ (answers_broken left why some (λ (option, rest, is). absurd (c.in-Err.ensures.complete option rest is))
+    c.why_no_option-refusal.ensures
+    ∙ ap (λ (more : List Answer). Err why ∷ more) (sym answers_nothing))
 
 pub returns-in-Err-clause-goes : goal.returns-in-Err-clause-goes
 returns-in-Err-clause-goes c = answer-progress option_of _ _ _ (returns-in-Err-clause-steps c)
