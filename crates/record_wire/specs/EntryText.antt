@@ -1,5 +1,5 @@
--- An entry of a message with its names read, and its line: the section, what a zone file has of it, and in multicast DNS
--- a mark where the top bit of its class is set (RFC 6762 sections 5.4 and 10.2).
+-- An entry of a message with its names read, and its line: the section, what a zone file has of the entry, and in
+-- multicast DNS a mark where the top bit of its class is set (RFC 6762 sections 5.4 and 10.2).
 use Rattle.std.specs.Prelude.{◌≡◌, ℕ, ◌&&◌, Bool, if◌then◌else◌, List, [], ◌∷◌, codes}
 use Rattle.wirebase.specs.Display.{pieces}
 use Rattle.dns_wire.specs.declared.dns.tables.Type.{«Type» as RecordType}
