@@ -12,10 +12,12 @@ use Rattle.std.proofs.lemmas.List.{take-append-drop, take-append-le, drop-append
 use Rattle.std.proofs.lemmas.List.{take_at, drop_at}
 use Rattle.byteorder.specs.Endian.{big_number}
 use Rattle.wirebase.specs.Bytes.{part, byte_of, number_of}
-use Rattle.wirebase.specs.declared.error.Error.{Error}
-use Rattle.icmp6_wire.specs.MldRecord.{aux_data_len_field, num_srcs_field}
-use Rattle.icmp6_wire.specs.MldIterators.{record_len_in, Answer, AreRecords, ends, goes_on, breaks, after_record}
+use Rattle.icmp6_wire.specs.MldRecord.{aux_data_len_field, num_srcs_field, record_len_in}
+use Rattle.icmp6_wire.specs.MldRefusal.{RefusesRecord}
+use Rattle.icmp6_wire.specs.MldIterators.{Answer, AreRecords, ends, goes_on, breaks, first_refusal, after_record}
 use Rattle.icmp6_wire.specs.MldIterators.{records_ahead, AreSources, sources_ahead, sources_in}
+use Rattle.icmp6_wire.specs.declared.mld.refusal.RecordRefusal.{RecordRefusal}
+use Rattle.icmp6_wire.specs.declared.mld.refusal.RecordRefusal.TheVariants as record_refusal
 
 -- an answer that is taken off leaves fewer
 pub first_off : {X A : Type 0} (old new : List X) (first : X) (given : A) → old ≡ first ∷ new
@@ -52,6 +54,30 @@ front_len bytes fits =
     let whole = len_at (take n bytes) (drop n bytes) (omega (arith, long)) in
     long ∙ sym same ∙ whole
 
+-- one reason alone holds of bytes
+refusal-one : (bytes : List ℕ) (one other : RecordRefusal) → RefusesRecord bytes one → RefusesRecord bytes other
+    → one ≡ other
+refusal-one bytes record_refusal.Short record_refusal.Short short also = refl
+refusal-one bytes record_refusal.Short record_refusal.Cut short cut = absurd (omega (arith, short, cut.0))
+refusal-one bytes record_refusal.Cut record_refusal.Short cut short = absurd (omega (arith, cut.0, short))
+refusal-one bytes record_refusal.Cut record_refusal.Cut cut also = refl
+
+-- with it the bytes end before a record does
+refused_len : (bytes : List ℕ) (refusal : RecordRefusal) → RefusesRecord bytes refusal
+    → length bytes < record_len_in bytes
+refused_len bytes record_refusal.Short short = omega (arith, short)
+refused_len bytes record_refusal.Cut cut = cut.1
+
+-- and where they do, the reason that is computed holds
+refused_as : (bytes : List ℕ) (fields : Bool) → nat_le 20 (length bytes) ≡ fields → length bytes < record_len_in bytes
+    → RefusesRecord bytes (first_refusal fields)
+refused_as bytes true e less = (leb-true 20 (length bytes) e, less)
+refused_as bytes false e less = leb-false 20 (length bytes) e
+
+first_refused : (bytes : List ℕ) → length bytes < record_len_in bytes
+    → RefusesRecord bytes (first_refusal (nat_le 20 (length bytes)))
+first_refused bytes less = refused_as bytes (nat_le 20 (length bytes)) refl less
+
 -- the records that are computed are records
 records_step : (n : ℕ) (bytes : List ℕ) → ((rest : List ℕ) → AreRecords n rest (records_ahead n rest)) → (fits : Bool)
     → nat_le (record_len_in bytes) (length bytes) ≡ fits
@@ -60,7 +86,9 @@ records_step n bytes go true e =
     let len : ℕ = record_len_in bytes in
     goes_on (take len bytes) (drop len bytes) (front_len bytes (leb-true len (length bytes) e)) (go (drop len bytes))
     (sym (take-append-drop len bytes))
-records_step n bytes go false e = breaks (record {}) (inr (leb-false (record_len_in bytes) (length bytes) e))
+records_step n bytes go false e =
+    let less = leb-false (record_len_in bytes) (length bytes) e in
+    breaks (first_refusal (nat_le 20 (length bytes))) (inr less) (first_refused bytes less)
 
 pub records_of : (n : ℕ) (bytes : List ℕ) → AreRecords n bytes (records_ahead n bytes)
 unfolding records_ahead
@@ -98,9 +126,10 @@ records-unique n bytes answers others (goes_on {n = m} {answers = a} f r l t e) 
     let rests : r ≡ s = sym (drop_at f r len one) ∙ ap (λ (b : List ℕ). drop len b) (sym e ∙ i) ∙ drop_at g s len two in
     let more : a ≡ b = records-unique m r a b t (subst (λ (x : List ℕ). AreRecords m x b) (sym rests) u) in
     ap (λ (x : List ℕ). Ok x ∷ a) fronts ∙ ap (λ (x : List Answer). Ok g ∷ x) more
-records-unique n bytes answers others (goes_on f r l t e) (breaks x few) = absurd (no_front bytes f r l e few)
-records-unique n bytes answers others (breaks x few) (goes_on g s k u i) = absurd (no_front bytes g s k i few)
-records-unique n bytes answers others (breaks x few) (breaks y fewer) = refl
+records-unique n bytes answers others (goes_on f r l t e) (breaks x few why) = absurd (no_front bytes f r l e few)
+records-unique n bytes answers others (breaks x few why) (goes_on g s k u i) = absurd (no_front bytes g s k i few)
+records-unique n bytes answers others (breaks x few why) (breaks y fewer also) =
+    ap (λ (refusal : RecordRefusal). Err refusal ∷ []) (refusal-one bytes x y why also)
 
 -- what a call of `next` gives
 pub one_less : (n : ℕ) → (n ≡ 0 → ⊥) → n ≡ suc (n - 1)
@@ -125,17 +154,19 @@ record_ahead (suc n) m bytes rest e fits r =
     ∙ ap (λ (b : List ℕ). Ok (take len bytes) ∷ records_ahead m b) (sym r)
 
 refused_by : (len : ℕ) (bytes : List ℕ) (go : List ℕ → List Answer) (fits : Bool) → nat_le len (length bytes) ≡ fits
-    → length bytes < len → (refusal : Error) → after_record fits len bytes go ≡ Err refusal ∷ []
-refused_by len bytes go true e less refusal = absurd (omega (arith, leb-true len (length bytes) e, less))
-refused_by len bytes go false e less refusal = refl
+    → length bytes < len → after_record fits len bytes go ≡ Err (first_refusal (nat_le 20 (length bytes))) ∷ []
+refused_by len bytes go true e less = absurd (omega (arith, leb-true len (length bytes) e, less))
+refused_by len bytes go false e less = refl
 
-pub refusal_ahead : (n m : ℕ) (bytes : List ℕ) (refusal : Error) → (n ≡ 0 → ⊥) → length bytes < record_len_in bytes
+pub refusal_ahead : (n m : ℕ) (bytes : List ℕ) (refusal : RecordRefusal) → (n ≡ 0 → ⊥) → RefusesRecord bytes refusal
     → m ≡ 0 → records_ahead n bytes ≡ Err refusal ∷ records_ahead m bytes
 unfolding records_ahead
-refusal_ahead zero m bytes refusal some less e = absurd (some refl)
-refusal_ahead (suc n) m bytes refusal some less e =
+refusal_ahead zero m bytes refusal some why e = absurd (some refl)
+refusal_ahead (suc n) m bytes refusal some why e =
+    let less = refused_len bytes refusal why in
+    let told = refusal-one bytes _ refusal (first_refused bytes less) why in
     refused_by (record_len_in bytes) bytes (records_ahead n) (nat_le (record_len_in bytes) (length bytes)) refl less
-    refusal
+    ∙ ap (λ (r : RecordRefusal). Err r ∷ []) told
     ∙ ap (λ (l : List Answer). Err refusal ∷ l) (sym (none_ahead m bytes e))
 
 -- ---- sources

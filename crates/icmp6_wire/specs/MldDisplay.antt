@@ -61,3 +61,4 @@ refusal_display refusal.Length = codes "fewer bytes than the header of its type"
 
 abbrev pub record_refusal_display : RecordRefusal → List ℕ
 record_refusal_display record_refusal.Short = codes "fewer than 20 bytes"
+record_refusal_display record_refusal.Cut = codes "fewer bytes than its sources and its auxiliary data take"

@@ -1,48 +1,49 @@
 -- The records of a report in turn, each with its sources and its auxiliary data (RFC 3810 section 5.2), and the sources
 -- of a record in turn.
-use Rattle.std.specs.Prelude.{◌≡◌, ℕ, zero, suc, ◌+◌, ◌*◌, ◌/◌, ◌<◌, ◌⊎◌, min, nat_le, Bool, true, false, List}
+use Rattle.std.specs.Prelude.{◌≡◌, ℕ, zero, suc, ◌*◌, ◌/◌, ◌<◌, ◌⊎◌, min, nat_le, Bool, true, false, List}
 use Rattle.std.specs.Prelude.{[], ◌∷◌, ◌++◌, length, take, drop, Option, None, Some, Result, Ok, Err}
 use Rattle.std.specs.List.{AllByRecursion, concat}
-use Rattle.wirebase.specs.Bytes.{byte_of, number_of}
 use Rattle.wirebase.specs.Ipv6Address.{octets_of}
-use Rattle.wirebase.specs.declared.error.Error.{Error}
 use Rattle.wirebase.specs.declared.ipv6.address.Ipv6Address.{Ipv6Address}
-use Rattle.icmp6_wire.specs.MldRecord.{aux_data_len_field, num_srcs_field, value_of, IsRecord}
+use Rattle.icmp6_wire.specs.MldRecord.{record_len_in, value_of, IsRecord}
+use Rattle.icmp6_wire.specs.MldRefusal.{RefusesRecord}
 use Rattle.icmp6_wire.specs.declared.mld.record.AddressRecordRepr.{AddressRecordRepr}
+use Rattle.icmp6_wire.specs.declared.mld.refusal.RecordRefusal.{RecordRefusal}
+use Rattle.icmp6_wire.specs.declared.mld.refusal.RecordRefusal.TheVariants as record_refusal
 
 -- ---- records
 
--- the bytes of the record at the front of some bytes, by its own counts: its fields, its sources of 16 bytes, and its
--- auxiliary data in words of 4
-abbrev pub record_len_in : List ℕ → ℕ
-record_len_in bytes = 20 + 16 * number_of num_srcs_field bytes + 4 * byte_of aux_data_len_field bytes
-
--- an answer: all the bytes of a record, or the refusal of what follows
+-- an answer: all the bytes of a record, or why what follows is none
 abbrev pub Answer : Type 0
-Answer = Result (List ℕ) Error
+Answer = Result (List ℕ) RecordRefusal
 
 -- So many records one after another, whatever stands behind them; or those in front of a place where the bytes end
--- before a record does, which is answered by one refusal.
+-- before a record does, which is answered by one refusal, with the check that fails first.
 pub data AreRecords : ℕ → List ℕ → List Answer → Type 0 where
   ends : {bytes : List ℕ} → AreRecords 0 bytes []
   goes_on : {n : ℕ} {bytes : List ℕ} {answers : List Answer} (front rest : List ℕ)
       → length front ≡ record_len_in front → AreRecords n rest answers → bytes ≡ front ++ rest
       → AreRecords (suc n) bytes (Ok front ∷ answers)
-  breaks : {n : ℕ} {bytes : List ℕ} (refusal : Error)
-      → (length bytes < 20) ⊎ (length bytes < record_len_in bytes) → AreRecords (suc n) bytes (Err refusal ∷ [])
+  breaks : {n : ℕ} {bytes : List ℕ} (refusal : RecordRefusal)
+      → (length bytes < 20) ⊎ (length bytes < record_len_in bytes) → RefusesRecord bytes refusal
+      → AreRecords (suc n) bytes (Err refusal ∷ [])
 
 -- A call of `next` gives what is read in the bytes of the first answer, and takes that off; where none is left it gives
 -- None, and none is left still.
-abbrev pub GivesRecord : List Answer → Option (Result AddressRecordRepr Error) → List Answer → Type 0
+abbrev pub GivesRecord : List Answer → Option (Result AddressRecordRepr RecordRefusal) → List Answer → Type 0
 GivesRecord old None new = (old ≡ []) × (new ≡ [])
 GivesRecord old (Some (Ok record_)) new =
     (bytes : List ℕ) × IsRecord bytes (value_of record_) × (old ≡ Ok bytes ∷ new)
 GivesRecord old (Some (Err refusal)) new = old ≡ Err refusal ∷ new
 
--- the answers as they are computed, which the iterator's model needs
+-- the answers as they are computed, which the iterator's model needs; the reason goes by whether there are 20 bytes
+abbrev pub first_refusal : Bool → RecordRefusal
+first_refusal true = record_refusal.Cut
+first_refusal false = record_refusal.Short
+
 abbrev pub after_record : Bool → ℕ → List ℕ → (List ℕ → List Answer) → List Answer
 after_record true len bytes go = Ok (take len bytes) ∷ go (drop len bytes)
-after_record false len bytes go = Err (record {}) ∷ []
+after_record false len bytes go = Err (first_refusal (nat_le 20 (length bytes))) ∷ []
 
 unfoldable pub records_ahead : ℕ → List ℕ → List Answer
 records_ahead zero bytes = []
@@ -51,7 +52,7 @@ records_ahead (suc n) bytes =
 
 -- ---- sources
 
--- The first so many addresses of 16 bytes, as many of them as the bytes hold whole.
+-- The first so many addresses of 16 bytes, of a record or of a query, as many of them as the bytes hold whole.
 pub record AreSources (count : ℕ) (bytes : List ℕ) (sources : List (List ℕ)) : Type 0 where
   pub number : length sources ≡ min count (length bytes / 16)
   pub each : AllByRecursion (λ source. length source ≡ 16) sources

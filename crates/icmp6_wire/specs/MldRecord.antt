@@ -9,7 +9,7 @@
 -- +---------------------------------------------------------------+
 -- | sources and auxiliary data
 -- +- - - -
-use Rattle.std.specs.Prelude.{◌≡◌, ℕ, ◌<◌, ◌^◌, List, [], ◌∷◌, length, drop}
+use Rattle.std.specs.Prelude.{◌≡◌, ℕ, ◌+◌, ◌*◌, ◌<◌, ◌^◌, List, [], ◌∷◌, length, drop}
 use Rattle.std.specs.Borrow.{Bor}
 use Rattle.wirebase.specs.Bytes.{Field, field, Reaches, Writes, bytes_of, byte_of, number_of, over}
 use Rattle.wirebase.specs.ByteWriter.{be8, be16, fields}
@@ -58,6 +58,11 @@ mcast_addr_field = field 4 20
 -- what stands after them
 abbrev pub payload_in : List ℕ → List ℕ
 payload_in bytes = drop 20 bytes
+
+-- the bytes of the record at the front of some bytes, by its own counts: its fields, its sources of 16 bytes, and its
+-- auxiliary data in words of 4
+abbrev pub record_len_in : List ℕ → ℕ
+record_len_in bytes = 20 + 16 * number_of num_srcs_field bytes + 4 * byte_of aux_data_len_field bytes
 
 -- a record by its content: its type, the words of auxiliary data, the number of sources, the group, and what stands
 -- after

@@ -5,7 +5,7 @@ use Rattle.wirebase.specs.Icmp.{type_field}
 use Rattle.icmp6_wire.specs.Icmpv6Packet.{message_in, header_len_in}
 use Rattle.icmp6_wire.specs.Icmpv6Tables.{is_mld, message_of}
 use Rattle.icmp6_wire.specs.Mld.{MldValue, IsMessage}
-use Rattle.icmp6_wire.specs.MldRecord.{RecordValue, IsRecord}
+use Rattle.icmp6_wire.specs.MldRecord.{RecordValue, IsRecord, record_len_in}
 use Rattle.icmp6_wire.specs.declared.mld.refusal.Refusal.{Refusal}
 use Rattle.icmp6_wire.specs.declared.mld.refusal.Refusal.TheVariants as refusal
 use Rattle.icmp6_wire.specs.declared.mld.refusal.RecordRefusal.{RecordRefusal}
@@ -32,6 +32,8 @@ Refuses bytes refusal.Length =
 abbrev pub IsReadRecord : List ℕ → Type 0
 IsReadRecord bytes = (value : RecordValue) × IsRecord bytes value
 
--- the one check: there are the 20 bytes of a record's fields
+-- The checks in their order: there are the 20 bytes of a record's fields; and there are the sources and the auxiliary
+-- data that it counts. A record alone is read by the first check, and the records of a report by both.
 abbrev pub RefusesRecord : List ℕ → RecordRefusal → Type 0
 RefusesRecord bytes record_refusal.Short = length bytes < 20
+RefusesRecord bytes record_refusal.Cut = (20 ≤ length bytes) × (length bytes < record_len_in bytes)

@@ -244,13 +244,21 @@ impl<'a> AddressRecordRepr<'a> {
         ensures refuses { IsErr result → length (view_octets view.now) < 20 }
     {
         view.check_len()?;
-        Ok(AddressRecordRepr {
+        Ok(AddressRecordRepr::read_whole(view))
+    }
+
+    // The record at the front of 20 octets or more.
+    pub(super) fn read_whole(view: &AddressRecord<&'a [u8]>) -> AddressRecordRepr<'a>
+        requires { Reaches mcast_addr_field (view_octets view.now) }
+        ensures { IsRecord (view_octets view.now) (value_of result) }
+    {
+        AddressRecordRepr {
             record_type: view.record_type(),
             aux_data_len: view.aux_data_len(),
             num_srcs: view.num_srcs(),
             mcast_addr: view.mcast_addr(),
             payload: view.payload(),
-        })
+        }
     }
 
     /// The bytes that the record takes, without what stands after its fields: 20.

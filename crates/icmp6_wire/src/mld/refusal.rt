@@ -34,11 +34,15 @@ impl fmt::Display for Refusal {
     }
 }
 
-/// Why octets are no record that [`AddressRecordRepr::parse`] reads.
+/// Why octets are no record that [`AddressRecordRepr::parse`] reads or that [`Records`](super::Records) gives: the check
+/// that fails first.
 #[derive(Debug, PartialEq, Eq, Clone, Copy)]
 pub enum RecordRefusal {
     /// Fewer than 20 bytes.
     Short,
+    /// Fewer bytes than the sources and the auxiliary data that the record counts take. [`Records`](super::Records) alone
+    /// tells it: `parse` does not compare the counts with what stands after them.
+    Cut,
 }
 
 impl fmt::Display for RecordRefusal {
@@ -47,6 +51,9 @@ impl fmt::Display for RecordRefusal {
     fn fmt<W: fmt::Write>(&self, f: &mut fmt::Formatter<W>) -> fmt::Result {
         match self {
             RecordRefusal::Short => f.write_str("fewer than 20 bytes"),
+            RecordRefusal::Cut => {
+                f.write_str("fewer bytes than its sources and its auxiliary data take")
+            }
         }
     }
 }
@@ -80,7 +87,8 @@ fn why(octets: &[u8]) -> Refusal
 }
 
 impl AddressRecordRepr<'_> {
-    /// Why [`AddressRecordRepr::parse`] refuses these octets; None where it reads a record at their front.
+    /// Why [`AddressRecordRepr::parse`] refuses these octets, which is always [`RecordRefusal::Short`]; None where it
+    /// reads a record at their front.
     pub fn refusal(view: &AddressRecord<&[u8]>) -> Option<RecordRefusal>
         ensures told { IfSome result (λ refusal. RefusesRecord (record_octets view.now) refusal) }
         ensures exact { IsNone result ↔ IsReadRecord (record_octets view.now) }

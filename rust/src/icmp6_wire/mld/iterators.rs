@@ -1,8 +1,8 @@
 // Made from crates/icmp6_wire/src/mld/iterators.rt by rust/erase.
-//! The records of a report in turn, and the sources of a record (RFC 3810 section 5.2).
+//! The records of a report in turn, and the sources of a record or of a query (RFC 3810 sections 5.1 and 5.2).
 
-use super::{AddressRecord, AddressRecordRepr, field};
-use crate::wirebase::{Error, Ipv6Address, Result};
+use super::{AddressRecord, AddressRecordRepr, RecordRefusal, field};
+use crate::wirebase::Ipv6Address;
 
 // The bytes of an address, and those of a word of auxiliary data.
 const ADDRESS_LEN: usize = 16;
@@ -10,8 +10,8 @@ const ADDRESS_LEN: usize = 16;
 const WORD_LEN: usize = 4;
 
 /// The records of a report in turn, each with its sources and its auxiliary data as its payload. Where the octets end
-/// before a record does, one refusal, and then the end for good. What stands behind the last record is left out (RFC
-/// 3810 section 5.2.11).
+/// before a record does, one refusal, which tells the check that fails first, and then the end for good. What stands
+/// behind the last record is left out (RFC 3810 section 5.2.11).
 #[derive(Debug)]
 pub struct Records<'a> {
     // How many records are left, and the octets behind those that were given.
@@ -21,6 +21,20 @@ pub struct Records<'a> {
 
 impl<'a> Records<'a> {
     /// So many records in these octets: the `nr_mcast_addr_rcrds` and the `data` of a report.
+    ///
+    /// ```
+    /// use control_wire::mld::{RecordRefusal, RecordType, Records};
+    ///
+    /// // Two records without sources, of which the second is cut.
+    /// let mut octets = [0; 39];
+    /// octets[0] = 4;
+    /// let mut records = Records::new(2, &octets);
+    /// let first = records.next().unwrap()?;
+    /// assert_eq!(first.record_type, RecordType::ChangeToExclude);
+    /// assert_eq!(records.next(), Some(Err(RecordRefusal::Short)));
+    /// assert_eq!(records.next(), None);
+    /// # Ok::<(), RecordRefusal>(())
+    /// ```
     pub fn new(count: u16, octets: &'a [u8]) -> Records<'a> {
         Records {
             left: count,
@@ -30,9 +44,9 @@ impl<'a> Records<'a> {
 }
 
 impl<'a> Iterator for Records<'a> {
-    type Item = Result<AddressRecordRepr<'a>>;
+    type Item = Result<AddressRecordRepr<'a>, RecordRefusal>;
 
-    fn next(&mut self) -> Option<Result<AddressRecordRepr<'a>>> {
+    fn next(&mut self) -> Option<Result<AddressRecordRepr<'a>, RecordRefusal>> {
         if self.left == 0 {
             return None;
         }
@@ -42,27 +56,29 @@ impl<'a> Iterator for Records<'a> {
                 self.rest = behind;
                 Some(Ok(record))
             }
-            Err(error) => {
+            Err(refusal) => {
                 self.left = 0;
-                Some(Err(error))
+                Some(Err(refusal))
             }
         }
     }
 }
 
-// The record at the front, with its sources and its auxiliary data, and what stands behind it. Refused where the octets
-// end before it does.
-fn split_record(octets: &[u8]) -> Result<(AddressRecordRepr<'_>, &[u8])> {
+// The record at the front, with its sources and its auxiliary data, and what stands behind it; or why the octets end
+// before it does.
+fn split_record(octets: &[u8]) -> Result<(AddressRecordRepr<'_>, &[u8]), RecordRefusal> {
+    if octets.len() < field::RECORD_MCAST_ADDR.end {
+        return Err(RecordRefusal::Short);
+    }
     let view = AddressRecord::new_unchecked(octets);
-    view.check_len()?;
     let sources = ADDRESS_LEN * view.num_srcs() as usize;
     let words = WORD_LEN * view.aux_data_len() as usize;
     let len = field::RECORD_MCAST_ADDR.end + sources + words;
     if octets.len() < len {
-        return Err(Error);
+        return Err(RecordRefusal::Cut);
     }
     let (front, behind) = octets.split_at(len);
-    let record = AddressRecordRepr::read(&AddressRecord::new_unchecked(front))?;
+    let record = AddressRecordRepr::read_whole(&AddressRecord::new_unchecked(front));
     Ok((record, behind))
 }
 
@@ -70,19 +86,46 @@ impl<'a> AddressRecordRepr<'a> {
     /// The sources of the record in turn: the first `num_srcs` addresses of the payload, as many of them as it holds
     /// whole.
     pub fn sources(&self) -> Sources<'a> {
-        let whole = self.payload.len() / ADDRESS_LEN;
-        let count = (self.num_srcs as usize).min(whole);
-        Sources {
-            rest: &self.payload[..ADDRESS_LEN * count],
-        }
+        Sources::new(self.num_srcs, self.payload)
     }
 }
 
-/// The sources of a record in turn (RFC 3810 section 5.2.10).
+/// The sources of a record or of a query in turn (RFC 3810 sections 5.2.9 and 5.1.11).
 #[derive(Debug)]
 pub struct Sources<'a> {
     // The octets behind the sources that were given.
     rest: &'a [u8],
+}
+
+impl<'a> Sources<'a> {
+    /// So many addresses in these octets, as many of them as the octets hold whole: the `num_srcs` and the `data` of a
+    /// query. What stands behind them is left out (RFC 3810 section 5.1.12).
+    ///
+    /// ```
+    /// use control_wire::Ipv6Address;
+    /// use control_wire::icmpv6::Packet;
+    /// use control_wire::mld::{Repr, Sources};
+    ///
+    /// // A router asks whether anyone listens to what 2001:db8::1 sends to ff02::fb.
+    /// let mut octets = [0; 44];
+    /// octets[0] = 130;
+    /// octets[8..24].copy_from_slice(&Ipv6Address::new(0xff02, 0, 0, 0, 0, 0, 0, 0xfb).octets());
+    /// octets[27] = 1;
+    /// let source = Ipv6Address::new(0x2001, 0xdb8, 0, 0, 0, 0, 0, 1);
+    /// octets[28..].copy_from_slice(&source.octets());
+    /// match Repr::parse(&Packet::new_checked(&octets)?)? {
+    ///     Repr::Query { num_srcs, data, .. } => assert!(Sources::new(num_srcs, data).eq([source])),
+    ///     _ => panic!("not a query"),
+    /// }
+    /// # Ok::<(), control_wire::Error>(())
+    /// ```
+    pub fn new(count: u16, octets: &'a [u8]) -> Sources<'a> {
+        let whole = octets.len() / ADDRESS_LEN;
+        let count = (count as usize).min(whole);
+        Sources {
+            rest: &octets[..ADDRESS_LEN * count],
+        }
+    }
 }
 
 impl<'a> Iterator for Sources<'a> {

@@ -152,13 +152,20 @@ impl<'a> AddressRecordRepr<'a> {
         view: &AddressRecord<&'a B>,
     ) -> Result<AddressRecordRepr<'a>> {
         view.check_len()?;
-        Ok(AddressRecordRepr {
+        Ok(AddressRecordRepr::read_whole(view))
+    }
+
+    // The record at the front of 20 octets or more.
+    pub(super) fn read_whole<B: AsRef<[u8]> + ?Sized>(
+        view: &AddressRecord<&'a B>,
+    ) -> AddressRecordRepr<'a> {
+        AddressRecordRepr {
             record_type: view.record_type(),
             aux_data_len: view.aux_data_len(),
             num_srcs: view.num_srcs(),
             mcast_addr: view.mcast_addr(),
             payload: view.payload(),
-        })
+        }
     }
 
     /// The bytes that the record takes, without what stands after its fields: 20.

@@ -26,17 +26,24 @@ impl fmt::Display for Refusal {
     }
 }
 
-/// Why octets are no record that [`AddressRecordRepr::parse`] reads.
+/// Why octets are no record that [`AddressRecordRepr::parse`] reads or that [`Records`](super::Records) gives: the check
+/// that fails first.
 #[derive(Debug, PartialEq, Eq, Clone, Copy)]
 pub enum RecordRefusal {
     /// Fewer than 20 bytes.
     Short,
+    /// Fewer bytes than the sources and the auxiliary data that the record counts take. [`Records`](super::Records) alone
+    /// tells it: `parse` does not compare the counts with what stands after them.
+    Cut,
 }
 
 impl fmt::Display for RecordRefusal {
     fn fmt(&self, f: &mut fmt::Formatter<'_>) -> fmt::Result {
         match self {
             RecordRefusal::Short => f.write_str("fewer than 20 bytes"),
+            RecordRefusal::Cut => {
+                f.write_str("fewer bytes than its sources and its auxiliary data take")
+            }
         }
     }
 }
@@ -64,7 +71,8 @@ fn why(octets: &[u8]) -> Refusal {
 }
 
 impl AddressRecordRepr<'_> {
-    /// Why [`AddressRecordRepr::parse`] refuses these octets; None where it reads a record at their front.
+    /// Why [`AddressRecordRepr::parse`] refuses these octets, which is always [`RecordRefusal::Short`]; None where it
+    /// reads a record at their front.
     pub fn refusal<B: AsRef<[u8]> + ?Sized>(view: &AddressRecord<&B>) -> Option<RecordRefusal> {
         match AddressRecordRepr::read(view) {
             Ok(_) => None,

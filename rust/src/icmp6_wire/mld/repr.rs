@@ -46,7 +46,7 @@ pub enum Repr<'a> {
         qqic: u8,
         /// The number of sources.
         num_srcs: u16,
-        /// The sources, and what stands behind them.
+        /// The sources, which [`Sources::new`](super::Sources::new) gives in turn, and what stands behind them.
         data: &'a [u8],
     },
     /// A host reports what it listens to.

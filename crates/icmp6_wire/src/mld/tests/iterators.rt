@@ -1,7 +1,9 @@
-use super::short_record;
-use crate::mld::{AddressRecordRepr, RecordType, Records};
-use crate::testing::same;
-use wirebase::{Error, IPV6_LINK_LOCAL_ALL_NODES, IPV6_LINK_LOCAL_ALL_ROUTERS};
+use super::{QUERY, short_record};
+use crate::icmpv6::Packet;
+use crate::mld::{AddressRecordRepr, RecordRefusal, RecordType, Records, Repr, Sources};
+use crate::testing::{holds_of, same, same_of};
+use std::process::Abort;
+use wirebase::{IPV6_LINK_LOCAL_ALL_NODES, IPV6_LINK_LOCAL_ALL_ROUTERS, Ipv6Address};
 
 // A record of ff02::1 with the source ff02::2 and a word of auxiliary data, and one of ff02::2 with neither.
 const RECORDS: [u8; 60] = [
@@ -44,14 +46,19 @@ fn what_stands_behind_the_last_record_is_left_out(rt: HostRuntime) {
 #[test]
 fn a_record_that_is_cut_is_refused_once(rt: HostRuntime) {
     for len in 0..40 {
+        let refusal = if len < 20 {
+            RecordRefusal::Short
+        } else {
+            RecordRefusal::Cut
+        };
         let mut records = Records::new(2, &RECORDS[..len]);
-        same(&rt, records.next(), Some(Err(Error)));
-        same(&rt, records.next(), None);
+        same_of(&rt, len, records.next(), Some(Err(refusal)));
+        same_of(&rt, len, records.next(), None);
     }
     let mut records = Records::new(3, &RECORDS);
     same(&rt, records.next(), Some(Ok(with_source())));
     same(&rt, records.next(), Some(Ok(bare())));
-    same(&rt, records.next(), Some(Err(Error)));
+    same(&rt, records.next(), Some(Err(RecordRefusal::Short)));
     same(&rt, records.next(), None);
 }
 
@@ -79,4 +86,37 @@ fn sources_are_as_many_as_are_counted_and_whole(rt: HostRuntime) {
         ..with_source()
     };
     same(&rt, uncounted.sources().next(), None);
+}
+
+// Checks the sources of a query in these octets.
+fn check_query_sources(rt: &impl Abort, octets: &[u8], wanted: &[Ipv6Address]) {
+    match Repr::parse(&Packet::new_unchecked(octets)) {
+        Ok(Repr::Query { num_srcs, data, .. }) => {
+            let mut sources = Sources::new(num_srcs, data);
+            for &source in wanted {
+                same_of(rt, octets, sources.next(), Some(source));
+            }
+            same_of(rt, octets, sources.next(), None);
+        }
+        _ => holds_of(rt, octets, false),
+    }
+}
+
+#[test]
+fn sources_of_a_query_in_turn(rt: HostRuntime) {
+    check_query_sources(&rt, &QUERY, &[IPV6_LINK_LOCAL_ALL_ROUTERS]);
+    check_query_sources(&rt, &QUERY[..43], &[]);
+    check_query_sources(&rt, &QUERY[..28], &[]);
+}
+
+#[test]
+fn what_stands_behind_the_sources_is_left_out(rt: HostRuntime) {
+    let mut sources = Sources::new(1, &RECORDS[4..36]);
+    same(&rt, sources.next(), Some(IPV6_LINK_LOCAL_ALL_NODES));
+    same(&rt, sources.next(), None);
+    let mut whole = Sources::new(3, &RECORDS[4..40]);
+    same(&rt, whole.next(), Some(IPV6_LINK_LOCAL_ALL_NODES));
+    same(&rt, whole.next(), Some(IPV6_LINK_LOCAL_ALL_ROUTERS));
+    same(&rt, whole.next(), None);
+    same(&rt, Sources::new(0, &RECORDS[4..36]).next(), None);
 }

@@ -47,4 +47,10 @@ fn texts_of_refusals(rt: HostRuntime) {
         "fewer bytes than the header of its type",
     );
     prints(&rt, alloc, &RecordRefusal::Short, "fewer than 20 bytes");
+    prints(
+        &rt,
+        alloc,
+        &RecordRefusal::Cut,
+        "fewer bytes than its sources and its auxiliary data take",
+    );
 }

@@ -4,7 +4,7 @@ use crate::ndisc::Repr;
 use crate::testing::{holds_of, same, same_of};
 use opt_wire::ndiscoption;
 use std::process::Abort;
-use wirebase::{Error, RawHardwareAddress};
+use wirebase::RawHardwareAddress;
 
 // The MTU that a router advertisement with these options tells; nothing where it is refused.
 fn mtu_of(bytes: &[u8]) -> Option<Option<u32>> {
@@ -63,7 +63,8 @@ fn check_option(rt: &impl Abort, kind: u8, units: u8, len: usize, wanted: Option
 fn options_of_a_message_in_turn(rt: HostRuntime) {
     let octets: &[u8] = &SKIPPED_FIRST;
     let mut options = Packet::new_unchecked(octets).ndisc_options();
-    same(&rt, options.next(), Some(Err(Error)));
+    let refusal = ndiscoption::Refusal::Length(ndiscoption::Type::Mtu, 2);
+    same(&rt, options.next(), Some(Err(refusal)));
     same(&rt, options.next(), Some(Ok(ndiscoption::Repr::Mtu(1_500))));
     same(&rt, options.next(), None);
 }

@@ -1,8 +1,11 @@
 // Made from crates/icmp6_wire/src/mld/tests/iterators.rt by rust/erase.
-use super::short_record;
-use crate::icmp6_wire::mld::{AddressRecordRepr, RecordType, Records};
-use crate::icmp6_wire::testing::same;
-use crate::wirebase::{Error, IPV6_LINK_LOCAL_ALL_NODES, IPV6_LINK_LOCAL_ALL_ROUTERS};
+use super::{QUERY, short_record};
+use crate::icmp6_wire::icmpv6::Packet;
+use crate::icmp6_wire::mld::{
+    AddressRecordRepr, RecordRefusal, RecordType, Records, Repr, Sources,
+};
+use crate::icmp6_wire::testing::{holds_of, same, same_of};
+use crate::wirebase::{IPV6_LINK_LOCAL_ALL_NODES, IPV6_LINK_LOCAL_ALL_ROUTERS, Ipv6Address};
 
 // A record of ff02::1 with the source ff02::2 and a word of auxiliary data, and one of ff02::2 with neither.
 const RECORDS: [u8; 60] = [
@@ -45,14 +48,19 @@ fn what_stands_behind_the_last_record_is_left_out() {
 #[test]
 fn a_record_that_is_cut_is_refused_once() {
     for len in 0..40 {
+        let refusal = if len < 20 {
+            RecordRefusal::Short
+        } else {
+            RecordRefusal::Cut
+        };
         let mut records = Records::new(2, &RECORDS[..len]);
-        same(records.next(), Some(Err(Error)));
-        same(records.next(), None);
+        same_of(len, records.next(), Some(Err(refusal)));
+        same_of(len, records.next(), None);
     }
     let mut records = Records::new(3, &RECORDS);
     same(records.next(), Some(Ok(with_source())));
     same(records.next(), Some(Ok(bare())));
-    same(records.next(), Some(Err(Error)));
+    same(records.next(), Some(Err(RecordRefusal::Short)));
     same(records.next(), None);
 }
 
@@ -80,4 +88,37 @@ fn sources_are_as_many_as_are_counted_and_whole() {
         ..with_source()
     };
     same(uncounted.sources().next(), None);
+}
+
+// Checks the sources of a query in these octets.
+fn check_query_sources(octets: &[u8], wanted: &[Ipv6Address]) {
+    match Repr::parse(&Packet::new_unchecked(octets)) {
+        Ok(Repr::Query { num_srcs, data, .. }) => {
+            let mut sources = Sources::new(num_srcs, data);
+            for &source in wanted {
+                same_of(octets, sources.next(), Some(source));
+            }
+            same_of(octets, sources.next(), None);
+        }
+        _ => holds_of(octets, false),
+    }
+}
+
+#[test]
+fn sources_of_a_query_in_turn() {
+    check_query_sources(&QUERY, &[IPV6_LINK_LOCAL_ALL_ROUTERS]);
+    check_query_sources(&QUERY[..43], &[]);
+    check_query_sources(&QUERY[..28], &[]);
+}
+
+#[test]
+fn what_stands_behind_the_sources_is_left_out() {
+    let mut sources = Sources::new(1, &RECORDS[4..36]);
+    same(sources.next(), Some(IPV6_LINK_LOCAL_ALL_NODES));
+    same(sources.next(), None);
+    let mut whole = Sources::new(3, &RECORDS[4..40]);
+    same(whole.next(), Some(IPV6_LINK_LOCAL_ALL_NODES));
+    same(whole.next(), Some(IPV6_LINK_LOCAL_ALL_ROUTERS));
+    same(whole.next(), None);
+    same(Sources::new(0, &RECORDS[4..36]).next(), None);
 }

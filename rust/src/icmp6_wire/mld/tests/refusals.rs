@@ -36,4 +36,8 @@ fn texts_of_refusals() {
     prints(&Refusal::UnknownType(131), "type 131 is not read");
     prints(&Refusal::Length, "fewer bytes than the header of its type");
     prints(&RecordRefusal::Short, "fewer than 20 bytes");
+    prints(
+        &RecordRefusal::Cut,
+        "fewer bytes than its sources and its auxiliary data take",
+    );
 }

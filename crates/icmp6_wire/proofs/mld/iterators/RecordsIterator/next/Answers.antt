@@ -1,5 +1,5 @@
 use Rattle.std.proofs.Common.{◌-◌, take, refl, sym, ◌∙◌}
-use Rattle.icmp6_wire.specs.MldIterators.{record_len_in}
+use Rattle.icmp6_wire.specs.MldRecord.{record_len_in}
 use Rattle.icmp6_wire.proofs.MldIterators.{none_ahead, record_ahead, refusal_ahead, one_less, first_off}
 use Rattle.icmp6_wire.proofs.mld.iterators.RecordsIterator.next.Goals as goal
 
@@ -29,7 +29,7 @@ pub returns-in-Err-clause-steps : goal.returns-in-Err-clause-steps
 returns-in-Err-clause-steps c =
     let it = c.self.inside in
     sym c.self.view_is
-    ∙ refusal_ahead it.left 0 it.rest.now c.in-Err.error c.if-self-eq0.false (c.in-Err.ensures.refuses refl) refl
+    ∙ refusal_ahead it.left 0 it.rest.now c.in-Err.refusal c.if-self-eq0.false c.in-Err.ensures.refuses refl
 
 pub returns-in-Err-clause-goes : goal.returns-in-Err-clause-goes
 returns-in-Err-clause-goes c = first_off _ _ _ _ (returns-in-Err-clause-steps c)
