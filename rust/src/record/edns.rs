@@ -5,7 +5,7 @@ use crate::record::multicast;
 use crate::record::record::Record;
 use crate::record::text::words::Digits;
 use crate::wirebase::{Error, Octets, Result};
-use core::fmt;
+use core::{fmt, result};
 
 // The fields of an option.
 mod field {
@@ -35,7 +35,7 @@ const DNSSEC_OK: u16 = 0x8000;
 /// for option in edns.options() {
 ///     assert_eq!(option?.code, 10);
 /// }
-/// # Ok::<(), control_wire::Error>(())
+/// # Ok::<(), Box<dyn std::error::Error>>(())
 /// ```
 #[derive(Debug, PartialEq, Eq, Clone, Copy)]
 pub struct Edns<'a> {
@@ -199,11 +199,10 @@ impl fmt::Display for OptionRefusal {
 }
 
 /// The options in the data of an OPT record in turn: each one while they read, one refusal where no whole option
-/// stands, and then the end for good. A caller who asks where and why reads them by [`EdnsOption::parse`] and
-/// [`EdnsOption::refusal`].
+/// stands, which says why, as [`EdnsOption::refusal`] does, and then the end for good.
 ///
 /// ```
-/// use control_wire::record::EdnsOptions;
+/// use control_wire::record::{EdnsOptions, OptionRefusal};
 ///
 /// // A cookie of a client (RFC 7873 section 4).
 /// let mut options = EdnsOptions::new(b"\0\x0a\0\x08cookie!!");
@@ -211,7 +210,10 @@ impl fmt::Display for OptionRefusal {
 /// assert_eq!((cookie.code, cookie.data), (10, &b"cookie!!"[..]));
 /// assert_eq!(cookie.to_string(), "cookie=636f6f6b69652121");
 /// assert!(options.next().is_none());
-/// # Ok::<(), control_wire::Error>(())
+/// let mut cut = EdnsOptions::new(b"\0\x0a\0\x08cookie!");
+/// assert_eq!(cut.next(), Some(Err(OptionRefusal::Data)));
+/// assert!(cut.next().is_none());
+/// # Ok::<(), OptionRefusal>(())
 /// ```
 #[derive(Debug)]
 pub struct EdnsOptions<'a> {
@@ -227,9 +229,9 @@ impl<'a> EdnsOptions<'a> {
 }
 
 impl<'a> Iterator for EdnsOptions<'a> {
-    type Item = Result<EdnsOption<'a>>;
+    type Item = result::Result<EdnsOption<'a>, OptionRefusal>;
 
-    fn next(&mut self) -> Option<Result<EdnsOption<'a>>> {
+    fn next(&mut self) -> Option<result::Result<EdnsOption<'a>, OptionRefusal>> {
         if self.left.is_empty() {
             return None;
         }
@@ -238,12 +240,21 @@ impl<'a> Iterator for EdnsOptions<'a> {
                 self.left = rest;
                 Some(Ok(option))
             }
-            Err(error) => {
+            Err(_) => {
+                let refusal = why_no_option(self.left);
                 self.left = &[];
-                Some(Err(error))
+                Some(Err(refusal))
             }
         }
     }
+}
+
+// Why octets that begin with no option do not.
+fn why_no_option(octets: &[u8]) -> OptionRefusal {
+    if octets.len() < field::DATA {
+        return OptionRefusal::Fields;
+    }
+    OptionRefusal::Data
 }
 
 #[cfg(test)]

@@ -202,7 +202,8 @@ impl<'a> Record<'a> {
     }
 
     /// The same of a record of multicast DNS: its class is without the top bit, which is a flag there (RFC 6762 section
-    /// 10.2); the payload size of an OPT record is left as it is.
+    /// 10.2); the payload size of an OPT record is left as it is. [`crate::record::Entry::text`] reads the entries of either
+    /// kind of message.
     pub fn multicast_text<B: AsRef<[u8]> + ?Sized>(
         &self,
         packet: &Packet<&'a B>,

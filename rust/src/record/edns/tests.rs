@@ -5,10 +5,10 @@ use super::{Edns, EdnsOption, EdnsOptions, OptionRefusal};
 use crate::dns_wire::dns::Type;
 use crate::record::record::Record;
 use crate::record::testing::{prints, same_of};
-use crate::wirebase::{Error, Result};
+use std::result;
 
 // Ends the test unless these octets have these options and no more.
-fn check(octets: &[u8], options: &[Result<EdnsOption<'_>>]) {
+fn check(octets: &[u8], options: &[result::Result<EdnsOption<'_>, OptionRefusal>]) {
     let mut left = EdnsOptions::new(octets);
     for &option in options {
         same_of(octets, left.next(), Some(option));
@@ -32,10 +32,10 @@ fn options_of_opt_data() {
         data: b"",
     };
     check(octets, &[Ok(cookie), Ok(padding)]);
-    check(&octets[..15], &[Ok(cookie), Err(Error)]);
+    check(&octets[..15], &[Ok(cookie), Err(OptionRefusal::Fields)]);
     check(&octets[..12], &[Ok(cookie)]);
-    check(&octets[..11], &[Err(Error)]);
-    check(&octets[..3], &[Err(Error)]);
+    check(&octets[..11], &[Err(OptionRefusal::Data)]);
+    check(&octets[..3], &[Err(OptionRefusal::Fields)]);
     check(b"", &[]);
 }
 
@@ -104,7 +104,7 @@ fn options_of_an_opt_record() {
     };
     let mut options = edns.options();
     same_of(record, options.next(), Some(Ok(padding)));
-    same_of(record, options.next(), Some(Err(Error)));
+    same_of(record, options.next(), Some(Err(OptionRefusal::Fields)));
     same_of(record, options.next(), None);
 }
 

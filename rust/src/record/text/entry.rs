@@ -10,7 +10,8 @@ use crate::record::text::refusal::TextRefusal;
 use core::{fmt, result};
 
 /// A question or a record whose names are read, which prints its line: the section, the question or the record as a
-/// zone file has it, and a mark where its flag of multicast DNS is set. [`Entry::text`] reads it.
+/// zone file has it, and a mark where its flag of multicast DNS is set. [`Entry::text`] reads it. In entries that are
+/// equal names are compared without regard to the case of ASCII letters.
 #[derive(PartialEq, Eq, Clone)]
 pub enum EntryText<'a> {
     /// A question.
@@ -49,17 +50,15 @@ impl<'a> Entry<'a> {
     /// let packet = Packet::new_checked(&octets[..])?;
     /// let mut lines = String::new();
     /// for entry in Entries::new(&packet) {
-    ///     match entry?.text(&packet, true) {
-    ///         Ok(text) => lines += &format!("{text}\n"),
-    ///         Err(refusal) => lines += &format!("an entry that can't be read: {refusal}\n"),
-    ///     }
+    ///     let text = entry?.text(&packet, true)?;
+    ///     lines += &format!("{text}\n");
     /// }
     /// assert_eq!(
     ///     lines,
     ///     "question printer.local. IN A ; unicast-response\n\
     ///      answer printer.local. 120 IN A 192.0.2.7 ; cache-flush\n",
     /// );
-    /// # Ok::<(), control_wire::Error>(())
+    /// # Ok::<(), Box<dyn std::error::Error>>(())
     /// ```
     pub fn text<B: AsRef<[u8]> + ?Sized>(
         &self,
@@ -160,3 +159,6 @@ impl fmt::Display for EntryText<'_> {
         }
     }
 }
+
+#[cfg(test)]
+mod tests;

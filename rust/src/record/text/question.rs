@@ -38,7 +38,7 @@ impl<'a> Question<'a> {
     }
 
     /// The same of a question of multicast DNS: its class is without the top bit, which is a flag there (RFC 6762
-    /// section 5.4).
+    /// section 5.4). [`crate::record::Entry::text`] reads the entries of either kind of message.
     pub fn multicast_text<B: AsRef<[u8]> + ?Sized>(
         &self,
         packet: &Packet<&'a B>,

@@ -4,7 +4,7 @@ use crate::icmp6_wire::icmpv6::Packet;
 use crate::icmp6_wire::ndisc::Repr;
 use crate::icmp6_wire::testing::{holds_of, same, same_of};
 use crate::opt_wire::ndiscoption;
-use crate::wirebase::{Error, RawHardwareAddress};
+use crate::wirebase::RawHardwareAddress;
 
 // The MTU that a router advertisement with these options tells; nothing where it is refused.
 fn mtu_of(bytes: &[u8]) -> Option<Option<u32>> {
@@ -63,7 +63,8 @@ fn check_option(kind: u8, units: u8, len: usize, wanted: Option<Option<u32>>) {
 fn options_of_a_message_in_turn() {
     let octets: &[u8] = &SKIPPED_FIRST;
     let mut options = Packet::new_unchecked(octets).ndisc_options();
-    same(options.next(), Some(Err(Error)));
+    let refusal = ndiscoption::Refusal::Length(ndiscoption::Type::Mtu, 2);
+    same(options.next(), Some(Err(refusal)));
     same(options.next(), Some(Ok(ndiscoption::Repr::Mtu(1_500))));
     same(options.next(), None);
 }
