@@ -53,10 +53,10 @@ pub struct Ipv4Quote<'a> {
     pub dst_addr: Ipv4Address,
     /// The options, 0 to 40 bytes.
     pub options: &'a [u8],
-    /// All that stands behind the header: the payload, as much of it as is quoted, and where a router appends extensions
-    /// to its error, such as MPLS labels, these too (RFC 4884 sections 4 and 7). They stand behind the first 128 bytes
-    /// of the datagram or more, with zeros in front where it has fewer. Nothing is cut at `total_len`, which may be less
-    /// than is there; the second byte of the error's `rest` tells where extensions begin.
+    /// All that stands behind the header: the payload, as much of it as is quoted, and where a router appends
+    /// extensions to its error, such as MPLS labels, these too (RFC 4884 sections 4 and 7). They stand behind the first
+    /// 128 bytes of the datagram or more, with zeros in front where it has fewer. Nothing is cut at `total_len`, which
+    /// may be less than is there; the second byte of the error's `rest` tells where extensions begin.
     pub payload: &'a [u8],
 }
 
@@ -161,10 +161,10 @@ pub struct Ipv6Quote<'a> {
     pub src_addr: Ipv6Address,
     /// The address of the receiver.
     pub dst_addr: Ipv6Address,
-    /// All that stands behind the header: the payload, as much of it as is quoted, and where a router appends extensions
-    /// to its error, these too (RFC 4884 sections 4 and 7). They stand behind the first 128 bytes of the packet or
-    /// more, with zeros in front where it has fewer. Nothing is cut at `payload_len`, which may be less than is there;
-    /// the first byte of the error's `rest` tells where extensions begin.
+    /// All that stands behind the header: the payload, as much of it as is quoted, and where a router appends
+    /// extensions to its error, these too (RFC 4884 sections 4 and 7). They stand behind the first 128 bytes of the
+    /// packet or more, with zeros in front where it has fewer. Nothing is cut at `payload_len`, which may be less than
+    /// is there; the first byte of the error's `rest` tells where extensions begin.
     pub payload: &'a [u8],
 }
 

@@ -34,14 +34,14 @@ impl fmt::Display for Refusal {
     }
 }
 
-/// Why octets are no record that [`AddressRecordRepr::parse`] reads or that [`Records`](super::Records) gives: the check
-/// that fails first.
+/// Why octets are no record that [`AddressRecordRepr::parse`] reads or that [`Records`](super::Records) gives: the
+/// check that fails first.
 #[derive(Debug, PartialEq, Eq, Clone, Copy)]
 pub enum RecordRefusal {
     /// Fewer than 20 bytes.
     Short,
-    /// Fewer bytes than the sources and the auxiliary data that the record counts take. [`Records`](super::Records) alone
-    /// tells it: `parse` does not compare the counts with what stands after them.
+    /// Fewer bytes than the sources and the auxiliary data that the record counts take. [`Records`](super::Records)
+    /// alone tells it: `parse` does not compare the counts with what stands after them.
     Cut,
 }
 

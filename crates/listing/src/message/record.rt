@@ -85,8 +85,8 @@ pub fn show_record<'a, W: Write>(
     Ok(None)
 }
 
-// Why the data of a record, taken as one of this class, is not what its type has; None where it is. It is read again for
-// that, so that where it reads no room is kept for a reason.
+// Why the data of a record, taken as one of this class, is not what its type has; None where it is. It is read again
+// for that, so that where it reads no room is kept for a reason.
 #[inline(never)]
 fn why_no_data(record: &Record<'_>, class: u16) -> Option<Unread>
     ensures told { IfSome result (RefusesData class (record_of «record».now)) }
