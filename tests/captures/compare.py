@@ -1,9 +1,10 @@
 #!/usr/bin/env python3
-"""Compares what pcapdump prints of captures with what tshark has of them: `compare.py PCAPDUMP CAPTURE..`.
+"""Compares what pcapdump prints of captures with what tshark has of them: `compare.py [--all] PCAPDUMP CAPTURE..`.
 
 Beside each capture is the table that fields.py made of it. Of each packet that is a difference it prints both; then
 the kinds of packets that both programs see but read differently, with their numbers; and last 'N passed, M failed', of
-packets and of the counts of each capture."""
+packets and of the counts of each capture. With --all the captures are all that are kept, and have to have each kind of
+packet that is wanted of them."""
 
 import collections
 import datetime
@@ -122,7 +123,7 @@ def known_of_names(packet):
         yield "dns: characters of a label: behind a backslash, where tshark shows them alone"
 
 
-# What the captures have to have, so that one that went wrong is seen: of each field these numbers.
+# What all captures together have to have, so that one that went wrong is seen: of each field these numbers.
 WANTED = {
     "icmp.type": {0, 3, 5, 8, 11, 12, 13, 14}, "igmp.type": {0x11, 0x12, 0x16, 0x17, 0x22},
     "icmpv6.type": {1, 2, 3, 4, 128, 129, 130, 131, 132, 133, 134, 135, 136, 137, 143},
@@ -189,12 +190,17 @@ def shown(text, number):
             yield line
 
 
-def main(program, captures):
+def main(words):
+    is_all = words[:1] == ["--all"]
+    program, *captures = words[is_all:] or [""]
+    if not captures or program.startswith("-"):
+        print("usage: compare.py [--all] PCAPDUMP CAPTURE..", file=sys.stderr)
+        return 2
     known, seen, passed, failed = collections.Counter(), collections.defaultdict(set), 0, 0
     for capture in captures:
         agree, differ = compare(program, capture, known, seen)
         passed, failed = passed + agree, failed + differ
-    for text, holds in lacking(seen):
+    for text, holds in lacking(seen) if is_all else ():
         passed, failed = passed + holds, failed + (not holds)
         if not holds:
             print(text)
@@ -206,4 +212,4 @@ def main(program, captures):
 
 
 if __name__ == "__main__":
-    sys.exit(main(sys.argv[1], sys.argv[2:]))
+    sys.exit(main(sys.argv[1:]))

@@ -9,6 +9,7 @@ pub mod ip;
 pub mod lease;
 pub mod neighbors;
 pub mod options;
+pub mod since_start;
 
 use byteorder::{ByteOrder, LittleEndian};
 

@@ -3,7 +3,8 @@
 
 use super::options::PACKET_LEN;
 use crate::digest::Digest;
-use crate::digest::frames::{add_datagram, add_frame, add_record, ending_number, refusal_number};
+use crate::digest::frames::{add_datagram, add_frame, add_record};
+use crate::digest::since_start::{ending_number, refusal_number};
 use crate::random::Pool;
 use byteorder::{BigEndian, ByteOrder, LittleEndian};
 use capture::{Capture, Next};

@@ -3,8 +3,9 @@
 
 use crate::digest::Digest;
 use crate::digest::ip::{add_ipv4_address, add_ipv6_address, add_protocol};
-use capture::{Ending, Record, Time};
-use control_wire::frames::{Addresses, Datagram, Frame, Network, Refusal, UdpRepr};
+use crate::digest::since_start::since_1970;
+use capture::Record;
+use control_wire::frames::{Addresses, Datagram, Frame, Network, UdpRepr};
 
 /// Adds a record of a capture and the bytes that it keeps.
 pub fn add_record(record: &Record, octets: &[u8], digest: &mut Digest) {
@@ -15,40 +16,15 @@ pub fn add_record(record: &Record, octets: &[u8], digest: &mut Digest) {
         captured_len,
         original_len,
     } = record;
-    // A packet without a time counts as one of 1970.
-    let time = time.unwrap_or(Time::ZERO);
+    let (seconds, nanoseconds) = since_1970(time);
     digest.add(*number);
-    digest.add(time.seconds);
-    digest.add(time.nanoseconds as u64);
+    digest.add(seconds);
+    digest.add(nanoseconds as u64);
     digest.add(*link_type as u64);
     digest.add(*captured_len as u64);
     digest.add(*original_len as u64);
     digest.add_front(octets);
     digest.add_ends(octets);
-}
-
-/// The number of what ends a capture.
-pub fn ending_number(ending: Ending) -> u8 {
-    match ending {
-        Ending::Whole => 0,
-        Ending::Cut => 1,
-        Ending::TooLarge | Ending::TooManyInterfaces => 2,
-        Ending::Malformed(_) => 3,
-        Ending::Version => 4,
-        Ending::NotACapture => 5,
-    }
-}
-
-/// The number of a reason why octets are no datagram.
-pub fn refusal_number(refusal: Refusal) -> u8 {
-    match refusal {
-        Refusal::Short | Refusal::Cut(_) => 0,
-        Refusal::Version(_)
-        | Refusal::HeaderLen(_)
-        | Refusal::TotalLen(_)
-        | Refusal::Extension(_) => 1,
-        Refusal::Fragment(_) => 2,
-    }
 }
 
 /// Adds what a frame holds.
@@ -73,8 +49,9 @@ pub fn add_datagram(datagram: &Datagram<'_>, digest: &mut Digest) {
         addresses,
         protocol,
         hop_limit,
-        hop_by_hop: _,
         payload,
+        // The options of hop-by-hop headers, which the library of the start does not hand out.
+        ..
     } = datagram;
     match addresses {
         Addresses::V4(source, destination) => {

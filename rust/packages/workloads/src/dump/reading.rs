@@ -2,12 +2,11 @@
 //! What an analyst reads in a capture.
 
 use crate::digest::Digest;
-use crate::digest::frames::{
-    add_datagram, add_frame, add_ports, add_record, ending_number, refusal_number,
-};
+use crate::digest::frames::{add_datagram, add_frame, add_ports, add_record};
 use crate::digest::groups::add_igmp;
 use crate::digest::icmp::{add_icmpv4, add_icmpv6};
 use crate::digest::lease::add_lease;
+use crate::digest::since_start::{ending_number, refusal_number};
 use crate::responses::message;
 use capture::{Capture, Next};
 use control_wire::frames::{Addresses, Datagram, Link, Network, UdpPacket, UdpRepr};
