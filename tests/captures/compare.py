@@ -9,6 +9,7 @@ packet that is wanted of them."""
 import collections
 import datetime
 import re
+import shutil
 import subprocess
 import sys
 
@@ -196,6 +197,9 @@ def main(words):
     if not captures or program.startswith("-"):
         print("usage: compare.py [--all] PCAPDUMP CAPTURE..", file=sys.stderr)
         return 2
+    if not shutil.which(program):
+        print(f"compare.py: there is no program {program}", file=sys.stderr)
+        return 1
     known, seen, passed, failed = collections.Counter(), collections.defaultdict(set), 0, 0
     for capture in captures:
         agree, differ = compare(program, capture, known, seen)
