@@ -8,6 +8,7 @@ packet that is wanted of them."""
 
 import collections
 import datetime
+import os
 import re
 import shutil
 import subprocess
@@ -200,6 +201,10 @@ def main(words):
     if not shutil.which(program):
         print(f"compare.py: there is no program {program}", file=sys.stderr)
         return 1
+    for it in captures:
+        if not (os.path.isfile(it) and os.path.isfile(it + ".fields")):
+            print(f"compare.py: there is no {it}, or no table {it}.fields", file=sys.stderr)
+            return 1
     known, seen, passed, failed = collections.Counter(), collections.defaultdict(set), 0, 0
     for capture in captures:
         agree, differ = compare(program, capture, known, seen)
