@@ -11,7 +11,7 @@ ghost use Rattle.dhcp_wire.specs.Dhcpv4Options.{value_of_option};
 
 use super::options::DhcpOption;
 use super::printing::Kinds;
-use super::value::{OptionValue, first_address};
+use super::value::{OptionAddresses, OptionValue, first_address};
 use std::fmt;
 
 /// The name of the kind and the data by its format, as `lease-time=3600`; a kind that has no name here prints its
@@ -71,11 +71,10 @@ fn fmt_more_addresses<W: fmt::Write>(f: &mut fmt::Formatter<W>, octets: &[u8]) -
     ensures { WritesOnOk W.write_str_gives f.old result
         (flat_map (λ next. codes "," ++ address_text next) (addresses_in octets.now)) f.new }
 {
-    let Some((address, rest)) = first_address(octets) else {
-        return Ok(());
-    };
-    write!(f, ",{address}")?;
-    fmt_more_addresses(f, rest)
+    for address in OptionAddresses::new(octets) {
+        write!(f, ",{address}")?;
+    }
+    Ok(())
 }
 
 // A text in quotation marks.

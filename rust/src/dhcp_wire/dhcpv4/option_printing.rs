@@ -3,7 +3,7 @@
 
 use super::options::DhcpOption;
 use super::printing::Kinds;
-use super::value::{OptionValue, first_address};
+use super::value::{OptionAddresses, OptionValue, first_address};
 use core::fmt;
 
 /// The name of the kind and the data by its format, as `lease-time=3600`; a kind that has no name here prints its
@@ -54,11 +54,10 @@ impl fmt::Display for Addresses<'_> {
 
 // Prints each address behind a comma.
 fn fmt_more_addresses(f: &mut fmt::Formatter<'_>, octets: &[u8]) -> fmt::Result {
-    let Some((address, rest)) = first_address(octets) else {
-        return Ok(());
-    };
-    write!(f, ",{address}")?;
-    fmt_more_addresses(f, rest)
+    for address in OptionAddresses::new(octets) {
+        write!(f, ",{address}")?;
+    }
+    Ok(())
 }
 
 // A text in quotation marks.

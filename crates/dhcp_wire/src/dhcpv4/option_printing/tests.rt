@@ -99,3 +99,20 @@ fn addresses_in_turn(rt: HostRuntime) {
     same_of(&rt, 2, addresses.next(), None);
     same_of(&rt, 3, addresses.next(), None);
 }
+
+// Its text is written with a stack that does not grow with the number of addresses.
+#[test]
+fn option_of_fifty_thousand_addresses(rt: HostRuntime) {
+    let data = [7; 200_000];
+    let option = DhcpOption {
+        kind: 6,
+        data: &data,
+    };
+    let printed = option.to_string(rt.alloc()).ok();
+    let len = match printed.as_deref() {
+        Some(text) => text.len(),
+        None => 0,
+    };
+    // domain-name-server=7.7.7.7,7.7.7.7,..
+    same_of(&rt, (), len, 19 + 50_000 * 8 - 1);
+}

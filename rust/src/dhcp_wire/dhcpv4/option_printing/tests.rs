@@ -2,6 +2,8 @@
 use crate::dhcp_wire::dhcpv4::{DhcpOption, MessageType, OptionAddresses, OptionValue};
 use crate::dhcp_wire::testing::{prints, same_of};
 use crate::wirebase::Ipv4Address;
+#[allow(unused_imports)]
+use rattle_std::prelude::*;
 
 #[test]
 fn options_by_their_formats() {
@@ -89,4 +91,21 @@ fn addresses_in_turn() {
     same_of(1, addresses.next(), Some(Ipv4Address::new(192, 0, 2, 2)));
     same_of(2, addresses.next(), None);
     same_of(3, addresses.next(), None);
+}
+
+// Its text is written with a stack that does not grow with the number of addresses.
+#[test]
+fn option_of_fifty_thousand_addresses() {
+    let data = [7; 200_000];
+    let option = DhcpOption {
+        kind: 6,
+        data: &data,
+    };
+    let printed = option.to_string_in().ok();
+    let len = match printed.as_deref() {
+        Some(text) => text.len(),
+        None => 0,
+    };
+    // domain-name-server=7.7.7.7,7.7.7.7,..
+    same_of((), len, 19 + 50_000 * 8 - 1);
 }
