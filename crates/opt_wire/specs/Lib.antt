@@ -1,3 +1,4 @@
+pub mod Digits
 pub mod Ipv6ExtHeader
 pub mod Ipv6ExtHeaderRefusal
 pub mod Ipv6Hbh

@@ -1,12 +1,12 @@
 -- Options of neighbor discovery (RFC 4861 section 4.6) by their content: their text, what is read in a block, and the
 -- format.
 use Rattle.std.specs.Prelude.{◌≡◌, ◌≢◌, ℕ, ◌+◌, ◌-◌, ◌*◌, ◌/◌, ◌≤◌, ◌<◌, ◌^◌, nat_lt, if◌then◌else◌, List, [], ◌∷◌}
-use Rattle.std.specs.Prelude.{◌++◌, codes, decimal, flat_map, length, replicate}
+use Rattle.std.specs.Prelude.{◌++◌, codes, decimal, length, replicate}
 use Rattle.wirebase.specs.Bytes.{bytes_of, byte_of, number_of, over}
 use Rattle.wirebase.specs.ByteWriter.{be8, be16, be32, fields}
 use Rattle.wirebase.specs.Display.{pieces}
 use Rattle.wirebase.specs.Duration.{micros_of, seconds_of, whole_seconds, duration_text}
-use Rattle.wirebase.specs.Ethernet.{hex_byte, hex_colons}
+use Rattle.wirebase.specs.Ethernet.{hex_colons}
 use Rattle.wirebase.specs.Format.{Format, RoundTrips}
 use Rattle.wirebase.specs.HardwareAddress.{raw_bytes}
 use Rattle.wirebase.specs.Ip.{protocol_number, protocol_rows}
@@ -16,6 +16,7 @@ use Rattle.wirebase.specs.Numbered.{IsProper}
 use Rattle.wirebase.specs.declared.duration.Duration.{Duration}
 use Rattle.wirebase.specs.declared.ip.IpProtocol.TheVariants as protocol
 use Rattle.wirebase.specs.declared.ipv6.Ipv6Repr.{Ipv6Repr}
+use Rattle.opt_wire.specs.Digits.{octets_text}
 use Rattle.opt_wire.specs.NdiscOption.{type_field, prefix_len_field, prefix_flags_field, valid_lifetime_field}
 use Rattle.opt_wire.specs.NdiscOption.{preferred_lifetime_field, prefix_field, mtu_field, units_in, data_field}
 use Rattle.opt_wire.specs.NdiscOption.{link_addr_field, redirected_field, BeginsWithBlock}
@@ -229,7 +230,7 @@ pub record Emits (v : OptionValue) (old new : List ℕ) : Type 0 where
 
 -- ---- what an option prints
 
--- a prefix and a redirected packet, by all that they hold
+-- a prefix and a redirected packet, by all that they hold, a payload in hexadecimal
 abbrev pub prefix_display : PrefixInformation → List ℕ
 prefix_display p =
     pieces (codes "PrefixInformation prefix_len=" ∷ decimal p.prefix_len
@@ -240,7 +241,9 @@ prefix_display p =
 
 abbrev pub redirected_display : Ipv6Repr → List ℕ → List ℕ
 redirected_display h d =
-    pieces (codes "RedirectedHeader header=" ∷ header_display h ∷ codes " len=" ∷ decimal (length d) ∷ [])
+    pieces (codes "RedirectedHeader header=" ∷ header_display h
+    ∷ codes " payload_len=" ∷ decimal h.payload_len
+    ∷ codes " data=" ∷ octets_text d ∷ [])
 
 -- an option, by all that it holds; of an unknown type the data in hexadecimal
 abbrev pub display : OptionValue → List ℕ
@@ -256,7 +259,7 @@ display (redirected h d) = codes "NDISC Option: " ++ redirected_display h d
 display (mtu n) = codes "NDISC Option: MTU mtu=" ++ decimal n
 display (unknown t n d) =
     pieces (codes "NDISC Option: Unknown(" ∷ decimal t ∷ codes ") length=" ∷ decimal n
-    ∷ codes " data=" ∷ flat_map hex_byte d ∷ [])
+    ∷ codes " data=" ∷ octets_text d ∷ [])
 
 -- octets that are read as no option
 abbrev pub refusal_display : List ℕ

@@ -50,7 +50,7 @@ pub struct Header<T: Octets> {
 
 impl<T: Octets> Header<T> {
     /// The view of these octets, whatever they are.
-    pub fn new_unchecked(buffer: T) -> Header<T>
+    pub const fn new_unchecked(buffer: T) -> Header<T>
         ensures { inner result ≡ buffer }
     {
         Header { buffer }

@@ -33,14 +33,14 @@ mod refusal;
 pub use refusal::Refusal;
 
 /// A view of the options of a hop-by-hop header: all that stands after its first two bytes.
-#[derive(Drop)]
+#[derive(Debug, Drop)]
 pub struct Header<T: Octets> {
     buffer: T,
 }
 
 impl<T: Octets> Header<T> {
     /// The view of these octets, whatever they are.
-    pub fn new_unchecked(buffer: T) -> Header<T>
+    pub const fn new_unchecked(buffer: T) -> Header<T>
         ensures { inner result ≡ buffer }
     {
         Header { buffer }

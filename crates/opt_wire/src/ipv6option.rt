@@ -48,7 +48,7 @@ mod field {
     pub const LENGTH: Field = 1..2;
 
     // The data of an option that counts so many bytes of it.
-    pub fn data(length: u8) -> Field
+    pub const fn data(length: u8) -> Field
         ensures start { result.start ≡ 2 }
         ensures end { result.end ≡ 2 + length }
     {
@@ -64,7 +64,7 @@ pub struct Ipv6Option<T: Octets> {
 
 impl<T: Octets> Ipv6Option<T> {
     /// The view of these octets, whatever they are.
-    pub fn new_unchecked(buffer: T) -> Ipv6Option<T>
+    pub const fn new_unchecked(buffer: T) -> Ipv6Option<T>
         ensures { inner result ≡ buffer }
     {
         Ipv6Option { buffer }
@@ -298,7 +298,7 @@ impl<'a> Repr<'a> {
 
     /// The bytes that the option takes, by the length that it counts.
     #[tactic(auto, using(crate::proofs::Ipv6OptionText::texts))]
-    pub fn buffer_len(&self) -> usize
+    pub const fn buffer_len(&self) -> usize
         ensures value { result ≡ text_len (value_of self.now) }
         ensures exact { HasData (value_of self.now) → result ≡ length (text (value_of self.now)) }
         ensures small { result ≤ 257 }

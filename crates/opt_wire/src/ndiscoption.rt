@@ -34,7 +34,6 @@ use bitflags::Flags as _;
 use std::fmt;
 use wirebase::{Duration, Error, Ipv6Address, Octets, OctetsMut, RawHardwareAddress, Result};
 
-mod digits;
 mod options;
 mod refusal;
 mod repr;
@@ -109,7 +108,7 @@ pub struct NdiscOption<T: Octets> {
 
 impl<T: Octets> NdiscOption<T> {
     /// The view of these octets, whatever they are.
-    pub fn new_unchecked(buffer: T) -> NdiscOption<T>
+    pub const fn new_unchecked(buffer: T) -> NdiscOption<T>
         ensures { inner result ≡ buffer }
     {
         NdiscOption { buffer }

@@ -34,7 +34,7 @@ mod field {
     pub const LENGTH: Field = 1..2;
 
     // The data of an option that counts so many bytes of it.
-    pub fn data(length: u8) -> Field {
+    pub const fn data(length: u8) -> Field {
         2..2 + length as usize
     }
 }
@@ -47,7 +47,7 @@ pub struct Ipv6Option<T: Octets> {
 
 impl<T: Octets> Ipv6Option<T> {
     /// The view of these octets, whatever they are.
-    pub fn new_unchecked(buffer: T) -> Ipv6Option<T> {
+    pub const fn new_unchecked(buffer: T) -> Ipv6Option<T> {
         Ipv6Option { buffer }
     }
 
@@ -196,7 +196,7 @@ impl<'a> Repr<'a> {
     }
 
     /// The bytes that the option takes, by the length that it counts.
-    pub fn buffer_len(&self) -> usize {
+    pub const fn buffer_len(&self) -> usize {
         match *self {
             Repr::Pad1 => field::TYPE.end,
             Repr::PadN(length) => field::data(length).end,

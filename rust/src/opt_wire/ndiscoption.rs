@@ -21,7 +21,6 @@ use crate::wirebase::{
 };
 use core::fmt;
 
-mod digits;
 mod options;
 mod refusal;
 mod repr;
@@ -86,7 +85,7 @@ pub struct NdiscOption<T: Octets> {
 
 impl<T: Octets> NdiscOption<T> {
     /// The view of these octets, whatever they are.
-    pub fn new_unchecked(buffer: T) -> NdiscOption<T> {
+    pub const fn new_unchecked(buffer: T) -> NdiscOption<T> {
         NdiscOption { buffer }
     }
 

@@ -76,7 +76,7 @@ fn headers_refused(rt: HostRuntime) {
     ];
     for &octets in ROWS {
         let header = Header::new_unchecked(octets);
-        holds_of(&rt, octets, Repr::parse(&header).is_err());
+        holds_of(&rt, &header, Repr::parse(&header).is_err());
         compare_damaged(&rt, octets);
     }
 }

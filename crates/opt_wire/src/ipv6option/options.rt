@@ -9,7 +9,7 @@ use wirebase::Result;
 
 /// The options of a hop-by-hop or destination options header in turn: each as [`Repr::parse`] reads it, from the front
 /// of the octets to their end. Where it refuses what follows, one refusal comes, and then the end for good.
-#[derive(Debug, Drop)]
+#[derive(Debug, Clone, Drop)]
 pub struct Ipv6OptionsIterator<'a> {
     // The octets after the options that were given.
     data: &'a [u8],

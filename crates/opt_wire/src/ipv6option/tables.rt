@@ -159,17 +159,17 @@ impl fmt::Display for AlertName {
 }
 
 /// What a node does with a packet that has an option of a type that it does not know: the two highest bits of the
-/// type (RFC 8200 section 4.2).
+/// type (RFC 8200 section 4.2), by which `as u8` gives each.
 #[derive(Debug, PartialEq, Eq, PartialOrd, Ord, Hash, Clone, Copy)]
 pub enum FailureType {
     /// Skip the option and go on.
-    Skip,
+    Skip = 0x00,
     /// Discard the packet.
-    Discard,
+    Discard = 0x40,
     /// Discard the packet and tell its sender.
-    DiscardSendAll,
+    DiscardSendAll = 0x80,
     /// Discard the packet and tell its sender, unless the packet went to a multicast address.
-    DiscardSendUnicast,
+    DiscardSendUnicast = 0xc0,
 }
 
 impl From<u8> for FailureType {
@@ -197,12 +197,7 @@ impl From<FailureType> for u8 {
         ensures value { result ≡ failure_number failure }
         ensures back { failure_of result ≡ failure }
     {
-        match failure {
-            FailureType::Skip => 0x00,
-            FailureType::Discard => 0x40,
-            FailureType::DiscardSendAll => 0x80,
-            FailureType::DiscardSendUnicast => 0xc0,
-        }
+        failure as u8
     }
 }
 

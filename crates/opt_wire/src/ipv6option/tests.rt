@@ -6,6 +6,7 @@ use crate::plain_reader::compare_damaged;
 use crate::testing::{FILLERS, ascend, holds_of, same, same_of};
 use std::hash::{DefaultHasher, Hash, Hasher};
 use std::process::Abort;
+use std::test::Fail;
 use wirebase::Error;
 
 mod printing;
@@ -64,6 +65,7 @@ fn failure_types_are_the_two_highest_bits(rt: HostRuntime) {
     for &(number, failure) in ROWS {
         same_of(&rt, number, FailureType::from(number), failure);
         same_of(&rt, failure, u8::from(failure), number & 0xc0);
+        same_of(&rt, failure, failure as u8, number & 0xc0);
     }
 }
 
@@ -246,6 +248,17 @@ fn options_in_turn(rt: HostRuntime) {
         same(&rt, &options.next(), answer);
     }
     compare_damaged(&rt, OCTETS);
+}
+
+#[test]
+fn a_copy_of_options_goes_on_from_the_same_place(rt: HostRuntime) -> Result<(), Fail> {
+    let mut options = Ipv6OptionsIterator::new(&[0x00, 0x01, 0x00]);
+    same(&rt, options.next(), Some(Ok(Repr::Pad1)));
+    let mut copy = options.clone()?;
+    same(&rt, copy.next(), Some(Ok(Repr::PadN(0))));
+    same(&rt, copy.next(), None);
+    same(&rt, options.next(), Some(Ok(Repr::PadN(0))));
+    Ok(())
 }
 
 // Compares what reading these octets gives.

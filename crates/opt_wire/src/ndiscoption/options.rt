@@ -33,7 +33,7 @@ use std::marker::Model;
 /// assert_eq!(options.next(), Some(Err(Refusal::Length(Type::PrefixInformation, 1))));
 /// # Ok::<(), Refusal>(())
 /// ```
-#[derive(Debug, Drop)]
+#[derive(Debug, Clone, Drop)]
 pub struct NdiscOptions<'a> {
     // The octets behind the options that were given.
     rest: &'a [u8],

@@ -16,8 +16,8 @@ ghost use Rattle.opt_wire.specs.NdiscOptionRepr.{BeginsWith, IsValidPrefix, form
 ghost use Rattle.opt_wire.specs.NdiscOptionRepr.{prefix_display, redirected_display};
 ghost use Rattle.opt_wire.specs.declared.ndiscoption.repr.PrefixInformation.{PrefixInformation};
 
-use super::digits::Digits;
 use super::{NdiscOption, PrefixInfoFlags, Type, field};
+use crate::digits::Digits;
 use crate::writing;
 use crate::writing::UNIT;
 use bitflags::Flags as _;
@@ -83,13 +83,18 @@ pub struct RedirectedHeader<'a> {
     pub data: &'a [u8],
 }
 
-/// The header, and the bytes of the payload.
+/// The header, the bytes that it counts, and the payload in hexadecimal.
 impl fmt::Display for RedirectedHeader<'_> {
     ghost output = { λ redirected. Some (redirected_display redirected.header redirected.«data».now) };
 
     fn fmt<W: fmt::Write>(&self, f: &mut fmt::Formatter<W>) -> fmt::Result {
-        let len = self.data.len();
-        write!(f, "RedirectedHeader header={} len={len}", self.header)
+        write!(
+            f,
+            "RedirectedHeader header={} payload_len={} data={}",
+            self.header,
+            self.header.payload_len,
+            Digits(self.data)
+        )
     }
 }
 

@@ -3,7 +3,7 @@ ghost use Rattle.opt_wire.specs.NdiscOptionRepr.{HasSeconds, CanEmit, value_of, 
 ghost use Rattle.opt_wire.specs.declared.ndiscoption.repr.Repr.TheVariants as repr;
 
 use super::{NdiscOption, PrefixInfoFlags, PrefixInformation, RedirectedHeader, Repr};
-use crate::testing::{FILLERS, holds_of, prints, same, same_of};
+use crate::testing::{FILLERS, holds_of, print_differently, prints, same, same_of};
 use bitflags::Flags as _;
 use std::alloc::Global;
 use std::process::Abort;
@@ -94,6 +94,9 @@ const TARGET: &[u8] = &[0x02, 0x01, 0x52, 0x54, 0x00, 0x12, 0x34, 0x56];
 
 const MTU: [u8; 8] = [0x05, 0x01, 0x00, 0x00, 0x00, 0x00, 0x05, 0xdc];
 
+// One of 16,909,060 bytes, of which each byte is another.
+const GREAT_MTU: [u8; 8] = [0x05, 0x01, 0x00, 0x00, 0x01, 0x02, 0x03, 0x04];
+
 const UNKNOWN: [u8; 8] = [0x0e, 0x01, 1, 2, 3, 4, 5, 6];
 
 fn unknown() -> Repr<'static>
@@ -145,6 +148,7 @@ fn options_are_read(rt: HostRuntime) {
         &Repr::RedirectedHeader(redirected_header()),
     );
     check_read(&rt, &MTU, &Repr::Mtu(1_500));
+    check_read(&rt, &GREAT_MTU, &Repr::Mtu(0x0102_0304));
     check_read(&rt, &UNKNOWN, &unknown());
 }
 
@@ -179,6 +183,7 @@ fn options_are_written_over_octets_of_any_kind(rt: HostRuntime) {
     let redirected = Repr::RedirectedHeader(redirected_header());
     check_written(&rt, &redirected, &REDIRECTED);
     check_written(&rt, &Repr::Mtu(1_500), &MTU);
+    check_written(&rt, &Repr::Mtu(0x0102_0304), &GREAT_MTU);
     check_written(&rt, &unknown(), &UNKNOWN);
 }
 
@@ -395,7 +400,8 @@ fn options_in_words(rt: HostRuntime) {
         ),
         (
             &REDIRECTED,
-            "NDISC Option: RedirectedHeader header=IPv6 src=fe80::1 dst=fe80::2 nxt_hdr=17 hop_limit=64 len=4",
+            "NDISC Option: RedirectedHeader header=IPv6 src=fe80::1 dst=fe80::2 nxt_hdr=17 hop_limit=64 \
+             payload_len=4 data=aabbccdd",
         ),
         (&MTU, "NDISC Option: MTU mtu=1500"),
         (
@@ -414,8 +420,53 @@ fn prefixes_and_redirected_headers_in_words(rt: HostRuntime) {
         valid_lifetime=900.000s preferred_lifetime=1000.000s prefix=fe80::1";
     prints(&rt, rt.alloc(), &prefix_information(), PREFIX_TEXT);
     const PACKET_TEXT: &str =
-        "RedirectedHeader header=IPv6 src=fe80::1 dst=fe80::2 nxt_hdr=17 hop_limit=64 len=4";
+        "RedirectedHeader header=IPv6 src=fe80::1 dst=fe80::2 nxt_hdr=17 hop_limit=64 payload_len=4 data=aabbccdd";
     prints(&rt, rt.alloc(), &redirected_header(), PACKET_TEXT);
+}
+
+#[test]
+fn what_differs_in_one_field_prints_differently(rt: HostRuntime) {
+    let info = prefix_information();
+    let others = [
+        PrefixInformation {
+            prefix_len: 65,
+            ..info
+        },
+        PrefixInformation {
+            flags: PrefixInfoFlags::ON_LINK,
+            ..info
+        },
+        PrefixInformation {
+            valid_lifetime: Duration::from_secs(901),
+            ..info
+        },
+        PrefixInformation {
+            preferred_lifetime: Duration::from_secs(1_001),
+            ..info
+        },
+        PrefixInformation {
+            prefix: there(),
+            ..info
+        },
+    ];
+    for other in others {
+        print_differently(
+            &rt,
+            rt.alloc(),
+            &Repr::PrefixInformation(info),
+            &Repr::PrefixInformation(other),
+        );
+        print_differently(&rt, rt.alloc(), &info, &other);
+    }
+    let redirected = redirected_header();
+    let mut counted = redirected;
+    counted.header.payload_len = 5;
+    print_differently(&rt, rt.alloc(), &redirected, &counted);
+    let other = RedirectedHeader {
+        data: &[0xaa, 0xbb, 0xcc, 0xde],
+        ..redirected
+    };
+    print_differently(&rt, rt.alloc(), &redirected, &other);
 }
 
 #[test]

@@ -74,7 +74,7 @@ fn headers_refused() {
     ];
     for &octets in ROWS {
         let header = Header::new_unchecked(octets);
-        holds_of(octets, Repr::parse(&header).is_err());
+        holds_of(&header, Repr::parse(&header).is_err());
         compare_damaged(octets);
     }
 }

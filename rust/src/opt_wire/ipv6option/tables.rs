@@ -125,17 +125,17 @@ impl fmt::Display for AlertName {
 }
 
 /// What a node does with a packet that has an option of a type that it does not know: the two highest bits of the
-/// type (RFC 8200 section 4.2).
+/// type (RFC 8200 section 4.2), by which `as u8` gives each.
 #[derive(Debug, PartialEq, Eq, PartialOrd, Ord, Hash, Clone, Copy)]
 pub enum FailureType {
     /// Skip the option and go on.
-    Skip,
+    Skip = 0x00,
     /// Discard the packet.
-    Discard,
+    Discard = 0x40,
     /// Discard the packet and tell its sender.
-    DiscardSendAll,
+    DiscardSendAll = 0x80,
     /// Discard the packet and tell its sender, unless the packet went to a multicast address.
-    DiscardSendUnicast,
+    DiscardSendUnicast = 0xc0,
 }
 
 impl From<u8> for FailureType {
@@ -151,12 +151,7 @@ impl From<u8> for FailureType {
 
 impl From<FailureType> for u8 {
     fn from(failure: FailureType) -> u8 {
-        match failure {
-            FailureType::Skip => 0x00,
-            FailureType::Discard => 0x40,
-            FailureType::DiscardSendAll => 0x80,
-            FailureType::DiscardSendUnicast => 0xc0,
-        }
+        failure as u8
     }
 }
 

@@ -4,6 +4,9 @@ use super::{FailureType, Ipv6Option, Ipv6OptionsIterator, Repr, RouterAlert, Typ
 use crate::opt_wire::plain_reader::compare_damaged;
 use crate::opt_wire::testing::{FILLERS, ascend, holds_of, same, same_of};
 use crate::wirebase::Error;
+#[allow(unused_imports)]
+use rattle_std::prelude::*;
+use rattle_std::test::Fail;
 use std::hash::{DefaultHasher, Hash, Hasher};
 
 mod printing;
@@ -62,6 +65,7 @@ fn failure_types_are_the_two_highest_bits() {
     for &(number, failure) in ROWS {
         same_of(number, FailureType::from(number), failure);
         same_of(failure, u8::from(failure), number & 0xc0);
+        same_of(failure, failure as u8, number & 0xc0);
     }
 }
 
@@ -239,6 +243,17 @@ fn options_in_turn() {
         same(&options.next(), answer);
     }
     compare_damaged(OCTETS);
+}
+
+#[test]
+fn a_copy_of_options_goes_on_from_the_same_place() -> Result<(), Fail> {
+    let mut options = Ipv6OptionsIterator::new(&[0x00, 0x01, 0x00]);
+    same(options.next(), Some(Ok(Repr::Pad1)));
+    let mut copy = options.try_clone()?;
+    same(copy.next(), Some(Ok(Repr::PadN(0))));
+    same(copy.next(), None);
+    same(options.next(), Some(Ok(Repr::PadN(0))));
+    Ok(())
 }
 
 // Compares what reading these octets gives.

@@ -27,7 +27,7 @@ use crate::opt_wire::writing::UNIT;
 /// assert_eq!(options.next(), Some(Err(Refusal::Length(Type::PrefixInformation, 1))));
 /// # Ok::<(), Refusal>(())
 /// ```
-#[derive(Debug)]
+#[derive(Debug, Clone)]
 pub struct NdiscOptions<'a> {
     // The octets behind the options that were given.
     rest: &'a [u8],

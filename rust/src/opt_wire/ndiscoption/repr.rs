@@ -1,8 +1,8 @@
 // Made from crates/opt_wire/src/ndiscoption/repr.rt by rust/erase.
 //! The values of options of neighbor discovery (RFC 4861 section 4.6).
 
-use super::digits::Digits;
 use super::{NdiscOption, PrefixInfoFlags, Type, field};
+use crate::opt_wire::digits::Digits;
 use crate::opt_wire::writing;
 use crate::opt_wire::writing::UNIT;
 use crate::wirebase::{
@@ -63,11 +63,16 @@ pub struct RedirectedHeader<'a> {
     pub data: &'a [u8],
 }
 
-/// The header, and the bytes of the payload.
+/// The header, the bytes that it counts, and the payload in hexadecimal.
 impl fmt::Display for RedirectedHeader<'_> {
     fn fmt(&self, f: &mut fmt::Formatter<'_>) -> fmt::Result {
-        let len = self.data.len();
-        write!(f, "RedirectedHeader header={} len={len}", self.header)
+        write!(
+            f,
+            "RedirectedHeader header={} payload_len={} data={}",
+            self.header,
+            self.header.payload_len,
+            Digits(self.data)
+        )
     }
 }
 

@@ -1,7 +1,7 @@
 // Made from crates/opt_wire/src/ndiscoption/tests.rt by rust/erase.
 
 use super::{NdiscOption, PrefixInfoFlags, PrefixInformation, RedirectedHeader, Repr};
-use crate::opt_wire::testing::{FILLERS, holds_of, prints, same, same_of};
+use crate::opt_wire::testing::{FILLERS, holds_of, print_differently, prints, same, same_of};
 use crate::wirebase::{Duration, Error, IpProtocol, Ipv6Address, Ipv6Repr, RawHardwareAddress};
 
 mod options;
@@ -83,6 +83,9 @@ const TARGET: &[u8] = &[0x02, 0x01, 0x52, 0x54, 0x00, 0x12, 0x34, 0x56];
 
 const MTU: [u8; 8] = [0x05, 0x01, 0x00, 0x00, 0x00, 0x00, 0x05, 0xdc];
 
+// One of 16,909,060 bytes, of which each byte is another.
+const GREAT_MTU: [u8; 8] = [0x05, 0x01, 0x00, 0x00, 0x01, 0x02, 0x03, 0x04];
+
 const UNKNOWN: [u8; 8] = [0x0e, 0x01, 1, 2, 3, 4, 5, 6];
 
 fn unknown() -> Repr<'static> {
@@ -128,6 +131,7 @@ fn options_are_read() {
     check_read(&PREFIX, &Repr::PrefixInformation(prefix_information()));
     check_read(&REDIRECTED, &Repr::RedirectedHeader(redirected_header()));
     check_read(&MTU, &Repr::Mtu(1_500));
+    check_read(&GREAT_MTU, &Repr::Mtu(0x0102_0304));
     check_read(&UNKNOWN, &unknown());
 }
 
@@ -156,6 +160,7 @@ fn options_are_written_over_octets_of_any_kind() {
     let redirected = Repr::RedirectedHeader(redirected_header());
     check_written(&redirected, &REDIRECTED);
     check_written(&Repr::Mtu(1_500), &MTU);
+    check_written(&Repr::Mtu(0x0102_0304), &GREAT_MTU);
     check_written(&unknown(), &UNKNOWN);
 }
 
@@ -367,7 +372,8 @@ fn options_in_words() {
         ),
         (
             &REDIRECTED,
-            "NDISC Option: RedirectedHeader header=IPv6 src=fe80::1 dst=fe80::2 nxt_hdr=17 hop_limit=64 len=4",
+            "NDISC Option: RedirectedHeader header=IPv6 src=fe80::1 dst=fe80::2 nxt_hdr=17 hop_limit=64 \
+             payload_len=4 data=aabbccdd",
         ),
         (&MTU, "NDISC Option: MTU mtu=1500"),
         (
@@ -385,9 +391,51 @@ fn prefixes_and_redirected_headers_in_words() {
     const PREFIX_TEXT: &str = "PrefixInformation prefix_len=64 flags=on_link,addrconf \
         valid_lifetime=900.000s preferred_lifetime=1000.000s prefix=fe80::1";
     prints(&prefix_information(), PREFIX_TEXT);
-    const PACKET_TEXT: &str =
-        "RedirectedHeader header=IPv6 src=fe80::1 dst=fe80::2 nxt_hdr=17 hop_limit=64 len=4";
+    const PACKET_TEXT: &str = "RedirectedHeader header=IPv6 src=fe80::1 dst=fe80::2 nxt_hdr=17 hop_limit=64 payload_len=4 data=aabbccdd";
     prints(&redirected_header(), PACKET_TEXT);
+}
+
+#[test]
+fn what_differs_in_one_field_prints_differently() {
+    let info = prefix_information();
+    let others = [
+        PrefixInformation {
+            prefix_len: 65,
+            ..info
+        },
+        PrefixInformation {
+            flags: PrefixInfoFlags::ON_LINK,
+            ..info
+        },
+        PrefixInformation {
+            valid_lifetime: Duration::from_secs(901),
+            ..info
+        },
+        PrefixInformation {
+            preferred_lifetime: Duration::from_secs(1_001),
+            ..info
+        },
+        PrefixInformation {
+            prefix: there(),
+            ..info
+        },
+    ];
+    for other in others {
+        print_differently(
+            &Repr::PrefixInformation(info),
+            &Repr::PrefixInformation(other),
+        );
+        print_differently(&info, &other);
+    }
+    let redirected = redirected_header();
+    let mut counted = redirected;
+    counted.header.payload_len = 5;
+    print_differently(&redirected, &counted);
+    let other = RedirectedHeader {
+        data: &[0xaa, 0xbb, 0xcc, 0xde],
+        ..redirected
+    };
+    print_differently(&redirected, &other);
 }
 
 #[test]

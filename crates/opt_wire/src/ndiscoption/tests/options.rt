@@ -4,6 +4,7 @@ use super::{PREFIX, REDIRECTED};
 use crate::ndiscoption::{NdiscOption, NdiscOptions, Refusal, Repr, Type};
 use crate::testing::{holds_of, same, same_of};
 use std::process::Abort;
+use std::test::Fail;
 use wirebase::RawHardwareAddress;
 
 #[test]
@@ -36,6 +37,18 @@ fn options_in_turn(rt: HostRuntime) {
     same(&rt, options.next(), Some(Err(Refusal::Short)));
     same(&rt, options.next(), None);
     same(&rt, options.next(), None);
+}
+
+#[test]
+fn a_copy_of_options_goes_on_from_the_same_place(rt: HostRuntime) -> Result<(), Fail> {
+    const OCTETS: &[u8] = &[5, 1, 0, 0, 0, 0, 0x05, 0xdc, 5, 1, 0, 0, 1, 2, 3, 4];
+    let mut options = NdiscOptions::new(OCTETS);
+    same(&rt, options.next(), Some(Ok(Repr::Mtu(1_500))));
+    let mut copy = options.clone()?;
+    same(&rt, copy.next(), Some(Ok(Repr::Mtu(0x0102_0304))));
+    same(&rt, copy.next(), None);
+    same(&rt, options.next(), Some(Ok(Repr::Mtu(0x0102_0304))));
+    Ok(())
 }
 
 // Ends the test unless so many options are read in the octets, and then this refusal comes or none, and the end.

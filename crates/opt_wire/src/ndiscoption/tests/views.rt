@@ -47,17 +47,17 @@ fn an_mtu_is_written(rt: HostRuntime) {
     let mut bytes = [0xff; 8];
     let mut view = NdiscOption::new_unchecked(&mut bytes[..]);
     view.clear_redirected_reserved();
-    view.set_mtu(1_500);
+    view.set_mtu(0x0102_0304);
     same(
         &rt,
         view,
-        NdiscOption::new_unchecked(&mut [0xff, 0xff, 0, 0, 0, 0, 0x05, 0xdc][..]),
+        NdiscOption::new_unchecked(&mut [0xff, 0xff, 0, 0, 1, 2, 3, 4][..]),
     );
 }
 
 #[test]
 fn an_address_is_written(rt: HostRuntime) {
-    let mut bytes = [0xff, 0xff, 0, 0, 0, 0, 0x05, 0xdc];
+    let mut bytes = [0xff, 0xff, 0, 0, 1, 2, 3, 4];
     let mut view = NdiscOption::new_unchecked(&mut bytes[..]);
     view.set_data_len(1);
     view.set_link_layer_addr(RawHardwareAddress::from_bytes(&[1, 2, 3]));
@@ -65,7 +65,7 @@ fn an_address_is_written(rt: HostRuntime) {
     same(
         &rt,
         bytes.as_slice(),
-        [0xff, 0x01, 1, 2, 3, 0, 0x05, 0xdc].as_slice(),
+        [0xff, 0x01, 1, 2, 3, 2, 3, 4].as_slice(),
     );
 }
 

@@ -5,6 +5,9 @@ use super::{PREFIX, REDIRECTED};
 use crate::opt_wire::ndiscoption::{NdiscOption, NdiscOptions, Refusal, Repr, Type};
 use crate::opt_wire::testing::{holds_of, same, same_of};
 use crate::wirebase::RawHardwareAddress;
+#[allow(unused_imports)]
+use rattle_std::prelude::*;
+use rattle_std::test::Fail;
 
 #[test]
 fn options_in_turn() {
@@ -28,6 +31,18 @@ fn options_in_turn() {
     same(options.next(), Some(Err(Refusal::Short)));
     same(options.next(), None);
     same(options.next(), None);
+}
+
+#[test]
+fn a_copy_of_options_goes_on_from_the_same_place() -> Result<(), Fail> {
+    const OCTETS: &[u8] = &[5, 1, 0, 0, 0, 0, 0x05, 0xdc, 5, 1, 0, 0, 1, 2, 3, 4];
+    let mut options = NdiscOptions::new(OCTETS);
+    same(options.next(), Some(Ok(Repr::Mtu(1_500))));
+    let mut copy = options.try_clone()?;
+    same(copy.next(), Some(Ok(Repr::Mtu(0x0102_0304))));
+    same(copy.next(), None);
+    same(options.next(), Some(Ok(Repr::Mtu(0x0102_0304))));
+    Ok(())
 }
 
 // Ends the test unless so many options are read in the octets, and then this refusal comes or none, and the end.

@@ -1,14 +1,17 @@
-// Made from crates/opt_wire/src/ndiscoption/digits.rt by rust/erase.
-//! Bytes as hexadecimal digits.
+// Made from crates/opt_wire/src/digits.rt by rust/erase.
+//! Bytes as they print: in hexadecimal.
 
 use core::fmt;
 
-/// Bytes in hexadecimal, two digits each.
+/// Bytes that print as two hexadecimal digits each, and none at all as `-`.
 #[derive(Clone, Copy)]
-pub(super) struct Digits<'a>(pub(super) &'a [u8]);
+pub struct Digits<'a>(pub &'a [u8]);
 
 impl fmt::Display for Digits<'_> {
     fn fmt(&self, f: &mut fmt::Formatter<'_>) -> fmt::Result {
+        if self.0.is_empty() {
+            return f.write_str("-");
+        }
         fmt_digits(f, self.0)
     }
 }

@@ -2,7 +2,7 @@
 use Rattle.std.proofs.Common.{◌≡◌, ℕ, ◌+◌, ◌<◌, List, ◌++◌, flat_map, length, take, get_or, IsOk, rules, arith}
 use Rattle.std.proofs.lemmas.Grind.{common_steps, put_two}
 use Rattle.wirebase.specs.Ethernet.{hex_byte}
-use Rattle.opt_wire.proofs.ndiscoption.digits.fmt_digits.Goals as goal
+use Rattle.opt_wire.proofs.digits.fmt_digits.Goals as goal
 
 one_more : (bytes : List ℕ) (i : ℕ) → i < length bytes
     → flat_map hex_byte (take i bytes) ++ hex_byte (get_or bytes i 0) ≡ flat_map hex_byte (take (i + 1) bytes)

@@ -1,19 +1,24 @@
-//! Bytes as hexadecimal digits.
+//! Bytes as they print: in hexadecimal.
 
 ghost use Rattle.std.specs.Prelude.{Some, flat_map};
 ghost use Rattle.std.specs.Fmt.{WritesOnOk};
 ghost use Rattle.wirebase.specs.Ethernet.{hex_byte};
+ghost use Rattle.opt_wire.specs.Digits.{octets_text};
 
 use std::fmt;
 
-/// Bytes in hexadecimal, two digits each.
+/// Bytes that print as two hexadecimal digits each, and none at all as `-`.
 #[derive(Clone, Copy)]
-pub(super) struct Digits<'a>(pub(super) &'a [u8]);
+pub struct Digits<'a>(pub &'a [u8]);
 
 impl fmt::Display for Digits<'_> {
-    ghost output = { λ bytes. Some (flat_map hex_byte bytes.0.now) };
+    ghost output = { λ bytes. Some (octets_text bytes.0.now) };
 
+    #[tactic(auto, unfolding(crate::specs::Digits::octets_text))]
     fn fmt<W: fmt::Write>(&self, f: &mut fmt::Formatter<W>) -> fmt::Result {
+        if self.0.is_empty() {
+            return f.write_str("-");
+        }
         fmt_digits(f, self.0)
     }
 }

@@ -2,7 +2,7 @@
 use Rattle.std.proofs.Common.{flat_map, take}
 use Rattle.std.specs.Fmt.{HasWritten, IsPlainFormatter}
 use Rattle.wirebase.specs.Ethernet.{hex_byte}
-use Rattle.opt_wire.proofs.ndiscoption.digits.fmt_digits.Given as goal
+use Rattle.opt_wire.proofs.digits.fmt_digits.Given as goal
 
 abbrev pub invariant-loop-byte : goal.invariant-loop-byte
 invariant-loop-byte g l =
