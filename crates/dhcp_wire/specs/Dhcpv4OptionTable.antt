@@ -1,5 +1,5 @@
--- The kinds of option that have a name here, by IANA's registry of BOOTP vendor extensions and DHCP options, each with
--- the format of its data.
+-- The kinds of option that have a name here, of IANA's registry of BOOTP vendor extensions and DHCP options, each in
+-- words of the RFC that defines it and with the format of its data.
 use Rattle.std.specs.Prelude.{ℕ, ◌==◌, if◌then◌else◌, List, [], ◌∷◌, Option, None, Some, codes}
 use Rattle.std.specs.Option.{option_map}
 use Rattle.dhcp_wire.specs.declared.dhcpv4.table.Format.{Format}

@@ -31,8 +31,8 @@ pub(super) enum Format {
 }
 
 impl DhcpOption<'_> {
-    /// The name of the kind, by IANA's registry of DHCP options, in lower case with hyphens, as `subnet-mask`. None
-    /// where it has no name here, and for padding and the end mark.
+    /// The name of the kind in words of the RFC that defines it, in lower case with hyphens, as `lease-time` for what
+    /// IANA's registry calls Address Time. None where it has no name here, and for padding and the end mark.
     pub fn name(&self) -> Option<&'static str>
         ensures { option_map (λ name. name.now) result ≡ name_of self.now.kind }
     {
@@ -186,3 +186,6 @@ fn later_entry(kind: u8) -> Option<(&'static str, Format)>
         _ => None,
     }
 }
+
+#[cfg(test)]
+mod tests;

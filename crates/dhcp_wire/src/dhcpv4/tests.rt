@@ -140,6 +140,16 @@ fn names_before_the_first_zero(rt: HostRuntime) {
     check_names(&rt, 0x61, 0x00, Some("a"));
 }
 
+#[test]
+fn names_of_a_server_and_of_a_file(rt: HostRuntime) {
+    let mut octets = [0; 240];
+    octets[34..37].copy_from_slice(b"srv");
+    octets[108..112].copy_from_slice(b"file");
+    let view = Packet::new_unchecked(&octets[..]);
+    same(&rt, view.get_sname().ok(), Some("srv"));
+    same(&rt, view.get_boot_file().ok(), Some("file"));
+}
+
 // Writes an option of four bytes over these octets, and the end mark. Of an option and a mark behind it none is taken.
 fn check_writer(rt: &impl Abort, octets: &mut [u8]) {
     const TWO_LETTERS: DhcpOption<'static> = DhcpOption {

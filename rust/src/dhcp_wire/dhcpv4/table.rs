@@ -27,8 +27,8 @@ pub(super) enum Format {
 }
 
 impl DhcpOption<'_> {
-    /// The name of the kind, by IANA's registry of DHCP options, in lower case with hyphens, as `subnet-mask`. None
-    /// where it has no name here, and for padding and the end mark.
+    /// The name of the kind in words of the RFC that defines it, in lower case with hyphens, as `lease-time` for what
+    /// IANA's registry calls Address Time. None where it has no name here, and for padding and the end mark.
     pub fn name(&self) -> Option<&'static str> {
         match entry_of(self.kind) {
             Some((name, _)) => Some(name),
@@ -166,3 +166,6 @@ fn later_entry(kind: u8) -> Option<(&'static str, Format)> {
         _ => None,
     }
 }
+
+#[cfg(test)]
+mod tests;

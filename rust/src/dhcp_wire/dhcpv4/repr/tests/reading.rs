@@ -110,7 +110,7 @@ fn the_last_option_of_a_kind_and_of_its_length() {
                 0, 0, 0, 0, 2, 0x3d, 6, 1, 2, 0, 0, 0, 0, 0x36, 4, 10, 0, 0, 1, 0x36, 4, 10, 0, 0,
                 2, 0x36, 5, 10, 0, 0, 3, 0, 3, 4, 10, 0, 0, 3, 3, 4, 10, 0, 0, 4, 3, 8, 10, 0, 0,
                 5, 10, 0, 0, 6, 1, 4, 255, 0, 0, 0, 1, 4, 255, 255, 0, 0, 1, 3, 0, 0, 0, 0x32, 4,
-                10, 0, 0, 7, 0x32, 4, 10, 0, 0, 8, 0x32, 0, 0x39, 2, 0, 1, 0x39, 2, 0, 2, 0x39, 3,
+                10, 0, 0, 7, 0x32, 4, 10, 0, 0, 8, 0x32, 0, 0x39, 2, 0, 1, 0x39, 2, 0, 9, 0x39, 3,
                 0, 0, 3, 0x33, 4, 0, 0, 0, 1, 0x33, 4, 0, 0, 0, 2, 0x33, 3, 0, 0, 3, 0x3a, 4, 0, 0,
                 0, 3, 0x3a, 4, 0, 0, 0, 4, 0x3a, 5, 0, 0, 0, 5, 0, 0x3b, 4, 0, 0, 0, 5, 0x3b, 4, 0,
                 0, 0, 6, 0x3b, 2, 0, 7, 0xff,
@@ -122,7 +122,7 @@ fn the_last_option_of_a_kind_and_of_its_length() {
                 (1, Some(0xffff_0000)),
                 (50, Some(0x0a00_0008)),
                 (61, Some(0x0200_0000_0002)),
-                (57, Some(2)),
+                (57, Some(9)),
                 (51, Some(2)),
                 (58, Some(4)),
                 (59, Some(6)),
@@ -186,7 +186,10 @@ fn offered() -> Repr<'static> {
     repr.transaction_id = 0x1200_0000;
     repr.secs = 5;
     repr.client_hardware_address = EthernetAddress([2, 0, 0, 0, 0, 0]);
+    repr.client_ip = Ipv4Address::new(0, 0, 0, 3);
     repr.your_ip = Ipv4Address::new(0, 0, 0, 7);
+    repr.server_ip = Ipv4Address::new(0, 0, 0, 4);
+    repr.relay_agent_ip = Ipv4Address::new(0, 0, 0, 6);
     repr.broadcast = true;
     repr.router = Some(Ipv4Address::new(10, 0, 0, 2));
     repr.subnet_mask = Some(Ipv4Address::new(255, 0, 0, 0));
@@ -215,7 +218,10 @@ fn an_offer_with_all_that_a_client_takes() {
     set(octets, 4, 0x12);
     set(octets, 9, 5);
     set(octets, 10, 0x80);
+    set(octets, 15, 3);
     set(octets, 19, 7);
+    set(octets, 23, 4);
+    set(octets, 27, 6);
     set(octets, 28, 2);
     compare_read(octets, &offered());
     compare_damaged(octets);
