@@ -291,9 +291,9 @@ def udp(of):
         raise Refused("short", "fewer than its %d bytes" % length)
     if be(octets[2:4]) == 0:
         raise Refused("malformed", "the destination port is 0")
-    has_none = octets[6:8] == b"\0\0"
-    if has_none and len(of.source) == 4:
-        return octets[8:length]
-    if not is_good(octets[:length], pseudo_sum(of.source, of.destination, UDP, length)):
-        raise Refused("checksum", "no checksum over IPv6" if has_none else "the checksum does not hold")
+    if octets[6:8] == b"\0\0":
+        if len(of.source) != 4:
+            raise Refused("checksum", "no checksum over IPv6")
+    elif not is_good(octets[:length], pseudo_sum(of.source, of.destination, UDP, length)):
+        raise Refused("checksum", "the checksum does not hold")
     return octets[8:length]

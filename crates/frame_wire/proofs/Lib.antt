@@ -1,4 +1,6 @@
 pub mod Headers
 pub mod TagLists
 pub mod Tags
+pub mod UdpFormat
+pub mod UdpSeals
 pub mod Witnesses

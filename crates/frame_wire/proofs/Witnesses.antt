@@ -1,14 +1,13 @@
 -- What is read, and what is cut, behind the header of a link.
-use Rattle.std.proofs.Common.{◌≡◌, ◌≢◌, ℕ, ◌+◌, ◌-◌, ◌≤◌, ◌⊎◌, List, length, drop, refl, sym, subst, ◌∙◌, arith}
+use Rattle.std.proofs.Common.{◌≡◌, ◌≢◌, ℕ, ◌+◌, ◌-◌, ◌≤◌, List, length, drop, refl, sym, subst, ◌∙◌, arith}
 use Rattle.std.proofs.Common.{Bool, true, false, ◌↔◌, Option, None, Some, IsNone, IsSome}
 use Rattle.byteorder.specs.Endian.{big_number}
 use Rattle.wirebase.specs.Bytes.{field, part, number_of}
 use Rattle.wirebase.specs.Capabilities.{is_verified}
 use Rattle.wirebase.specs.declared.capabilities.ChecksumCapabilities.{ChecksumCapabilities}
-use Rattle.frame_wire.specs.Addresses.{IsV4}
 use Rattle.frame_wire.specs.Link.{FrameValue, TypedValue, IsTagged, IsPayload, IsTypedFrame}
 use Rattle.frame_wire.specs.LinkRefusal.{IsSessionCut}
-use Rattle.frame_wire.specs.Udp.{BeginsWhole, IsVerified, src_port_field, dst_port_field, checksum_field}
+use Rattle.frame_wire.specs.Udp.{BeginsWhole, HasChecksum, src_port_field, dst_port_field}
 use Rattle.frame_wire.specs.UdpRefusal.{IsRead}
 use Rattle.frame_wire.specs.declared.datagram.Addresses.{Addresses}
 
@@ -55,8 +54,7 @@ unasked asked answer e is_not is = let both : true ≡ false = sym is ∙ sym e 
 -- the ports that are read
 pub ports_read : (capabilities : ChecksumCapabilities) (addresses : Addresses) (bytes : List ℕ) → BeginsWhole bytes
     → number_of dst_port_field bytes ≢ 0
-    → (is_verified capabilities.udp ≡ true
-    → (IsV4 addresses × (number_of checksum_field bytes ≡ 0)) ⊎ IsVerified addresses bytes)
+    → (is_verified capabilities.udp ≡ true → HasChecksum addresses bytes)
     → IsRead capabilities addresses bytes
 ports_read capabilities addresses bytes whole port checksum = (
   record { src_port = number_of src_port_field bytes; dst_port = number_of dst_port_field bytes },

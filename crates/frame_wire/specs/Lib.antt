@@ -10,3 +10,4 @@ pub mod LinkVlans
 pub mod Udp
 pub mod UdpCaptured
 pub mod UdpRefusal
+pub mod UdpText

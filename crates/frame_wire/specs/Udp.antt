@@ -74,13 +74,19 @@ pub record BeginsWhole (bytes : List ℕ) : Type 0 where
 abbrev pub IsVerified : Addresses → List ℕ → Type 0
 IsVerified addresses bytes = IsGood (bytes_of (whole_field bytes) bytes) (sum_before addresses Udp (len_in bytes))
 
--- The grammar: the bytes begin with a whole datagram to some port, and where that is verified, it carries its checksum,
--- or over IPv4 none at all.
+-- the same, and it is not 0, which says that there is none (RFC 768)
+abbrev pub IsSealed : Addresses → List ℕ → Type 0
+IsSealed addresses bytes = (number_of checksum_field bytes ≢ 0) × IsVerified addresses bytes
+
+-- a checksum, or over IPv4 none, which IPv6 does not allow (RFC 8200 section 8.1)
+abbrev pub HasChecksum : Addresses → List ℕ → Type 0
+HasChecksum addresses bytes = ((number_of checksum_field bytes ≡ 0) × IsV4 addresses) ⊎ IsSealed addresses bytes
+
+-- The grammar: the bytes begin with a whole datagram to some port, which has a checksum where that is verified.
 pub record IsDatagram (capabilities : ChecksumCapabilities) (addresses : Addresses) (bytes : List ℕ) (r : UdpRepr)
     : Type 0 where
   pub whole : BeginsWhole bytes
   pub source : r.src_port ≡ number_of src_port_field bytes
   pub destination : r.dst_port ≡ number_of dst_port_field bytes
   pub port : r.dst_port ≢ 0
-  pub checksum : is_verified capabilities.udp ≡ true
-      → (IsV4 addresses × (number_of checksum_field bytes ≡ 0)) ⊎ IsVerified addresses bytes
+  pub checksum : is_verified capabilities.udp ≡ true → HasChecksum addresses bytes

@@ -22,20 +22,19 @@ RefusesLen bytes (Length n) = (8 ≤ length bytes) × (len_in bytes ≡ n) × (n
 RefusesLen bytes (Cut n) = (8 ≤ length bytes) × (len_in bytes ≡ n) × (8 ≤ n) × (length bytes < n)
 RefusesLen bytes _ = ⊥
 
--- a whole datagram to some port, whose checksum does not hold where it is verified
-pub record IsUnverified (capabilities : ChecksumCapabilities) (addresses : Addresses) (bytes : List ℕ) : Type 0 where
+-- a whole datagram to some port, whose checksum is verified
+pub record IsChecked (capabilities : ChecksumCapabilities) (bytes : List ℕ) : Type 0 where
   pub whole : BeginsWhole bytes
   pub port : number_of dst_port_field bytes ≢ 0
   pub verified : is_verified capabilities.udp ≡ true
-  pub bad : IsVerified addresses bytes → ⊥
 
 -- what is told of bytes that are not read
 abbrev pub Refuses : ChecksumCapabilities → Addresses → List ℕ → Refusal → Type 0
 Refuses capabilities addresses bytes Port = BeginsWhole bytes × (number_of dst_port_field bytes ≡ 0)
 Refuses capabilities addresses bytes NoChecksum =
-    IsUnverified capabilities addresses bytes × (IsV4 addresses → ⊥) × (number_of checksum_field bytes ≡ 0)
+    IsChecked capabilities bytes × (number_of checksum_field bytes ≡ 0) × (IsV4 addresses → ⊥)
 Refuses capabilities addresses bytes Checksum =
-    IsUnverified capabilities addresses bytes × (number_of checksum_field bytes ≢ 0)
+    IsChecked capabilities bytes × (number_of checksum_field bytes ≢ 0) × (IsVerified addresses bytes → ⊥)
 Refuses capabilities addresses bytes refusal = RefusesLen bytes refusal
 
 abbrev pub refusal_display : Refusal → List ℕ

@@ -4,17 +4,22 @@ ghost use Rattle.std.specs.Prelude.{◌≡◌, ◌≤◌, ◌↔◌, ◌⊎◌, 
 ghost use Rattle.std.specs.Prelude.{IfSome, IsNone};
 ghost use Rattle.std.specs.Borrow.{sem, Lends, Array, u8 as byte};
 ghost use Rattle.byteorder.specs.Endian.{big_bytes};
-ghost use Rattle.wirebase.specs.Bytes.{Reaches, bytes_of, number_of, splice};
+ghost use Rattle.wirebase.specs.Bytes.{Reaches, bytes_of, number_of, over, splice};
+ghost use Rattle.wirebase.specs.Format.{Rewrites, SameText};
 ghost use Rattle.frame_wire.specs.Udp.{inner, with_inner, view_octets, Sets, KeepsLen, src_port_field, dst_port_field};
 ghost use Rattle.frame_wire.specs.Udp.{len_field, checksum_field, len_in, payload_field, BeginsWhole, IsVerified};
-ghost use Rattle.frame_wire.specs.Udp.{IsDatagram};
+ghost use Rattle.frame_wire.specs.Udp.{whole_field, HasChecksum, IsDatagram};
+ghost use Rattle.frame_wire.specs.UdpText.{value_of, text_len, text, sealed_datagram, format, Emits};
 ghost use Rattle.frame_wire.specs.UdpRefusal.{Refuses, RefusesLen, IsRead};
-ghost use Rattle.frame_wire.specs.Addresses.{IsV4};
 ghost use Rattle.frame_wire.specs.contracts.udp.UdpPacket.{the_row};
 ghost use Rattle.frame_wire.specs.declared.udp.UdpRepr.{UdpRepr as AnUdpRepr};
 
 use crate::datagram::Addresses;
-use wirebase::{ChecksumCapabilities, Error, IpProtocol, Octets, OctetsMut, Result, checksum};
+use byteorder::{BigEndian, ByteOrder};
+use wirebase::{
+    ByteWriter, ChecksumCapabilities, Error, IpProtocol, Octets, OctetsMut, Result, are_bytes,
+    checksum,
+};
 
 mod captured;
 mod display;
@@ -283,8 +288,26 @@ pub struct UdpRepr {
 
 impl UdpRepr {
     /// The ports of the datagram at the front of the octets. Refused where that is not whole, is to port 0, and where
-    /// `checksum_caps.udp` has the checksum verified, which it then lacks; over IPv4 none may stand there (RFC 768).
+    /// `checksum_caps.udp` has the checksum verified and it does not hold. A checksum of 0 says that there is none: over
+    /// IPv4 it need not be there (RFC 768), and over IPv6 the datagram is refused (RFC 8200 section 8.1).
     pub fn parse(
+        packet: &UdpPacket<&[u8]>,
+        addresses: &Addresses,
+        checksum_caps: &ChecksumCapabilities,
+    ) -> Result<UdpRepr>
+        ensures sound { IfOk result (λ repr. IsDatagram checksum_caps.now addresses.now (view_octets packet.now) repr) }
+        ensures complete { (r : AnUdpRepr) → IsDatagram checksum_caps.now addresses.now (view_octets packet.now) r
+            → IsOkAnd result (λ repr. repr ≡ r) }
+        ensures rewrites { length (view_octets packet.now) ≤ 65515 → IfOk result (λ repr. Rewrites
+            (format checksum_caps.now addresses.now) (value_of repr (bytes_of (payload_field (view_octets packet.now))
+            (view_octets packet.now)))) }
+    {
+        are_bytes(packet.buffer);
+        UdpRepr::read(packet, addresses, checksum_caps)
+    }
+
+    // The ports of the datagram at the front of the octets.
+    fn read(
         packet: &UdpPacket<&[u8]>,
         addresses: &Addresses,
         checksum_caps: &ChecksumCapabilities,
@@ -354,6 +377,69 @@ impl UdpRepr {
         }
     }
 
+    /// Writes the datagram of this payload over the front of the octets, with its checksum where `checksum_caps.udp` has
+    /// it computed, and else with 0 for none; what stands behind it stays. A checksum of 0 is written as 0xffff, which
+    /// is the same sum (RFC 768). It takes 8 bytes and the payload: requires that the octets have them, and that they
+    /// are at most 65,535.
+    ///
+    /// ```
+    /// use frame_wire::{Addresses, UdpRepr};
+    /// use control_wire::{ChecksumCapabilities, Ipv4Address};
+    ///
+    /// // Three bytes to the port of DNS.
+    /// let ports = UdpRepr { src_port: 49_152, dst_port: 53 };
+    /// let addresses = Addresses::V4(Ipv4Address::new(192, 0, 2, 1), Ipv4Address::new(192, 0, 2, 53));
+    /// let mut octets = [0; 11];
+    /// ports.emit_into(&[0x12, 0x34, 0x01], &addresses, &mut octets, &ChecksumCapabilities::default());
+    /// assert_eq!(octets, [0xc0, 0, 0, 53, 0, 11, 0xa8, 0x37, 0x12, 0x34, 0x01]);
+    /// ```
+    #[tactic(auto, using(wirebase::proofs::Chains::chain))]
+    pub fn emit_into(
+        &self,
+        payload: &[u8],
+        addresses: &Addresses,
+        octets: &mut [u8],
+        checksum_caps: &ChecksumCapabilities,
+    )
+        requires fits { text_len (value_of self.now payload.now) ≤ 65535 }
+        requires room { text_len (value_of self.now payload.now) ≤ length octets.old }
+        ensures { Emits checksum_caps.now addresses.now (value_of self.now payload.now) octets.old octets.new }
+    {
+        self.write(payload, octets);
+        if checksum_caps.udp.tx() {
+            seal(&mut octets[..HEADER_LEN + payload.len()], addresses);
+        }
+    }
+
+    // Writes the fields of the datagram, with a checksum of zero.
+    #[tactic(auto, using(wirebase::proofs::Chains::chain))]
+    fn write(&self, payload: &[u8], octets: &mut [u8])
+        requires fits { text_len (value_of self.now payload.now) ≤ 65535 }
+        requires room { text_len (value_of self.now payload.now) ≤ length octets.old }
+        ensures { octets.new ≡ over octets.old (text (value_of self.now payload.now)) }
+    {
+        let mut w = ByteWriter::new(octets);
+        w.put_u16(self.src_port);
+        w.put_u16(self.dst_port);
+        w.put_u16((HEADER_LEN + payload.len()) as u16);
+        w.put_u16(0);
+        w.put_bytes(payload);
+    }
+
+    /// Does nothing. Of two datagrams that octets can hold, equal texts mean equal ports and payloads, and conversely.
+    #[tactic(auto, using(crate::proofs::UdpFormat::formats))]
+    pub fn same_text(
+        a: &Self,
+        a_payload: &[u8],
+        b: &Self,
+        b_payload: &[u8],
+        addresses: &Addresses,
+        checksum_caps: &ChecksumCapabilities,
+    )
+        ensures { SameText (format checksum_caps.now addresses.now) (value_of a.now a_payload.now)
+            (value_of b.now b_payload.now) }
+    {}
+
     /// The bytes of the header: 8.
     pub const fn header_len(&self) -> usize
         ensures { result ≡ 8 }
@@ -362,13 +448,28 @@ impl UdpRepr {
     }
 }
 
-// Whether the datagram carries its checksum, or none where it need not.
+// Writes the checksum of a datagram that is all the octets.
+fn seal(octets: &mut [u8], addresses: &Addresses)
+    requires whole { Reaches checksum_field octets.old }
+    requires fits { length octets.old ≤ 65535 }
+    ensures { octets.new ≡ sealed_datagram addresses.now octets.old }
+{
+    let sum = addresses.sum_before(IpProtocol::Udp, octets.len() as u32);
+    checksum::fill(octets, field::CHECKSUM, sum);
+    if octets.u16_at(field::CHECKSUM) == 0 {
+        BigEndian::write_u16(&mut octets[field::CHECKSUM], 0xffff);
+    }
+}
+
+// Whether the datagram has its checksum, or none where it need not.
 fn has_checksum(packet: &UdpPacket<&[u8]>, addresses: &Addresses) -> bool
     requires { BeginsWhole (view_octets packet.now) }
-    ensures { IsTrue result ↔ ((IsV4 addresses.now × (number_of checksum_field (view_octets packet.now) ≡ 0))
-        ⊎ IsVerified addresses.now (view_octets packet.now)) }
+    ensures { IsTrue result ↔ HasChecksum addresses.now (view_octets packet.now) }
 {
-    (addresses.is_v4() && packet.checksum() == 0) || packet.verify_checksum(addresses)
+    if packet.checksum() == 0 {
+        return addresses.is_v4();
+    }
+    packet.verify_checksum(addresses)
 }
 
 #[cfg(test)]

@@ -3,8 +3,9 @@
 
 use crate::frames::datagram::Addresses;
 use crate::wirebase::{
-    ChecksumCapabilities, Error, IpProtocol, Octets, OctetsMut, Result, checksum,
+    ByteWriter, ChecksumCapabilities, Error, IpProtocol, Octets, OctetsMut, Result, checksum,
 };
+use byteorder::{BigEndian, ByteOrder};
 
 mod captured;
 mod display;
@@ -200,8 +201,18 @@ pub struct UdpRepr {
 
 impl UdpRepr {
     /// The ports of the datagram at the front of the octets. Refused where that is not whole, is to port 0, and where
-    /// `checksum_caps.udp` has the checksum verified, which it then lacks; over IPv4 none may stand there (RFC 768).
+    /// `checksum_caps.udp` has the checksum verified and it does not hold. A checksum of 0 says that there is none: over
+    /// IPv4 it need not be there (RFC 768), and over IPv6 the datagram is refused (RFC 8200 section 8.1).
     pub fn parse<B: AsRef<[u8]> + ?Sized>(
+        packet: &UdpPacket<&B>,
+        addresses: &Addresses,
+        checksum_caps: &ChecksumCapabilities,
+    ) -> Result<UdpRepr> {
+        UdpRepr::read(packet, addresses, checksum_caps)
+    }
+
+    // The ports of the datagram at the front of the octets.
+    fn read<B: AsRef<[u8]> + ?Sized>(
         packet: &UdpPacket<&B>,
         addresses: &Addresses,
         checksum_caps: &ChecksumCapabilities,
@@ -257,15 +268,66 @@ impl UdpRepr {
         }
     }
 
+    /// Writes the datagram of this payload over the front of the octets, with its checksum where `checksum_caps.udp` has
+    /// it computed, and else with 0 for none; what stands behind it stays. A checksum of 0 is written as 0xffff, which
+    /// is the same sum (RFC 768). It takes 8 bytes and the payload: requires that the octets have them, and that they
+    /// are at most 65,535.
+    ///
+    /// ```
+    /// use control_wire::frames::{Addresses, UdpRepr};
+    /// use control_wire::{ChecksumCapabilities, Ipv4Address};
+    ///
+    /// // Three bytes to the port of DNS.
+    /// let ports = UdpRepr { src_port: 49_152, dst_port: 53 };
+    /// let addresses = Addresses::V4(Ipv4Address::new(192, 0, 2, 1), Ipv4Address::new(192, 0, 2, 53));
+    /// let mut octets = [0; 11];
+    /// ports.emit_into(&[0x12, 0x34, 0x01], &addresses, &mut octets, &ChecksumCapabilities::default());
+    /// assert_eq!(octets, [0xc0, 0, 0, 53, 0, 11, 0xa8, 0x37, 0x12, 0x34, 0x01]);
+    /// ```
+    pub fn emit_into(
+        &self,
+        payload: &[u8],
+        addresses: &Addresses,
+        octets: &mut [u8],
+        checksum_caps: &ChecksumCapabilities,
+    ) {
+        self.write(payload, octets);
+        if checksum_caps.udp.tx() {
+            seal(&mut octets[..HEADER_LEN + payload.len()], addresses);
+        }
+    }
+
+    // Writes the fields of the datagram, with a checksum of zero.
+    fn write(&self, payload: &[u8], octets: &mut [u8]) {
+        let mut w = ByteWriter::new(octets);
+        w.put_u16(self.src_port);
+        w.put_u16(self.dst_port);
+        w.put_u16((HEADER_LEN + payload.len()) as u16);
+        w.put_u16(0);
+        w.put_bytes(payload);
+    }
+
     /// The bytes of the header: 8.
     pub const fn header_len(&self) -> usize {
         HEADER_LEN
     }
 }
 
-// Whether the datagram carries its checksum, or none where it need not.
+// Writes the checksum of a datagram that is all the octets.
+fn seal(octets: &mut [u8], addresses: &Addresses) {
+    let sum = addresses.sum_before(IpProtocol::Udp, octets.len() as u32);
+    checksum::fill(octets, field::CHECKSUM, sum);
+    if octets.u16_at(field::CHECKSUM) == 0 {
+        BigEndian::write_u16(&mut octets[field::CHECKSUM], 0xffff);
+    }
+}
+
+// Whether the datagram has its checksum, or none where it need not.
 fn has_checksum<B: AsRef<[u8]> + ?Sized>(packet: &UdpPacket<&B>, addresses: &Addresses) -> bool {
-    (addresses.is_v4() && packet.checksum() == 0) || packet.verify_checksum(addresses)
+    if packet.checksum() == 0 {
+        return addresses.is_v4();
+    }
+    packet.verify_checksum(addresses)
 }
 
 #[cfg(test)]

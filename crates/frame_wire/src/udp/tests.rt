@@ -17,6 +17,15 @@ const NONE: &[u8] = &[
     0xc0, 0x00, 0x00, 0x35, 0x00, 0x0b, 0x00, 0x00, 0x12, 0x34, 0x01,
 ];
 
+// Two bytes of data whose checksum comes to 0, over either, written as 0 and as 0xffff.
+const ZERO_V4: &[u8] = &[0xc0, 0x00, 0x00, 0x35, 0x00, 0x0a, 0x00, 0x00, 0xbb, 0x6d];
+
+const ONES_V4: &[u8] = &[0xc0, 0x00, 0x00, 0x35, 0x00, 0x0a, 0xff, 0xff, 0xbb, 0x6d];
+
+const ZERO_V6: &[u8] = &[0xc0, 0x00, 0x00, 0x35, 0x00, 0x0a, 0x00, 0x00, 0xe3, 0xfc];
+
+const ONES_V6: &[u8] = &[0xc0, 0x00, 0x00, 0x35, 0x00, 0x0a, 0xff, 0xff, 0xe3, 0xfc];
+
 fn over_v4() -> Addresses {
     Addresses::V4(
         Ipv4Address::new(192, 0, 2, 1),
@@ -66,6 +75,11 @@ fn datagrams_with_either_pseudo_header(rt: HostRuntime) {
         (NONE, over_v4(), both, Some(ports)),
         (NONE, over_v6(), both, None),
         (NONE, over_v6(), ignored, Some(ports)),
+        (ZERO_V4, over_v4(), both, Some(ports)),
+        (ONES_V4, over_v4(), both, Some(ports)),
+        (ZERO_V6, over_v6(), both, None),
+        (ZERO_V6, over_v6(), ignored, Some(ports)),
+        (ONES_V6, over_v6(), both, Some(ports)),
         (&V4[..10], over_v4(), both, None),
         (&V4[..7], over_v4(), ignored, None),
         // To port 0, and with a length below that of a header.
@@ -104,6 +118,44 @@ fn a_datagram_that_is_written_by_its_setters(rt: HostRuntime) {
     );
 }
 
+// Behind a datagram what stood there stays. A checksum that comes to 0 is written as 0xffff.
+#[test]
+fn datagrams_that_are_written(rt: HostRuntime) {
+    let both = ChecksumCapabilities::default();
+    let ignored = ChecksumCapabilities::ignored();
+    let ports = UdpRepr {
+        src_port: 49152,
+        dst_port: 53,
+    };
+    let rows = [
+        (V4, over_v4(), both),
+        (V6, over_v6(), both),
+        (NONE, over_v4(), ignored),
+        (NONE, over_v6(), ignored),
+        (ONES_V4, over_v4(), both),
+        (ONES_V6, over_v6(), both),
+        (ZERO_V6, over_v6(), ignored),
+        (
+            &[0xc0, 0x00, 0x00, 0x35, 0x00, 0x08, 0xbb, 0x71],
+            over_v4(),
+            both,
+        ),
+    ];
+    for (want, addresses, capabilities) in rows {
+        assert!(rt; want.len() >= 8);
+        assert!(rt; want.len() <= 13);
+        let mut octets = [0xa5; 13];
+        let payload = &want[8..];
+        ports.emit_into(payload, &addresses, &mut octets, &capabilities);
+        same_of(&rt, want, &octets[..want.len()], want);
+        same_of(&rt, want, &octets[want.len()..], &[0xa5; 13][want.len()..]);
+        let packet = UdpPacket::new_unchecked(&octets[..]);
+        let read = UdpRepr::parse(&packet, &addresses, &capabilities);
+        same_of(&rt, want, read.ok(), Some(ports));
+        UdpRepr::same_text(&ports, payload, &ports, payload, &addresses, &capabilities);
+    }
+}
+
 #[test]
 fn refusals_of_datagrams(rt: HostRuntime) {
     let both = ChecksumCapabilities::default();
@@ -114,6 +166,10 @@ fn refusals_of_datagrams(rt: HostRuntime) {
         (NONE, over_v6(), ignored, None),
         (V4, over_v6(), both, Some(Refusal::Checksum)),
         (NONE, over_v6(), both, Some(Refusal::NoChecksum)),
+        // The sum holds, and 0 still says that there is no checksum.
+        (ZERO_V6, over_v6(), both, Some(Refusal::NoChecksum)),
+        (ZERO_V6, over_v6(), ignored, None),
+        (ONES_V6, over_v6(), both, None),
         (&V4[..10], over_v4(), both, Some(Refusal::Cut(11))),
         (&V4[..7], over_v4(), ignored, Some(Refusal::Short)),
         (
