@@ -179,6 +179,8 @@ def datagram6(octets):
         raise Refused("malformed", "version %d is not read" % (octets[0] >> 4))
     total_len = 40 + be(octets[4:6])
     need(octets, total_len, "cut short, " + head_text(octets[8:24], octets[24:40], octets[6]))
+    if total_len == 40 and octets[6] == HOP_BY_HOP:
+        raise Refused("malformed", "a jumbogram is not read")
     of = pass_headers(octets, octets[40:total_len])
     if isinstance(of, Torn):
         raise Refused("malformed", "the extension header %s is cut short" % protocol_name(of.protocol))

@@ -17,7 +17,7 @@ use Rattle.frame_wire.specs.declared.datagram.Datagram.{Datagram}
 use Rattle.frame_wire.specs.declared.datagram.Head.{Head}
 use Rattle.frame_wire.specs.declared.datagram.Refusal.{Refusal}
 use Rattle.frame_wire.specs.declared.datagram.Refusal.TheVariants.{Short, Version, HeaderLen, TotalLen, Cut, Extension}
-use Rattle.frame_wire.specs.declared.datagram.Refusal.TheVariants.{Fragment}
+use Rattle.frame_wire.specs.declared.datagram.Refusal.TheVariants.{Jumbogram, Fragment}
 
 -- a datagram by its content
 pub record DatagramValue : Type 0 where
@@ -92,6 +92,7 @@ Refuses4 bytes (TotalLen n) =
 Refuses4 bytes (Cut head) = HasHeader4 bytes × (length bytes < ipv4.total_len_in bytes) × IsHead4 bytes head
 Refuses4 bytes (Fragment head) =
     HasHeader4 bytes × (ipv4.total_len_in bytes ≤ length bytes) × IsFragment4 bytes × IsHead4 bytes head
+Refuses4 bytes Jumbogram = ⊥
 Refuses4 bytes (Extension p) = ⊥
 
 -- ---- the headers that extend IPv6
@@ -236,10 +237,18 @@ pub record LeadsToTorn (p : IpProtocol) (bytes destination : List ℕ) (q : IpPr
   pub passes_ : Passes p bytes destination q rest final
   pub torn : IsTornHeader q rest
 
+-- A jumbogram (RFC 2675 section 2): the payload length is 0, and a hop-by-hop header follows, which has the length in
+-- its place. A header takes bytes, so that no other datagram has this length before one.
+pub record IsJumbogram (bytes : List ℕ) : Type 0 where
+  pub uncounted : ipv6.payload_len_in bytes ≡ 0
+  pub header : next_header_in bytes ≡ HopByHop
+
 -- what is told of the bytes behind a fixed header, where they lead to no payload
 abbrev pub RefusesBehind6 : List ℕ → List ℕ → Refusal → Type 0
+RefusesBehind6 bytes behind Jumbogram = IsJumbogram bytes
 RefusesBehind6 bytes behind (Extension p) =
-    LeadsToTorn (next_header_in bytes) behind (bytes_of ipv6.dst_addr_field bytes) p
+    (IsJumbogram bytes → ⊥)
+    × LeadsToTorn (next_header_in bytes) behind (bytes_of ipv6.dst_addr_field bytes) p
 RefusesBehind6 bytes behind (Fragment head) = IsFragment6 bytes behind head
 RefusesBehind6 bytes behind _ = ⊥
 

@@ -42,6 +42,7 @@ refusal_display (refusal.HeaderLen n) =
 refusal_display (refusal.TotalLen n) =
     pieces (codes "a total length of " ∷ decimal n ∷ codes " is below that of the header" ∷ [])
 refusal_display (refusal.Cut head) = pieces (codes "cut short, " ∷ head_display head ∷ [])
+refusal_display refusal.Jumbogram = codes "a jumbogram is not read"
 refusal_display (refusal.Extension p) =
     pieces (codes "the extension header " ∷ protocol_display p ∷ codes " is cut short" ∷ [])
 refusal_display (refusal.Fragment head) = pieces (codes "a fragment, " ∷ head_display head ∷ [])

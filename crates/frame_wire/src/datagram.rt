@@ -69,6 +69,9 @@ pub enum Refusal {
     /// They end before the datagram does by its own length, as where a capture kept less than there was;
     /// `Captured` reads what is there.
     Cut(Head),
+    /// They are a jumbogram (RFC 2675): the payload length is 0 before a hop-by-hop header, which has the length in its
+    /// place. Without that option there such a datagram contradicts itself (RFC 2675 section 3).
+    Jumbogram,
     /// A header that extends IPv6, of this protocol, ends behind the datagram.
     Extension(IpProtocol),
     /// They are a part of a datagram. An atomic fragment of IPv6 (RFC 6946 section 2), at offset 0 with no more
@@ -171,7 +174,7 @@ impl<'a> Datagram<'a> {
     /// The datagram of IPv6 at the front of the octets, by its payload length; what stands behind it is no part. Its
     /// hop-by-hop, destination and routing headers are passed, and a hop-by-hop header in its place gives its options.
     /// The header of an atomic fragment (RFC 6946 section 2), at offset 0 with no more fragments behind it, is passed
-    /// too; every other fragment is refused.
+    /// too; every other fragment is refused, and so is a jumbogram.
     pub fn parse_v6(octets: &'a [u8]) -> Result<Datagram<'a>, Refusal>
         ensures sound { IfOk result (λ d. IsDatagram6 octets.now (value_of d)) }
         ensures refuses { IfErr result (λ refusal. Refuses6 octets.now refusal) }
@@ -251,7 +254,7 @@ fn read_v6<'a>(octets: &[u8], behind: &'a [u8]) -> Result<Datagram<'a>, Refusal>
     let next_header = packet.next_header();
     let upper = match pass_headers(next_header, behind, packet.dst_addr()) {
         Ok(upper) => upper,
-        Err(protocol) => return Err(Refusal::Extension(protocol)),
+        Err(protocol) => return Err(torn_v6(octets, behind, protocol)),
     };
     if is_fragment(upper.protocol) {
         return Err(fragment_v6(octets, behind, upper));
@@ -263,6 +266,20 @@ fn read_v6<'a>(octets: &[u8], behind: &'a [u8]) -> Result<Datagram<'a>, Refusal>
         hop_by_hop: options_of(next_header, behind),
         payload: upper.payload,
     })
+}
+
+// Why the headers of IPv6 lead to no payload: one is cut, or none is counted, since the length stands in the first.
+#[inline(never)]
+fn torn_v6(octets: &[u8], behind: &[u8], protocol: IpProtocol) -> Refusal
+    requires fixed { 40 ≤ length octets.now }
+    requires torn { LeadsToTorn (next_header_in octets.now) behind.now (bytes_of dst_addr_field octets.now) protocol }
+    ensures { RefusesBehind6 octets.now behind.now result }
+{
+    let packet = Ipv6Packet::new_unchecked(octets);
+    if packet.payload_len() == 0 && packet.next_header() == IpProtocol::HopByHop {
+        return Refusal::Jumbogram;
+    }
+    Refusal::Extension(protocol)
 }
 
 // What the header of a fragment tells that the headers of IPv6 lead to (RFC 8200 section 4.5).
@@ -277,7 +294,7 @@ fn fragment_v6(octets: &[u8], behind: &[u8], upper: Upper<'_>) -> Refusal
 {
     let header = upper.payload;
     if header.len() < FRAGMENT_HEADER_LEN {
-        return Refusal::Extension(upper.protocol);
+        return torn_v6(octets, behind, upper.protocol);
     }
     let packet = Ipv6Packet::new_unchecked(octets);
     let offset_and_flag = header.u16_at(2..4);

@@ -83,6 +83,7 @@ fn datagram_reason(is_cut: bool, refusal: frame_wire::Refusal) -> Reason
         frame_wire::Refusal::Version(_)
         | frame_wire::Refusal::HeaderLen(_)
         | frame_wire::Refusal::TotalLen(_)
+        | frame_wire::Refusal::Jumbogram
         | frame_wire::Refusal::Extension(_) => Reason::Malformed,
     }
 }

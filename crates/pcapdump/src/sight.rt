@@ -282,6 +282,7 @@ fn head_of(refusal: frame_wire::Refusal) -> Option<Head>
         | frame_wire::Refusal::Version(_)
         | frame_wire::Refusal::HeaderLen(_)
         | frame_wire::Refusal::TotalLen(_)
+        | frame_wire::Refusal::Jumbogram
         | frame_wire::Refusal::Extension(_) => None,
     }
 }

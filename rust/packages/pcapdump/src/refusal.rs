@@ -73,6 +73,7 @@ fn datagram_reason(is_cut: bool, refusal: control_wire::frames::Refusal) -> Reas
         control_wire::frames::Refusal::Version(_)
         | control_wire::frames::Refusal::HeaderLen(_)
         | control_wire::frames::Refusal::TotalLen(_)
+        | control_wire::frames::Refusal::Jumbogram
         | control_wire::frames::Refusal::Extension(_) => Reason::Malformed,
     }
 }

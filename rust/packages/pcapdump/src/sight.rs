@@ -250,6 +250,7 @@ fn head_of(refusal: control_wire::frames::Refusal) -> Option<Head> {
         | control_wire::frames::Refusal::Version(_)
         | control_wire::frames::Refusal::HeaderLen(_)
         | control_wire::frames::Refusal::TotalLen(_)
+        | control_wire::frames::Refusal::Jumbogram
         | control_wire::frames::Refusal::Extension(_) => None,
     }
 }

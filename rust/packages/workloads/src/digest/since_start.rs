@@ -30,6 +30,7 @@ pub fn refusal_number(refusal: Refusal) -> u8 {
         Refusal::Version(_)
         | Refusal::HeaderLen(_)
         | Refusal::TotalLen(_)
+        | Refusal::Jumbogram
         | Refusal::Extension(_) => 1,
         Refusal::Fragment(_) => 2,
     }
