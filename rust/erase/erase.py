@@ -110,6 +110,9 @@ def units_of(sources):
     for unit in units:
         for file in unit.files.values():
             file.crate = file.path.parts[1]
+            file.library = unit.is_library()
+            file.std = "crate::rattle_std" if unit.is_library() else "rattle_std"
+            file.published = unit.is_library() or unit.root in PUBLISHED
     return units, kinds
 
 
@@ -185,8 +188,12 @@ def erase_rest(unit, file):
 
 # ---------------------------------------------------------------- writing
 
-# The packages that may be published: their first page is by hand, and so is a part of them.
-PUBLISHED = {"capture"}
+# The packages that may be published, with what a registry shows of them: their first page is by hand, and so is a part
+# of them.
+PUBLISHED = {"capture": """\
+categories = ["network-programming", "parser-implementations"]
+keywords = ["pcap", "pcapng", "capture"]
+"""}
 
 README = """#![doc = include_str!("../README.md")]
 """
@@ -203,6 +210,9 @@ LIB_HEAD = """#![doc = include_str!("../README.md")]
 
 #[cfg(test)]
 extern crate std;
+
+#[cfg(test)]
+mod rattle_std;
 
 mod by_hand;
 {modules}
@@ -227,7 +237,7 @@ def text_of(unit, kinds, target, file):
 
 
 # The version of all packages.
-VERSION = "0.14.0-1"
+VERSION = "0.14.1"
 
 MANIFEST = """# Made from {path} and the repository's crates.txt by rust/erase.
 [package]
@@ -258,7 +268,7 @@ def manifest_of(unit, kinds, needs):
             lines[need] = f'{kinds["package"][need]} = {{ path = "../{kinds["package"][need]}" }}'
         elif need not in needs and need != "hex":
             lines[need] = f"{need}.workspace = true"
-    publish = "" if unit.root in PUBLISHED else "publish = false\n"
+    publish = PUBLISHED.get(unit.root, "publish = false\n")
     return MANIFEST.format(path=root.path, name=unit.folder.name, description=description.replace('"', "'"),
                            publish=publish, needs="\n".join(lines[need] for need in sorted(lines)), version=VERSION)
 
@@ -284,9 +294,28 @@ def public_path(file):
     return f"control_wire::{file.path.parts[3].removesuffix('.rt')}"
 
 
+# What the tests of the library have no use for, and what the files of a crate without std have to bring in.
+UNUSED = re.compile(r"#!\[forbid.*\n|pub mod (env|hex|io);\n|pub use std::\{fmt, fs\};\n")
+BROUGHT = "use std::prelude::v1::*;\n"
+
+
+def std_of_tests():
+    """The files of the library with what its tests take of `rattle_std`: so the crate's package has all that they need."""
+    files, folder = {}, HERE.parent / "rattle_std" / "src"
+    for name in ("lib", "alloc", "test", "text", "vec"):
+        text = UNUSED.sub("", (folder / f"{name}.rs").read_text()).replace("crate::", "crate::rattle_std::")
+        docs, code = re.match(r"((?://!.*\n)*\n?)((?:.|\n)*)", text).groups()
+        made = f"// Made from rust/rattle_std/src/{name}.rs by rust/erase.\n"
+        brought = "pub use crate::vec;\n" if name == "lib" else BROUGHT
+        files[pathlib.Path("src/rattle_std.rs" if name == "lib" else f"src/rattle_std/{name}.rs")] = \
+            made + docs + brought + code
+    return files
+
+
 def write(sources, out, units, kinds):
     """Writes all files."""
     written = {out / "tests" / "flags.rs": sets_test(flag_sets.SETS)}
+    written.update((out / path, text) for path, text in std_of_tests().items())
     for unit in units:
         for target, file in unit.files.items():
             written[out / target] = text_of(unit, kinds, target, file)

@@ -133,6 +133,85 @@ def cloned(file, i):
     return file.remove(file.start(i), file.close(body) + 1)
 
 
+# The modules whose value may get more cases, as in smoltcp. So may each reason to refuse.
+OPEN_VALUES = {"icmpv4", "icmpv6", "ipv6option"}
+
+
+def is_open(module, name):
+    return name.endswith("Refusal") or name == "Repr" and module in OPEN_VALUES
+
+
+@rule(VALUES)
+def open_enum(file, i):
+    """A public enum that may get more cases is `#[non_exhaustive]`, in what is published."""
+    if not file.texts(i, "pub", "enum") or not file.published:
+        return None
+    if not is_open(file.path.parts[3].removesuffix(".rt"), file.text(i + 2)):
+        return None
+    return file.insert(i, "#[non_exhaustive]") + 2
+
+
+def enum_of(file, i):
+    """The module and the name of the enum of another crate whose case begins at i; None where no such path begins."""
+    path = []
+    while file.is_word(i) and file.text(i + 1) == "::":
+        path.append(file.text(i))
+        i += 2
+    for k in range(len(file.tokens) if path else 0):
+        if file.text(k) == "use" and file.text(k - 1) != "ghost":
+            end = file.skip(k, (";",))
+            at = next((at for at in range(k, end) if file.text(at) == path[0] and file.text(at + 1) != "::"), None)
+            if at is not None:
+                path[:0] = [file.text(step) for step in range(k + 1, at) if file.text(step + 1) == "::"]
+                break
+    return None if len(path) < 2 or path[0] in ("crate", "super", "self") else (path[-2], path[-1])
+
+
+def arms(file, open_):
+    """Where the pattern of each arm of a `match` begins and ends, whose body opens there."""
+    found, i = [], open_ + 1
+    while i < file.close(open_):
+        arrow = file.skip(i, ("=>",))
+        found.append((i, arrow))
+        if file.text(arrow + 1) == "{":
+            i = file.close(arrow + 1) + 1
+        else:
+            i = file.skip(arrow + 1, (",",))
+        i += file.text(i) == ","
+    return found
+
+
+def misses_cases(file, patterns):
+    """Whether patterns name cases of an enum of another crate that may get more, and none takes these."""
+    texts = [file.joined(start, end) for start, end in patterns]
+    for start, end in patterns:
+        for k in range(start, end):
+            is_first, is_inner = k == start or file.text(k - 1) == "|", file.text(k - 1) == "("
+            enum = enum_of(file, k) if is_first or is_inner else None
+            if enum is None or not is_open(*enum):
+                continue
+            outer = k
+            while is_inner and (outer == k or file.is_word(outer - 1) or file.text(outer - 1) == "::"):
+                outer -= 1
+            takes_all = re.escape(file.joined(outer, k)) + r"[a-z_]\w*" + (r"\)" if is_inner else "")
+            if not any(re.search(rf"(^|\|){takes_all}($|\|)", text) for text in texts):
+                return True
+    return False
+
+
+@rule(VALUES)
+def open_match(file, i):
+    """A match of all cases of an enum of the library that may get more has an arm for these, which nothing reaches."""
+    if file.text(i) != "match" or file.library:
+        return None
+    open_ = file.body(i)
+    if not misses_cases(file, arms(file, open_)):
+        return None
+    close = file.close(open_)
+    file.insert(close, "_ => unreachable!()," if file.text(close - 1) == "," else ", _ => unreachable!(),")
+    return i + 1
+
+
 # Types whose Debug is by hand.
 SHOWN_AS_TEXT = {"Ipv4Address", "Ipv6Address"}
 
@@ -419,7 +498,7 @@ def parts(file, open_):
 # What must not be left, and what may stand in the library at all.
 LEFT = {"prove", "prove_eq", "prove_ne", "Global", "HostRuntime", "Abort", "Alloc", "Model", "Drop", "ghost",
         "requires", "ensures", "final", "tactic", "cycle", "alloc", "rt", "unsafe"}
-ATTRIBUTES = {"derive", "cfg", "test", "default", "inline", "cold", "allow", "must_use", "doc"}
+ATTRIBUTES = {"derive", "cfg", "test", "default", "inline", "cold", "allow", "must_use", "doc", "non_exhaustive"}
 MACROS = {"write", "writeln", "matches", "unreachable", "bitflags"}
 TEST_MACROS = MACROS | {"assert", "assert_eq", "assert_ne", "panic", "println", "eprintln", "vec", "print"}
 

@@ -1,5 +1,5 @@
 """The rules for code over Rattle's runtime: tests and programs. What they name of Rattle's std and Rust's has not is in
-the crate `rattle_std`, over Rust's."""
+the crate `rattle_std`, over Rust's, of which the library has a copy for its tests."""
 
 RUNTIME, PATHS = [], []
 HANDED = {"rt", "alloc"}
@@ -28,7 +28,7 @@ def prints(file, i):
     if file.text(i) not in PRINTS or not file.texts(i + 1, "!", "(", "rt", ";"):
         return None
     file.remove(i + 3, i + 5, comment=False)
-    return file.replace(i, i + 1, f"rattle_std::{file.text(i)}")
+    return file.replace(i, i + 1, f"{file.std}::{file.text(i)}")
 
 
 @rule(RUNTIME)
@@ -42,7 +42,7 @@ def takes_alloc(file, i):
     if file.texts(i, "vec", "!", "[", "in"):
         end = file.skip(i + 4, (";",))
         file.remove(i + 3, end + 1, comment=False)
-        return file.replace(i, i + 1, "rattle_std::vec")
+        return file.replace(i, i + 1, f"{file.std}::vec")
     return None
 
 
@@ -90,9 +90,9 @@ def std_module(file, i):
     if file.text(i + 1) != "::" or file.text(i - 1) == "::":
         return None
     if file.text(i) == "std" and (file.text(i + 2) in MODULES or file.text(i + 2) == "{"):
-        return file.replace(i, i + 1, "rattle_std")
+        return file.replace(i, i + 1, file.std)
     if file.text(i) == "hex":
-        return file.replace(i, i + 1, "rattle_std::hex")
+        return file.replace(i, i + 1, f"{file.std}::hex")
     return None
 
 
@@ -101,6 +101,6 @@ def prelude(file):
     if not PRELUDE & file.words():
         return
     pre = file.tokens[0].pre
-    end = file.insert(0, "#[allow(unused_imports)]\nuse rattle_std::prelude::*;")
+    end = file.insert(0, f"#[allow(unused_imports)]\nuse {file.std}::prelude::*;")
     file.tokens[0].pre = pre
     file.tokens[end].pre = "\n"

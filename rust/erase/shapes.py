@@ -33,6 +33,8 @@ SHAPES = {
     "hidden": (r"pub", ""),
     "clone": (r"impl Clone for [^{};]*\{ \.\. \}|", r"(, Clone|# \[ derive \( Clone \) \])?"),
     "cloned": (ATTRIBUTES + r"fn \w+ [^{};]*AllocError[^{};]*\{ \.\. \}", ""),
+    "open_enum": (r"", r"# \[ non_exhaustive \]"),
+    "open_match": (r"", r"(, )?_ => unreachable ! \( \) ,"),
     "debug": (r"Debug ,", ""),
     "nothing": (ATTRIBUTES + r"fn \w+ [^{};]*\{ \.\. \}|(\w+ :: )*\w+ \( \.\. \) ;|, \w+|\w+ ,", ""),
     "formatter": (r"W|< W : fmt :: Write >", r"('_)?"),
@@ -46,17 +48,17 @@ SHAPES = {
     "lends_from_any": (r"\[ \.\. \]|", r"B|(, |< )?B : AsRef < \[ u8 \] > \+ \? Sized( >)?|\. as_ref \( \)"),
     "reads_from_any": (r"\[ \.\. \]|", r"B|(, |< )?B : AsRef < \[ u8 \] > \+ \? Sized( >)?|\. as_ref \( \)"),
     "handle": (r"rt ;", ""),
-    "prints": (r"rt ;|e?println", r"(rattle_std :: e?println)?"),
+    "prints": (r"rt ;|e?println", r"((crate :: )?rattle_std :: e?println)?"),
     "takes_alloc": (r"to_string|concat|to_vec|repeat|clone|vec|in \w+( \. alloc \( \.\. \))? ;",
-                    r"to_string_in|concat_in|to_vec_in|repeat_in|try_clone|rattle_std :: vec|"),
+                    r"to_string_in|concat_in|to_vec_in|repeat_in|try_clone|(crate :: )?rattle_std :: vec|"),
     "reader": (r"rt \. reader", r"io :: reader"),
     "generator": (r"Rng", r"RngCore"),
     "handed": (r"let alloc = rt \. alloc \( \.\. \) ;|(, )?&? ?(rt|alloc)"
                r"( : &? ?(impl \w+|\( \.\. \)|HostRuntime|Global))?( \. alloc \( \.\. \))?( ,)?", ""),
-    "std_module": (r"std|hex", r"rattle_std( :: hex)?"),
+    "std_module": (r"std|hex", r"(crate :: )?rattle_std( :: hex)?"),
     "imports": (r"use [\w: ]*(\{ \.\. \})?( as \w+)? ;|, [\w:]+( as \w+)?|[\w:]+( as \w+)? ,", ""),
     "paths": (r"\w+", r"core|std|control_wire( :: \w+)?|crate( :: \w+)?"),
-    "prelude": (r"", r"# \[ allow \( unused_imports \) \] use rattle_std :: prelude :: \* ;"),
+    "prelude": (r"", r"# \[ allow \( unused_imports \) \] use (crate :: )?rattle_std :: prelude :: \* ;"),
 }
 
 
@@ -157,6 +159,8 @@ CLOSER = {
 # Where something may be put in that stands for nothing: the token before it, `^`, and the one behind it.
 PLACES = {
     "clone": r".+ \^ \)|[;}] \^ (pub|struct|enum)",
+    "open_enum": r"[;}\]] \^ pub",
+    "open_match": r".+ \^ \}",
     "lends_from_any": r"buffer \^ .+|.+ \^ >|impl \^ \w+",
     "reads_from_any": r"buffer \^ .+|.+ \^ >|\w+ \^ \(",
     "prelude": r" \^ .+",

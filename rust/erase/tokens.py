@@ -73,6 +73,10 @@ class File:
 
     def __init__(self, path, source, runtime=False):
         self.path, self.source, self.runtime = path, source, runtime
+        # Whether it is of the library, and of what is published.
+        self.library = self.published = not runtime
+        # What its tests name of Rattle's std.
+        self.std = "rattle_std"
         self.tokens = tokens_of(source)
         self.edits = []
         self.rule = "none"

@@ -6,6 +6,9 @@
 #[cfg(test)]
 extern crate std;
 
+#[cfg(test)]
+mod rattle_std;
+
 mod by_hand;
 mod dhcp_wire;
 mod dns_wire;

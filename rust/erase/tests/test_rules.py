@@ -82,6 +82,8 @@ ROWS = {
               "#[derive(Debug, Clone)] struct S(u8);"),
     "hidden": ("pub enum Layout { A } pub enum Other { A }", "enum Layout { A } pub enum Other { A }"),
     "cloned": ("fn cloned(a: &A) -> Result<A, AllocError> { a.clone() } fn f() -> u8 { 1 }", "fn f() -> u8 { 1 }"),
+    "open_enum": ("#[derive(Debug)] pub enum Refusal { A } enum OwnRefusal { A } pub enum Repr { A }",
+                  "#[derive(Debug)] #[non_exhaustive] pub enum Refusal { A } enum OwnRefusal { A } pub enum Repr { A }"),
     "debug": ("#[derive(Debug, Clone)] pub struct Ipv4Address; #[derive(Debug, Clone)] pub struct Ipv4Repr;",
               "#[derive(Clone)] pub struct Ipv4Address; #[derive(Debug, Clone)] pub struct Ipv4Repr;"),
     "nothing": ("use wirebase::{Error, are_facts}; fn are_facts(a: u8) ensures { a ≡ a } {} "
@@ -125,6 +127,9 @@ RUNTIME_ROWS = {
                "fn main() -> io::Result<()> { rattle_std::println!(\"a\") }"),
     "takes_alloc": ("fn f(alloc: Global) -> u8 { g(a.to_string(alloc), b.clone(), vec![in alloc; 0; 3]) }",
                     "use_prelude fn f() -> u8 { g(a.to_string_in(), b.try_clone(), rattle_std::vec![0; 3]) }"),
+    "open_match": ("use kit::icmpv4::{Packet, Repr}; fn f(a: Repr) -> u8 { match a { Repr::A => 1, Repr::B { .. } => 2 } }",
+                   "use kit::icmpv4::{Packet, Repr}; "
+                   "fn f(a: Repr) -> u8 { match a { Repr::A => 1, Repr::B { .. } => 2, _ => unreachable!(), } }"),
     "reader": ("fn f(rt: &(impl A + B)) -> u8 { run(rt.alloc(), rt.reader(), io::writer(&rt)) }",
                "fn f() -> u8 { run(io::reader(), io::writer()) }"),
     "generator": ("use rand_core::{Rng, SeedableRng}; fn f() -> u8 { 1 }",
@@ -219,6 +224,28 @@ class Rules(unittest.TestCase):
         sources = [path.read_text() for path in (HERE.parents[1] / "crates").glob("*/src/**/*.rt")]
         for comment in rules.COMMENTS:
             self.assertEqual(sum(comment in source for source in sources), 1, comment)
+
+    def test_an_enum_that_may_get_more_cases_goes_by_its_module(self):
+        unit = unit_of("")
+        file = File(pathlib.Path("crates/one_wire/src/icmpv4/repr.rt"), "pub enum Repr { A } pub enum Other { A }")
+        unit.files[pathlib.Path("one.rs")] = file
+        file.crate = "one_wire"
+        erase.erase([unit])
+        self.assertEqual(words_of(str(file)), words_of("#[non_exhaustive] pub enum Repr { A } pub enum Other { A }"))
+
+    def test_a_match_gets_an_arm_only_where_cases_may_come(self):
+        for arms, more in (("R::A(NameRefusal::B) => 1, R::A(NameRefusal::C(_)) | R::D => 2,", True),
+                           ("R::A(NameRefusal::B) => 1, R::A(_) => 2,", False),
+                           ("R::A(NameRefusal::B) => 1, R::A(other) | R::E(other) => 2,", False),
+                           ("NameRefusal::B => 1, other => 2,", False),
+                           ("NameRefusal::B => { 1 } NameRefusal::C => 2,", True),
+                           ("a::NameRefusal::B => 1,", True),
+                           ("own::Refusal::B => 1,", False),
+                           ("R::A => 1, R::D => 2,", False)):
+            source = "use kit::{a, NameRefusal}; use super::own; fn f() -> u8 { match r { %s } }"
+            with self.subTest(arms=arms):
+                self.assertEqual(erased(source % arms, True),
+                                 words_of(source % (arms + (" _ => unreachable!()," if more else ""))))
 
     def test_a_function_that_does_nothing_in_another_file(self):
         left = erased("fn f() -> u8 { facts(1); 2 }", above="pub fn facts(a: u8) {}")

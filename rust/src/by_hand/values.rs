@@ -1,5 +1,53 @@
 //! What a Rust programmer expects of a value: errors are errors, and addresses have an order, a hash, and a Debug that
 //! can be read.
+//!
+//! Reasons may get more cases in a later version, and so may the values that are open in smoltcp. So another crate
+//! matches them with an arm for what it does not name:
+//!
+//! ```
+//! use control_wire::{icmpv4::Repr, igmp::Refusal};
+//!
+//! fn is_echo(message: &Repr<'_>) -> bool {
+//!     match message {
+//!         Repr::EchoRequest { .. } | Repr::EchoReply { .. } => true,
+//!         Repr::DstUnreachable { .. } | Repr::TimeExceeded { .. } => false,
+//!         _ => false,
+//!     }
+//! }
+//!
+//! fn is_short(refusal: Refusal) -> bool {
+//!     match refusal {
+//!         Refusal::Short => true,
+//!         _ => false,
+//!     }
+//! }
+//! ```
+//!
+//! Without one, this is not compiled:
+//!
+//! ```compile_fail,E0004
+//! use control_wire::icmpv4::Repr;
+//!
+//! fn is_echo(message: &Repr<'_>) -> bool {
+//!     match message {
+//!         Repr::EchoRequest { .. } | Repr::EchoReply { .. } => true,
+//!         Repr::DstUnreachable { .. } | Repr::TimeExceeded { .. } => false,
+//!     }
+//! }
+//! ```
+//!
+//! Nor is this, which names each case of today:
+//!
+//! ```compile_fail,E0004
+//! use control_wire::igmp::Refusal;
+//!
+//! fn is_short(refusal: Refusal) -> bool {
+//!     match refusal {
+//!         Refusal::Short => true,
+//!         Refusal::UnknownType(_) | Refusal::Group(_) => false,
+//!     }
+//! }
+//! ```
 
 use crate::{
     Error, EthernetAddress, Ipv4Address, Ipv6Address, Ipv6Refusal, RawHardwareAddress, dhcpv4, dns,

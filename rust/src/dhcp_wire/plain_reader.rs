@@ -6,9 +6,9 @@
 
 use crate::dhcp_wire::dhcpv4::{DhcpOption, MAX_DNS_SERVER_COUNT, OptionsIter, Packet, Repr};
 use crate::dhcp_wire::testing::{holds_of, same, same_of};
-use crate::wirebase::Ipv4Address;
 #[allow(unused_imports)]
-use rattle_std::prelude::*;
+use crate::rattle_std::prelude::*;
+use crate::wirebase::Ipv4Address;
 
 // The bytes before the options.
 const HEADER_LEN: usize = 240;

@@ -42,6 +42,7 @@ impl Addresses {
 
 /// Why octets are no datagram that is read: the check that fails first.
 #[derive(Debug, PartialEq, Eq, Clone, Copy)]
+#[non_exhaustive]
 pub enum Refusal {
     /// They end before the fixed header does: fewer than 20 bytes of IPv4, or 40 of IPv6.
     Short,

@@ -3,7 +3,7 @@
 // where it stands, and through a call of these in a sixth of the time.
 
 #[allow(unused_imports)]
-use rattle_std::prelude::*;
+use crate::rattle_std::prelude::*;
 use std::fmt::{Debug, Display};
 
 // Ends the test where the two differ, and says what they are of.

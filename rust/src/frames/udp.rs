@@ -175,6 +175,7 @@ impl<T: Octets> Eq for UdpPacket<T> {}
 
 /// Why octets are no UDP datagram that is read: the check that fails first.
 #[derive(Debug, PartialEq, Eq, Clone, Copy)]
+#[non_exhaustive]
 pub enum Refusal {
     /// Fewer than 8 bytes.
     Short,

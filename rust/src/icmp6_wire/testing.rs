@@ -3,9 +3,9 @@
 // where it stands, and through a call of these in a sixth of the time. They take the test's runtime, so that they
 // can't stand once in a library: the gate refuses a public function that may end the process.
 
-use crate::wirebase::Result;
 #[allow(unused_imports)]
-use rattle_std::prelude::*;
+use crate::rattle_std::prelude::*;
+use crate::wirebase::Result;
 use std::fmt::{self, Debug, Display, Write};
 
 // Ends the test where the two differ.

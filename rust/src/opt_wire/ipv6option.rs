@@ -142,6 +142,7 @@ impl<T: Octets> fmt::Display for Ipv6Option<T> {
 
 /// An option of an IPv6 extension header (RFC 8200 section 4.2).
 #[derive(Debug, PartialEq, Eq, Clone, Copy)]
+#[non_exhaustive]
 pub enum Repr<'a> {
     /// One byte of padding.
     Pad1,

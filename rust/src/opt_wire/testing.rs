@@ -4,7 +4,7 @@
 // can't stand once in a library: the gate refuses a public function that may end the process.
 
 #[allow(unused_imports)]
-use rattle_std::prelude::*;
+use crate::rattle_std::prelude::*;
 use std::fmt::{self, Debug, Display, Write};
 
 // What octets hold before a test writes over them.

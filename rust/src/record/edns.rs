@@ -181,6 +181,7 @@ impl fmt::Display for EdnsOption<'_> {
 
 /// Why octets begin with no option that [`EdnsOption::parse`] reads: the check that fails first.
 #[derive(Debug, PartialEq, Eq, Clone, Copy)]
+#[non_exhaustive]
 pub enum OptionRefusal {
     /// Fewer bytes than the 4 of a code and a length.
     Fields,

@@ -11,6 +11,7 @@ const POINTER: u8 = 0xc0;
 
 /// Why octets begin with no name of one part: labels of 1 to 63 bytes, and then byte 0 or a pointer.
 #[derive(Debug, PartialEq, Eq, Clone, Copy)]
+#[non_exhaustive]
 pub enum PartRefusal {
     /// The octets end before the name does.
     Cut,
@@ -21,6 +22,7 @@ pub enum PartRefusal {
 /// Why octets begin with no question that [`crate::record::Question::parse`] reads, or with no record that
 /// [`crate::record::Record::parse`] reads: the check that fails first.
 #[derive(Debug, PartialEq, Eq, Clone, Copy)]
+#[non_exhaustive]
 pub enum Refusal {
     /// There is no name.
     Name(PartRefusal),

@@ -25,6 +25,7 @@ pub enum Ending {
 
 /// Why a block of a pcapng file is refused: the check that fails first.
 #[derive(Debug, PartialEq, Eq, Clone, Copy)]
+#[non_exhaustive]
 pub enum Refusal {
     /// A section header tells neither order of bytes.
     ByteOrder,

@@ -29,5 +29,6 @@ fn show_option<W: Write>(output: &mut W, option: &ipv6option::Repr<'_>) -> io::R
             length,
             data,
         } => show_unknown(output, type_.into(), length, data),
+        _ => unreachable!(),
     }
 }

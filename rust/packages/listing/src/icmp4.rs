@@ -40,6 +40,7 @@ pub fn show_message<W: Write>(output: &mut W, message: &Repr<'_>) -> io::Result<
             header,
             data,
         } => show_error(output, "TimeExceeded", reason.into(), &header, data),
+        _ => unreachable!(),
     }
 }
 

@@ -69,6 +69,7 @@ pub fn show_message<W: Write>(output: &mut W, message: &Repr<'_>) -> io::Result<
         } => show_echo(output, "EchoReply", *ident, *seq_no, data),
         Repr::Ndisc(message) => ndisc::show_message(output, message),
         Repr::Mld(message) => mld::show_message(output, message),
+        _ => unreachable!(),
     }
 }
 

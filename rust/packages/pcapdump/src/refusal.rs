@@ -61,6 +61,7 @@ fn frame_reason(is_cut: bool, refusal: link::Refusal) -> Reason {
         link::Refusal::SessionVersion(_)
         | link::Refusal::SessionType(_)
         | link::Refusal::SessionCode(_) => Reason::Malformed,
+        _ => unreachable!(),
     }
 }
 
@@ -75,6 +76,7 @@ fn datagram_reason(is_cut: bool, refusal: control_wire::frames::Refusal) -> Reas
         | control_wire::frames::Refusal::TotalLen(_)
         | control_wire::frames::Refusal::Jumbogram
         | control_wire::frames::Refusal::Extension(_) => Reason::Malformed,
+        _ => unreachable!(),
     }
 }
 
@@ -83,6 +85,7 @@ fn udp_reason(refusal: udp::Refusal) -> Reason {
         udp::Refusal::Short | udp::Refusal::Length(_) | udp::Refusal::Cut(_) => Reason::Short,
         udp::Refusal::NoChecksum | udp::Refusal::Checksum => Reason::Checksum,
         udp::Refusal::Port => Reason::Malformed,
+        _ => unreachable!(),
     }
 }
 
@@ -96,6 +99,7 @@ fn icmp4_reason(refusal: Icmpv4Refusal) -> Reason {
         | Icmpv4Refusal::Message(icmpv4::Refusal::UnknownType(_)) => Reason::UnknownType,
         Icmpv4Refusal::Error(icmpv4_error::Refusal::Quote(_)) => Reason::Quote,
         Icmpv4Refusal::Message(_) => Reason::Malformed,
+        _ => unreachable!(),
     }
 }
 
@@ -104,6 +108,7 @@ fn igmp_reason(refusal: igmp::Refusal) -> Reason {
         igmp::Refusal::Short => Reason::Short,
         igmp::Refusal::UnknownType(_) => Reason::UnknownType,
         igmp::Refusal::Group(_) => Reason::Malformed,
+        _ => unreachable!(),
     }
 }
 
@@ -118,6 +123,7 @@ fn icmp6_reason(refusal: Icmpv6Refusal) -> Reason {
         | Icmpv6Refusal::Message(icmpv6::Refusal::UnknownType(_)) => Reason::UnknownType,
         Icmpv6Refusal::Error(icmpv6_error::Refusal::Quote(_)) => Reason::Quote,
         Icmpv6Refusal::Message(_) => Reason::Malformed,
+        _ => unreachable!(),
     }
 }
 
@@ -137,6 +143,7 @@ fn dns_reason(unread: Unread) -> Reason {
         Unread::Entry(..) | Unread::Record(TextRefusal::Data(_)) | Unread::Option(_) => {
             Reason::Malformed
         }
+        _ => unreachable!(),
     }
 }
 

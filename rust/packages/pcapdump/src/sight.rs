@@ -252,5 +252,6 @@ fn head_of(refusal: control_wire::frames::Refusal) -> Option<Head> {
         | control_wire::frames::Refusal::TotalLen(_)
         | control_wire::frames::Refusal::Jumbogram
         | control_wire::frames::Refusal::Extension(_) => None,
+        _ => unreachable!(),
     }
 }

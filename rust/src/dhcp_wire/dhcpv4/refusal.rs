@@ -12,6 +12,7 @@ use core::fmt;
 
 /// Why octets are no packet that [`Repr::parse`] reads: the check that fails first.
 #[derive(Debug, PartialEq, Eq, Clone, Copy)]
+#[non_exhaustive]
 pub enum Refusal {
     /// Fewer than 240 bytes.
     Short,

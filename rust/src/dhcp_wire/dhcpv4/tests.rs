@@ -6,9 +6,9 @@ use super::{
 };
 use crate::dhcp_wire::plain_reader::{compare_damaged, compare_view};
 use crate::dhcp_wire::testing::{holds_of, same, same_of};
-use crate::wirebase::{Error, EthernetAddress, Hardware, Ipv4Address};
 #[allow(unused_imports)]
-use rattle_std::prelude::*;
+use crate::rattle_std::prelude::*;
+use crate::wirebase::{Error, EthernetAddress, Hardware, Ipv4Address};
 
 // These parts, one behind the other. Ends the test where there is no memory for them.
 fn joined(parts: &[&[u8]]) -> Vec<u8> {

@@ -24,6 +24,7 @@ mod field {
 
 /// Why a name breaks (RFC 1035 section 4.1.4).
 #[derive(Debug, PartialEq, Eq, Clone, Copy)]
+#[non_exhaustive]
 pub enum NameRefusal {
     /// The bytes end where a label, byte 0 or a pointer is to stand.
     NoEnd,
@@ -41,6 +42,7 @@ pub enum NameRefusal {
 
 /// Why octets are no [`Question`], no [`Record`] or no [`RecordData`].
 #[derive(Debug, PartialEq, Eq, Clone, Copy)]
+#[non_exhaustive]
 pub enum Refusal {
     /// They begin with no part of a name. This is never [`NameRefusal::Pointer`], for no pointer is followed.
     Name(NameRefusal),

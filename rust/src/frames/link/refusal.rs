@@ -6,6 +6,7 @@ use crate::wirebase::Octets;
 
 /// Why octets are no frame of a link that is read: the check that fails first.
 #[derive(Debug, PartialEq, Eq, Clone, Copy)]
+#[non_exhaustive]
 pub enum Refusal {
     /// Fewer bytes than the header of the link has.
     Short,

@@ -12,6 +12,7 @@ const IPV4_HEADER_LEN: usize = 20;
 
 /// Why octets are no message that [`Repr::parse`] reads: the check that fails first.
 #[derive(Debug, PartialEq, Eq, Clone, Copy)]
+#[non_exhaustive]
 pub enum Refusal {
     /// Fewer than 8 bytes.
     Short,

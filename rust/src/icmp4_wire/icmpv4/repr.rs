@@ -28,6 +28,7 @@ const MIN_QUOTED_DATA: usize = 8;
 /// assert_eq!(Repr::parse(&Packet::new_unchecked(&*octets), &checksums), Ok(message));
 /// ```
 #[derive(Debug, PartialEq, Eq, Clone, Copy)]
+#[non_exhaustive]
 pub enum Repr<'a> {
     /// An echo request.
     EchoRequest {

@@ -9,6 +9,7 @@ use core::fmt;
 
 /// Why octets are no message that [`Repr::parse`] reads: the check that fails first.
 #[derive(Debug, PartialEq, Eq, Clone, Copy)]
+#[non_exhaustive]
 pub enum Refusal {
     /// Fewer than 8 bytes.
     Short,

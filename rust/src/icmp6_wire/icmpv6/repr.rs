@@ -36,6 +36,7 @@ use crate::wirebase::{
 /// # assert_eq!(neighbor(&Ipv6Address::UNSPECIFIED, &Ipv6Address::UNSPECIFIED, &[]), None);
 /// ```
 #[derive(Debug, PartialEq, Eq, Clone, Copy)]
+#[non_exhaustive]
 pub enum Repr<'a> {
     /// An error: the destination of the quoted packet is unreachable.
     DstUnreachable {

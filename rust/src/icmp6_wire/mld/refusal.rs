@@ -7,6 +7,7 @@ use core::fmt;
 
 /// Why octets are no message that [`Repr::parse`] reads: the check that fails first.
 #[derive(Debug, PartialEq, Eq, Clone, Copy)]
+#[non_exhaustive]
 pub enum Refusal {
     /// Fewer than 8 bytes.
     Short,
@@ -29,6 +30,7 @@ impl fmt::Display for Refusal {
 /// Why octets are no record that [`AddressRecordRepr::parse`] reads or that [`Records`](super::Records) gives: the
 /// check that fails first.
 #[derive(Debug, PartialEq, Eq, Clone, Copy)]
+#[non_exhaustive]
 pub enum RecordRefusal {
     /// Fewer than 20 bytes.
     Short,

@@ -10,6 +10,7 @@ use core::fmt;
 /// Why octets are no message that [`Repr::parse`] reads: the check that fails first. A place is counted in bytes from
 /// the front of the message, and the length of an option in units of 8 bytes (RFC 4861 section 4.6).
 #[derive(Debug, PartialEq, Eq, Clone, Copy)]
+#[non_exhaustive]
 pub enum Refusal {
     /// Fewer than 8 bytes.
     Short,

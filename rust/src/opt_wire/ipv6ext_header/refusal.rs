@@ -6,6 +6,7 @@ use core::fmt;
 
 /// Why octets are no header that [`Repr::parse`] reads (RFC 8200 section 4.3): the check that fails first.
 #[derive(Debug, PartialEq, Eq, Clone, Copy)]
+#[non_exhaustive]
 pub enum Refusal {
     /// Fewer than 8 bytes.
     Short,

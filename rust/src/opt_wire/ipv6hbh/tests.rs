@@ -5,9 +5,9 @@ use crate::opt_wire::ipv6option;
 use crate::opt_wire::ipv6option::{RouterAlert, Type};
 use crate::opt_wire::plain_reader::{check_kept, compare_damaged};
 use crate::opt_wire::testing::{FILLERS, holds_of, prints, same, same_of, takes_writes};
-use arrayvec::ArrayVec;
 #[allow(unused_imports)]
-use rattle_std::prelude::*;
+use crate::rattle_std::prelude::*;
+use arrayvec::ArrayVec;
 
 type Option<'a> = ipv6option::Repr<'a>;
 

@@ -6,6 +6,7 @@ use core::fmt;
 
 /// Why octets begin with no option that [`Repr::parse`] reads: the check that fails first.
 #[derive(Debug, PartialEq, Eq, Clone, Copy)]
+#[non_exhaustive]
 pub enum Refusal {
     /// No bytes.
     Empty,

@@ -42,6 +42,7 @@ pub enum Icmpv4Message<'a> {
 
 /// Why octets are no message that [`Icmpv4Message::parse`] reads: the check that fails first.
 #[derive(Debug, PartialEq, Eq, Clone, Copy)]
+#[non_exhaustive]
 pub enum Icmpv4Refusal {
     /// Their type is that of an error, and they are none.
     Error(icmpv4_error::Refusal),

@@ -44,6 +44,7 @@ pub enum Icmpv6Message<'a> {
 
 /// Why octets are no message that [`Icmpv6Message::parse`] reads: the check that fails first.
 #[derive(Debug, PartialEq, Eq, Clone, Copy)]
+#[non_exhaustive]
 pub enum Icmpv6Refusal {
     /// Their type is that of an error, and they are none.
     Error(icmpv6_error::Refusal),

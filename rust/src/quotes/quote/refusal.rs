@@ -9,6 +9,7 @@ use core::fmt;
 
 /// Why octets quote no packet that [`Ipv4Quote::parse`] or [`Ipv6Quote::parse`] reads: the check that fails first.
 #[derive(Debug, PartialEq, Eq, Clone, Copy)]
+#[non_exhaustive]
 pub enum Refusal {
     /// Fewer bytes than the header has: of IPv4 fewer than 20 or than its own length, of IPv6 fewer than 40.
     Short,

@@ -4,11 +4,11 @@
 use super::Name;
 use super::refusal::NameRefusal;
 use crate::dns_wire::dns::Packet;
+#[allow(unused_imports)]
+use crate::rattle_std::prelude::*;
 use crate::record::refusal::PartRefusal;
 use crate::record::testing::{prints, same, same_of, takes_writes};
 use arrayvec::ArrayString;
-#[allow(unused_imports)]
-use rattle_std::prelude::*;
 use std::fmt::Write;
 
 // The message of RFC 1035 section 4.1.4: F.ISI.ARPA at 20, FOO.F.ISI.ARPA at 40, ARPA at 64, the root at 92.

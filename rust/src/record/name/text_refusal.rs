@@ -9,6 +9,7 @@ use core::fmt;
 
 /// Why [`crate::record::Name::from_text`] refuses a text, which it reads from its front on: the check that fails first.
 #[derive(Debug, PartialEq, Eq, Clone, Copy)]
+#[non_exhaustive]
 pub enum NameTextRefusal {
     /// A label has no bytes: the text is empty or begins with a dot, or two dots stand side by side.
     EmptyLabel,

@@ -20,6 +20,7 @@ use core::fmt;
 /// assert_eq!(refusal, Some(DataRefusal::BehindName));
 /// ```
 #[derive(Debug, PartialEq, Eq, Clone, Copy)]
+#[non_exhaustive]
 pub enum DataRefusal {
     /// An address that has another number of bytes than this: 4 of IPv4, 16 of IPv6.
     Address(usize),

@@ -7,6 +7,7 @@ use core::fmt;
 
 /// Why [`crate::record::Record::text`] refuses a record: the check that fails first.
 #[derive(Debug, PartialEq, Eq, Clone, Copy)]
+#[non_exhaustive]
 pub enum TextRefusal {
     /// The record's name does not read.
     Owner(NameRefusal),

@@ -2,6 +2,8 @@
 //! What records of each type print, and which are refused.
 
 use crate::dns_wire::dns::{Packet, Type};
+#[allow(unused_imports)]
+use crate::rattle_std::prelude::*;
 use crate::record::name::refusal::NameRefusal;
 use crate::record::rdata::RData;
 use crate::record::rdata::refusal::DataRefusal;
@@ -11,8 +13,6 @@ use crate::record::testing::{prints, same, same_of, takes_writes};
 use crate::record::text::refusal::TextRefusal;
 use crate::record::text::{DataText, QuestionText, RecordText};
 use crate::record::{classes, types};
-#[allow(unused_imports)]
-use rattle_std::prelude::*;
 use std::result;
 
 // The message that the records stand in: behind its header the name `example.com` at 12, and `.com` at 20.

@@ -1,7 +1,7 @@
 // Made from crates/wirebase/src/checksum/tests.rt by rust/erase.
 use super::*;
+use crate::rattle_std::test::Fail;
 use crate::wirebase::testing::{same, same_of};
-use rattle_std::test::Fail;
 
 #[test]
 fn sums_of_texts() {
@@ -24,7 +24,7 @@ fn sums_of_texts() {
 
 #[test]
 fn sum_of_more_words_than_32_bits_hold() -> Result<(), Fail> {
-    let bytes = rattle_std::vec![ 0xff; 200_000]?;
+    let bytes = crate::rattle_std::vec![ 0xff; 200_000]?;
     same(data(bytes.as_slice()), 0xffff);
     Ok(())
 }

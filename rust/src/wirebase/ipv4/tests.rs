@@ -1,14 +1,14 @@
 // Made from crates/wirebase/src/ipv4/tests.rt by rust/erase.
 
 use super::{Ipv4Address, Ipv4Packet, Ipv4Repr};
+#[allow(unused_imports)]
+use crate::rattle_std::prelude::*;
+use crate::rattle_std::test::Fail;
 use crate::wirebase::capabilities::{Checksum, ChecksumCapabilities};
 use crate::wirebase::checksum::{self, pseudo_header_v4};
 use crate::wirebase::ip::IpProtocol;
 use crate::wirebase::testing::{prints, same, same_of, takes_writes};
 use byteorder::{BigEndian, ByteOrder};
-#[allow(unused_imports)]
-use rattle_std::prelude::*;
-use rattle_std::test::Fail;
 
 #[test]
 fn addresses_in_decimal() {

@@ -5,6 +5,7 @@ use core::fmt;
 
 /// Why octets are no packet that [`Ipv6Repr::parse`](crate::Ipv6Repr::parse) reads: the check that fails first.
 #[derive(Debug, PartialEq, Eq, Clone, Copy)]
+#[non_exhaustive]
 pub enum Ipv6Refusal {
     /// Fewer than the 40 bytes of the header.
     Short,

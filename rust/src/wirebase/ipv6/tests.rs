@@ -4,12 +4,12 @@ use super::{
     IPV6_HEADER_LEN, IPV6_LINK_LOCAL_ALL_NODES, IPV6_LINK_LOCAL_ALL_ROUTERS, IPV6_MIN_MTU,
     Ipv6Address, Ipv6Packet, Ipv6Refusal, Ipv6Repr,
 };
+#[allow(unused_imports)]
+use crate::rattle_std::prelude::*;
+use crate::rattle_std::test::Fail;
 use crate::wirebase::checksum;
 use crate::wirebase::ip::IpProtocol;
 use crate::wirebase::testing::{holds_of, prints, same, same_of, takes_writes};
-#[allow(unused_imports)]
-use rattle_std::prelude::*;
-use rattle_std::test::Fail;
 
 // The address of these groups.
 fn address_of(groups: [u16; 8]) -> Ipv6Address {

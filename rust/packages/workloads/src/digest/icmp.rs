@@ -55,6 +55,7 @@ pub fn add_icmpv4(message: &icmpv4::Repr<'_>, digest: &mut Digest) {
             add_ipv4_header(header, digest);
             digest.add_front(data);
         }
+        _ => unreachable!(),
     }
 }
 
@@ -120,6 +121,7 @@ pub fn add_icmpv6(message: &icmpv6::Repr<'_>, digest: &mut Digest) {
             add_ipv6_header(header, digest);
             digest.add_front(data);
         }
+        _ => unreachable!(),
     }
 }
 

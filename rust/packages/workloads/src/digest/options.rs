@@ -34,5 +34,6 @@ pub fn add_option(option: &Repr<'_>, digest: &mut Digest) {
             digest.add(*length as u64);
             digest.add_octets(data);
         }
+        _ => unreachable!(),
     }
 }

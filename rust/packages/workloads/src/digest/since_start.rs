@@ -33,5 +33,6 @@ pub fn refusal_number(refusal: Refusal) -> u8 {
         | Refusal::Jumbogram
         | Refusal::Extension(_) => 1,
         Refusal::Fragment(_) => 2,
+        _ => unreachable!(),
     }
 }

@@ -6,10 +6,10 @@ use crate::icmp4_wire::icmpv4::{
     DstUnreachable, Message, Packet, ParamProblem, Redirect, Repr, TimeExceeded,
 };
 use crate::icmp4_wire::testing::{same, same_of};
+#[allow(unused_imports)]
+use crate::rattle_std::prelude::*;
 use crate::wirebase::capabilities::Checksum;
 use crate::wirebase::{ChecksumCapabilities, IpProtocol, Ipv4Address, Ipv4Repr};
-#[allow(unused_imports)]
-use rattle_std::prelude::*;
 
 // Whether a message is read from the octets.
 fn is_read(octets: &[u8], capabilities: &ChecksumCapabilities) -> bool {

@@ -3,13 +3,13 @@
 
 use super::DataRefusal;
 use crate::dns_wire::dns::Type;
+#[allow(unused_imports)]
+use crate::rattle_std::prelude::*;
 use crate::record::rdata::RData;
 use crate::record::record::Record;
 use crate::record::refusal::PartRefusal;
 use crate::record::testing::{prints, same_of};
 use crate::record::types;
-#[allow(unused_imports)]
-use rattle_std::prelude::*;
 
 // The data of a zone: two names of one part, and five numbers.
 const ZONE: [u8; 26] = *b"\x01a\0\x01b\0\0\0\0\x01\0\0\0\x02\0\0\0\x03\0\0\0\x04\0\0\0\x05";

@@ -3,6 +3,8 @@
 
 use super::EntryText;
 use crate::dns_wire::dns::{Packet, Type};
+#[allow(unused_imports)]
+use crate::rattle_std::prelude::*;
 use crate::record::entries::{Entry, Section};
 use crate::record::name::refusal::NameRefusal;
 use crate::record::rdata::refusal::DataRefusal;
@@ -10,8 +12,6 @@ use crate::record::record::{Question, Record};
 use crate::record::testing::{prints, same_of, takes_writes};
 use crate::record::text::refusal::TextRefusal;
 use crate::record::types;
-#[allow(unused_imports)]
-use rattle_std::prelude::*;
 
 // The message that the entries stand in: behind its header the name `example.com` at 12.
 const MESSAGE: &[u8] = b"\0\0\x84\0\0\0\0\0\0\0\0\0\x07example\x03com\0";
