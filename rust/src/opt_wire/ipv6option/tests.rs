@@ -3,10 +3,10 @@
 use super::{FailureType, Ipv6Option, Ipv6OptionsIterator, Repr, RouterAlert, Type};
 use crate::opt_wire::plain_reader::compare_damaged;
 use crate::opt_wire::testing::{FILLERS, ascend, holds_of, same, same_of};
-use crate::wirebase::Error;
 #[allow(unused_imports)]
-use rattle_std::prelude::*;
-use rattle_std::test::Fail;
+use crate::rattle_std::prelude::*;
+use crate::rattle_std::test::Fail;
+use crate::wirebase::Error;
 use std::hash::{DefaultHasher, Hash, Hasher};
 
 mod printing;

@@ -1,9 +1,9 @@
 // Made from crates/dhcp_wire/src/dhcpv4/option_printing/tests.rt by rust/erase.
 use crate::dhcp_wire::dhcpv4::{DhcpOption, MessageType, OptionAddresses, OptionValue};
 use crate::dhcp_wire::testing::{prints, same_of};
-use crate::wirebase::Ipv4Address;
 #[allow(unused_imports)]
-use rattle_std::prelude::*;
+use crate::rattle_std::prelude::*;
+use crate::wirebase::Ipv4Address;
 
 #[test]
 fn options_by_their_formats() {

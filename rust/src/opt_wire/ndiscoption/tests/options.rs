@@ -4,10 +4,10 @@
 use super::{PREFIX, REDIRECTED};
 use crate::opt_wire::ndiscoption::{NdiscOption, NdiscOptions, Refusal, Repr, Type};
 use crate::opt_wire::testing::{holds_of, same, same_of};
-use crate::wirebase::RawHardwareAddress;
 #[allow(unused_imports)]
-use rattle_std::prelude::*;
-use rattle_std::test::Fail;
+use crate::rattle_std::prelude::*;
+use crate::rattle_std::test::Fail;
+use crate::wirebase::RawHardwareAddress;
 
 #[test]
 fn options_in_turn() {
