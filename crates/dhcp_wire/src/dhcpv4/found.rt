@@ -52,7 +52,7 @@ impl<'a> Found<'a> {
             (AreOfEthernet (list_of (options_in (inner packet.now).now)) → ⊥) }
     {
         let op = packet.opcode().into();
-        for option in packet.options() {
+        for option in packet.into_options() {
             if !is_of_ethernet(option) {
                 return Err(Error);
             }

@@ -5,38 +5,36 @@ ghost use Rattle.wirebase.specs.Bytes.{Reaches, bytes_of};
 ghost use Rattle.dhcp_wire.specs.Dhcpv4Packet.{inner, sname_field, file_field, HasNoZero, IsTextIn};
 
 use super::packet::{Packet, field};
-use wirebase::{Error, Result};
+use wirebase::{Error, Octets, Result};
 
-impl<'a> Packet<&'a [u8]> {
-    /// The name of a server, for as long as the octets live: the bytes before the first zero. Refused where there is
-    /// no zero byte, or nothing before it, or no UTF-8. The field begins at byte 34, as in smoltcp, where RFC 2131
-    /// section 2 has the hardware address's padding: a packet with zeros there is refused. Requires at least 108 bytes.
+impl<T: Octets> Packet<T> {
+    /// The name of a server: the bytes before the first zero. Refused where there is no zero byte, or nothing before
+    /// it, or no UTF-8. The field begins at byte 34, as in smoltcp, where RFC 2131 section 2 has the hardware address's
+    /// padding: a packet with zeros there is refused. Requires at least 108 bytes.
     #[tactic(auto, unfolding(wirebase::specs::Bytes::part))]
-    pub fn get_sname(&self) -> Result<&'a str>
-        requires { Reaches sname_field (inner self.now).now }
+    pub fn get_sname(&self) -> Result<&str>
+        requires { Reaches sname_field (T.bytes (inner self.now)) }
         ensures sound { IfOk result
-            (λ text. IsTextIn (bytes_of sname_field (inner self.now).now) text.now) }
-        ensures complete { (text : List ℕ) → IsTextIn (bytes_of sname_field (inner self.now).now)
+            (λ text. IsTextIn (bytes_of sname_field (T.bytes (inner self.now))) text.now) }
+        ensures complete { (text : List ℕ) → IsTextIn (bytes_of sname_field (T.bytes (inner self.now)))
             text
             → IsOkAnd result (λ read. read.now ≡ text) }
     {
-        let octets: &'a [u8] = self.buffer;
-        text_in(&octets[field::SNAME])
+        text_in(self.buffer.field(field::SNAME))
     }
 
-    /// The name of a file to start from, for as long as the octets live: the bytes before the first zero. Refused
-    /// where there is no zero byte, or nothing before it, or no UTF-8. Requires at least 236 bytes.
+    /// The name of a file to start from: the bytes before the first zero. Refused where there is no zero byte, or
+    /// nothing before it, or no UTF-8. Requires at least 236 bytes.
     #[tactic(auto, unfolding(wirebase::specs::Bytes::part))]
-    pub fn get_boot_file(&self) -> Result<&'a str>
-        requires { Reaches file_field (inner self.now).now }
+    pub fn get_boot_file(&self) -> Result<&str>
+        requires { Reaches file_field (T.bytes (inner self.now)) }
         ensures sound { IfOk result
-            (λ text. IsTextIn (bytes_of file_field (inner self.now).now) text.now) }
-        ensures complete { (text : List ℕ) → IsTextIn (bytes_of file_field (inner self.now).now)
+            (λ text. IsTextIn (bytes_of file_field (T.bytes (inner self.now))) text.now) }
+        ensures complete { (text : List ℕ) → IsTextIn (bytes_of file_field (T.bytes (inner self.now)))
             text
             → IsOkAnd result (λ read. read.now ≡ text) }
     {
-        let octets: &'a [u8] = self.buffer;
-        text_in(&octets[field::FILE])
+        text_in(self.buffer.field(field::FILE))
     }
 }
 

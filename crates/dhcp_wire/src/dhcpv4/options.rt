@@ -1,6 +1,7 @@
 //! Options, read in turn and written in turn (RFC 2132 section 2).
 
-ghost use Rattle.std.specs.Prelude.{◌≡◌, ◌≤◌, ◌<◌, ◌+◌, ◌++◌, ◌∷◌, [], ◌↔◌, List, ℕ, length, drop, IsOk, OnOk, OnErr};
+ghost use Rattle.std.specs.Prelude.{◌≡◌, ◌≤◌, ◌<◌, ◌+◌, ◌++◌, ◌∷◌, [], ◌↔◌, List, ℕ, length, drop, IsOk, IsTrue, OnOk};
+ghost use Rattle.std.specs.Prelude.{OnErr};
 ghost use Rattle.dhcp_wire.specs.Dhcpv4Options.{OptionValue, value_of_option, option, option_text, Options};
 ghost use Rattle.dhcp_wire.specs.Dhcpv4OptionsAhead.{list_of};
 ghost use Rattle.std.specs.Option.{option_map};
@@ -35,7 +36,7 @@ pub struct DhcpOption<'a> {
 }
 
 /// The options of a packet in turn. Padding is skipped; the end mark and an option that is cut off end them for good.
-#[derive(Debug, Drop)]
+#[derive(Debug, Clone, Drop)]
 pub struct OptionsIter<'a> {
     // The octets after the options that were given.
     rest: &'a [u8],
@@ -151,6 +152,20 @@ impl<'a> DhcpOptionWriter<'a> {
             buffer,
             position: 0,
         }
+    }
+
+    /// The bytes that are written so far: those of the options, and after the end mark those of the whole slice.
+    pub fn len(&self) -> usize
+        ensures { result ≡ length (settled self.now) }
+    {
+        self.position
+    }
+
+    /// Whether nothing is written so far.
+    pub fn is_empty(&self) -> bool
+        ensures { IsTrue result ↔ (settled self.now ≡ []) }
+    {
+        self.position == 0
     }
 
     /// Writes an option: its kind, the number of bytes of its data, and the data. Refused where the data has more than

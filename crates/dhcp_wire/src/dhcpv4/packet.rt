@@ -94,7 +94,7 @@ impl<T: Octets> Eq for Packet<T> {
 
 impl<T: Octets> Packet<T> {
     /// The view of these octets, whatever they are.
-    pub fn new_unchecked(buffer: T) -> Packet<T>
+    pub const fn new_unchecked(buffer: T) -> Packet<T>
         ensures { inner result ≡ buffer }
     {
         Packet { buffer }
@@ -235,15 +235,42 @@ impl<T: Octets> Packet<T> {
     }
 }
 
+impl<T: Octets> Packet<T> {
+    ghost use Rattle.dhcp_wire.specs.Dhcpv4Options.{OptionValue, Options};
+
+    /// The options in turn. Requires at least 240 bytes.
+    ///
+    /// ```
+    /// use control_wire::dhcpv4::Packet;
+    ///
+    /// let mut octets = vec![0; 240];
+    /// octets.extend([53, 1, 2, 51, 4, 0, 0, 0x0e, 0x10, 255]);
+    /// let packet = Packet::new_checked(octets)?;
+    /// let mut options = packet.options();
+    /// assert_eq!(options.next().unwrap().to_string(), "message-type=OFFER");
+    /// assert_eq!(options.clone().next().unwrap().to_string(), "lease-time=3600");
+    /// assert_eq!(options.count(), 1);
+    /// # Ok::<(), control_wire::Error>(())
+    /// ```
+    pub fn options(&self) -> OptionsIter<'_>
+        requires { Reaches magic_field (T.bytes (inner self.now)) }
+        ensures options { Options (options_in (T.bytes (inner self.now))) result }
+        ensures unique { (others : List OptionValue) → Options (options_in (T.bytes (inner self.now))) others
+            → others ≡ result }
+    {
+        OptionsIter::new(&self.buffer.octets()[field::OPTIONS..])
+    }
+}
+
 impl<'a> Packet<&'a [u8]> {
     ghost use Rattle.dhcp_wire.specs.Dhcpv4Options.{OptionValue, Options};
 
-    /// The options in turn, for as long as the octets live. Requires at least 240 bytes.
-    pub fn options(&self) -> OptionsIter<'a>
-        requires { Reaches magic_field (inner self.now).now }
-        ensures options { Options (options_in (inner self.now).now) result }
-        ensures unique { (others : List OptionValue) → Options
-            (options_in (inner self.now).now) others
+    /// The options in turn, for as long as the octets live, which may be longer than the view. Requires at least 240
+    /// bytes.
+    pub fn into_options(self) -> OptionsIter<'a>
+        requires { Reaches magic_field (inner self).now }
+        ensures options { Options (options_in (inner self.entry).now) result }
+        ensures unique { (others : List OptionValue) → Options (options_in (inner self.entry).now) others
             → others ≡ result }
     {
         let octets: &'a [u8] = self.buffer;

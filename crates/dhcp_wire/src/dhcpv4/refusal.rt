@@ -171,7 +171,7 @@ fn type_refusal(packet: &Packet<&[u8]>) -> Refusal
 }
 
 // The data of the last type of message.
-fn last_type_in<'a>(packet: &Packet<&'a [u8]>) -> Option<&'a [u8]>
+fn last_type_in<'a>(packet: &'a Packet<&[u8]>) -> Option<&'a [u8]>
     requires { HasHeader (inner packet.now).now }
     ensures { option_map (λ body. body.now) result
         ≡ last_type (list_of (options_in (inner packet.now).now)) }

@@ -141,13 +141,31 @@ fn names_before_the_first_zero(rt: HostRuntime) {
 }
 
 #[test]
-fn names_of_a_server_and_of_a_file(rt: HostRuntime) {
-    let mut octets = [0; 240];
+fn names_and_options_in_octets_that_may_be_written(rt: HostRuntime) {
+    let mut octets = [0; 244];
     octets[34..37].copy_from_slice(b"srv");
     octets[108..112].copy_from_slice(b"file");
-    let view = Packet::new_unchecked(&octets[..]);
+    octets[240..244].copy_from_slice(&[12, 1, 0x61, 0xff]);
+    let view = Packet::new_unchecked(&mut octets[..]);
     same(&rt, view.get_sname().ok(), Some("srv"));
     same(&rt, view.get_boot_file().ok(), Some("file"));
+    let mut options = view.options();
+    same(&rt, options.next(), Some(NAME));
+    same(&rt, options.next(), None);
+}
+
+// The first option in these octets, which lives longer than the view.
+fn first_option(octets: &[u8]) -> Option<DhcpOption<'_>>
+    requires { 240 ≤ length octets.now }
+{
+    Packet::new_unchecked(octets).into_options().next()
+}
+
+#[test]
+fn an_option_that_lives_longer_than_its_view(rt: HostRuntime) {
+    let mut octets = [0; 244];
+    octets[240..244].copy_from_slice(&[12, 1, 0x61, 0xff]);
+    same(&rt, first_option(&octets), Some(NAME));
 }
 
 // Writes an option of four bytes over these octets, and the end mark. Of an option and a mark behind it none is taken.
@@ -162,6 +180,21 @@ fn check_writer(rt: &impl Abort, octets: &mut [u8]) {
     same_of(rt, room, taken, [4 <= room, room != 0 && room != 4]);
     let behind_the_end = [writer.end(), writer.emit(EMPTY_NAME)];
     same_of(rt, room, behind_the_end, [Err(Error), Err(Error)]);
+}
+
+#[test]
+fn bytes_that_a_writer_has_written(rt: HostRuntime) {
+    let mut octets = [0x2a; 9];
+    let mut writer = DhcpOptionWriter::new(&mut octets);
+    same_of(&rt, 0, (writer.len(), writer.is_empty()), (0, true));
+    holds_of(&rt, 0, writer.emit(NAME).is_ok());
+    same_of(&rt, 1, (writer.len(), writer.is_empty()), (3, false));
+    holds_of(&rt, 1, writer.emit(LETTERS).is_ok());
+    same_of(&rt, 2, writer.len(), 7);
+    holds_of(&rt, 2, writer.emit(NAME).is_err());
+    same_of(&rt, 3, writer.len(), 7);
+    holds_of(&rt, 3, writer.end().is_ok());
+    same_of(&rt, 4, writer.len(), 9);
 }
 
 #[test]

@@ -30,7 +30,7 @@ impl<'a> Found<'a> {
         packet: &Packet<&'a B>,
     ) -> Result<()> {
         let op = packet.opcode().into();
-        for option in packet.options() {
+        for option in packet.into_options() {
             if !is_of_ethernet(option) {
                 return Err(Error);
             }

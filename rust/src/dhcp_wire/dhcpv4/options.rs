@@ -28,7 +28,7 @@ pub struct DhcpOption<'a> {
 }
 
 /// The options of a packet in turn. Padding is skipped; the end mark and an option that is cut off end them for good.
-#[derive(Debug)]
+#[derive(Debug, Clone)]
 pub struct OptionsIter<'a> {
     // The octets after the options that were given.
     rest: &'a [u8],
@@ -106,6 +106,16 @@ impl<'a> DhcpOptionWriter<'a> {
             buffer,
             position: 0,
         }
+    }
+
+    /// The bytes that are written so far: those of the options, and after the end mark those of the whole slice.
+    pub fn len(&self) -> usize {
+        self.position
+    }
+
+    /// Whether nothing is written so far.
+    pub fn is_empty(&self) -> bool {
+        self.position == 0
     }
 
     /// Writes an option: its kind, the number of bytes of its data, and the data. Refused where the data has more than

@@ -141,7 +141,7 @@ fn type_refusal<B: AsRef<[u8]> + ?Sized>(packet: &Packet<&B>) -> Refusal {
 }
 
 // The data of the last type of message.
-fn last_type_in<'a, B: AsRef<[u8]> + ?Sized>(packet: &Packet<&'a B>) -> Option<&'a [u8]> {
+fn last_type_in<'a, B: AsRef<[u8]> + ?Sized>(packet: &'a Packet<&B>) -> Option<&'a [u8]> {
     let mut last = None;
     for option in packet.options() {
         if option.kind == OPT_DHCP_MESSAGE_TYPE {

@@ -109,7 +109,7 @@ fn message_type(body: &[u8]) -> OptionValue<'_> {
 /// assert_eq!(routers.next(), Some(Ipv4Address::new(192, 0, 2, 2)));
 /// assert_eq!(routers.next(), None);
 /// ```
-#[derive(Debug)]
+#[derive(Debug, Clone)]
 pub struct OptionAddresses<'a> {
     // The octets behind the addresses that were given.
     left: &'a [u8],

@@ -18,7 +18,7 @@ loop-option-init c =
     let op = byte_of op_field bytes in
     let whole : List OptionValue = list_of (options_in bytes) in
     let same : whole ≡ c.into_iter-option-iterator.result =
-    c.options-option-items.ensures.unique whole (list-options (options_in bytes))
+    c.into_options-option-items.ensures.unique whole (list-options (options_in bytes))
     ∙ sym c.into_iter-option-iterator.ensures.into_iter_gives in
     record {
       header = refl;
