@@ -165,7 +165,7 @@ impl fmt::Display for Flags {
     ghost output = { λ flags. Some (flags_display (flag_bits flags)) };
 
     fn fmt<W: fmt::Write>(&self, f: &mut fmt::Formatter<W>) -> fmt::Result {
-        fmt_flags(f, "", "-", FLAG_NAMES, self.bits())
+        fmt_flags(f, FLAG_NAMES, self.bits())
     }
 }
 
@@ -180,26 +180,28 @@ const FLAG_NAMES: &[(&str, u16)] = &[
     ("cd", 0x0010),
 ];
 
-// Prints the names of the flags that are set, behind this text and with commas between them; another text where none
-// is set.
+// Prints the names of the flags that are set, with commas between them, or `-` where none is set.
 fn fmt_flags<W: fmt::Write>(
     f: &mut fmt::Formatter<W>,
-    front: &str,
-    none: &str,
     names: &[(&str, u16)],
     bits: u16,
 ) -> fmt::Result
-    ensures { WritesOnOk W.write_str_gives f.old result (names_set front.now none.now
+    ensures { WritesOnOk W.write_str_gives f.old result (names_set [] (codes "-")
         (map (λ row. (row.0.now, row.1)) names.now) bits) f.new }
 {
-    let [(name, bit), rest @ ..] = names else {
-        return f.write_str(none);
-    };
-    if bits & *bit == 0 {
-        return fmt_flags(f, front, none, rest, bits);
+    let mut front = "";
+    // What is printed where no more are set.
+    let mut none = "-";
+    let mut left = names;
+    while let [(name, bit), rest @ ..] = left {
+        if bits & *bit != 0 {
+            write!(f, "{front}{name}")?;
+            front = ",";
+            none = "";
+        }
+        left = rest;
     }
-    write!(f, "{front}{name}")?;
-    fmt_flags(f, ",", "", rest, bits)
+    f.write_str(none)
 }
 
 /// The query, as `DNS query id=4660 opcode=QUERY flags=rd name_len=12 type=A`. The name of its question is told by the

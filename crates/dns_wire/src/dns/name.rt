@@ -4,12 +4,14 @@ ghost use Rattle.std.specs.Prelude.{◌≡◌};
 ghost use Rattle.dns_wire.specs.DnsNameWalk.{IsWalkOver};
 
 use crate::dns::part::{Front, follow, read_front};
+use std::alloc::AllocError;
 use std::marker::Model;
+use std::result;
 use wirebase::{Error, Result};
 
 /// The labels of a name. The first pointer leads to any place of the message, and each later one to below the place
 /// that the one before it led to, so the walk ends.
-#[derive(Drop)]
+#[derive(Debug, Drop)]
 pub struct NameIter<'a> {
     // What is left of the part that is read.
     left: &'a [u8],
@@ -78,6 +80,23 @@ impl<'a> NameIter<'a> {
     {
         let NameIter { steps, .. } = self;
         *steps
+    }
+}
+
+/// A copy goes on from where the walk stands.
+impl Clone for NameIter<'_> {
+    ghost use Rattle.std.specs.Prelude.{⊤};
+
+    ghost is_clone = { λ walk copy. copy ≡ walk };
+
+    ghost is_infallible = { λ _. ⊤ };
+
+    fn clone(&self) -> result::Result<Self, AllocError> {
+        Ok(NameIter {
+            left: self.left,
+            reach: self.reach,
+            steps: self.steps,
+        })
     }
 }
 

@@ -5,7 +5,7 @@ ghost use Rattle.std.specs.Borrow.{sem, Lends, Array, u8 as byte};
 ghost use Rattle.byteorder.specs.Endian.{big_bytes};
 ghost use Rattle.wirebase.specs.Bytes.{splice, Reaches, number_of};
 ghost use Rattle.dns_wire.specs.DnsTables.{opcode_number, opcode_of, rcode_of, flag_bits, IsKnown};
-ghost use Rattle.dns_wire.specs.DnsPacket.{inner, with_inner, view_octets, Sets, KeepsLen, id_field, flags_field};
+ghost use Rattle.dns_wire.specs.DnsPacket.{inner, with_inner, Sets, KeepsLen, id_field, flags_field};
 ghost use Rattle.dns_wire.specs.DnsPacket.{question_count_field, answer_count_field, authority_count_field};
 ghost use Rattle.dns_wire.specs.DnsPacket.{additional_count_field, header, payload_in, flags_in, opcode_in, rcode_in};
 ghost use Rattle.dns_wire.specs.DnsPacket.{with_flags, with_opcode};
@@ -64,7 +64,7 @@ pub struct Packet<T: Octets> {
 
 impl<T: Octets> Packet<T> {
     /// The view of these octets, whatever they are.
-    pub fn new_unchecked(buffer: T) -> Packet<T>
+    pub const fn new_unchecked(buffer: T) -> Packet<T>
         ensures { inner result ≡ buffer }
     {
         Packet { buffer }
@@ -166,6 +166,16 @@ impl<T: Octets> Packet<T> {
     {
         self.buffer.u16_at(field::ADDITIONAL_COUNT)
     }
+
+    /// The walk over the name that begins in `bytes`, a part of the message or not, and goes on where its pointers
+    /// lead in the message (RFC 1035 section 4.1.4). The first pointer leads to any place of the message, and each
+    /// later one to below the place that the one before it led to. Requires nothing of the message.
+    #[inline]
+    pub fn parse_name<'a>(&'a self, bytes: &'a [u8]) -> NameIter<'a>
+        ensures { IsWalkOver bytes.entry.now (T.bytes (inner self.entry.now)) result }
+    {
+        name::walk(self.buffer.octets(), bytes)
+    }
 }
 
 impl<'a> Packet<&'a [u8]> {
@@ -175,16 +185,6 @@ impl<'a> Packet<&'a [u8]> {
         ensures { result.now ≡ payload_in (inner self.now).now }
     {
         &self.buffer[HEADER_LEN..]
-    }
-
-    /// The walk over the name that begins in `bytes`, a part of the message or not, and goes on where its pointers
-    /// lead in the message (RFC 1035 section 4.1.4). The first pointer leads to any place of the message, and each
-    /// later one to below the place that the one before it led to. Requires nothing of the message.
-    #[inline]
-    pub fn parse_name(&self, bytes: &'a [u8]) -> NameIter<'a>
-        ensures { IsWalkOver bytes.entry.now (view_octets self.now) result }
-    {
-        name::walk(self.buffer, bytes)
     }
 }
 

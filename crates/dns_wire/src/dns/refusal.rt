@@ -2,7 +2,7 @@
 
 ghost use Rattle.std.specs.Prelude.{◌≡◌, ◌↔◌, Some, IfSome, IsNone, IfOk, IfErr};
 ghost use Rattle.dns_wire.specs.DnsNameAhead.{front_of, torn};
-ghost use Rattle.dns_wire.specs.DnsPacket.{view_octets};
+ghost use Rattle.dns_wire.specs.DnsPacket.{inner};
 ghost use Rattle.dns_wire.specs.DnsPart.{IsSplit, BeginsWithPart};
 ghost use Rattle.dns_wire.specs.DnsRefusal.{IsTorn, PartBreaks, NameBreaks, HasName, RefusesQuestion};
 ghost use Rattle.dns_wire.specs.DnsRefusal.{BeginsWithQuestion, RefusesData, AreData, RefusesBehindName};
@@ -94,14 +94,14 @@ impl fmt::Display for Refusal {
     }
 }
 
-impl<'a> Packet<&'a [u8]> {
+impl<T: Octets> Packet<T> {
     /// Why the walk of [`Packet::parse_name`] over the name that begins in `bytes` gives an error; None where it gives
     /// labels and then the end. Requires nothing of the message.
     pub fn name_refusal(&self, bytes: &[u8]) -> Option<NameRefusal>
-        ensures told { IfSome result (NameBreaks bytes.now (view_octets self.now)) }
-        ensures exact { IsNone result ↔ HasName bytes.now (view_octets self.now) }
+        ensures told { IfSome result (NameBreaks bytes.now (T.bytes (inner self.now))) }
+        ensures exact { IsNone result ↔ HasName bytes.now (T.bytes (inner self.now)) }
     {
-        why_broken(self.buffer, bytes)
+        why_broken(self.buffer.octets(), bytes)
     }
 }
 

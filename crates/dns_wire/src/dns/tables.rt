@@ -11,7 +11,7 @@ use bitflags::Flag;
 use std::ops::{BitAnd, BitOr, BitXor, Not, Sub};
 
 /// The kind of a query, four bits (RFC 1035 section 4.1.1).
-#[derive(Debug, PartialEq, Eq, PartialOrd, Ord, Clone, Copy)]
+#[derive(Debug, PartialEq, Eq, PartialOrd, Ord, Hash, Clone, Copy)]
 pub enum Opcode {
     /// A standard query.
     Query,
@@ -53,7 +53,7 @@ impl From<Opcode> for u8 {
 }
 
 /// The outcome of a query, four bits (RFC 1035 section 4.1.1, RFC 2136 section 2.2).
-#[derive(Debug, PartialEq, Eq, PartialOrd, Ord, Clone, Copy)]
+#[derive(Debug, PartialEq, Eq, PartialOrd, Ord, Hash, Clone, Copy)]
 pub enum Rcode {
     /// No error.
     NoError,
@@ -138,7 +138,7 @@ impl From<Rcode> for u8 {
 }
 
 /// The type of a record, two bytes (RFC 1035 section 3.2.2, RFC 3596 section 2.1).
-#[derive(Debug, PartialEq, Eq, PartialOrd, Ord, Clone, Copy)]
+#[derive(Debug, PartialEq, Eq, PartialOrd, Ord, Hash, Clone, Copy)]
 pub enum Type {
     /// An IPv4 address.
     A,

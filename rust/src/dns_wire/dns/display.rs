@@ -134,7 +134,7 @@ impl fmt::Display for Record<'_> {
 /// name are not told.
 impl fmt::Display for Flags {
     fn fmt(&self, f: &mut fmt::Formatter<'_>) -> fmt::Result {
-        fmt_flags(f, "", "-", FLAG_NAMES, self.bits())
+        fmt_flags(f, FLAG_NAMES, self.bits())
     }
 }
 
@@ -149,23 +149,21 @@ const FLAG_NAMES: &[(&str, u16)] = &[
     ("cd", 0x0010),
 ];
 
-// Prints the names of the flags that are set, behind this text and with commas between them; another text where none
-// is set.
-fn fmt_flags(
-    f: &mut fmt::Formatter<'_>,
-    front: &str,
-    none: &str,
-    names: &[(&str, u16)],
-    bits: u16,
-) -> fmt::Result {
-    let [(name, bit), rest @ ..] = names else {
-        return f.write_str(none);
-    };
-    if bits & *bit == 0 {
-        return fmt_flags(f, front, none, rest, bits);
+// Prints the names of the flags that are set, with commas between them, or `-` where none is set.
+fn fmt_flags(f: &mut fmt::Formatter<'_>, names: &[(&str, u16)], bits: u16) -> fmt::Result {
+    let mut front = "";
+    // What is printed where no more are set.
+    let mut none = "-";
+    let mut left = names;
+    while let [(name, bit), rest @ ..] = left {
+        if bits & *bit != 0 {
+            write!(f, "{front}{name}")?;
+            front = ",";
+            none = "";
+        }
+        left = rest;
     }
-    write!(f, "{front}{name}")?;
-    fmt_flags(f, ",", "", rest, bits)
+    f.write_str(none)
 }
 
 /// The query, as `DNS query id=4660 opcode=QUERY flags=rd name_len=12 type=A`. The name of its question is told by the

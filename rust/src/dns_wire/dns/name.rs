@@ -6,6 +6,7 @@ use crate::wirebase::{Error, Result};
 
 /// The labels of a name. The first pointer leads to any place of the message, and each later one to below the place
 /// that the one before it led to, so the walk ends.
+#[derive(Debug, Clone)]
 pub struct NameIter<'a> {
     // What is left of the part that is read.
     left: &'a [u8],

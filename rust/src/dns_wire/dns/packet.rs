@@ -52,7 +52,7 @@ pub struct Packet<T: Octets> {
 
 impl<T: Octets> Packet<T> {
     /// The view of these octets, whatever they are.
-    pub fn new_unchecked(buffer: T) -> Packet<T> {
+    pub const fn new_unchecked(buffer: T) -> Packet<T> {
         Packet { buffer }
     }
 
@@ -118,20 +118,20 @@ impl<T: Octets> Packet<T> {
     pub fn additional_record_count(&self) -> u16 {
         self.buffer.u16_at(field::ADDITIONAL_COUNT)
     }
+
+    /// The walk over the name that begins in `bytes`, a part of the message or not, and goes on where its pointers
+    /// lead in the message (RFC 1035 section 4.1.4). The first pointer leads to any place of the message, and each
+    /// later one to below the place that the one before it led to. Requires nothing of the message.
+    #[inline]
+    pub fn parse_name<'a>(&'a self, bytes: &'a [u8]) -> NameIter<'a> {
+        name::walk(self.buffer.octets(), bytes)
+    }
 }
 
 impl<'a, B: AsRef<[u8]> + ?Sized> Packet<&'a B> {
     /// The questions and records, for as long as the octets live. Requires at least 12 bytes.
     pub fn payload(&self) -> &'a [u8] {
         &self.buffer.as_ref()[HEADER_LEN..]
-    }
-
-    /// The walk over the name that begins in `bytes`, a part of the message or not, and goes on where its pointers
-    /// lead in the message (RFC 1035 section 4.1.4). The first pointer leads to any place of the message, and each
-    /// later one to below the place that the one before it led to. Requires nothing of the message.
-    #[inline]
-    pub fn parse_name(&self, bytes: &'a [u8]) -> NameIter<'a> {
-        name::walk(self.buffer.as_ref(), bytes)
     }
 }
 

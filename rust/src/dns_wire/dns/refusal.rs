@@ -84,11 +84,11 @@ impl fmt::Display for Refusal {
     }
 }
 
-impl<'a, B: AsRef<[u8]> + ?Sized> Packet<&'a B> {
+impl<T: Octets> Packet<T> {
     /// Why the walk of [`Packet::parse_name`] over the name that begins in `bytes` gives an error; None where it gives
     /// labels and then the end. Requires nothing of the message.
     pub fn name_refusal(&self, bytes: &[u8]) -> Option<NameRefusal> {
-        why_broken(self.buffer.as_ref(), bytes)
+        why_broken(self.buffer.octets(), bytes)
     }
 }
 

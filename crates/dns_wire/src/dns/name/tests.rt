@@ -61,7 +61,8 @@ fn check(
     broken: bool,
     steps: usize,
 ) {
-    let mut walk: NameIter<'_> = Packet::new_unchecked(message).parse_name(slice);
+    let packet = Packet::new_unchecked(message);
+    let mut walk: NameIter<'_> = packet.parse_name(slice);
     same(rt, walk.steps(), 0);
     for &label in labels {
         same(rt, walk.next(), Some(Ok(label)));
@@ -117,6 +118,25 @@ fn slices_outside_the_message(rt: HostRuntime) {
         check(&rt, &zeros, slice, &[], true, 0);
     }
     check(&rt, &[], &[0], &[], false, 0);
+}
+
+// A copy gives what is still to come, and leaves the walk where it stands. The view may be of octets that are lent for
+// writing.
+#[test]
+fn a_copy_of_a_walk(rt: HostRuntime) {
+    let mut message = RESPONSE;
+    let packet = Packet::new_unchecked(message.as_mut_slice());
+    let mut walk = packet.parse_name(b"\xc0\x0c");
+    same(&rt, walk.next(), Some(Ok(b"www".as_slice())));
+    let Ok(mut copy) = walk.clone() else {
+        return fail(&rt, "a copy");
+    };
+    for label in [b"facebook".as_slice(), b"com"] {
+        same(&rt, copy.next(), Some(Ok(label)));
+    }
+    same(&rt, copy.next(), None);
+    same(&rt, walk.next(), Some(Ok(b"facebook".as_slice())));
+    same(&rt, packet.name_refusal(b"\xc0\x0c"), None);
 }
 
 #[test]
@@ -177,7 +197,8 @@ fn check_told(rt: &impl Abort, message: &[u8], slice: &[u8], broken: bool) {
 // Compares the walk over the name that begins in a slice with one along the falling path, a window after another. Each
 // turn is one step.
 fn compare_walk(rt: &impl Abort, message: &[u8], slice: &[u8]) {
-    let mut walk = Packet::new_unchecked(message).parse_name(slice);
+    let packet = Packet::new_unchecked(message);
+    let mut walk = packet.parse_name(slice);
     let mut window = slice;
     let mut above = message.len();
     for turn in 0..16usize {

@@ -6,6 +6,8 @@ use crate::dns_wire::dns::Packet;
 use crate::dns_wire::dns::tests::damaged::damaged;
 use crate::dns_wire::testing::{fail, holds_of, same, same_of};
 use crate::wirebase::Error;
+#[allow(unused_imports)]
+use rattle_std::prelude::*;
 
 // A response for www.facebook.com: its canonical name, and the address of that.
 const RESPONSE: [u8; 79] = [
@@ -53,7 +55,8 @@ fn check_next<'a>(
 
 // The walk gives these labels, an error where the name is broken, and then the end for good, after so many steps.
 fn check(message: &[u8], slice: &[u8], labels: &[&[u8]], broken: bool, steps: usize) {
-    let mut walk: NameIter<'_> = Packet::new_unchecked(message).parse_name(slice);
+    let packet = Packet::new_unchecked(message);
+    let mut walk: NameIter<'_> = packet.parse_name(slice);
     same(walk.steps(), 0);
     for &label in labels {
         same(walk.next(), Some(Ok(label)));
@@ -109,6 +112,25 @@ fn slices_outside_the_message() {
         check(&zeros, slice, &[], true, 0);
     }
     check(&[], &[0], &[], false, 0);
+}
+
+// A copy gives what is still to come, and leaves the walk where it stands. The view may be of octets that are lent for
+// writing.
+#[test]
+fn a_copy_of_a_walk() {
+    let mut message = RESPONSE;
+    let packet = Packet::new_unchecked(message.as_mut_slice());
+    let mut walk = packet.parse_name(b"\xc0\x0c");
+    same(walk.next(), Some(Ok(b"www".as_slice())));
+    let Ok(mut copy) = walk.try_clone() else {
+        return fail("a copy");
+    };
+    for label in [b"facebook".as_slice(), b"com"] {
+        same(copy.next(), Some(Ok(label)));
+    }
+    same(copy.next(), None);
+    same(walk.next(), Some(Ok(b"facebook".as_slice())));
+    same(packet.name_refusal(b"\xc0\x0c"), None);
 }
 
 #[test]
@@ -169,7 +191,8 @@ fn check_told(message: &[u8], slice: &[u8], broken: bool) {
 // Compares the walk over the name that begins in a slice with one along the falling path, a window after another. Each
 // turn is one step.
 fn compare_walk(message: &[u8], slice: &[u8]) {
-    let mut walk = Packet::new_unchecked(message).parse_name(slice);
+    let packet = Packet::new_unchecked(message);
+    let mut walk = packet.parse_name(slice);
     let mut window = slice;
     let mut above = message.len();
     for turn in 0..16usize {

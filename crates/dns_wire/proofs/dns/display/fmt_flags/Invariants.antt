@@ -1,0 +1,17 @@
+-- What is printed so far, and what the flags still to come print behind it.
+use Rattle.std.proofs.Common.{◌≡◌, ℕ, List, [], ◌++◌, codes, map, length}
+use denote.Text.{Utf8}
+use denote.Shadow.{shadow}
+use Rattle.std.specs.Fmt.{HasWritten, IsPlainFormatter}
+use Rattle.dns_wire.specs.DnsDisplay.{names_set}
+use Rattle.dns_wire.proofs.dns.display.fmt_flags.Given as goal
+
+abbrev pub invariant-loop-left : goal.invariant-loop-left
+invariant-loop-left g l =
+    shadow (Utf8 l.front) × shadow (Utf8 l.none) × (IsPlainFormatter l.fn.f → (done : List ℕ)
+    × (done ++ names_set l.front l.none (map (λ row. (row.0.now, row.1)) l.left) l.bits
+    ≡ names_set [] (codes "-") (map (λ row. (row.0.now, row.1)) l.names) l.bits)
+    × HasWritten g.W.Write.write_str_gives l.fn.f done l.f)
+
+abbrev pub decreases-loop-left : goal.decreases-loop-left
+decreases-loop-left g l = length l.left
