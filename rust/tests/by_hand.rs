@@ -3,7 +3,7 @@
 
 use control_wire::dns::Type;
 use control_wire::icmpv4::{Packet, Repr};
-use control_wire::record::Name;
+use control_wire::record::{Name, NameTextRefusal};
 use control_wire::{
     ChecksumCapabilities, Duration, Error, EthernetAddress, Ipv4Address, Ipv6Address,
     RawHardwareAddress, dns, igmp, ndisc,
@@ -274,7 +274,33 @@ fn names_have_the_traits_of_values() {
     let names = HashSet::from([name, "example.com".parse().unwrap()]);
     assert!(names.contains(&other));
     assert!(!names.contains(&"www.example.org".parse().unwrap()));
-    assert!("a..b".parse::<Name>().is_err());
+    assert_eq!("a..b".parse::<Name>(), Err(NameTextRefusal::EmptyLabel));
+}
+
+#[test]
+fn names_are_in_canonical_order() {
+    // The names of RFC 4034 section 6.1, in their order, and the root before them.
+    let texts = [
+        ".",
+        "example",
+        "a.example",
+        "yljkjljk.a.example",
+        "Z.a.example",
+        "zABC.a.EXAMPLE",
+        "z.example",
+        "\\001.z.example",
+        "*.z.example",
+        "\\200.z.example",
+    ];
+    let names = texts.map(|text| text.parse::<Name>().unwrap());
+    for (left, a) in names.iter().enumerate() {
+        for (right, b) in names.iter().enumerate() {
+            assert_eq!(a.cmp(b), left.cmp(&right), "{a} {b}");
+            assert_eq!(a == b, a.cmp(b).is_eq());
+        }
+    }
+    let upper: Name = "A.Example".parse().unwrap();
+    assert!(upper == names[2] && upper.cmp(&names[2]).is_eq());
 }
 
 #[test]
