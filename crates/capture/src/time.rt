@@ -6,6 +6,7 @@ ghost use Rattle.std.specs.Prelude.{◌≡◌, ◌+◌, ◌-◌, ◌*◌, ◌/�
 ghost use Rattle.std.specs.Duration.{as_nanos, max_nanos};
 ghost use Rattle.std.specs.Ordering.{nat_cmp};
 ghost use Rattle.capture.specs.Time.{IsTime, nanos_of, nanoseconds_of, digits_of, fraction_of, digits_in, moved};
+ghost use Rattle.capture.specs.Time.{time_of};
 
 use crate::pcap::Precision;
 use std::cmp::Ordering;
@@ -86,11 +87,15 @@ impl Time {
         if seconds == 0 {
             return self;
         }
-        self.shifted(seconds)
+        let (seconds, nanoseconds) = moved_parts(self.seconds, self.nanoseconds, seconds);
+        Time {
+            seconds,
+            nanoseconds,
+            digits: self.digits,
+        }
     }
 
-    // The same of any seconds, out of the way of nearly all captures, whose times are not moved.
-    #[inline(never)]
+    // The same of any seconds.
     fn shifted(self, seconds: i64) -> Time
         requires { self.nanoseconds < 1000000000 }
         ensures { IsTime result (moved seconds (nanos_of self)) self.digits }
@@ -166,6 +171,22 @@ impl Time {
             digits,
         }
     }
+}
+
+// The parts of a time that is moved by any seconds, out of the way of nearly all captures, whose times are not moved.
+// They are two numbers, since a time of three would go through memory in each capture.
+#[inline(never)]
+fn moved_parts(seconds: u64, nanoseconds: u32, by: i64) -> (u64, u32)
+    requires { nanoseconds < 1000000000 }
+    ensures { IsTime (time_of result) (moved by (seconds * 1000000000 + nanoseconds)) 0 }
+{
+    let time = Time {
+        seconds,
+        nanoseconds,
+        digits: 0,
+    };
+    let time = time.shifted(by);
+    (time.seconds, time.nanoseconds)
 }
 
 /// Times are equal exactly where their nanoseconds since 1970 are.

@@ -19,6 +19,15 @@ impl Default for Capture {
     }
 }
 
+/// The bytes of the packet that was read last are counted, and not shown.
+impl fmt::Debug for Capture {
+    fn fmt(&self, f: &mut fmt::Formatter<'_>) -> fmt::Result {
+        f.debug_struct("Capture")
+            .field("octets", &self.octets().len())
+            .finish_non_exhaustive()
+    }
+}
+
 /// Why no further record of a capture is read.
 #[derive(Debug)]
 pub enum Error {
@@ -92,6 +101,16 @@ impl Capture {
             },
             ended: false,
         }
+    }
+}
+
+/// The reader is not shown, so that it need not be `Debug` itself.
+impl<R> fmt::Debug for Records<R> {
+    fn fmt(&self, f: &mut fmt::Formatter<'_>) -> fmt::Result {
+        f.debug_struct("Records")
+            .field("capture", &self.capture)
+            .field("ended", &self.ended)
+            .finish_non_exhaustive()
     }
 }
 

@@ -73,11 +73,15 @@ impl Time {
         if seconds == 0 {
             return self;
         }
-        self.shifted(seconds)
+        let (seconds, nanoseconds) = moved_parts(self.seconds, self.nanoseconds, seconds);
+        Time {
+            seconds,
+            nanoseconds,
+            digits: self.digits,
+        }
     }
 
-    // The same of any seconds, out of the way of nearly all captures, whose times are not moved.
-    #[inline(never)]
+    // The same of any seconds.
     fn shifted(self, seconds: i64) -> Time {
         if seconds < 0 {
             return self.earlier(seconds.unsigned_abs());
@@ -136,6 +140,19 @@ impl Time {
             digits,
         }
     }
+}
+
+// The parts of a time that is moved by any seconds, out of the way of nearly all captures, whose times are not moved.
+// They are two numbers, since a time of three would go through memory in each capture.
+#[inline(never)]
+fn moved_parts(seconds: u64, nanoseconds: u32, by: i64) -> (u64, u32) {
+    let time = Time {
+        seconds,
+        nanoseconds,
+        digits: 0,
+    };
+    let time = time.shifted(by);
+    (time.seconds, time.nanoseconds)
 }
 
 /// Times are equal exactly where their nanoseconds since 1970 are.

@@ -46,6 +46,10 @@ fn records_in_turn_and_then_the_end() {
     while let Some((record, octets)) = records.read().unwrap() {
         assert_eq!(octets.len(), record.captured_len as usize);
     }
+    assert_eq!(
+        format!("{records:?}"),
+        "Records { capture: Capture { octets: 1, .. }, ended: true, .. }"
+    );
     assert!(records.read().unwrap().is_none());
     assert!(records.next().is_none());
     assert!(records.into_parts().1.is_empty());
