@@ -29,7 +29,7 @@ use capture::Ending;
 pub use dump::{Report, dump, run_onto};
 pub use fault::Fault;
 use std::fs::File;
-use std::io::{BufWriter, Write};
+use std::io::{BufWriter, Read, Write};
 use std::process::ExitCode;
 use std::str::from_utf8;
 use std::{env, fs, io};
@@ -47,6 +47,27 @@ const FAILED: u8 = 3;
 // The bytes of the output's buffer.
 const BUFFER_LEN: usize = 65_536;
 
+// An input that keeps the error with which its last read failed.
+#[derive(Drop)]
+struct Watched<R> {
+    input: R,
+    error: Option<io::Error>,
+}
+
+impl<R: Read> Read for Watched<R> {
+    fn read(&mut self, buf: &mut [u8]) -> io::Result<usize> {
+        match self.input.read(buf) {
+            Ok(count) => Ok(count),
+            Err(error) => {
+                // By the kind the reader knows whether to try again.
+                let kind = error.kind();
+                self.error = Some(error);
+                Err(io::Error::from(kind))
+            }
+        }
+    }
+}
+
 fn main(rt: HostRuntime) -> ExitCode {
     let task = match env::args(&rt) {
         Ok(arguments) => read_task(rt.alloc(), arguments),
@@ -57,56 +78,63 @@ fn main(rt: HostRuntime) -> ExitCode {
     };
     match task {
         Ok(Task::Dump(options, files)) => ExitCode::from(dump_all(&rt, &options, files.as_slice())),
-        Ok(Task::Help) => {
-            let _ = println!(rt; "{}\n\n{}", help::USAGE, help::HELP);
-            ExitCode::from(WHOLE)
-        }
+        Ok(Task::Help) => ExitCode::from(print_help(&rt)),
         Ok(Task::Unknown(wrong)) => ExitCode::from(report_wrong(&rt, &wrong)),
         Err(fault) => ExitCode::from(report_fault(&rt, fault)),
     }
 }
 
-// Prints the captures of these files, and answers the status.
+// Prints the help, and answers the status.
+fn print_help(rt: &HostRuntime) -> u8 {
+    match println!(rt; "{}\n\n{}", help::USAGE, help::HELP) {
+        Ok(()) => WHOLE,
+        Err(error) => report_fault(rt, Fault::from(error)),
+    }
+}
+
+// Prints the captures of these files, and answers the status, the greatest that holds.
 fn dump_all(rt: &HostRuntime, options: &Options, files: &[String]) -> u8 {
     let Ok(mut output) = BufWriter::with_capacity(rt.alloc(), BUFFER_LEN, io::writer(rt)) else {
         return report_fault(rt, Fault::Memory);
     };
-    let answer = dump_each(rt, options, files, &mut output);
+    let mut status = WHOLE;
+    let answer = dump_each(rt, options, files, &mut output, &mut status);
     // What a fault has left in the buffer was to be written before it.
     let flushed = output.flush();
     match (answer, flushed) {
-        (Ok(status), Ok(())) => status,
-        (Err(fault), _) => report_fault(rt, fault),
-        (_, Err(error)) => report_fault(rt, Fault::from(error)),
+        (Ok(()), Ok(())) => status,
+        (Err(fault), _) => status.max(report_fault(rt, fault)),
+        (_, Err(error)) => status.max(report_fault(rt, Fault::from(error))),
     }
 }
 
 // Prints the captures of these files, and where packets are only counted their table at the end, with one line for all
-// of them.
+// of them. The status counts what became of each file, also where a fault ends it all.
 fn dump_each<W: Write>(
     rt: &HostRuntime,
     options: &Options,
     files: &[String],
     output: &mut W,
-) -> Result<u8, Fault> {
+    status: &mut u8,
+) -> Result<(), Fault> {
     let mut total = Tally::new();
-    let mut status = WHOLE;
     if files.is_empty() {
-        status = dump_file(rt, options, "-", output, &mut total)?;
+        *status = dump_file(rt, options, "-", output, &mut total)?;
     }
     for file in files {
         if files.len() > 1 && options.prints {
             output.write_all(file.as_bytes())?;
             output.write_all(b":\n")?;
         }
-        status = status.max(dump_file(rt, options, file.as_str(), output, &mut total)?);
+        let own = dump_file(rt, options, file.as_str(), output, &mut total)?;
+        *status = (*status).max(own);
     }
     if !options.prints {
         show_table(output, &options.only, &total)?;
         output.flush()?;
         report_counts(rt, name_of_all(files), &total)?;
     }
-    Ok(status)
+    Ok(())
 }
 
 // Prints the capture of a file, and answers the status. A fault of the output or of memory ends it all.
@@ -120,30 +148,43 @@ fn dump_file<W: Write>(
     let before = total.packets;
     let mut own = Tally::new();
     let tally = if options.prints { &mut own } else { total };
-    let answer = if file == "-" {
-        dump(rt.alloc(), options, rt.reader(), output, tally)
+    let (answer, error) = if file == "-" {
+        dump_input(rt, options, rt.reader(), output, tally)
     } else {
         match open(rt, file) {
-            Ok(input) => dump(rt.alloc(), options, input, output, tally),
+            Ok(input) => dump_input(rt, options, input, output, tally),
             Err(error) => {
                 let _ = eprintln!(rt; "pcapdump: {file}: {error}");
                 return Ok(WRONG);
             }
         }
     };
-    match answer {
-        Ok(ending) => {
-            if options.prints {
-                report_counts(rt, Some(file), tally)?;
-            }
-            Ok(report_ending(rt, file, ending, tally.packets.saturating_sub(before)))
-        }
-        Err(Fault::Read) => {
-            let _ = eprintln!(rt; "pcapdump: {file}: reading failed");
-            Ok(FAILED)
-        }
-        Err(fault) => Err(fault),
+    let ending = match answer {
+        Ok(ending) => Some(ending),
+        Err(Fault::Read) => None,
+        Err(fault) => return Err(fault),
+    };
+    if options.prints {
+        report_counts(rt, Some(file), tally)?;
     }
+    let packets = tally.packets.saturating_sub(before);
+    match ending {
+        Some(ending) => Ok(report_ending(rt, file, ending, packets)),
+        None => Ok(report_unread(rt, file, error, packets)),
+    }
+}
+
+// Prints the capture of an input, and answers what ends it, and the error with which the last read failed, if any.
+fn dump_input<R: Read + Drop, W: Write>(
+    rt: &HostRuntime,
+    options: &Options,
+    input: R,
+    output: &mut W,
+    tally: &mut Tally,
+) -> (Result<Ending, Fault>, Option<io::Error>) {
+    let mut input = Watched { input, error: None };
+    let answer = dump(rt.alloc(), options, &mut input, output, tally);
+    (answer, input.error)
 }
 
 // Opens a file. A folder can be opened too, but not read.
@@ -188,6 +229,19 @@ fn report_ending(rt: &HostRuntime, file: &str, ending: Ending, packets: u64) -> 
         last => eprintln!(rt; "pcapdump: {file}: {ending}, after packet {last}"),
     };
     status
+}
+
+// Says that an input could not be read on, and why, and answers the status.
+fn report_unread(rt: &HostRuntime, file: &str, error: Option<io::Error>, packets: u64) -> u8 {
+    let Some(error) = error else {
+        let _ = eprintln!(rt; "pcapdump: {file}: reading failed");
+        return FAILED;
+    };
+    let _ = match packets {
+        0 => eprintln!(rt; "pcapdump: {file}: reading failed: {error}"),
+        last => eprintln!(rt; "pcapdump: {file}: reading failed: {error}, after packet {last}"),
+    };
+    FAILED
 }
 
 // Says what is wrong about the arguments, and how the program is called, and answers the status.

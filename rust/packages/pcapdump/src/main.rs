@@ -30,7 +30,7 @@ use crate::tally::Tally;
 use capture::Ending;
 pub use dump::{Report, dump, run_onto};
 pub use fault::Fault;
-use rattle_std::io::{BufWriter, Write};
+use rattle_std::io::{BufWriter, Read, Write};
 use rattle_std::{env, fs, io};
 use std::fs::File;
 use std::process::ExitCode;
@@ -49,6 +49,26 @@ const FAILED: u8 = 3;
 // The bytes of the output's buffer.
 const BUFFER_LEN: usize = 65_536;
 
+// An input that keeps the error with which its last read failed.
+struct Watched<R> {
+    input: R,
+    error: Option<io::Error>,
+}
+
+impl<R: Read> Read for Watched<R> {
+    fn read(&mut self, buf: &mut [u8]) -> io::Result<usize> {
+        match self.input.read(buf) {
+            Ok(count) => Ok(count),
+            Err(error) => {
+                // By the kind the reader knows whether to try again.
+                let kind = error.kind();
+                self.error = Some(error);
+                Err(io::Error::from(kind))
+            }
+        }
+    }
+}
+
 fn main() -> ExitCode {
     let task = match env::args() {
         Ok(arguments) => read_task(arguments),
@@ -59,51 +79,62 @@ fn main() -> ExitCode {
     };
     match task {
         Ok(Task::Dump(options, files)) => ExitCode::from(dump_all(&options, files.as_slice())),
-        Ok(Task::Help) => {
-            let _ = rattle_std::println!("{}\n\n{}", help::USAGE, help::HELP);
-            ExitCode::from(WHOLE)
-        }
+        Ok(Task::Help) => ExitCode::from(print_help()),
         Ok(Task::Unknown(wrong)) => ExitCode::from(report_wrong(&wrong)),
         Err(fault) => ExitCode::from(report_fault(fault)),
     }
 }
 
-// Prints the captures of these files, and answers the status.
+// Prints the help, and answers the status.
+fn print_help() -> u8 {
+    match rattle_std::println!("{}\n\n{}", help::USAGE, help::HELP) {
+        Ok(()) => WHOLE,
+        Err(error) => report_fault(Fault::from(error)),
+    }
+}
+
+// Prints the captures of these files, and answers the status, the greatest that holds.
 fn dump_all(options: &Options, files: &[String]) -> u8 {
     let Ok(mut output) = BufWriter::with_capacity(BUFFER_LEN, io::writer()) else {
         return report_fault(Fault::Memory);
     };
-    let answer = dump_each(options, files, &mut output);
+    let mut status = WHOLE;
+    let answer = dump_each(options, files, &mut output, &mut status);
     // What a fault has left in the buffer was to be written before it.
     let flushed = output.flush();
     match (answer, flushed) {
-        (Ok(status), Ok(())) => status,
-        (Err(fault), _) => report_fault(fault),
-        (_, Err(error)) => report_fault(Fault::from(error)),
+        (Ok(()), Ok(())) => status,
+        (Err(fault), _) => status.max(report_fault(fault)),
+        (_, Err(error)) => status.max(report_fault(Fault::from(error))),
     }
 }
 
 // Prints the captures of these files, and where packets are only counted their table at the end, with one line for all
-// of them.
-fn dump_each<W: Write>(options: &Options, files: &[String], output: &mut W) -> Result<u8, Fault> {
+// of them. The status counts what became of each file, also where a fault ends it all.
+fn dump_each<W: Write>(
+    options: &Options,
+    files: &[String],
+    output: &mut W,
+    status: &mut u8,
+) -> Result<(), Fault> {
     let mut total = Tally::new();
-    let mut status = WHOLE;
     if files.is_empty() {
-        status = dump_file(options, "-", output, &mut total)?;
+        *status = dump_file(options, "-", output, &mut total)?;
     }
     for file in files {
         if files.len() > 1 && options.prints {
             output.write_all(file.as_bytes())?;
             output.write_all(b":\n")?;
         }
-        status = status.max(dump_file(options, file.as_str(), output, &mut total)?);
+        let own = dump_file(options, file.as_str(), output, &mut total)?;
+        *status = (*status).max(own);
     }
     if !options.prints {
         show_table(output, &options.only, &total)?;
         output.flush()?;
         report_counts(name_of_all(files), &total)?;
     }
-    Ok(status)
+    Ok(())
 }
 
 // Prints the capture of a file, and answers the status. A fault of the output or of memory ends it all.
@@ -116,34 +147,42 @@ fn dump_file<W: Write>(
     let before = total.packets;
     let mut own = Tally::new();
     let tally = if options.prints { &mut own } else { total };
-    let answer = if file == "-" {
-        dump(options, io::reader(), output, tally)
+    let (answer, error) = if file == "-" {
+        dump_input(options, io::reader(), output, tally)
     } else {
         match open(file) {
-            Ok(input) => dump(options, input, output, tally),
+            Ok(input) => dump_input(options, input, output, tally),
             Err(error) => {
                 let _ = rattle_std::eprintln!("pcapdump: {file}: {error}");
                 return Ok(WRONG);
             }
         }
     };
-    match answer {
-        Ok(ending) => {
-            if options.prints {
-                report_counts(Some(file), tally)?;
-            }
-            Ok(report_ending(
-                file,
-                ending,
-                tally.packets.saturating_sub(before),
-            ))
-        }
-        Err(Fault::Read) => {
-            let _ = rattle_std::eprintln!("pcapdump: {file}: reading failed");
-            Ok(FAILED)
-        }
-        Err(fault) => Err(fault),
+    let ending = match answer {
+        Ok(ending) => Some(ending),
+        Err(Fault::Read) => None,
+        Err(fault) => return Err(fault),
+    };
+    if options.prints {
+        report_counts(Some(file), tally)?;
     }
+    let packets = tally.packets.saturating_sub(before);
+    match ending {
+        Some(ending) => Ok(report_ending(file, ending, packets)),
+        None => Ok(report_unread(file, error, packets)),
+    }
+}
+
+// Prints the capture of an input, and answers what ends it, and the error with which the last read failed, if any.
+fn dump_input<R: Read, W: Write>(
+    options: &Options,
+    input: R,
+    output: &mut W,
+    tally: &mut Tally,
+) -> (Result<Ending, Fault>, Option<io::Error>) {
+    let mut input = Watched { input, error: None };
+    let answer = dump(options, &mut input, output, tally);
+    (answer, input.error)
 }
 
 // Opens a file. A folder can be opened too, but not read.
@@ -188,6 +227,21 @@ fn report_ending(file: &str, ending: Ending, packets: u64) -> u8 {
         last => rattle_std::eprintln!("pcapdump: {file}: {ending}, after packet {last}"),
     };
     status
+}
+
+// Says that an input could not be read on, and why, and answers the status.
+fn report_unread(file: &str, error: Option<io::Error>, packets: u64) -> u8 {
+    let Some(error) = error else {
+        let _ = rattle_std::eprintln!("pcapdump: {file}: reading failed");
+        return FAILED;
+    };
+    let _ = match packets {
+        0 => rattle_std::eprintln!("pcapdump: {file}: reading failed: {error}"),
+        last => {
+            rattle_std::eprintln!("pcapdump: {file}: reading failed: {error}, after packet {last}")
+        }
+    };
+    FAILED
 }
 
 // Says what is wrong about the arguments, and how the program is called, and answers the status.
