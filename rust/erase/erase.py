@@ -217,7 +217,7 @@ mod rattle_std;
 mod by_hand;
 {modules}
 
-pub use by_hand::smoltcp;
+pub use by_hand::smoltcp::{{self, phy, time, wire}};
 """
 
 

@@ -20,7 +20,7 @@ pub mod quotes;
 pub mod record;
 mod wirebase;
 
-pub use by_hand::smoltcp;
+pub use by_hand::smoltcp::{self, phy, time, wire};
 
 pub mod icmp;
 

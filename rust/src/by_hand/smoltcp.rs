@@ -1,6 +1,9 @@
 //! The items under the names that they have in smoltcp 0.14.
 //!
-//! With `use control_wire::smoltcp;`, the paths of a program that reads and writes packets by smoltcp stay as they are:
+//! The modules [`wire`](crate::wire), [`phy`](crate::phy) and [`time`](crate::time) stand at the root too. So the paths
+//! of a program that reads and writes packets by smoltcp stay as they are where its manifest has the line
+//! `smoltcp = { package = "control_wire", .. }`, or its root `extern crate control_wire as smoltcp;`, in each module; and
+//! by `use control_wire::smoltcp;` in the module that has this line:
 //!
 //! ```
 //! use control_wire::smoltcp;
@@ -14,6 +17,22 @@
 //! let request = Icmpv4Repr::parse(&view, &ChecksumCapabilities::default())?;
 //! assert_eq!(request, Icmpv4Repr::EchoRequest { ident: 0, seq_no: 0, data: &[] });
 //! # Ok::<(), smoltcp::wire::Error>(())
+//! ```
+//!
+//! ```
+//! extern crate control_wire as smoltcp;
+//!
+//! mod within {
+//!     use smoltcp::phy::ChecksumCapabilities;
+//!     use smoltcp::time::Duration;
+//!     use smoltcp::wire::{IgmpRepr, Ipv4Address};
+//!
+//!     pub fn is_answered(message: &IgmpRepr) -> bool {
+//!         matches!(message, IgmpRepr::MembershipQuery { max_resp_time, .. } if *max_resp_time > Duration::ZERO)
+//!     }
+//! # pub fn other(_: ChecksumCapabilities, _: Ipv4Address) {}
+//! }
+//! # assert!(!within::is_answered(&smoltcp::wire::IgmpRepr::LeaveGroup { group_addr: smoltcp::wire::Ipv4Address::new(224, 0, 0, 1) }));
 //! ```
 
 /// What `smoltcp::wire` has of these protocols.
