@@ -154,6 +154,8 @@ def erase(units):
     files = [file for unit in units for file in unit.files.values()]
     for file in files:
         file.used = rules.used_words(file)
+        if file.published:
+            rules.panics(file)
         apply(file, rules.CONTRACTS)
     rules.NOTHING.clear()
     rules.VIEW_NAMES.clear()

@@ -407,6 +407,37 @@ COMMENTS = {
         "/// What holds octets that may be written: all that lends a slice of them so. The proofs are of `&mut [u8]`.",
     "/// crate `quote_wire` read those.": "/// module `quotes` read those.",
     "//! `record_wire::Name` makes it from text.": "//! `record::Name` makes it from text.",
+    # The page of an alias shows no calls.
+    "/// Writes bytes into a lent slice, one after another from its front on, as the library itself does.":
+        """\
+/// Writes bytes into a lent slice, one after another from its front on, as the library itself does.
+///
+/// | Call | What it does |
+/// |---|---|
+/// | `ByteWriter::new(slice)` | a writer over the slice, all of whose bytes are free |
+/// | `free()` | the number of bytes that are free |
+/// | `put_bytes(bytes)` | writes the bytes |
+/// | `put_u8(value)`, `put_u16(value)`, `put_u32(value)` | writes one, two or four bytes, the highest first |
+/// | `put_zeros(count)` | writes so many zeros |
+/// | `put_front(bytes)` | writes the first of the bytes, as many as are free |
+/// | `part(count)` | lends the next bytes: what they hold at the end is written |
+///
+/// ```
+/// use control_wire::ByteWriter;
+///
+/// let mut octets = [0xff; 8];
+/// let mut w = ByteWriter::new(&mut octets);
+/// w.put_u8(1);
+/// w.put_u16(0x0203);
+/// w.part(2).copy_from_slice(&[4, 5]);
+/// assert_eq!(w.free(), 3);
+/// w.put_front(b"more than fits");
+/// assert_eq!(octets, [1, 2, 3, 4, 5, b'm', b'o', b'r']);
+/// ```
+///
+/// # Panics
+///
+/// Each call but `free` and `put_front` may panic where it takes more bytes than are free.""",
 }
 
 
@@ -416,6 +447,31 @@ PICTURE = re.compile(r"; (the|its|their) pictures?( of their header)? (is|are) i
 
 # A crate that an example in a comment uses.
 USE = re.compile(r"^(\s*//[/!] (?:# )?use )(\w+)(?=::)", re.M)
+
+
+PANICS = ["# Panics", "", "May panic where what is asked for above does not hold."]
+
+
+def asks(file, i):
+    """Whether the function at i has a clause `requires`."""
+    k = file.skip(i, ("requires", "ensures", "{", ";"))
+    while file.text(k) == "ensures":
+        k = file.close(file.skip(k, ("{",))) + 1
+    return file.text(k) == "requires"
+
+
+def panics(file):
+    """The documentation of a function that requires something says that it may panic. No token is touched."""
+    for i in range(len(file.tokens)):
+        if file.text(i) != "fn" or not asks(file, i):
+            continue
+        start = file.start(i)
+        first = file.tokens[file.start(start - 1) if file.text(start - 1) == "final" else start]
+        docs = list(re.finditer(r"^( *)///.*\n", first.pre, re.M))
+        if docs:
+            end, indent = docs[-1].end(), docs[-1].group(1)
+            more = "".join(f"{indent}/// {line}".rstrip() + "\n" for line in ["", *PANICS])
+            first.pre = first.pre[:end] + more + first.pre[end:]
 
 
 def comments(file, users):

@@ -1,5 +1,6 @@
 """Tests of the rules: a few lines in and out for each, clauses that must not be left behind, what must be refused."""
 import pathlib
+import re
 import sys
 import unittest
 from unittest import mock
@@ -246,6 +247,25 @@ class Rules(unittest.TestCase):
             with self.subTest(arms=arms):
                 self.assertEqual(erased(source % arms, True),
                                  words_of(source % (arms + (" _ => unreachable!()," if more else ""))))
+
+    def test_what_requires_something_may_panic(self):
+        source = ("impl A {\n    /// One. Requires a.\n    #[inline]\n    pub fn one(&self) -> u8\n"
+                  "        ensures b { c }\n        requires d { e }\n    {\n        1\n    }\n\n"
+                  "    /// Two.\n    pub fn two(&self) -> u8\n        ensures { c }\n    {\n        2\n    }\n}\n")
+        unit = unit_of("")
+        file = File(PATH, source)
+        unit.files[pathlib.Path("one.rs")] = file
+        file.crate = "one_wire"
+        erase.erase([unit])
+        docs = [line.strip() for line in str(file).splitlines() if line.strip().startswith("///")]
+        self.assertEqual(docs, ["/// One. Requires a.", "///", "/// # Panics", "///", f"/// {rules.PANICS[-1]}", "/// Two."])
+
+    def test_the_page_of_the_writer_names_each_call(self):
+        [page] = [text for text in rules.COMMENTS.values() if "ByteWriter::new" in text]
+        table = "".join(line for line in page.splitlines() if line.startswith("/// |"))
+        source = (HERE.parents[1] / "crates/wirebase/src/byte_writer.rt").read_text()
+        self.assertEqual(sorted(re.findall(r"`(?:ByteWriter::)?(\w+)\(", table)),
+                         sorted(re.findall(r"pub fn (\w+)", source)))
 
     def test_a_function_that_does_nothing_in_another_file(self):
         left = erased("fn f() -> u8 { facts(1); 2 }", above="pub fn facts(a: u8) {}")

@@ -127,6 +127,10 @@ impl Frame<'_> {
     }
 
     /// The number of the VLAN of a tag, 0 to 4,095. Requires that there is such a tag.
+    ///
+    /// # Panics
+    ///
+    /// May panic where what is asked for above does not hold.
     pub fn vlan(&self, place: usize) -> u16 {
         self.tags.u16_at(4 * place..4 * place + 2) % 4096
     }

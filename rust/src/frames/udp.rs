@@ -99,21 +99,37 @@ impl<T: Octets> UdpPacket<T> {
     }
 
     /// The port of the sender, or 0 where it has none. Requires at least 2 bytes.
+    ///
+    /// # Panics
+    ///
+    /// May panic where what is asked for above does not hold.
     pub fn src_port(&self) -> u16 {
         self.buffer.u16_at(field::SRC_PORT)
     }
 
     /// The port of the receiver. Requires at least 4 bytes.
+    ///
+    /// # Panics
+    ///
+    /// May panic where what is asked for above does not hold.
     pub fn dst_port(&self) -> u16 {
         self.buffer.u16_at(field::DST_PORT)
     }
 
     /// The bytes of header and data. Requires at least 6 bytes.
+    ///
+    /// # Panics
+    ///
+    /// May panic where what is asked for above does not hold.
     pub fn len(&self) -> u16 {
         self.buffer.u16_at(field::LENGTH)
     }
 
     /// The checksum, or 0 where there is none. Requires at least 8 bytes.
+    ///
+    /// # Panics
+    ///
+    /// May panic where what is asked for above does not hold.
     pub fn checksum(&self) -> u16 {
         self.buffer.u16_at(field::CHECKSUM)
     }
@@ -121,6 +137,10 @@ impl<T: Octets> UdpPacket<T> {
     /// Whether the checksum is that of the datagram with the pseudo header of these addresses. A checksum of 0 means
     /// that there is none (RFC 768), and is no exception here: the answer is then almost always false. Requires a whole
     /// datagram.
+    ///
+    /// # Panics
+    ///
+    /// May panic where what is asked for above does not hold.
     pub fn verify_checksum(&self, addresses: &Addresses) -> bool {
         let len = self.len();
         let sum = addresses.sum_before(IpProtocol::Udp, len as u32);
@@ -130,6 +150,10 @@ impl<T: Octets> UdpPacket<T> {
 
 impl<'a, B: AsRef<[u8]> + ?Sized> UdpPacket<&'a B> {
     /// The data, for as long as the octets live. Requires a whole datagram.
+    ///
+    /// # Panics
+    ///
+    /// May panic where what is asked for above does not hold.
     pub fn payload(&self) -> &'a [u8] {
         let octets: &'a [u8] = self.buffer.as_ref();
         &octets[field::PAYLOAD..self.len() as usize]
@@ -138,26 +162,46 @@ impl<'a, B: AsRef<[u8]> + ?Sized> UdpPacket<&'a B> {
 
 impl<T: OctetsMut> UdpPacket<T> {
     /// Writes the port of the sender. Requires at least 2 bytes.
+    ///
+    /// # Panics
+    ///
+    /// May panic where what is asked for above does not hold.
     pub fn set_src_port(&mut self, value: u16) {
         self.buffer.set_u16(field::SRC_PORT, value);
     }
 
     /// Writes the port of the receiver. Requires at least 4 bytes.
+    ///
+    /// # Panics
+    ///
+    /// May panic where what is asked for above does not hold.
     pub fn set_dst_port(&mut self, value: u16) {
         self.buffer.set_u16(field::DST_PORT, value);
     }
 
     /// Writes the bytes of header and data. Requires at least 6 bytes.
+    ///
+    /// # Panics
+    ///
+    /// May panic where what is asked for above does not hold.
     pub fn set_len(&mut self, value: u16) {
         self.buffer.set_u16(field::LENGTH, value);
     }
 
     /// Writes the checksum. Requires at least 8 bytes.
+    ///
+    /// # Panics
+    ///
+    /// May panic where what is asked for above does not hold.
     pub fn set_checksum(&mut self, value: u16) {
         self.buffer.set_u16(field::CHECKSUM, value);
     }
 
     /// Lends the data for writing; the header stays. Requires a whole datagram.
+    ///
+    /// # Panics
+    ///
+    /// May panic where what is asked for above does not hold.
     pub fn payload_mut(&mut self) -> &mut [u8] {
         let end = self.len() as usize;
         self.buffer.range_mut(field::PAYLOAD, end)

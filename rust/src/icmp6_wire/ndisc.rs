@@ -70,42 +70,74 @@ mod field {
 
 impl<T: Octets> Packet<T> {
     /// The hop limit that a router advertisement asks hosts to set, 0 for none. Requires at least 5 bytes.
+    ///
+    /// # Panics
+    ///
+    /// May panic where what is asked for above does not hold.
     pub fn current_hop_limit(&self) -> u8 {
         self.buffer.u8_at(field::HOP_LIMIT)
     }
 
     /// The flags of a router advertisement that have a name. Requires at least 6 bytes.
+    ///
+    /// # Panics
+    ///
+    /// May panic where what is asked for above does not hold.
     pub fn router_flags(&self) -> RouterFlags {
         RouterFlags::from_bits_truncate(self.buffer.u8_at(field::ROUTER_FLAGS))
     }
 
     /// How long the sender of a router advertisement is a default router, in whole seconds. Requires at least 8 bytes.
+    ///
+    /// # Panics
+    ///
+    /// May panic where what is asked for above does not hold.
     pub fn router_lifetime(&self) -> Duration {
         Duration::from_secs(self.buffer.u16_at(field::ROUTER_LIFETIME) as u64)
     }
 
     /// How long a neighbor counts as reachable, in whole milliseconds; 0 where it is not told. Requires at least 12
     /// bytes.
+    ///
+    /// # Panics
+    ///
+    /// May panic where what is asked for above does not hold.
     pub fn reachable_time(&self) -> Duration {
         Duration::from_millis(self.buffer.u32_at(field::REACHABLE_TIME) as u64)
     }
 
     /// The time between solicitations, in whole milliseconds; 0 where it is not told. Requires at least 16 bytes.
+    ///
+    /// # Panics
+    ///
+    /// May panic where what is asked for above does not hold.
     pub fn retrans_time(&self) -> Duration {
         Duration::from_millis(self.buffer.u32_at(field::RETRANS_TIME) as u64)
     }
 
     /// The address that a neighbor message or a redirect speaks of. Requires at least 24 bytes.
+    ///
+    /// # Panics
+    ///
+    /// May panic where what is asked for above does not hold.
     pub fn target_addr(&self) -> Ipv6Address {
         Ipv6Address::from_octets(self.buffer.field(field::TARGET_ADDR).try_into().unwrap())
     }
 
     /// The flags of a neighbor advertisement that have a name. Requires at least 5 bytes.
+    ///
+    /// # Panics
+    ///
+    /// May panic where what is asked for above does not hold.
     pub fn neighbor_flags(&self) -> NeighborFlags {
         NeighborFlags::from_bits_truncate(self.buffer.u8_at(field::NEIGHBOR_FLAGS))
     }
 
     /// The destination that a redirect redirects. Requires at least 40 bytes.
+    ///
+    /// # Panics
+    ///
+    /// May panic where what is asked for above does not hold.
     pub fn dest_addr(&self) -> Ipv6Address {
         Ipv6Address::from_octets(self.buffer.field(field::DEST_ADDR).try_into().unwrap())
     }
@@ -126,6 +158,10 @@ impl<'a, B: AsRef<[u8]> + ?Sized> Packet<&'a B> {
     /// assert!(packet.ndisc_options().eq([Ok(nonce)]));
     /// # Ok::<(), control_wire::Error>(())
     /// ```
+    ///
+    /// # Panics
+    ///
+    /// May panic where what is asked for above does not hold.
     pub fn ndisc_options(&self) -> NdiscOptions<'a> {
         NdiscOptions::new(self.payload())
     }
@@ -133,17 +169,29 @@ impl<'a, B: AsRef<[u8]> + ?Sized> Packet<&'a B> {
 
 impl<T: OctetsMut> Packet<T> {
     /// Writes the hop limit that hosts are to set. Requires at least 5 bytes.
+    ///
+    /// # Panics
+    ///
+    /// May panic where what is asked for above does not hold.
     pub fn set_current_hop_limit(&mut self, value: u8) {
         self.buffer.set_u8(field::HOP_LIMIT, value);
     }
 
     /// Writes the flags of a router advertisement, all their bits. Requires at least 6 bytes.
+    ///
+    /// # Panics
+    ///
+    /// May panic where what is asked for above does not hold.
     pub fn set_router_flags(&mut self, flags: RouterFlags) {
         self.buffer.set_u8(field::ROUTER_FLAGS, flags.bits());
     }
 
     /// Writes how long the sender is a default router, in whole seconds; what is past them is left out. Requires at
     /// least 8 bytes, and 65,535 seconds at most.
+    ///
+    /// # Panics
+    ///
+    /// May panic where what is asked for above does not hold.
     pub fn set_router_lifetime(&mut self, value: Duration) {
         self.buffer
             .set_u16(field::ROUTER_LIFETIME, value.secs() as u16);
@@ -151,6 +199,10 @@ impl<T: OctetsMut> Packet<T> {
 
     /// Writes how long a neighbor counts as reachable, in whole milliseconds; what is past them is left out. Requires
     /// at least 12 bytes, and 4,294,967,295 milliseconds at most.
+    ///
+    /// # Panics
+    ///
+    /// May panic where what is asked for above does not hold.
     pub fn set_reachable_time(&mut self, value: Duration) {
         self.buffer
             .set_u32(field::REACHABLE_TIME, value.total_millis() as u32);
@@ -158,22 +210,38 @@ impl<T: OctetsMut> Packet<T> {
 
     /// Writes the time between solicitations, in whole milliseconds; what is past them is left out. Requires at least
     /// 16 bytes, and 4,294,967,295 milliseconds at most.
+    ///
+    /// # Panics
+    ///
+    /// May panic where what is asked for above does not hold.
     pub fn set_retrans_time(&mut self, value: Duration) {
         self.buffer
             .set_u32(field::RETRANS_TIME, value.total_millis() as u32);
     }
 
     /// Writes the address that the message speaks of. Requires at least 24 bytes.
+    ///
+    /// # Panics
+    ///
+    /// May panic where what is asked for above does not hold.
     pub fn set_target_addr(&mut self, value: Ipv6Address) {
         self.buffer.set_bytes(field::TARGET_ADDR, &value.octets());
     }
 
     /// Writes the flags of a neighbor advertisement, all their bits. Requires at least 5 bytes.
+    ///
+    /// # Panics
+    ///
+    /// May panic where what is asked for above does not hold.
     pub fn set_neighbor_flags(&mut self, flags: NeighborFlags) {
         self.buffer.set_u8(field::NEIGHBOR_FLAGS, flags.bits());
     }
 
     /// Writes the destination that a redirect redirects. Requires at least 40 bytes.
+    ///
+    /// # Panics
+    ///
+    /// May panic where what is asked for above does not hold.
     pub fn set_dest_addr(&mut self, value: Ipv6Address) {
         self.buffer.set_bytes(field::DEST_ADDR, &value.octets());
     }

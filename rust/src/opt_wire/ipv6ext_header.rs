@@ -68,11 +68,19 @@ impl<T: Octets> Header<T> {
     }
 
     /// What follows the header. Requires at least 1 byte.
+    ///
+    /// # Panics
+    ///
+    /// May panic where what is asked for above does not hold.
     pub fn next_header(&self) -> IpProtocol {
         IpProtocol::from(self.buffer.u8_at(field::NEXT_HEADER))
     }
 
     /// The length: eight bytes each, without the first eight. Requires at least 2 bytes.
+    ///
+    /// # Panics
+    ///
+    /// May panic where what is asked for above does not hold.
     pub fn header_len(&self) -> u8 {
         self.buffer.u8_at(field::LENGTH)
     }
@@ -85,6 +93,10 @@ fn end_of(length: u8) -> usize {
 
 impl<'a, B: AsRef<[u8]> + ?Sized> Header<&'a B> {
     /// The payload, for as long as the octets live. Requires the bytes that the length counts.
+    ///
+    /// # Panics
+    ///
+    /// May panic where what is asked for above does not hold.
     pub fn payload(&self) -> &'a [u8] {
         let octets: &'a [u8] = self.buffer.as_ref();
         &octets[field::PAYLOAD..end_of(self.header_len())]
@@ -93,16 +105,28 @@ impl<'a, B: AsRef<[u8]> + ?Sized> Header<&'a B> {
 
 impl<T: OctetsMut> Header<T> {
     /// Writes what follows the header. Requires at least 1 byte.
+    ///
+    /// # Panics
+    ///
+    /// May panic where what is asked for above does not hold.
     pub fn set_next_header(&mut self, value: IpProtocol) {
         self.buffer.set_u8(field::NEXT_HEADER, value.into());
     }
 
     /// Writes the length: eight bytes each, without the first eight. Requires at least 2 bytes.
+    ///
+    /// # Panics
+    ///
+    /// May panic where what is asked for above does not hold.
     pub fn set_header_len(&mut self, value: u8) {
         self.buffer.set_u8(field::LENGTH, value);
     }
 
     /// Lends the payload for writing; the other octets stay. Requires the bytes that the length counts.
+    ///
+    /// # Panics
+    ///
+    /// May panic where what is asked for above does not hold.
     pub fn payload_mut(&mut self) -> &mut [u8] {
         let end = end_of(self.header_len());
         self.buffer.range_mut(field::PAYLOAD, end)
@@ -147,11 +171,19 @@ impl<'a> Repr<'a> {
 
     /// Writes the next header and the length over the front of the octets; the others, the payload too, stay. Requires
     /// at least 2 bytes.
+    ///
+    /// # Panics
+    ///
+    /// May panic where what is asked for above does not hold.
     pub fn emit<T: OctetsMut>(&self, header: &mut Header<T>) {
         self.emit_into(header.buffer.octets_mut());
     }
 
     /// The same into a slice.
+    ///
+    /// # Panics
+    ///
+    /// May panic where what is asked for above does not hold.
     pub fn emit_into(&self, octets: &mut [u8]) {
         self.write(octets);
     }

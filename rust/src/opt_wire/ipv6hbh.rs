@@ -113,6 +113,10 @@ impl<'a> Repr<'a> {
     }
 
     /// Adds padding, a PadN of `n` bytes of data, last. Requires that the list has room.
+    ///
+    /// # Panics
+    ///
+    /// May panic where what is asked for above does not hold.
     #[inline]
     pub fn push_padn_option(&mut self, n: u8) {
         self.options.push(ipv6option::Repr::PadN(n));
@@ -120,11 +124,19 @@ impl<'a> Repr<'a> {
 
     /// Writes the options over the front of the octets; the others stay. Requires the bytes that they take, and that
     /// each holds as much data as it counts.
+    ///
+    /// # Panics
+    ///
+    /// May panic where what is asked for above does not hold.
     pub fn emit<T: OctetsMut>(&self, header: &mut Header<T>) {
         self.emit_into(header.options_mut());
     }
 
     /// The same into a slice.
+    ///
+    /// # Panics
+    ///
+    /// May panic where what is asked for above does not hold.
     pub fn emit_into(&self, octets: &mut [u8]) {
         let mut w = ByteWriter::new(octets);
         put_options(&mut w, self.options.as_slice());

@@ -84,11 +84,19 @@ impl<T: Octets> Ipv6Option<T> {
     }
 
     /// The type. Requires at least 1 byte.
+    ///
+    /// # Panics
+    ///
+    /// May panic where what is asked for above does not hold.
     pub fn option_type(&self) -> Type {
         Type::from(self.buffer.u8_at(field::TYPE))
     }
 
     /// The bytes of data that the option counts. Requires at least 2 bytes.
+    ///
+    /// # Panics
+    ///
+    /// May panic where what is asked for above does not hold.
     pub fn data_len(&self) -> u8 {
         self.buffer.u8_at(field::LENGTH)
     }
@@ -96,6 +104,10 @@ impl<T: Octets> Ipv6Option<T> {
 
 impl<'a, B: AsRef<[u8]> + ?Sized> Ipv6Option<&'a B> {
     /// The data, for as long as the octets live. Requires the bytes that the option counts.
+    ///
+    /// # Panics
+    ///
+    /// May panic where what is asked for above does not hold.
     pub fn data(&self) -> &'a [u8] {
         let octets: &'a [u8] = self.buffer.as_ref();
         &octets[field::data(self.data_len())]
@@ -104,16 +116,28 @@ impl<'a, B: AsRef<[u8]> + ?Sized> Ipv6Option<&'a B> {
 
 impl<T: OctetsMut> Ipv6Option<T> {
     /// Writes the type. Requires at least 1 byte.
+    ///
+    /// # Panics
+    ///
+    /// May panic where what is asked for above does not hold.
     pub fn set_option_type(&mut self, value: Type) {
         self.buffer.set_u8(field::TYPE, value.into());
     }
 
     /// Writes the bytes of data that the option counts. Requires at least 2 bytes.
+    ///
+    /// # Panics
+    ///
+    /// May panic where what is asked for above does not hold.
     pub fn set_data_len(&mut self, value: u8) {
         self.buffer.set_u8(field::LENGTH, value);
     }
 
     /// Lends the data for writing; the other octets stay. Requires the bytes that the option counts.
+    ///
+    /// # Panics
+    ///
+    /// May panic where what is asked for above does not hold.
     pub fn data_mut(&mut self) -> &mut [u8] {
         let data = field::data(self.data_len());
         self.buffer.field_mut(data)
@@ -208,11 +232,19 @@ impl<'a> Repr<'a> {
 
     /// Writes the option over the front of the octets; the others stay. Requires the bytes that the option takes, and
     /// that it holds as much data as it counts.
+    ///
+    /// # Panics
+    ///
+    /// May panic where what is asked for above does not hold.
     pub fn emit<T: OctetsMut>(&self, opt: &mut Ipv6Option<T>) {
         self.emit_into(opt.buffer.octets_mut());
     }
 
     /// The same into a slice.
+    ///
+    /// # Panics
+    ///
+    /// May panic where what is asked for above does not hold.
     pub fn emit_into(&self, octets: &mut [u8]) {
         let mut w = ByteWriter::new(octets);
         self.put(&mut w);

@@ -128,17 +128,29 @@ impl<T: Octets> NdiscOption<T> {
     }
 
     /// The type. Requires at least 1 byte.
+    ///
+    /// # Panics
+    ///
+    /// May panic where what is asked for above does not hold.
     pub fn option_type(&self) -> Type {
         Type::from(self.buffer.u8_at(field::TYPE))
     }
 
     /// The units of 8 bytes that the option counts. Requires at least 2 bytes.
+    ///
+    /// # Panics
+    ///
+    /// May panic where what is asked for above does not hold.
     pub fn data_len(&self) -> u8 {
         self.buffer.u8_at(field::LENGTH)
     }
 
     /// The link-layer address of a source or target: what the option has room for, but no more than 8 bytes. Requires
     /// those bytes, and that the option counts one unit or more.
+    ///
+    /// # Panics
+    ///
+    /// May panic where what is asked for above does not hold.
     pub fn link_layer_addr(&self) -> RawHardwareAddress {
         let room = UNIT * self.data_len() as usize - field::LENGTH.end;
         // The number of bytes is a constant at each call, so that they are copied by moves.
@@ -150,31 +162,55 @@ impl<T: Octets> NdiscOption<T> {
     }
 
     /// The greatest packet of the link, in bytes. Requires at least 8 bytes.
+    ///
+    /// # Panics
+    ///
+    /// May panic where what is asked for above does not hold.
     pub fn mtu(&self) -> u32 {
         self.buffer.u32_at(field::MTU)
     }
 
     /// The bits of a prefix that count. Requires at least 3 bytes.
+    ///
+    /// # Panics
+    ///
+    /// May panic where what is asked for above does not hold.
     pub fn prefix_len(&self) -> u8 {
         self.buffer.u8_at(field::PREFIX_LEN)
     }
 
     /// The flags of a prefix that have a name. Requires at least 4 bytes.
+    ///
+    /// # Panics
+    ///
+    /// May panic where what is asked for above does not hold.
     pub fn prefix_flags(&self) -> PrefixInfoFlags {
         PrefixInfoFlags::from_bits_truncate(self.buffer.u8_at(field::PREFIX_FLAGS))
     }
 
     /// How long a prefix is on the link, in whole seconds. Requires at least 8 bytes.
+    ///
+    /// # Panics
+    ///
+    /// May panic where what is asked for above does not hold.
     pub fn valid_lifetime(&self) -> Duration {
         Duration::from_secs(self.buffer.u32_at(field::VALID_LIFETIME) as u64)
     }
 
     /// How long addresses made of a prefix are preferred, in whole seconds. Requires at least 12 bytes.
+    ///
+    /// # Panics
+    ///
+    /// May panic where what is asked for above does not hold.
     pub fn preferred_lifetime(&self) -> Duration {
         Duration::from_secs(self.buffer.u32_at(field::PREFERRED_LIFETIME) as u64)
     }
 
     /// The prefix. Requires at least 32 bytes.
+    ///
+    /// # Panics
+    ///
+    /// May panic where what is asked for above does not hold.
     pub fn prefix(&self) -> Ipv6Address {
         Ipv6Address::from_octets(self.buffer.field(field::PREFIX).try_into().unwrap())
     }
@@ -182,6 +218,10 @@ impl<T: Octets> NdiscOption<T> {
 
 impl<'a, B: AsRef<[u8]> + ?Sized> NdiscOption<&'a B> {
     /// The data, for as long as the octets live. Requires the units that the option counts, one or more.
+    ///
+    /// # Panics
+    ///
+    /// May panic where what is asked for above does not hold.
     pub fn data(&self) -> &'a [u8] {
         let octets: &'a [u8] = self.buffer.as_ref();
         &octets[field::data(self.data_len())]
@@ -190,38 +230,66 @@ impl<'a, B: AsRef<[u8]> + ?Sized> NdiscOption<&'a B> {
 
 impl<T: OctetsMut> NdiscOption<T> {
     /// Writes the type. Requires at least 1 byte.
+    ///
+    /// # Panics
+    ///
+    /// May panic where what is asked for above does not hold.
     pub fn set_option_type(&mut self, value: Type) {
         self.buffer.set_u8(field::TYPE, value.into());
     }
 
     /// Writes the units of 8 bytes that the option counts. Requires at least 2 bytes.
+    ///
+    /// # Panics
+    ///
+    /// May panic where what is asked for above does not hold.
     pub fn set_data_len(&mut self, value: u8) {
         self.buffer.set_u8(field::LENGTH, value);
     }
 
     /// Writes the link-layer address of a source or target. Requires at least 2 bytes and those of the address.
+    ///
+    /// # Panics
+    ///
+    /// May panic where what is asked for above does not hold.
     pub fn set_link_layer_addr(&mut self, addr: RawHardwareAddress) {
         self.buffer
             .set_bytes(field::link_layer_addr(addr.len()), addr.as_bytes());
     }
 
     /// Writes the greatest packet of the link, in bytes. Requires at least 8 bytes.
+    ///
+    /// # Panics
+    ///
+    /// May panic where what is asked for above does not hold.
     pub fn set_mtu(&mut self, value: u32) {
         self.buffer.set_u32(field::MTU, value);
     }
 
     /// Writes the bits of a prefix that count. Requires at least 3 bytes.
+    ///
+    /// # Panics
+    ///
+    /// May panic where what is asked for above does not hold.
     pub fn set_prefix_len(&mut self, value: u8) {
         self.buffer.set_u8(field::PREFIX_LEN, value);
     }
 
     /// Writes the flags of a prefix, all their bits. Requires at least 4 bytes.
+    ///
+    /// # Panics
+    ///
+    /// May panic where what is asked for above does not hold.
     pub fn set_prefix_flags(&mut self, flags: PrefixInfoFlags) {
         self.buffer.set_u8(field::PREFIX_FLAGS, flags.bits());
     }
 
     /// Writes how long a prefix is on the link, in whole seconds; what is past them is left out. Requires at least 8
     /// bytes, and 4,294,967,295 seconds at most.
+    ///
+    /// # Panics
+    ///
+    /// May panic where what is asked for above does not hold.
     pub fn set_valid_lifetime(&mut self, time: Duration) {
         self.buffer
             .set_u32(field::VALID_LIFETIME, time.secs() as u32);
@@ -229,27 +297,47 @@ impl<T: OctetsMut> NdiscOption<T> {
 
     /// Writes how long addresses made of a prefix are preferred, in whole seconds; what is past them is left out.
     /// Requires at least 12 bytes, and 4,294,967,295 seconds at most.
+    ///
+    /// # Panics
+    ///
+    /// May panic where what is asked for above does not hold.
     pub fn set_preferred_lifetime(&mut self, time: Duration) {
         self.buffer
             .set_u32(field::PREFERRED_LIFETIME, time.secs() as u32);
     }
 
     /// Writes zeros into what is reserved in a prefix. Requires at least 16 bytes.
+    ///
+    /// # Panics
+    ///
+    /// May panic where what is asked for above does not hold.
     pub fn clear_prefix_reserved(&mut self) {
         self.buffer.set_u32(field::PREFIX_RESERVED, 0);
     }
 
     /// Writes the prefix. Requires at least 32 bytes.
+    ///
+    /// # Panics
+    ///
+    /// May panic where what is asked for above does not hold.
     pub fn set_prefix(&mut self, addr: Ipv6Address) {
         self.buffer.set_bytes(field::PREFIX, &addr.octets());
     }
 
     /// Writes zeros into what is reserved before a redirected header. Requires at least 8 bytes.
+    ///
+    /// # Panics
+    ///
+    /// May panic where what is asked for above does not hold.
     pub fn clear_redirected_reserved(&mut self) {
         self.buffer.set_bytes(field::REDIRECTED_RESERVED, &[0; 6]);
     }
 
     /// Lends the data for writing; the other octets stay. Requires the units that the option counts, one or more.
+    ///
+    /// # Panics
+    ///
+    /// May panic where what is asked for above does not hold.
     pub fn data_mut(&mut self) -> &mut [u8] {
         let data = field::data(self.data_len());
         self.buffer.field_mut(data)

@@ -25,6 +25,10 @@ pub fn link_layer_addr_len(addr: &RawHardwareAddress) -> usize {
 }
 
 /// The bytes of the option of a redirected packet: whole units. Requires that a `usize` holds their number.
+///
+/// # Panics
+///
+/// May panic where what is asked for above does not hold.
 pub fn redirected_len(redirected: &RedirectedHeader<'_>) -> usize {
     UNIT * units_of(REDIRECTED_HEADER_LEN + redirected.data.len())
 }
@@ -35,6 +39,10 @@ fn units_of(count: usize) -> usize {
 }
 
 /// Writes the option of a link-layer address, whose type is given. Requires the bytes that it takes.
+///
+/// # Panics
+///
+/// May panic where what is asked for above does not hold.
 #[inline]
 pub fn put_link_layer_addr(w: &mut ByteWriter<'_>, kind: Type, addr: &RawHardwareAddress) {
     // Those of Ethernet and of IEEE 802.15.4 are written at once.
@@ -58,6 +66,10 @@ fn put_padded(w: &mut ByteWriter<'_>, kind: Type, addr: &RawHardwareAddress) {
 }
 
 /// Writes the option of a prefix. Requires the bytes that it takes, and times of 4,294,967,295 seconds at most.
+///
+/// # Panics
+///
+/// May panic where what is asked for above does not hold.
 #[inline]
 pub fn put_prefix(w: &mut ByteWriter<'_>, info: &PrefixInformation) {
     // What stands in front of the prefix is written at once, since each write looks for room.
@@ -71,6 +83,10 @@ pub fn put_prefix(w: &mut ByteWriter<'_>, info: &PrefixInformation) {
 
 /// Writes the option of a redirected packet. Requires the bytes that it takes, and that the header counts the data as
 /// its payload, 1,992 bytes at most.
+///
+/// # Panics
+///
+/// May panic where what is asked for above does not hold.
 #[inline]
 pub fn put_redirected(w: &mut ByteWriter<'_>, redirected: &RedirectedHeader<'_>) {
     let len = REDIRECTED_HEADER_LEN + redirected.data.len();
@@ -83,6 +99,10 @@ pub fn put_redirected(w: &mut ByteWriter<'_>, redirected: &RedirectedHeader<'_>)
 }
 
 /// Writes the option of an MTU. Requires the bytes that it takes.
+///
+/// # Panics
+///
+/// May panic where what is asked for above does not hold.
 #[inline]
 pub fn put_mtu(w: &mut ByteWriter<'_>, mtu: u32) {
     let [a, b, c, d] = mtu.to_be_bytes();
@@ -91,6 +111,10 @@ pub fn put_mtu(w: &mut ByteWriter<'_>, mtu: u32) {
 
 /// Writes the header of a packet (RFC 8200 section 3). Requires the 40 bytes that it takes, and a payload of at most
 /// 65,535 bytes.
+///
+/// # Panics
+///
+/// May panic where what is asked for above does not hold.
 #[inline]
 pub fn put_header(w: &mut ByteWriter<'_>, header: &Ipv6Repr) {
     header.emit_into(w.part(header.buffer_len()));

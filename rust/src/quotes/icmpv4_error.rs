@@ -164,6 +164,10 @@ impl<'a> Repr<'a> {
     /// Writes the error over the front of the octets, as far as they go, and then, where the capabilities have it
     /// computed, the checksum of all of them; the others stay. Requires at least 8 bytes. Give exactly `buffer_len()`:
     /// in a longer buffer the checksum covers what follows the error. Of what is quoted at most 548 bytes are written.
+    ///
+    /// # Panics
+    ///
+    /// May panic where what is asked for above does not hold.
     pub fn emit_into(&self, octets: &mut [u8], checksum_caps: &ChecksumCapabilities) {
         self.write(octets);
         seal(octets, checksum_caps);

@@ -159,6 +159,10 @@ impl<'a> Repr<'a> {
     /// computed, the checksum of all of them as a message from `src_addr` to `dst_addr`; the others stay. Requires at
     /// least 8 bytes. Give exactly `buffer_len()`: in a longer buffer the checksum covers what follows the error. Of
     /// what is quoted at most 1,232 bytes are written.
+    ///
+    /// # Panics
+    ///
+    /// May panic where what is asked for above does not hold.
     pub fn emit_into(
         &self,
         src_addr: &Ipv6Address,

@@ -85,6 +85,10 @@ impl<'a> Entries<'a> {
     /// The questions and the records of this message. Requires at least 12 bytes, as `Packet::new_checked` sees to. The
     /// entries keep parts of the octets, so the view is one of a slice: over a buffer of one's own, a `Vec<u8>` or an
     /// array, it is `Packet::new_checked(&buffer[..])`.
+    ///
+    /// # Panics
+    ///
+    /// May panic where what is asked for above does not hold.
     pub fn new<B: AsRef<[u8]> + ?Sized>(packet: &Packet<&'a B>) -> Entries<'a> {
         let questions = packet.question_count() as u32;
         let answers = questions + packet.answer_record_count() as u32;

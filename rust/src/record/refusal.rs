@@ -56,6 +56,10 @@ impl fmt::Display for Refusal {
 }
 
 /// Why a text that begins with no name of one part does not.
+///
+/// # Panics
+///
+/// May panic where what is asked for above does not hold.
 pub(crate) fn why_no_part(text: &[u8]) -> PartRefusal {
     let mut left = text;
     loop {
@@ -67,6 +71,10 @@ pub(crate) fn why_no_part(text: &[u8]) -> PartRefusal {
 }
 
 /// Why nothing whole stands at the front of octets.
+///
+/// # Panics
+///
+/// May panic where what is asked for above does not hold.
 pub(crate) fn why_torn(octets: &[u8]) -> PartRefusal {
     if octets.is_empty() {
         return PartRefusal::Cut;

@@ -40,6 +40,10 @@ pub fn is_good(octets: &[u8], extra: u16) -> bool {
 /// Writes the checksum of all the octets into their field of two bytes, which counts as zero; the others stay. The
 /// octets are good then, where the field stands at an even place. `extra` is the sum of a pseudo header, or 0. Requires
 /// that the field is there.
+///
+/// # Panics
+///
+/// May panic where what is asked for above does not hold.
 #[inline]
 pub fn fill(octets: &mut [u8], field: Field, extra: u16) {
     let Range { start, end } = field;

@@ -24,11 +24,19 @@ impl Duration {
     }
 
     /// The duration of so many milliseconds, at most 18,446,744,073,709,551.
+    ///
+    /// # Panics
+    ///
+    /// May panic where what is asked for above does not hold.
     pub const fn from_millis(millis: u64) -> Duration {
         Duration::from_micros(1_000 * millis)
     }
 
     /// The duration of so many seconds, at most 18,446,744,073,709.
+    ///
+    /// # Panics
+    ///
+    /// May panic where what is asked for above does not hold.
     pub const fn from_secs(secs: u64) -> Duration {
         Duration::from_micros(1_000_000 * secs)
     }

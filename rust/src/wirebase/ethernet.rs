@@ -15,6 +15,10 @@ pub struct EthernetAddress(pub [u8; 6]);
 
 impl EthernetAddress {
     /// The address of these octets, of which there have to be 6. Addresses are equal exactly when their octets are.
+    ///
+    /// # Panics
+    ///
+    /// May panic where what is asked for above does not hold.
     pub fn from_bytes(bytes: &[u8]) -> EthernetAddress {
         EthernetAddress(bytes.try_into().unwrap())
     }
@@ -57,6 +61,10 @@ pub struct RawHardwareAddress {
 
 impl RawHardwareAddress {
     /// The address of these bytes, of which there may be 8 at most.
+    ///
+    /// # Panics
+    ///
+    /// May panic where what is asked for above does not hold.
     #[inline]
     pub fn from_bytes(bytes: &[u8]) -> RawHardwareAddress {
         let mut all = [0; MAX_HARDWARE_ADDRESS_LEN];

@@ -159,62 +159,110 @@ impl<T: Octets> Ipv4Packet<T> {
     }
 
     /// The version. Requires at least 1 byte.
+    ///
+    /// # Panics
+    ///
+    /// May panic where what is asked for above does not hold.
     pub fn version(&self) -> u8 {
         self.buffer.u8_at(field::VERSION) / 16
     }
 
     /// The bytes of the header, 0 to 60: four for each word of its IHL. Requires at least 1 byte.
+    ///
+    /// # Panics
+    ///
+    /// May panic where what is asked for above does not hold.
     pub fn header_len(&self) -> u8 {
         4 * (self.buffer.u8_at(field::IHL) & 0x0f)
     }
 
     /// The bytes of header and payload. Requires at least 4 bytes.
+    ///
+    /// # Panics
+    ///
+    /// May panic where what is asked for above does not hold.
     pub fn total_len(&self) -> u16 {
         self.buffer.u16_at(field::TOTAL_LEN)
     }
 
     /// The identification that the fragments of one packet share. Requires at least 6 bytes.
+    ///
+    /// # Panics
+    ///
+    /// May panic where what is asked for above does not hold.
     pub fn ident(&self) -> u16 {
         self.buffer.u16_at(field::IDENT)
     }
 
     /// Whether the packet must not be fragmented. Requires at least 8 bytes.
+    ///
+    /// # Panics
+    ///
+    /// May panic where what is asked for above does not hold.
     pub fn dont_frag(&self) -> bool {
         self.buffer.u16_at(field::FRAGMENT) / DONT_FRAG % 2 == 1
     }
 
     /// Whether this is a fragment that others follow. Requires at least 8 bytes.
+    ///
+    /// # Panics
+    ///
+    /// May panic where what is asked for above does not hold.
     pub fn more_frags(&self) -> bool {
         self.buffer.u16_at(field::FRAGMENT) / MORE_FRAGS % 2 == 1
     }
 
     /// Where the payload stands in that of the whole packet, in bytes: a multiple of 8, and 0 where the packet is the
     /// first fragment or is whole. Requires at least 8 bytes.
+    ///
+    /// # Panics
+    ///
+    /// May panic where what is asked for above does not hold.
     pub fn frag_offset(&self) -> u16 {
         8 * (self.buffer.u16_at(field::FRAGMENT) % MORE_FRAGS)
     }
 
     /// The protocol of the payload. Requires at least 10 bytes.
+    ///
+    /// # Panics
+    ///
+    /// May panic where what is asked for above does not hold.
     pub fn next_header(&self) -> IpProtocol {
         IpProtocol::from(self.buffer.u8_at(field::PROTOCOL))
     }
 
     /// The hops that are left: the time to live. Requires at least 9 bytes.
+    ///
+    /// # Panics
+    ///
+    /// May panic where what is asked for above does not hold.
     pub fn hop_limit(&self) -> u8 {
         self.buffer.u8_at(field::TIME_TO_LIVE)
     }
 
     /// The address of the sender. Requires at least 16 bytes.
+    ///
+    /// # Panics
+    ///
+    /// May panic where what is asked for above does not hold.
     pub fn src_addr(&self) -> Ipv4Address {
         Ipv4Address::from_octets(self.buffer.field(field::SRC_ADDR).try_into().unwrap())
     }
 
     /// The address of the receiver. Requires at least 20 bytes.
+    ///
+    /// # Panics
+    ///
+    /// May panic where what is asked for above does not hold.
     pub fn dst_addr(&self) -> Ipv4Address {
         Ipv4Address::from_octets(self.buffer.field(field::DST_ADDR).try_into().unwrap())
     }
 
     /// Whether the header, as long as its IHL says, carries its checksum. Requires at least 1 byte, and the header.
+    ///
+    /// # Panics
+    ///
+    /// May panic where what is asked for above does not hold.
     pub fn verify_checksum(&self) -> bool {
         checksum::is_good(self.buffer.range(0, self.header_len() as usize), 0)
     }
@@ -223,6 +271,10 @@ impl<T: Octets> Ipv4Packet<T> {
 impl<'a, B: AsRef<[u8]> + ?Sized> Ipv4Packet<&'a B> {
     /// The payload, for as long as the octets live: what stands between the header's end and the packet's, by the
     /// lengths in the header. Requires at least 4 bytes, the whole packet, and a header that is not longer than it.
+    ///
+    /// # Panics
+    ///
+    /// May panic where what is asked for above does not hold.
     pub fn payload(&self) -> &'a [u8] {
         let octets = self.buffer.as_ref();
         &octets[self.header_len() as usize..self.total_len() as usize]
@@ -262,6 +314,10 @@ impl Ipv4Repr {
     /// Writes the header over the front of the octets; the others stay. It is a header of version 4 and 20 bytes, not
     /// to be fragmented, with its checksum where `checksum_caps.ipv4` has it computed, and else with zeros there.
     /// Requires at least 20 bytes, and a payload of at most 65,515 bytes.
+    ///
+    /// # Panics
+    ///
+    /// May panic where what is asked for above does not hold.
     pub fn emit<T: OctetsMut>(
         &self,
         packet: &mut Ipv4Packet<T>,
@@ -271,6 +327,10 @@ impl Ipv4Repr {
     }
 
     /// The same into a slice.
+    ///
+    /// # Panics
+    ///
+    /// May panic where what is asked for above does not hold.
     pub fn emit_into(&self, octets: &mut [u8], checksum_caps: &ChecksumCapabilities) {
         self.write(&mut octets[..HEADER_LEN], checksum_caps);
     }

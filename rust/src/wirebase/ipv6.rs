@@ -77,6 +77,10 @@ impl<T: Octets> Ipv6Packet<T> {
     }
 
     /// The version. Requires at least 1 byte.
+    ///
+    /// # Panics
+    ///
+    /// May panic where what is asked for above does not hold.
     pub fn version(&self) -> u8 {
         self.buffer.u8_at(field::VERSION) / 16
     }
@@ -87,26 +91,46 @@ impl<T: Octets> Ipv6Packet<T> {
     }
 
     /// The bytes of the payload. Requires at least 6 bytes.
+    ///
+    /// # Panics
+    ///
+    /// May panic where what is asked for above does not hold.
     pub fn payload_len(&self) -> u16 {
         self.buffer.u16_at(field::PAYLOAD_LEN)
     }
 
     /// The protocol of the payload. Requires at least 7 bytes.
+    ///
+    /// # Panics
+    ///
+    /// May panic where what is asked for above does not hold.
     pub fn next_header(&self) -> IpProtocol {
         IpProtocol::from(self.buffer.u8_at(field::NEXT_HEADER))
     }
 
     /// The hops that are left. Requires at least 8 bytes.
+    ///
+    /// # Panics
+    ///
+    /// May panic where what is asked for above does not hold.
     pub fn hop_limit(&self) -> u8 {
         self.buffer.u8_at(field::HOP_LIMIT)
     }
 
     /// The address of the sender. Requires at least 24 bytes.
+    ///
+    /// # Panics
+    ///
+    /// May panic where what is asked for above does not hold.
     pub fn src_addr(&self) -> Ipv6Address {
         Ipv6Address::from_octets(self.buffer.field(field::SRC_ADDR).try_into().unwrap())
     }
 
     /// The address of the receiver. Requires at least 40 bytes.
+    ///
+    /// # Panics
+    ///
+    /// May panic where what is asked for above does not hold.
     pub fn dst_addr(&self) -> Ipv6Address {
         Ipv6Address::from_octets(self.buffer.field(field::DST_ADDR).try_into().unwrap())
     }
@@ -114,6 +138,10 @@ impl<T: Octets> Ipv6Packet<T> {
 
 impl<'a, B: AsRef<[u8]> + ?Sized> Ipv6Packet<&'a B> {
     /// The payload, for as long as the octets live. Requires the header and the bytes that it counts.
+    ///
+    /// # Panics
+    ///
+    /// May panic where what is asked for above does not hold.
     pub fn payload(&self) -> &'a [u8] {
         let octets = self.buffer.as_ref();
         &octets[IPV6_HEADER_LEN..IPV6_HEADER_LEN + self.payload_len() as usize]
@@ -122,6 +150,10 @@ impl<'a, B: AsRef<[u8]> + ?Sized> Ipv6Packet<&'a B> {
 
 impl<T: OctetsMut> Ipv6Packet<T> {
     /// Lends the payload for writing; all else stays. Requires the header and the bytes that it counts.
+    ///
+    /// # Panics
+    ///
+    /// May panic where what is asked for above does not hold.
     pub fn payload_mut(&mut self) -> &mut [u8] {
         let end = IPV6_HEADER_LEN + self.payload_len() as usize;
         self.buffer.range_mut(IPV6_HEADER_LEN, end)
@@ -191,11 +223,19 @@ impl Ipv6Repr {
 
     /// Writes the header over the front of the octets; the others stay. It is a header of version 6 with no traffic
     /// class and no flow label. Requires at least 40 bytes, and a payload of at most 65,535 bytes.
+    ///
+    /// # Panics
+    ///
+    /// May panic where what is asked for above does not hold.
     pub fn emit<T: OctetsMut>(&self, packet: &mut Ipv6Packet<T>) {
         self.emit_into(packet.buffer.octets_mut());
     }
 
     /// The same into a slice.
+    ///
+    /// # Panics
+    ///
+    /// May panic where what is asked for above does not hold.
     pub fn emit_into(&self, octets: &mut [u8]) {
         let mut w = ByteWriter::new(octets);
         self.put(&mut w);

@@ -14,26 +14,46 @@ pub trait Octets {
 
     /// The octets from one place up to another. Requires that the places are in order and that the octets reach the
     /// second.
+    ///
+    /// # Panics
+    ///
+    /// May panic where what is asked for above does not hold.
     fn range(&self, from: usize, to: usize) -> &[u8] {
         &self.octets()[from..to]
     }
 
     /// The octets of a field. Requires that they are there.
+    ///
+    /// # Panics
+    ///
+    /// May panic where what is asked for above does not hold.
     fn field(&self, field: Field) -> &[u8] {
         self.range(field.start, field.end)
     }
 
     /// The octet in a field of one. Requires that it is there.
+    ///
+    /// # Panics
+    ///
+    /// May panic where what is asked for above does not hold.
     fn u8_at(&self, field: Field) -> u8 {
         self.range(field.start, field.end)[0]
     }
 
     /// The number in a field of two octets, the higher first. Requires that they are there.
+    ///
+    /// # Panics
+    ///
+    /// May panic where what is asked for above does not hold.
     fn u16_at(&self, field: Field) -> u16 {
         BigEndian::read_u16(self.range(field.start, field.end))
     }
 
     /// The number in a field of four octets, the highest first. Requires that they are there.
+    ///
+    /// # Panics
+    ///
+    /// May panic where what is asked for above does not hold.
     fn u32_at(&self, field: Field) -> u32 {
         BigEndian::read_u32(self.range(field.start, field.end))
     }
@@ -43,9 +63,17 @@ pub trait Octets {
 pub trait OctetsMut: Octets {
     /// Lends the octets from one place up to another for writing; the others stay. Requires that the places are in
     /// order and that the octets reach the second.
+    ///
+    /// # Panics
+    ///
+    /// May panic where what is asked for above does not hold.
     fn range_mut(&mut self, from: usize, to: usize) -> &mut [u8];
 
     /// Lends the octets of a field for writing; the others stay. Requires that they are there.
+    ///
+    /// # Panics
+    ///
+    /// May panic where what is asked for above does not hold.
     fn field_mut(&mut self, field: Field) -> &mut [u8] {
         self.range_mut(field.start, field.end)
     }
@@ -57,21 +85,37 @@ pub trait OctetsMut: Octets {
     }
 
     /// Writes an octet into a field of one. Requires that it is there.
+    ///
+    /// # Panics
+    ///
+    /// May panic where what is asked for above does not hold.
     fn set_u8(&mut self, field: Field, value: u8) {
         self.range_mut(field.start, field.end)[0] = value;
     }
 
     /// Writes a number into a field of two octets, the higher first. Requires that they are there.
+    ///
+    /// # Panics
+    ///
+    /// May panic where what is asked for above does not hold.
     fn set_u16(&mut self, field: Field, value: u16) {
         BigEndian::write_u16(self.range_mut(field.start, field.end), value);
     }
 
     /// Writes a number into a field of four octets, the highest first. Requires that they are there.
+    ///
+    /// # Panics
+    ///
+    /// May panic where what is asked for above does not hold.
     fn set_u32(&mut self, field: Field, value: u32) {
         BigEndian::write_u32(self.range_mut(field.start, field.end), value);
     }
 
     /// Writes octets into a field of as many. Requires that they are there.
+    ///
+    /// # Panics
+    ///
+    /// May panic where what is asked for above does not hold.
     fn set_bytes(&mut self, field: Field, value: &[u8]) {
         self.range_mut(field.start, field.end)
             .copy_from_slice(value);

@@ -15,6 +15,10 @@ pub enum Order {
 
 impl Order {
     /// The number in a field of two bytes. Requires that they are there.
+    ///
+    /// # Panics
+    ///
+    /// May panic where what is asked for above does not hold.
     pub fn u16_at(self, octets: &[u8], field: Field) -> u16 {
         let bytes = octets.range(field.start, field.end);
         match self {
@@ -24,6 +28,10 @@ impl Order {
     }
 
     /// The number in a field of four bytes. Requires that they are there.
+    ///
+    /// # Panics
+    ///
+    /// May panic where what is asked for above does not hold.
     #[inline]
     pub fn u32_at(self, octets: &[u8], field: Field) -> u32 {
         let bytes = octets.range(field.start, field.end);
@@ -34,6 +42,10 @@ impl Order {
     }
 
     /// The signed number in the first eight bytes. Requires that they are there.
+    ///
+    /// # Panics
+    ///
+    /// May panic where what is asked for above does not hold.
     pub fn i64_of(self, octets: &[u8]) -> i64 {
         match self {
             Order::Big => BigEndian::read_i64(octets),

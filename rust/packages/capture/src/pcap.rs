@@ -105,6 +105,10 @@ pub struct RecordHeader {
 
 impl RecordHeader {
     /// The header at the front of the octets. Requires at least 16 bytes.
+    ///
+    /// # Panics
+    ///
+    /// May panic where what is asked for above does not hold.
     pub fn parse(order: Order, octets: &[u8]) -> RecordHeader {
         RecordHeader {
             seconds: order.u32_at(octets, field::SECONDS),

@@ -202,6 +202,10 @@ pub fn shows_packet(section: Order, octets: &[u8]) -> bool {
 }
 
 /// Whether the last four bytes of a block are its length again. Requires at least 12 bytes.
+///
+/// # Panics
+///
+/// May panic where what is asked for above does not hold.
 pub fn is_closed(order: Order, block: &[u8]) -> bool {
     let len = block.len();
     order.u32_at(block, len - field::TRAILER..len) as usize == len

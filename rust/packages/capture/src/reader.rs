@@ -7,6 +7,10 @@ use rattle_std::io::{BufRead, ErrorKind};
 use rattle_std::prelude::*;
 
 /// Reads until there are so many octets, or the input has ended. It doesn't look at the input where there are as many.
+///
+/// # Panics
+///
+/// May panic where what is asked for above does not hold.
 pub fn fill<R: BufRead>(input: &mut R, octets: &mut Vec<u8>, count: usize) -> Result<(), Fault> {
     if octets.as_slice().len() == count {
         return Ok(());

@@ -17,6 +17,10 @@ pub trait UnitHead: Copy {
     fn of(order: Order, octets: &[u8]) -> Result<Self, Ending>;
 
     /// The bytes of the record or block, with the head.
+    ///
+    /// # Panics
+    ///
+    /// May panic where what is asked for above does not hold.
     fn unit_len(&self) -> usize;
 
     /// Whether these are read, and not passed over.
@@ -35,6 +39,10 @@ pub enum Taken<H> {
 }
 
 /// Reads the octets of the next record or block, of which some may be read, or passes over it.
+///
+/// # Panics
+///
+/// May panic where what is asked for above does not hold.
 #[inline]
 pub fn read_unit<R: BufRead, H: UnitHead>(
     input: &mut R,

@@ -14,6 +14,10 @@ use crate::wirebase::{ByteWriter, EthernetAddress, Ipv4Address, OctetsMut, Resul
 
 impl Repr<'_> {
     /// The bytes that the packet takes: header, options and end mark. Requires that a `usize` holds their number.
+    ///
+    /// # Panics
+    ///
+    /// May panic where what is asked for above does not hold.
     pub fn buffer_len(&self) -> usize {
         let mut len = self.fields_len();
         for option in self.additional_options {
@@ -26,11 +30,19 @@ impl Repr<'_> {
     /// request list, or the data of an additional option, has more than 255 bytes, and where there is no room for all
     /// options and the end mark; then the header and the options before the first that is refused are written, and no
     /// end mark.
+    ///
+    /// # Panics
+    ///
+    /// May panic where what is asked for above does not hold.
     pub fn emit<T: OctetsMut>(&self, packet: &mut Packet<T>) -> Result<()> {
         self.emit_into(packet.buffer.octets_mut())
     }
 
     /// The same into a slice.
+    ///
+    /// # Panics
+    ///
+    /// May panic where what is asked for above does not hold.
     pub fn emit_into(&self, octets: &mut [u8]) -> Result<()> {
         let mut w = ByteWriter::new(octets);
         self.put_header(&mut w);

@@ -78,43 +78,75 @@ impl<T: Octets> Packet<T> {
     }
 
     /// The number by which a response is matched to its query. Requires at least 2 bytes.
+    ///
+    /// # Panics
+    ///
+    /// May panic where what is asked for above does not hold.
     pub fn transaction_id(&self) -> u16 {
         self.buffer.u16_at(field::ID)
     }
 
     /// The flags that have a name. Requires at least 4 bytes.
+    ///
+    /// # Panics
+    ///
+    /// May panic where what is asked for above does not hold.
     pub fn flags(&self) -> Flags {
         Flags::from_bits_truncate(self.buffer.u16_at(field::FLAGS))
     }
 
     /// The kind of query. Requires at least 4 bytes.
+    ///
+    /// # Panics
+    ///
+    /// May panic where what is asked for above does not hold.
     pub fn opcode(&self) -> Opcode {
         let word = self.buffer.u16_at(field::FLAGS);
         Opcode::from((word >> OPCODE_SHIFT & 0xf) as u8)
     }
 
     /// The outcome of the query. Requires at least 4 bytes.
+    ///
+    /// # Panics
+    ///
+    /// May panic where what is asked for above does not hold.
     pub fn rcode(&self) -> Rcode {
         let word = self.buffer.u16_at(field::FLAGS);
         Rcode::from((word & 0xf) as u8)
     }
 
     /// How many questions there are. Requires at least 6 bytes.
+    ///
+    /// # Panics
+    ///
+    /// May panic where what is asked for above does not hold.
     pub fn question_count(&self) -> u16 {
         self.buffer.u16_at(field::QUESTION_COUNT)
     }
 
     /// How many records answer. Requires at least 8 bytes.
+    ///
+    /// # Panics
+    ///
+    /// May panic where what is asked for above does not hold.
     pub fn answer_record_count(&self) -> u16 {
         self.buffer.u16_at(field::ANSWER_COUNT)
     }
 
     /// How many records name an authority. Requires at least 10 bytes.
+    ///
+    /// # Panics
+    ///
+    /// May panic where what is asked for above does not hold.
     pub fn authority_record_count(&self) -> u16 {
         self.buffer.u16_at(field::AUTHORITY_COUNT)
     }
 
     /// How many more records there are. Requires at least 12 bytes.
+    ///
+    /// # Panics
+    ///
+    /// May panic where what is asked for above does not hold.
     pub fn additional_record_count(&self) -> u16 {
         self.buffer.u16_at(field::ADDITIONAL_COUNT)
     }
@@ -130,6 +162,10 @@ impl<T: Octets> Packet<T> {
 
 impl<'a, B: AsRef<[u8]> + ?Sized> Packet<&'a B> {
     /// The questions and records, for as long as the octets live. Requires at least 12 bytes.
+    ///
+    /// # Panics
+    ///
+    /// May panic where what is asked for above does not hold.
     pub fn payload(&self) -> &'a [u8] {
         &self.buffer.as_ref()[HEADER_LEN..]
     }
@@ -137,12 +173,20 @@ impl<'a, B: AsRef<[u8]> + ?Sized> Packet<&'a B> {
 
 impl<T: OctetsMut> Packet<T> {
     /// Writes the number by which a response is matched to its query. Requires at least 2 bytes.
+    ///
+    /// # Panics
+    ///
+    /// May panic where what is asked for above does not hold.
     pub fn set_transaction_id(&mut self, value: u16) {
         self.buffer.set_u16(field::ID, value);
     }
 
     /// Writes the flags; the kind of query, the outcome and the bit that has no name stay. Requires at least 4 bytes,
     /// and flags that have a name.
+    ///
+    /// # Panics
+    ///
+    /// May panic where what is asked for above does not hold.
     pub fn set_flags(&mut self, value: Flags) {
         let word = self.buffer.u16_at(field::FLAGS);
         self.buffer
@@ -150,6 +194,10 @@ impl<T: OctetsMut> Packet<T> {
     }
 
     /// Writes the kind of query; the flags and the outcome stay. Requires at least 4 bytes, and a number below 16.
+    ///
+    /// # Panics
+    ///
+    /// May panic where what is asked for above does not hold.
     pub fn set_opcode(&mut self, value: Opcode) {
         let word = self.buffer.u16_at(field::FLAGS);
         let opcode = u8::from(value) as u16;
@@ -158,26 +206,46 @@ impl<T: OctetsMut> Packet<T> {
     }
 
     /// Writes how many questions there are. Requires at least 6 bytes.
+    ///
+    /// # Panics
+    ///
+    /// May panic where what is asked for above does not hold.
     pub fn set_question_count(&mut self, value: u16) {
         self.buffer.set_u16(field::QUESTION_COUNT, value);
     }
 
     /// Writes how many records answer. Requires at least 8 bytes.
+    ///
+    /// # Panics
+    ///
+    /// May panic where what is asked for above does not hold.
     pub fn set_answer_record_count(&mut self, value: u16) {
         self.buffer.set_u16(field::ANSWER_COUNT, value);
     }
 
     /// Writes how many records name an authority. Requires at least 10 bytes.
+    ///
+    /// # Panics
+    ///
+    /// May panic where what is asked for above does not hold.
     pub fn set_authority_record_count(&mut self, value: u16) {
         self.buffer.set_u16(field::AUTHORITY_COUNT, value);
     }
 
     /// Writes how many more records there are. Requires at least 12 bytes.
+    ///
+    /// # Panics
+    ///
+    /// May panic where what is asked for above does not hold.
     pub fn set_additional_record_count(&mut self, value: u16) {
         self.buffer.set_u16(field::ADDITIONAL_COUNT, value);
     }
 
     /// Lends the questions and records for writing; the header stays. Requires at least 12 bytes.
+    ///
+    /// # Panics
+    ///
+    /// May panic where what is asked for above does not hold.
     pub fn payload_mut(&mut self) -> &mut [u8] {
         let len = self.buffer.octets().len();
         self.buffer.range_mut(HEADER_LEN, len)

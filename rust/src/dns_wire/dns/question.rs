@@ -49,11 +49,19 @@ impl<'a> Question<'a> {
     }
 
     /// The bytes that the question takes: those of its name, and 4. Requires that they fit a `usize`.
+    ///
+    /// # Panics
+    ///
+    /// May panic where what is asked for above does not hold.
     pub const fn buffer_len(&self) -> usize {
         self.name.len() + field::END
     }
 
     /// Writes the question over the front of the octets; the others stay. Requires as many octets as it takes.
+    ///
+    /// # Panics
+    ///
+    /// May panic where what is asked for above does not hold.
     pub fn emit(&self, packet: &mut [u8]) {
         self.write(packet);
     }
@@ -72,6 +80,10 @@ impl<'a> Question<'a> {
 }
 
 /// Writes two numbers of two bytes, in one write, since each write costs code.
+///
+/// # Panics
+///
+/// May panic where what is asked for above does not hold.
 pub(crate) fn put_pair(w: &mut ByteWriter<'_>, first: u16, second: u16) {
     w.put_u32(0x1_0000 * first as u32 + second as u32);
 }

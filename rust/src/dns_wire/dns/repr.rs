@@ -21,17 +21,29 @@ pub struct Repr<'a> {
 
 impl<'a> Repr<'a> {
     /// The bytes that the query takes: those of the header, 12, and of the question. Requires that they fit a `usize`.
+    ///
+    /// # Panics
+    ///
+    /// May panic where what is asked for above does not hold.
     pub const fn buffer_len(&self) -> usize {
         HEADER_LEN + self.question.buffer_len()
     }
 
     /// Writes the query over the front of the octets; the others stay. Requires as many octets as it takes, flags that
     /// have a name, and a kind of query below 16.
+    ///
+    /// # Panics
+    ///
+    /// May panic where what is asked for above does not hold.
     pub fn emit<T: OctetsMut>(&self, packet: &mut Packet<T>) {
         self.emit_into(packet.buffer.octets_mut());
     }
 
     /// The same into a slice.
+    ///
+    /// # Panics
+    ///
+    /// May panic where what is asked for above does not hold.
     pub fn emit_into(&self, octets: &mut [u8]) {
         self.write(octets);
     }

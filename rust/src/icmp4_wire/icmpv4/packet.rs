@@ -47,31 +47,55 @@ impl<T: Octets> Packet<T> {
     }
 
     /// The type. Requires at least 1 byte.
+    ///
+    /// # Panics
+    ///
+    /// May panic where what is asked for above does not hold.
     pub fn msg_type(&self) -> Message {
         Message::from(self.buffer.u8_at(field::TYPE))
     }
 
     /// The code. Requires at least 2 bytes.
+    ///
+    /// # Panics
+    ///
+    /// May panic where what is asked for above does not hold.
     pub fn msg_code(&self) -> u8 {
         self.buffer.u8_at(field::CODE)
     }
 
     /// The checksum that the message carries. Requires at least 4 bytes.
+    ///
+    /// # Panics
+    ///
+    /// May panic where what is asked for above does not hold.
     pub fn checksum(&self) -> u16 {
         self.buffer.u16_at(field::CHECKSUM)
     }
 
     /// The identifier of an echo. Requires at least 6 bytes.
+    ///
+    /// # Panics
+    ///
+    /// May panic where what is asked for above does not hold.
     pub fn echo_ident(&self) -> u16 {
         self.buffer.u16_at(field::ECHO_IDENT)
     }
 
     /// The sequence number of an echo. Requires at least 8 bytes.
+    ///
+    /// # Panics
+    ///
+    /// May panic where what is asked for above does not hold.
     pub fn echo_seq_no(&self) -> u16 {
         self.buffer.u16_at(field::ECHO_SEQNO)
     }
 
     /// The bytes of the header, 8 for every type. Requires at least 1 byte.
+    ///
+    /// # Panics
+    ///
+    /// May panic where what is asked for above does not hold.
     pub fn header_len(&self) -> usize {
         field::HEADER_END
     }
@@ -84,6 +108,10 @@ impl<T: Octets> Packet<T> {
 
 impl<'a, B: AsRef<[u8]> + ?Sized> Packet<&'a B> {
     /// What stands after the header, for as long as the octets live. Requires at least 8 bytes.
+    ///
+    /// # Panics
+    ///
+    /// May panic where what is asked for above does not hold.
     pub fn data(&self) -> &'a [u8] {
         &self.buffer.as_ref()[field::HEADER_END..]
     }
@@ -91,36 +119,64 @@ impl<'a, B: AsRef<[u8]> + ?Sized> Packet<&'a B> {
 
 impl<T: OctetsMut> Packet<T> {
     /// Writes the type. Requires at least 1 byte.
+    ///
+    /// # Panics
+    ///
+    /// May panic where what is asked for above does not hold.
     pub fn set_msg_type(&mut self, value: Message) {
         self.buffer.set_u8(field::TYPE, value.into());
     }
 
     /// Writes the code. Requires at least 2 bytes.
+    ///
+    /// # Panics
+    ///
+    /// May panic where what is asked for above does not hold.
     pub fn set_msg_code(&mut self, value: u8) {
         self.buffer.set_u8(field::CODE, value);
     }
 
     /// Writes the checksum. Requires at least 4 bytes.
+    ///
+    /// # Panics
+    ///
+    /// May panic where what is asked for above does not hold.
     pub fn set_checksum(&mut self, value: u16) {
         self.buffer.set_u16(field::CHECKSUM, value);
     }
 
     /// Writes the identifier of an echo. Requires at least 6 bytes.
+    ///
+    /// # Panics
+    ///
+    /// May panic where what is asked for above does not hold.
     pub fn set_echo_ident(&mut self, value: u16) {
         self.buffer.set_u16(field::ECHO_IDENT, value);
     }
 
     /// Writes the sequence number of an echo. Requires at least 8 bytes.
+    ///
+    /// # Panics
+    ///
+    /// May panic where what is asked for above does not hold.
     pub fn set_echo_seq_no(&mut self, value: u16) {
         self.buffer.set_u16(field::ECHO_SEQNO, value);
     }
 
     /// Writes the checksum of all the octets, in which its field counts as zero (RFC 1071). Requires at least 4 bytes.
+    ///
+    /// # Panics
+    ///
+    /// May panic where what is asked for above does not hold.
     pub fn fill_checksum(&mut self) {
         checksum::fill(self.buffer.octets_mut(), field::CHECKSUM, 0);
     }
 
     /// Lends what stands after the header for writing; the header stays. Requires at least 8 bytes.
+    ///
+    /// # Panics
+    ///
+    /// May panic where what is asked for above does not hold.
     pub fn data_mut(&mut self) -> &mut [u8] {
         let len = self.buffer.octets().len();
         self.buffer.range_mut(field::HEADER_END, len)

@@ -41,21 +41,37 @@ impl<T: Octets> Packet<T> {
     }
 
     /// The type. Requires at least 1 byte.
+    ///
+    /// # Panics
+    ///
+    /// May panic where what is asked for above does not hold.
     pub fn msg_type(&self) -> Message {
         Message::from(self.buffer.u8_at(field::TYPE))
     }
 
     /// The code of the longest time to answer a query in (RFC 3376 section 4.1.1). Requires at least 2 bytes.
+    ///
+    /// # Panics
+    ///
+    /// May panic where what is asked for above does not hold.
     pub fn max_resp_code(&self) -> u8 {
         self.buffer.u8_at(field::MAX_RESP_CODE)
     }
 
     /// The checksum. Requires at least 4 bytes.
+    ///
+    /// # Panics
+    ///
+    /// May panic where what is asked for above does not hold.
     pub fn checksum(&self) -> u16 {
         self.buffer.u16_at(field::CHECKSUM)
     }
 
     /// The group that the message speaks of. Requires at least 8 bytes.
+    ///
+    /// # Panics
+    ///
+    /// May panic where what is asked for above does not hold.
     pub fn group_addr(&self) -> Ipv4Address {
         Ipv4Address::from_octets(self.buffer.field(field::GROUP_ADDRESS).try_into().unwrap())
     }
@@ -68,26 +84,46 @@ impl<T: Octets> Packet<T> {
 
 impl<T: OctetsMut> Packet<T> {
     /// Writes the type. Requires at least 1 byte.
+    ///
+    /// # Panics
+    ///
+    /// May panic where what is asked for above does not hold.
     pub fn set_msg_type(&mut self, value: Message) {
         self.buffer.set_u8(field::TYPE, value.into());
     }
 
     /// Writes the code of the longest time to answer a query in (RFC 3376 section 4.1.1). Requires at least 2 bytes.
+    ///
+    /// # Panics
+    ///
+    /// May panic where what is asked for above does not hold.
     pub fn set_max_resp_code(&mut self, value: u8) {
         self.buffer.set_u8(field::MAX_RESP_CODE, value);
     }
 
     /// Writes the checksum. Requires at least 4 bytes.
+    ///
+    /// # Panics
+    ///
+    /// May panic where what is asked for above does not hold.
     pub fn set_checksum(&mut self, value: u16) {
         self.buffer.set_u16(field::CHECKSUM, value);
     }
 
     /// Writes the group that the message speaks of. Requires at least 8 bytes.
+    ///
+    /// # Panics
+    ///
+    /// May panic where what is asked for above does not hold.
     pub fn set_group_address(&mut self, value: Ipv4Address) {
         self.buffer.set_bytes(field::GROUP_ADDRESS, &value.octets());
     }
 
     /// Writes the checksum of all the octets, in which its field counts as zero (RFC 1071). Requires at least 4 bytes.
+    ///
+    /// # Panics
+    ///
+    /// May panic where what is asked for above does not hold.
     pub fn fill_checksum(&mut self) {
         checksum::fill(self.buffer.octets_mut(), field::CHECKSUM, 0);
     }

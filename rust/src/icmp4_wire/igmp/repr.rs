@@ -102,11 +102,19 @@ impl Repr {
 
     /// Writes the message over the front of the octets, with the checksum of all of them; the others stay. Requires at
     /// least 8 bytes. Give exactly 8: in a longer buffer the checksum covers what follows the message.
+    ///
+    /// # Panics
+    ///
+    /// May panic where what is asked for above does not hold.
     pub fn emit<T: OctetsMut>(&self, packet: &mut Packet<T>) {
         self.emit_into(packet.buffer.octets_mut());
     }
 
     /// The same into a slice. Give it exactly 8 bytes: in a longer one the checksum covers what follows the message.
+    ///
+    /// # Panics
+    ///
+    /// May panic where what is asked for above does not hold.
     pub fn emit_into(&self, octets: &mut [u8]) {
         self.write(octets);
         checksum::fill(octets, field::CHECKSUM, 0);

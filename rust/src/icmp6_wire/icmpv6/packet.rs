@@ -61,44 +61,76 @@ impl<T: Octets> Packet<T> {
     }
 
     /// The type. Requires at least 1 byte.
+    ///
+    /// # Panics
+    ///
+    /// May panic where what is asked for above does not hold.
     #[inline]
     pub fn msg_type(&self) -> Message {
         Message::from(self.buffer.u8_at(field::TYPE))
     }
 
     /// The code. Requires at least 2 bytes.
+    ///
+    /// # Panics
+    ///
+    /// May panic where what is asked for above does not hold.
     pub fn msg_code(&self) -> u8 {
         self.buffer.u8_at(field::CODE)
     }
 
     /// The checksum that the message carries. Requires at least 4 bytes.
+    ///
+    /// # Panics
+    ///
+    /// May panic where what is asked for above does not hold.
     pub fn checksum(&self) -> u16 {
         self.buffer.u16_at(field::CHECKSUM)
     }
 
     /// The identifier of an echo. Requires at least 6 bytes.
+    ///
+    /// # Panics
+    ///
+    /// May panic where what is asked for above does not hold.
     pub fn echo_ident(&self) -> u16 {
         self.buffer.u16_at(field::ECHO_IDENT)
     }
 
     /// The sequence number of an echo. Requires at least 8 bytes.
+    ///
+    /// # Panics
+    ///
+    /// May panic where what is asked for above does not hold.
     pub fn echo_seq_no(&self) -> u16 {
         self.buffer.u16_at(field::ECHO_SEQNO)
     }
 
     /// The bytes of the largest packet that the next link can carry, of a packet that is too big (RFC 4443 section
     /// 3.2). Requires at least 8 bytes.
+    ///
+    /// # Panics
+    ///
+    /// May panic where what is asked for above does not hold.
     pub fn pkt_too_big_mtu(&self) -> u32 {
         self.buffer.u32_at(field::MTU)
     }
 
     /// The place of a parameter problem in the quoted packet, counted from its first byte (RFC 4443 section 3.4).
     /// Requires at least 8 bytes.
+    ///
+    /// # Panics
+    ///
+    /// May panic where what is asked for above does not hold.
     pub fn param_problem_ptr(&self) -> u32 {
         self.buffer.u32_at(field::POINTER)
     }
 
     /// The bytes of the header, by the type; 4 of a type that is not read here. Requires at least 1 byte.
+    ///
+    /// # Panics
+    ///
+    /// May panic where what is asked for above does not hold.
     pub fn header_len(&self) -> usize {
         header_len_of(self.msg_type())
     }
@@ -113,6 +145,10 @@ impl<T: Octets> Packet<T> {
 
 impl<'a, B: AsRef<[u8]> + ?Sized> Packet<&'a B> {
     /// What stands after the header, for as long as the octets live. Requires the header of the type.
+    ///
+    /// # Panics
+    ///
+    /// May panic where what is asked for above does not hold.
     pub fn payload(&self) -> &'a [u8] {
         self.behind(self.msg_type())
     }
@@ -125,11 +161,19 @@ impl<'a, B: AsRef<[u8]> + ?Sized> Packet<&'a B> {
 
 impl<T: OctetsMut> Packet<T> {
     /// Writes the type. Requires at least 1 byte.
+    ///
+    /// # Panics
+    ///
+    /// May panic where what is asked for above does not hold.
     pub fn set_msg_type(&mut self, value: Message) {
         self.buffer.set_u8(field::TYPE, value.into());
     }
 
     /// Writes the code. Requires at least 2 bytes.
+    ///
+    /// # Panics
+    ///
+    /// May panic where what is asked for above does not hold.
     pub fn set_msg_code(&mut self, value: u8) {
         self.buffer.set_u8(field::CODE, value);
     }
@@ -138,6 +182,10 @@ impl<T: OctetsMut> Packet<T> {
     /// solicitations, neighbor advertisements and redirects the word behind the checksum, of a query for listeners two
     /// bytes and the upper half of the byte with the flag, of a report two bytes. Requires one of these types, and the
     /// bytes up to what is reserved: 8, 25 of a query, 6 of a report.
+    ///
+    /// # Panics
+    ///
+    /// May panic where what is asked for above does not hold.
     pub fn clear_reserved(&mut self) {
         match self.msg_type() {
             Message::MldQuery => {
@@ -151,38 +199,66 @@ impl<T: OctetsMut> Packet<T> {
     }
 
     /// Writes the checksum. Requires at least 4 bytes.
+    ///
+    /// # Panics
+    ///
+    /// May panic where what is asked for above does not hold.
     pub fn set_checksum(&mut self, value: u16) {
         self.buffer.set_u16(field::CHECKSUM, value);
     }
 
     /// Writes the identifier of an echo. Requires at least 6 bytes.
+    ///
+    /// # Panics
+    ///
+    /// May panic where what is asked for above does not hold.
     pub fn set_echo_ident(&mut self, value: u16) {
         self.buffer.set_u16(field::ECHO_IDENT, value);
     }
 
     /// Writes the sequence number of an echo. Requires at least 8 bytes.
+    ///
+    /// # Panics
+    ///
+    /// May panic where what is asked for above does not hold.
     pub fn set_echo_seq_no(&mut self, value: u16) {
         self.buffer.set_u16(field::ECHO_SEQNO, value);
     }
 
     /// Writes the bytes of the largest packet that the next link can carry (RFC 4443 section 3.2). Requires at least 8
     /// bytes.
+    ///
+    /// # Panics
+    ///
+    /// May panic where what is asked for above does not hold.
     pub fn set_pkt_too_big_mtu(&mut self, value: u32) {
         self.buffer.set_u32(field::MTU, value);
     }
 
     /// Writes the place of a parameter problem in the quoted packet (RFC 4443 section 3.4). Requires at least 8 bytes.
+    ///
+    /// # Panics
+    ///
+    /// May panic where what is asked for above does not hold.
     pub fn set_param_problem_ptr(&mut self, value: u32) {
         self.buffer.set_u32(field::POINTER, value);
     }
 
     /// Writes the checksum of all the octets as a message from `src_addr` to `dst_addr`, in which its field counts as
     /// zero (RFC 4443 section 2.3). Requires at least 4 bytes.
+    ///
+    /// # Panics
+    ///
+    /// May panic where what is asked for above does not hold.
     pub fn fill_checksum(&mut self, src_addr: &Ipv6Address, dst_addr: &Ipv6Address) {
         fill(self.buffer.octets_mut(), src_addr, dst_addr);
     }
 
     /// Lends what stands after the header for writing; the header stays. Requires the header of the type.
+    ///
+    /// # Panics
+    ///
+    /// May panic where what is asked for above does not hold.
     pub fn payload_mut(&mut self) -> &mut [u8] {
         let start = self.header_len();
         let len = self.buffer.octets().len();
@@ -217,6 +293,10 @@ fn header_len_of(kind: Message) -> usize {
 }
 
 /// Writes the checksum of a message from `src_addr` to `dst_addr` that is all the octets. Requires at least 4 bytes.
+///
+/// # Panics
+///
+/// May panic where what is asked for above does not hold.
 pub(crate) fn fill(octets: &mut [u8], src_addr: &Ipv6Address, dst_addr: &Ipv6Address) {
     let sum = sum_before(octets, src_addr, dst_addr);
     checksum::fill(octets, field::CHECKSUM, sum);

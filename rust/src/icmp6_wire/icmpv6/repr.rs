@@ -188,6 +188,10 @@ impl<'a> Repr<'a> {
 
     /// The bytes that the message takes, of an error at most 1,240; of a report by its records those before them, 8.
     /// Requires that a `usize` holds their number.
+    ///
+    /// # Panics
+    ///
+    /// May panic where what is asked for above does not hold.
     pub fn buffer_len(&self) -> usize {
         match self {
             Repr::Mld(message) => message.buffer_len(),
@@ -197,6 +201,10 @@ impl<'a> Repr<'a> {
 
     /// The bytes that the packet of the message has, of an error at most 1,240. Requires that a `usize` holds their
     /// number.
+    ///
+    /// # Panics
+    ///
+    /// May panic where what is asked for above does not hold.
     pub fn packet_len(&self) -> usize {
         match self {
             Repr::DstUnreachable { header, data, .. }
@@ -217,6 +225,10 @@ impl<'a> Repr<'a> {
     /// requires at least 8 bytes; an error requires at least `packet_len()`, and that the quoted `payload_len` is at
     /// most 65,535; a message of multicast listener discovery requires what `mld::Repr::emit` does, and one of neighbor
     /// discovery what `ndisc::Repr::emit` does.
+    ///
+    /// # Panics
+    ///
+    /// May panic where what is asked for above does not hold.
     pub fn emit<T: OctetsMut>(
         &self,
         src_addr: &Ipv6Address,
@@ -234,6 +246,10 @@ impl<'a> Repr<'a> {
 
     /// The same into a slice. Give it exactly `packet_len()` bytes: in a longer one the checksum covers what follows
     /// the message, in a shorter one an echo is cut.
+    ///
+    /// # Panics
+    ///
+    /// May panic where what is asked for above does not hold.
     pub fn emit_into(
         &self,
         src_addr: &Ipv6Address,

@@ -13,12 +13,20 @@ const S_FLAG: u8 = 0x08;
 
 impl<T: Octets> Packet<T> {
     /// The code of the longest time to answer a query in (RFC 3810 section 5.1.3). Requires at least 6 bytes.
+    ///
+    /// # Panics
+    ///
+    /// May panic where what is asked for above does not hold.
     pub fn max_resp_code(&self) -> u16 {
         self.buffer.u16_at(field::MAX_RESP_CODE)
     }
 
     /// The longest time to answer a query in, by its code (RFC 3810 section 5.1.3): whole milliseconds, at most
     /// 8,387.584 seconds. Requires at least 6 bytes.
+    ///
+    /// # Panics
+    ///
+    /// May panic where what is asked for above does not hold.
     pub fn max_resp_time(&self) -> Duration {
         let code = self.max_resp_code();
         if code < FLOATING {
@@ -30,6 +38,10 @@ impl<T: Octets> Packet<T> {
     }
 
     /// The group that a query asks for, or `::` for all (RFC 3810 section 5.1.5). Requires at least 24 bytes.
+    ///
+    /// # Panics
+    ///
+    /// May panic where what is asked for above does not hold.
     pub fn mcast_addr(&self) -> Ipv6Address {
         Ipv6Address::from_octets(
             self.buffer
@@ -41,26 +53,46 @@ impl<T: Octets> Packet<T> {
 
     /// The flag S of a query: whether routers that hear it are to leave their timers as they are (RFC 3810 section
     /// 5.1.7). Requires at least 25 bytes.
+    ///
+    /// # Panics
+    ///
+    /// May panic where what is asked for above does not hold.
     pub fn s_flag(&self) -> bool {
         self.buffer.u8_at(field::SQRV) / S_FLAG % 2 == 1
     }
 
     /// The querier's robustness variable, 0 to 7 (RFC 3810 section 5.1.8). Requires at least 25 bytes.
+    ///
+    /// # Panics
+    ///
+    /// May panic where what is asked for above does not hold.
     pub fn qrv(&self) -> u8 {
         self.buffer.u8_at(field::SQRV) % S_FLAG
     }
 
     /// The code of the querier's interval (RFC 3810 section 5.1.9). Requires at least 26 bytes.
+    ///
+    /// # Panics
+    ///
+    /// May panic where what is asked for above does not hold.
     pub fn qqic(&self) -> u8 {
         self.buffer.u8_at(field::QQIC)
     }
 
     /// The number of sources in a query (RFC 3810 section 5.1.10). Requires at least 28 bytes.
+    ///
+    /// # Panics
+    ///
+    /// May panic where what is asked for above does not hold.
     pub fn num_srcs(&self) -> u16 {
         self.buffer.u16_at(field::QUERY_NUM_SRCS)
     }
 
     /// The number of records in a report (RFC 3810 section 5.2.3). Requires at least 8 bytes.
+    ///
+    /// # Panics
+    ///
+    /// May panic where what is asked for above does not hold.
     pub fn nr_mcast_addr_rcrds(&self) -> u16 {
         self.buffer.u16_at(field::NR_MCAST_RCRDS)
     }
@@ -68,23 +100,39 @@ impl<T: Octets> Packet<T> {
 
 impl<T: OctetsMut> Packet<T> {
     /// Writes the code of the longest time to answer a query in. Requires at least 6 bytes.
+    ///
+    /// # Panics
+    ///
+    /// May panic where what is asked for above does not hold.
     pub fn set_max_resp_code(&mut self, value: u16) {
         self.buffer.set_u16(field::MAX_RESP_CODE, value);
     }
 
     /// Writes the group that a query asks for. Requires at least 24 bytes.
+    ///
+    /// # Panics
+    ///
+    /// May panic where what is asked for above does not hold.
     pub fn set_mcast_addr(&mut self, value: Ipv6Address) {
         self.buffer
             .set_bytes(field::QUERY_MCAST_ADDR, &value.octets());
     }
 
     /// Sets the flag S, and writes zeros into the reserved bits beside it. Requires at least 25 bytes.
+    ///
+    /// # Panics
+    ///
+    /// May panic where what is asked for above does not hold.
     pub fn set_s_flag(&mut self) {
         let qrv = self.qrv();
         self.buffer.set_u8(field::SQRV, S_FLAG + qrv);
     }
 
     /// Clears the flag S, and the reserved bits beside it. Requires at least 25 bytes.
+    ///
+    /// # Panics
+    ///
+    /// May panic where what is asked for above does not hold.
     pub fn clear_s_flag(&mut self) {
         let qrv = self.qrv();
         self.buffer.set_u8(field::SQRV, qrv);
@@ -92,22 +140,38 @@ impl<T: OctetsMut> Packet<T> {
 
     /// Writes the querier's robustness variable, and zeros into the reserved bits; the flag stays. Requires at least 25
     /// bytes, and a value below 8.
+    ///
+    /// # Panics
+    ///
+    /// May panic where what is asked for above does not hold.
     pub fn set_qrv(&mut self, value: u8) {
         let flag = self.buffer.u8_at(field::SQRV) / S_FLAG % 2;
         self.buffer.set_u8(field::SQRV, S_FLAG * flag + value);
     }
 
     /// Writes the code of the querier's interval. Requires at least 26 bytes.
+    ///
+    /// # Panics
+    ///
+    /// May panic where what is asked for above does not hold.
     pub fn set_qqic(&mut self, value: u8) {
         self.buffer.set_u8(field::QQIC, value);
     }
 
     /// Writes the number of sources in a query. Requires at least 28 bytes.
+    ///
+    /// # Panics
+    ///
+    /// May panic where what is asked for above does not hold.
     pub fn set_num_srcs(&mut self, value: u16) {
         self.buffer.set_u16(field::QUERY_NUM_SRCS, value);
     }
 
     /// Writes the number of records in a report. Requires at least 8 bytes.
+    ///
+    /// # Panics
+    ///
+    /// May panic where what is asked for above does not hold.
     pub fn set_nr_mcast_addr_rcrds(&mut self, value: u16) {
         self.buffer.set_u16(field::NR_MCAST_RCRDS, value);
     }

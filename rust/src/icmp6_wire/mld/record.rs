@@ -40,21 +40,37 @@ impl<T: Octets> AddressRecord<T> {
     }
 
     /// The type. Requires at least 1 byte.
+    ///
+    /// # Panics
+    ///
+    /// May panic where what is asked for above does not hold.
     pub fn record_type(&self) -> RecordType {
         RecordType::from(self.buffer.u8_at(field::RECORD_TYPE))
     }
 
     /// The words of 4 bytes that the auxiliary data has. Requires at least 2 bytes.
+    ///
+    /// # Panics
+    ///
+    /// May panic where what is asked for above does not hold.
     pub fn aux_data_len(&self) -> u8 {
         self.buffer.u8_at(field::AUX_DATA_LEN)
     }
 
     /// The number of sources. Requires at least 4 bytes.
+    ///
+    /// # Panics
+    ///
+    /// May panic where what is asked for above does not hold.
     pub fn num_srcs(&self) -> u16 {
         self.buffer.u16_at(field::RECORD_NUM_SRCS)
     }
 
     /// The group. Requires at least 20 bytes.
+    ///
+    /// # Panics
+    ///
+    /// May panic where what is asked for above does not hold.
     pub fn mcast_addr(&self) -> Ipv6Address {
         Ipv6Address::from_octets(
             self.buffer
@@ -68,6 +84,10 @@ impl<T: Octets> AddressRecord<T> {
 impl<'a, B: AsRef<[u8]> + ?Sized> AddressRecord<&'a B> {
     /// What stands after the fields, sources and auxiliary data, for as long as the octets live. Requires at least 20
     /// bytes.
+    ///
+    /// # Panics
+    ///
+    /// May panic where what is asked for above does not hold.
     pub fn payload(&self) -> &'a [u8] {
         &self.buffer.as_ref()[field::RECORD_MCAST_ADDR.end..]
     }
@@ -75,27 +95,47 @@ impl<'a, B: AsRef<[u8]> + ?Sized> AddressRecord<&'a B> {
 
 impl<T: OctetsMut> AddressRecord<T> {
     /// Writes the type. Requires at least 1 byte.
+    ///
+    /// # Panics
+    ///
+    /// May panic where what is asked for above does not hold.
     pub fn set_record_type(&mut self, value: RecordType) {
         self.buffer.set_u8(field::RECORD_TYPE, value.into());
     }
 
     /// Writes the words of 4 bytes that the auxiliary data has. Requires at least 2 bytes.
+    ///
+    /// # Panics
+    ///
+    /// May panic where what is asked for above does not hold.
     pub fn set_aux_data_len(&mut self, value: u8) {
         self.buffer.set_u8(field::AUX_DATA_LEN, value);
     }
 
     /// Writes the number of sources. Requires at least 4 bytes.
+    ///
+    /// # Panics
+    ///
+    /// May panic where what is asked for above does not hold.
     pub fn set_num_srcs(&mut self, value: u16) {
         self.buffer.set_u16(field::RECORD_NUM_SRCS, value);
     }
 
     /// Writes the group. Requires at least 20 bytes, and a multicast address.
+    ///
+    /// # Panics
+    ///
+    /// May panic where what is asked for above does not hold.
     pub fn set_mcast_addr(&mut self, value: Ipv6Address) {
         self.buffer
             .set_bytes(field::RECORD_MCAST_ADDR, &value.octets());
     }
 
     /// Lends what stands after the fields for writing; the fields stay. Requires at least 20 bytes.
+    ///
+    /// # Panics
+    ///
+    /// May panic where what is asked for above does not hold.
     pub fn payload_mut(&mut self) -> &mut [u8] {
         let len = self.buffer.octets().len();
         self.buffer.range_mut(field::RECORD_MCAST_ADDR.end, len)
@@ -175,11 +215,19 @@ impl<'a> AddressRecordRepr<'a> {
 
     /// Writes the record over the front of the octets, without what stands after its fields; the others stay. Requires
     /// at least 20 bytes, and a multicast address.
+    ///
+    /// # Panics
+    ///
+    /// May panic where what is asked for above does not hold.
     pub fn emit<T: OctetsMut>(&self, view: &mut AddressRecord<T>) {
         self.emit_into(view.buffer.octets_mut());
     }
 
     /// The same into a slice.
+    ///
+    /// # Panics
+    ///
+    /// May panic where what is asked for above does not hold.
     pub fn emit_into(&self, octets: &mut [u8]) {
         self.write(octets);
     }

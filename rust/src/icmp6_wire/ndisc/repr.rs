@@ -127,6 +127,10 @@ impl<'a> Repr<'a> {
     }
 
     /// The bytes that the message takes: whole units behind its header. Requires that a `usize` holds their number.
+    ///
+    /// # Panics
+    ///
+    /// May panic where what is asked for above does not hold.
     pub fn buffer_len(&self) -> usize {
         self.header_len() + self.options_len()
     }
@@ -166,11 +170,19 @@ impl<'a> Repr<'a> {
     /// whole units. Requires the bytes that the message takes; a lifetime of at most 65,535 seconds, and times of at
     /// most 4,294,967,295 milliseconds; of a prefix lifetimes of at most 4,294,967,295 seconds; and of a redirected
     /// packet that it counts its data as its payload, at most 1,992 bytes.
+    ///
+    /// # Panics
+    ///
+    /// May panic where what is asked for above does not hold.
     pub fn emit<T: OctetsMut>(&self, packet: &mut Packet<T>) {
         self.emit_into(packet.buffer.octets_mut());
     }
 
     /// The same into a slice.
+    ///
+    /// # Panics
+    ///
+    /// May panic where what is asked for above does not hold.
     pub fn emit_into(&self, octets: &mut [u8]) {
         let mut w = ByteWriter::new(octets);
         self.put(&mut w);

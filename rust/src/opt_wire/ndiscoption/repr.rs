@@ -159,6 +159,10 @@ impl<'a> Repr<'a> {
 
     /// The bytes that the option takes, by the units that it counts: whole units. Requires that a `usize` holds their
     /// number.
+    ///
+    /// # Panics
+    ///
+    /// May panic where what is asked for above does not hold.
     pub fn buffer_len(&self) -> usize {
         match self {
             Repr::SourceLinkLayerAddr(addr) => writing::link_layer_addr_len(addr),
@@ -174,11 +178,19 @@ impl<'a> Repr<'a> {
     /// Requires the bytes that the option takes; times of 4,294,967,295 seconds at most; that a redirected header
     /// counts its data as the payload, 1,992 bytes at most; and that the data of an unknown option, which counts one
     /// unit or more, fills those units.
+    ///
+    /// # Panics
+    ///
+    /// May panic where what is asked for above does not hold.
     pub fn emit<T: OctetsMut>(&self, opt: &mut NdiscOption<T>) {
         self.emit_into(opt.buffer.octets_mut());
     }
 
     /// The same into a slice.
+    ///
+    /// # Panics
+    ///
+    /// May panic where what is asked for above does not hold.
     pub fn emit_into(&self, octets: &mut [u8]) {
         let mut w = ByteWriter::new(octets);
         self.put(&mut w);

@@ -48,6 +48,10 @@ impl<'a> Iterator for Labels<'a> {
 }
 
 /// Writes a label behind its length. Refused where there is no room; then less may be written.
+///
+/// # Panics
+///
+/// May panic where what is asked for above does not hold.
 pub(super) fn push_label(octets: &mut ArrayVec<u8, MAX_NAME_LEN>, label: &[u8]) -> Result<()> {
     if octets.try_push(label.len() as u8).is_err() {
         return Err(Error);

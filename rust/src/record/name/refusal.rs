@@ -48,6 +48,10 @@ impl Name {
 }
 
 /// Why no name of 255 octets at most begins in bytes and goes on in a message.
+///
+/// # Panics
+///
+/// May panic where what is asked for above does not hold.
 pub(crate) fn why_no_name<'a>(message: &'a [u8], bytes: &'a [u8]) -> NameRefusal {
     let mut left = bytes;
     // The bytes of the message that are open.

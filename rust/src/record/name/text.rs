@@ -15,6 +15,10 @@ pub(super) fn is_root(text: &[u8]) -> bool {
 /// Writes the labels of a text, with dots between them and a last dot allowed, where nothing stands yet. Refused where
 /// the text is none, where a label is empty or has more than 63 bytes, and where they have more than 255 octets. It
 /// stands apart, so that the root is read without the room that a label's text takes.
+///
+/// # Panics
+///
+/// May panic where what is asked for above does not hold.
 #[inline(never)]
 pub(super) fn put_labels(octets: &mut ArrayVec<u8, MAX_NAME_LEN>, text: &[u8]) -> Result<()> {
     let mut left = text;

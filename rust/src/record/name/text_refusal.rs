@@ -41,6 +41,10 @@ impl fmt::Display for NameTextRefusal {
 }
 
 /// Why a text is that of no name.
+///
+/// # Panics
+///
+/// May panic where what is asked for above does not hold.
 pub(super) fn why_no_text(text: &[u8]) -> NameTextRefusal {
     let mut octets: ArrayVec<u8, MAX_NAME_LEN> = ArrayVec::new();
     let mut left = text;
