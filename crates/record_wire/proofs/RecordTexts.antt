@@ -83,8 +83,8 @@ pub one_more : {X : Type 0} (text : X → List ℕ) (xs : List X) (i : ℕ) (x :
     → flat_map text (take i xs) ++ text (get_or xs i x) ≡ flat_map text (take (i + 1) xs)
 one_more text xs i x inside = grind (arith, common_steps)
 
--- a string more, behind a space
-pub one_word : (done words string rest whole : List ℕ) → done ++ words ≡ whole
-    → words ≡ (32 ∷ string) ++ rest → (done ++ 32 ∷ string) ++ rest ≡ whole
-one_word done words string rest whole is e =
-    append_assoc done (32 ∷ string) rest ∙ (ap (λ (l : List ℕ). done ++ l) (sym e) ∙ is)
+-- a text more
+pub one_text : (done texts text rest whole : List ℕ) → done ++ texts ≡ whole → texts ≡ text ++ rest
+    → (done ++ text) ++ rest ≡ whole
+one_text done texts text rest whole is e =
+    append_assoc done text rest ∙ (ap (λ (l : List ℕ). done ++ l) (sym e) ∙ is)

@@ -16,6 +16,7 @@ pub mod Strings
 pub mod Edns
 pub mod Mnemonics
 pub mod NameCase
+pub mod OptText
 pub mod RecordDisplay
 pub mod RecordRefusal
 pub mod NameRefusal

@@ -1,5 +1,5 @@
 -- Records whose names are read, and their lines in a zone file (RFC 1035 section 5.1, RFC 3597 section 5).
-use Rattle.std.specs.Prelude.{◌≡◌, ℕ, ◌⊎◌, List, [], ◌∷◌, codes, decimal}
+use Rattle.std.specs.Prelude.{◌≡◌, ℕ, ◌⊎◌, Bool, true, List, [], ◌∷◌, Option, None, Some, codes, decimal}
 use Rattle.wirebase.specs.Display.{pieces}
 use Rattle.wirebase.specs.Ipv4 as ipv4
 use Rattle.wirebase.specs.Ipv6Address as ipv6
@@ -9,9 +9,12 @@ use Rattle.dns_wire.specs.DnsName.{IsName}
 use Rattle.dns_wire.specs.declared.dns.tables.Type.{«Type» as RecordType}
 use Rattle.record_wire.specs.Labels.{AreOfName}
 use Rattle.dns_wire.specs.DnsDisplay.{type_display}
+use Rattle.record_wire.specs.Edns.{EdnsValue}
 use Rattle.record_wire.specs.Mnemonics.{class_text}
+use Rattle.record_wire.specs.Multicast.{is_opt}
 use Rattle.record_wire.specs.Name.{labels_of}
 use Rattle.record_wire.specs.NameRefusal.{RefusesName, HasName, name_refusal_display}
+use Rattle.record_wire.specs.OptText.{edns_by, opt_text}
 use Rattle.record_wire.specs.RData as rdata
 use Rattle.record_wire.specs.Record.{QuestionValue, RecordValue}
 use Rattle.record_wire.specs.Strings.{strings_in}
@@ -179,12 +182,28 @@ data_text (authority soa) = authority_text soa
 data_text (strings bytes) = strings_text (strings_in bytes)
 data_text (other bytes) = generic_text bytes
 
-abbrev pub record_text : RecordTextValue → List ℕ
-record_text r =
+abbrev pub zone_line : RecordTextValue → List ℕ
+zone_line r =
     pieces (whole_name r.name ∷ codes " " ∷ decimal r.ttl
     ∷ codes " " ∷ class_text r.class
     ∷ codes " " ∷ type_display r.kind
     ∷ codes " " ∷ data_text r.data_ ∷ [])
+
+-- what an OPT record says
+abbrev pub edns_with : Bool → RecordTextValue → DataTextValue → Option EdnsValue
+edns_with true r (other bytes) = Some (edns_by r.class r.ttl bytes)
+edns_with _ r _ = None
+
+abbrev pub edns_in : RecordTextValue → Option EdnsValue
+edns_in r = edns_with (is_opt r.kind) r r.data_
+
+-- an OPT record is no line of a zone file
+abbrev pub opt_or_line : Option EdnsValue → RecordTextValue → List ℕ
+opt_or_line None r = zone_line r
+opt_or_line (Some edns) r = opt_text edns
+
+abbrev pub record_text : RecordTextValue → List ℕ
+record_text r = opt_or_line (edns_in r) r
 
 -- a question: as a record without its time and its data
 abbrev pub question_text : List (List ℕ) → ℕ → RecordType → List ℕ

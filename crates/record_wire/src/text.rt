@@ -17,25 +17,31 @@
 //! ```
 
 mod entry;
+mod opt;
 mod question;
 pub mod refusal;
 pub(crate) mod words;
 
 ghost use Rattle.std.specs.Prelude.{◌≡◌, IfOk, IsOkAnd, IfErr};
+ghost use Rattle.std.specs.Option.{option_map};
 ghost use Rattle.dns_wire.specs.DnsPacket.{view_octets};
+ghost use Rattle.record_wire.specs.Edns.{edns_of};
 ghost use Rattle.record_wire.specs.Multicast.{record_class_of};
 ghost use Rattle.record_wire.specs.RData.{rdata_of, authority_of};
 ghost use Rattle.record_wire.specs.Record.{record_of};
 ghost use Rattle.record_wire.specs.RecordText.{AuthorityTextValue, DataTextValue, RecordTextValue};
 ghost use Rattle.record_wire.specs.RecordText.{authority_text_of, data_text_of, record_text_of};
-ghost use Rattle.record_wire.specs.RecordText.{IsAuthorityText, IsDataText, IsRecordText};
+ghost use Rattle.record_wire.specs.RecordText.{IsAuthorityText, IsDataText, IsRecordText, edns_in};
 ghost use Rattle.record_wire.specs.RecordText.{RefusesNamesOf, RefusesNameIn, RefusesText};
 
 use crate::classes::ClassName;
+use crate::edns::Edns;
+use crate::multicast;
 use crate::name::Name;
 use crate::name::refusal::NameRefusal;
 use crate::rdata::{Authority, RData};
 use crate::record::Record;
+use crate::text::opt::Comment;
 use crate::text::refusal::TextRefusal;
 use crate::text::words::{Generic, Strings, Whole};
 use dns_wire::dns::{Packet, Type};
@@ -131,7 +137,11 @@ pub struct AuthorityText {
 }
 
 /// The line of a zone file, without its end: names with their last dot, times in seconds, the class and the type by
-/// their mnemonics, or as `CLASS` and `TYPE` with the number, and the data.
+/// their mnemonics, or as `CLASS` and `TYPE` with the number, and the data. An OPT record belongs to a message and to no
+/// zone (RFC 6891 section 6.1.1), so that it is a comment, in the manner of dig: the version, the flags, the size of
+/// UDP payloads, the upper bits of the response code, and each option, as
+/// `; EDNS: version: 0, flags: do; udp: 1232; extended_rcode: 0; cookie=0123456789abcdef`. Where an option is cut, it
+/// says so in its place.
 impl fmt::Display for RecordText<'_> {
     ghost use Rattle.std.specs.Prelude.{Some};
     ghost use Rattle.record_wire.specs.RecordText.{record_text};
@@ -139,10 +149,28 @@ impl fmt::Display for RecordText<'_> {
     ghost output = { λ record_. Some (record_text (record_text_of record_)) };
 
     fn fmt<W: fmt::Write>(&self, f: &mut fmt::Formatter<W>) -> fmt::Result {
+        if let Some(edns) = self.edns() {
+            return write!(f, "{}", Comment(edns));
+        }
         let name = Whole(&self.name);
         let class = ClassName(self.class);
         let type_ = self.type_;
         write!(f, "{name} {} {class} {type_} {}", self.ttl, self.data)
+    }
+}
+
+impl RecordText<'_> {
+    // What the record says where it is an OPT record.
+    fn edns(&self) -> Option<Edns<'_>>
+        ensures { option_map edns_of result ≡ edns_in (record_text_of self.now) }
+    {
+        if !multicast::is_opt(self.type_) {
+            return None;
+        }
+        match self.data {
+            DataText::Other(octets) => Some(Edns::of(self.class, self.ttl, octets)),
+            _ => None,
+        }
     }
 }
 

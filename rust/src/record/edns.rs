@@ -61,19 +61,24 @@ impl<'a> Record<'a> {
         if !multicast::is_opt(self.type_) {
             return None;
         }
-        let flags = (self.ttl % 0x1_0000) as u16;
-        Some(Edns {
-            payload_size: self.class,
-            extended_rcode: (self.ttl / 0x100_0000) as u8,
-            version: (self.ttl / 0x1_0000 % 0x100) as u8,
-            dnssec_ok: flags >= DNSSEC_OK,
-            flags,
-            options: self.data,
-        })
+        Some(Edns::of(self.class, self.ttl, self.data))
     }
 }
 
 impl<'a> Edns<'a> {
+    // What an OPT record of this class and time to live says, whose data is these octets.
+    pub(crate) fn of(class: u16, ttl: u32, options: &'a [u8]) -> Edns<'a> {
+        let flags = (ttl % 0x1_0000) as u16;
+        Edns {
+            payload_size: class,
+            extended_rcode: (ttl / 0x100_0000) as u8,
+            version: (ttl / 0x1_0000 % 0x100) as u8,
+            dnssec_ok: flags >= DNSSEC_OK,
+            flags,
+            options,
+        }
+    }
+
     /// The response code of twelve bits (RFC 6891 section 6.1.3): the upper eight are of the OPT record, the lower four
     /// of the message's header. Of what is given for these, bits above the lowest four do not count.
     pub fn rcode(&self, header_rcode: u8) -> u16 {

@@ -18,16 +18,20 @@
 //! ```
 
 mod entry;
+mod opt;
 mod question;
 pub mod refusal;
 pub(crate) mod words;
 
 use crate::dns_wire::dns::{Packet, Type};
 use crate::record::classes::ClassName;
+use crate::record::edns::Edns;
+use crate::record::multicast;
 use crate::record::name::Name;
 use crate::record::name::refusal::NameRefusal;
 use crate::record::rdata::{Authority, RData};
 use crate::record::record::Record;
+use crate::record::text::opt::Comment;
 use crate::record::text::refusal::TextRefusal;
 use crate::record::text::words::{Generic, Strings, Whole};
 use crate::wirebase::{Ipv4Address, Ipv6Address};
@@ -122,13 +126,33 @@ pub struct AuthorityText {
 }
 
 /// The line of a zone file, without its end: names with their last dot, times in seconds, the class and the type by
-/// their mnemonics, or as `CLASS` and `TYPE` with the number, and the data.
+/// their mnemonics, or as `CLASS` and `TYPE` with the number, and the data. An OPT record belongs to a message and to no
+/// zone (RFC 6891 section 6.1.1), so that it is a comment, in the manner of dig: the version, the flags, the size of
+/// UDP payloads, the upper bits of the response code, and each option, as
+/// `; EDNS: version: 0, flags: do; udp: 1232; extended_rcode: 0; cookie=0123456789abcdef`. Where an option is cut, it
+/// says so in its place.
 impl fmt::Display for RecordText<'_> {
     fn fmt(&self, f: &mut fmt::Formatter<'_>) -> fmt::Result {
+        if let Some(edns) = self.edns() {
+            return write!(f, "{}", Comment(edns));
+        }
         let name = Whole(&self.name);
         let class = ClassName(self.class);
         let type_ = self.type_;
         write!(f, "{name} {} {class} {type_} {}", self.ttl, self.data)
+    }
+}
+
+impl RecordText<'_> {
+    // What the record says where it is an OPT record.
+    fn edns(&self) -> Option<Edns<'_>> {
+        if !multicast::is_opt(self.type_) {
+            return None;
+        }
+        match self.data {
+            DataText::Other(octets) => Some(Edns::of(self.class, self.ttl, octets)),
+            _ => None,
+        }
     }
 }
 

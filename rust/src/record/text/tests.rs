@@ -146,8 +146,8 @@ fn lines_of_multicast_dns() {
         (
             types::OPT,
             0x9000,
-            b"\0\x0a",
-            ". 3600 CLASS36864 OPT \\# 2 000a",
+            b"",
+            "; EDNS: version: 0, flags: 3600; udp: 36864; extended_rcode: 0",
         ),
     ];
     for (type_, class, octets, text) in rows {
@@ -156,6 +156,48 @@ fn lines_of_multicast_dns() {
     }
     let flagged = record(b"\0", types::A, 0x8001, address).text(&packet);
     check(flagged, ". 3600 CLASS32769 A \\# 4 c0000201");
+}
+
+#[test]
+fn lines_of_opt() {
+    let packet = Packet::new_unchecked(MESSAGE);
+    // A time to live has the upper bits of the response code, the version and the flags.
+    let rows: [(u32, &[u8], &str); 5] = [
+        (
+            0x8000,
+            b"",
+            "; EDNS: version: 0, flags: do; udp: 1232; extended_rcode: 0",
+        ),
+        (
+            0x0102_8001,
+            b"\0\x03\0\0",
+            "; EDNS: version: 2, flags: 32769; udp: 1232; extended_rcode: 1; nsid=",
+        ),
+        (
+            0,
+            b"\0\x0a\0\x02\x01\x23\xff\xff\0\x01\x2a",
+            "; EDNS: version: 0, flags: 0; udp: 1232; extended_rcode: 0; cookie=0123; option-65535=2a",
+        ),
+        (
+            0x8000,
+            b"\0\x0a\0\x02\x01\x23\0\x03\0\x01",
+            "; EDNS: version: 0, flags: do; udp: 1232; extended_rcode: 0; cookie=0123; \
+            the data of the option is cut",
+        ),
+        (
+            0x8000,
+            b"\0\x0a",
+            "; EDNS: version: 0, flags: do; udp: 1232; extended_rcode: 0; \
+            the code and the length are cut",
+        ),
+    ];
+    for (ttl, octets, text) in rows {
+        let opt = Record {
+            ttl,
+            ..record(b"\0", types::OPT, 1232, octets)
+        };
+        check(opt.text(&packet), text);
+    }
 }
 
 #[test]

@@ -79,8 +79,8 @@ fn lines_of_entries() {
         // The payload size of an OPT record, which has no flag.
         (
             record(Section::Additional, types::OPT, 0x9000, b""),
-            "additional example.com. 300 CLASS36864 OPT \\# 0",
-            "additional example.com. 300 CLASS36864 OPT \\# 0",
+            "additional ; EDNS: version: 0, flags: 300; udp: 36864; extended_rcode: 0",
+            "additional ; EDNS: version: 0, flags: 300; udp: 36864; extended_rcode: 0",
         ),
     ];
     for (entry, line, multicast_line) in rows {

@@ -4,7 +4,7 @@ use Rattle.std.proofs.lemmas.Grind.{put_two}
 use Rattle.std.proofs.lemmas.List.{append-nil}
 use Rattle.std.specs.Fmt.{HasWritten}
 use Rattle.record_wire.specs.ZoneText.{word, string_text, string_words}
-use Rattle.record_wire.proofs.RecordTexts.{one_word}
+use Rattle.record_wire.proofs.RecordTexts.{one_text}
 use Rattle.record_wire.proofs.text.words.fmt_behind_spaces.Goals as goal
 
 pub loop-string-init : goal.loop-string-init
@@ -19,7 +19,7 @@ loop-string-preserved g c = λ plain.
     let left = string_words c.loop-string.strings in
     let rest = string_words c.next.new.self in (
       done ++ 32 ∷ text,
-      one_word done left text rest (string_words c.args.strings) is (ap string_words c.in-Some.ensures.steps),
+      one_text done left (32 ∷ text) rest (string_words c.args.strings) is (ap string_words c.in-Some.ensures.steps),
       put_two _ _ _ _ _ _ _ before (c.write.ensures.writes before.plain ok) refl,
     )
 
