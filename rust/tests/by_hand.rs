@@ -3,7 +3,9 @@
 
 use control_wire::dns::Type;
 use control_wire::icmpv4::{Packet, Repr};
-use control_wire::record::{Name, NameTextRefusal};
+use control_wire::record::{
+    ClassName, EdnsOptions, Entries, Name, NameTextRefusal, Section, TxtStrings, classes, types,
+};
 use control_wire::{
     ChecksumCapabilities, Duration, Error, EthernetAddress, Ipv4Address, Ipv6Address,
     RawHardwareAddress, dns, igmp, ndisc,
@@ -305,8 +307,8 @@ fn names_are_in_canonical_order() {
 
 #[test]
 fn types_of_record_are_read_from_their_mnemonics() {
-    for number in (0..300).chain([4711, 65535]) {
-        let type_ = Type::from(number);
+    for type_ in (0..=u16::MAX).map(Type::from) {
+        let number = u16::from(type_);
         assert_eq!(type_.to_string().parse(), Ok(type_));
         assert_eq!(type_.to_string().to_lowercase().parse(), Ok(type_));
         assert_eq!(format!("TYPE{number}").parse(), Ok(type_));
@@ -327,4 +329,35 @@ fn types_of_record_are_read_from_their_mnemonics() {
     ] {
         assert_eq!(text.parse::<Type>(), Err(Error), "{text}");
     }
+}
+
+#[test]
+fn values_of_records_are_keys_of_maps() {
+    let keys = HashSet::from([(types::MX, ClassName(classes::IN), Section::Answer)]);
+    assert!(keys.contains(&(Type::from(15), ClassName(1), Section::Answer)));
+    assert!(!keys.contains(&(types::NS, ClassName(1), Section::Answer)));
+    let hasher = RandomState::new();
+    assert_eq!(hasher.hash_one(types::A), hasher.hash_one(Type::Unknown(1)));
+}
+
+#[test]
+fn entries_can_be_seen_and_taken_twice() {
+    let octets = b"\0\x01\0\0\0\x01\0\0\0\0\0\0\x03www\0\0\x01\0\x01";
+    let packet = dns::Packet::new_checked(&octets[..]).unwrap();
+    let mut entries = Entries::new(&packet);
+    let copy = entries.clone();
+    let text = entries.next().unwrap().unwrap().text(&packet, false).unwrap();
+    assert_eq!(format!("{text:?}"), "EntryText(question www. IN A)");
+    assert_eq!((entries.count(), copy.clone().count()), (0, 1));
+    assert!(format!("{copy:?}").starts_with("Entries {"));
+}
+
+#[test]
+fn strings_and_options_can_be_taken_twice() {
+    let mut strings = TxtStrings::new(b"\x01a\x02bc");
+    assert_eq!(strings.next(), Some(&b"a"[..]));
+    assert!(strings.clone().eq(strings));
+    let mut options = EdnsOptions::new(b"\0\x03\0\0\0\x0a\0\x02\x01\x23");
+    assert!(options.next().unwrap().is_ok());
+    assert!(options.clone().eq(options));
 }

@@ -266,7 +266,7 @@ impl fmt::Display for OptionRefusal {
 /// assert!(cut.next().is_none());
 /// # Ok::<(), OptionRefusal>(())
 /// ```
-#[derive(Debug, Drop)]
+#[derive(Debug, Clone, Drop)]
 pub struct EdnsOptions<'a> {
     // The octets behind the options that were given; none behind a refusal.
     left: &'a [u8],

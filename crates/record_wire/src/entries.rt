@@ -13,7 +13,7 @@ use std::marker::Model;
 use wirebase::Result;
 
 /// A section of a message.
-#[derive(Debug, PartialEq, Eq, Clone, Copy)]
+#[derive(Debug, PartialEq, Eq, Hash, Clone, Copy)]
 pub enum Section {
     /// The questions.
     Question,
@@ -82,7 +82,7 @@ impl fmt::Display for Entry<'_> {
 /// assert!(entries.next().is_none());
 /// # Ok::<(), control_wire::Error>(())
 /// ```
-#[derive(Drop)]
+#[derive(Debug, Clone, Drop)]
 pub struct Entries<'a> {
     // How many there are up to the end of each section.
     questions: u32,

@@ -16,7 +16,7 @@ use std::marker::Model;
 /// let strings: Vec<&[u8]> = TxtStrings::new(b"\x06path=/\x01x").collect();
 /// assert_eq!(strings, [&b"path=/"[..], b"x"]);
 /// ```
-#[derive(Debug, Drop)]
+#[derive(Debug, Clone, Drop)]
 pub struct TxtStrings<'a> {
     // The octets behind the strings that were given.
     left: &'a [u8],

@@ -2,7 +2,9 @@
 
 use crate::dns::Type;
 use crate::record::name::MAX_NAME_LEN;
-use crate::record::{AuthorityText, DataText, Name, NameTextRefusal, QuestionText, RecordText};
+use crate::record::{
+    AuthorityText, DataText, EntryText, Name, NameTextRefusal, QuestionText, RecordText, types,
+};
 use crate::{Error, Result};
 use core::cmp::Ordering;
 use core::fmt;
@@ -36,6 +38,19 @@ impl fmt::Debug for DataText<'_> {
 impl fmt::Debug for AuthorityText {
     fn fmt(&self, f: &mut fmt::Formatter<'_>) -> fmt::Result {
         write!(f, "AuthorityText({self})")
+    }
+}
+
+impl fmt::Debug for EntryText<'_> {
+    fn fmt(&self, f: &mut fmt::Formatter<'_>) -> fmt::Result {
+        write!(f, "EntryText({self})")
+    }
+}
+
+/// Types that are equal have the same number.
+impl Hash for Type {
+    fn hash<H: Hasher>(&self, state: &mut H) {
+        u16::from(*self).hash(state);
     }
 }
 
@@ -150,8 +165,8 @@ impl FromStr for Type {
                 }
                 digits.parse::<u16>().map(Type::from).map_err(|_| Error)
             }
-            _ => (0..=u16::MAX)
-                .map(Type::from)
+            _ => NAMED
+                .into_iter()
                 .find(|type_| {
                     type_
                         .mnemonic()
@@ -161,3 +176,34 @@ impl FromStr for Type {
         }
     }
 }
+
+/// The types that have a mnemonic.
+const NAMED: [Type; 27] = [
+    types::A,
+    types::AAAA,
+    types::CNAME,
+    types::MX,
+    types::NS,
+    types::PTR,
+    types::SOA,
+    types::SRV,
+    types::TXT,
+    types::HINFO,
+    types::NAPTR,
+    types::DNAME,
+    types::OPT,
+    types::DS,
+    types::SSHFP,
+    types::RRSIG,
+    types::NSEC,
+    types::DNSKEY,
+    types::NSEC3,
+    types::TLSA,
+    types::SVCB,
+    types::HTTPS,
+    types::SPF,
+    types::IXFR,
+    types::AXFR,
+    types::ANY,
+    types::CAA,
+];

@@ -19,7 +19,7 @@ pub const NONE: u16 = 254;
 pub const ANY: u16 = 255;
 
 /// A class that prints its mnemonic, as `IN`, or `CLASS` and its number where it has none here (RFC 3597 section 5).
-#[derive(Debug, PartialEq, Eq, Clone, Copy)]
+#[derive(Debug, PartialEq, Eq, Hash, Clone, Copy)]
 pub struct ClassName(pub u16);
 
 impl fmt::Display for ClassName {

@@ -221,7 +221,7 @@ impl fmt::Display for OptionRefusal {
 /// assert!(cut.next().is_none());
 /// # Ok::<(), OptionRefusal>(())
 /// ```
-#[derive(Debug)]
+#[derive(Debug, Clone)]
 pub struct EdnsOptions<'a> {
     // The octets behind the options that were given; none behind a refusal.
     left: &'a [u8],

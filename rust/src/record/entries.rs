@@ -8,7 +8,7 @@ use crate::wirebase::Result;
 use core::fmt;
 
 /// A section of a message.
-#[derive(Debug, PartialEq, Eq, Clone, Copy)]
+#[derive(Debug, PartialEq, Eq, Hash, Clone, Copy)]
 pub enum Section {
     /// The questions.
     Question,
@@ -67,6 +67,7 @@ impl fmt::Display for Entry<'_> {
 /// assert!(entries.next().is_none());
 /// # Ok::<(), control_wire::Error>(())
 /// ```
+#[derive(Debug, Clone)]
 pub struct Entries<'a> {
     // How many there are up to the end of each section.
     questions: u32,

@@ -10,7 +10,7 @@
 /// let strings: Vec<&[u8]> = TxtStrings::new(b"\x06path=/\x01x").collect();
 /// assert_eq!(strings, [&b"path=/"[..], b"x"]);
 /// ```
-#[derive(Debug)]
+#[derive(Debug, Clone)]
 pub struct TxtStrings<'a> {
     // The octets behind the strings that were given.
     left: &'a [u8],
