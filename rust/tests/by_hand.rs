@@ -346,7 +346,12 @@ fn entries_can_be_seen_and_taken_twice() {
     let packet = dns::Packet::new_checked(&octets[..]).unwrap();
     let mut entries = Entries::new(&packet);
     let copy = entries.clone();
-    let text = entries.next().unwrap().unwrap().text(&packet, false).unwrap();
+    let text = entries
+        .next()
+        .unwrap()
+        .unwrap()
+        .text(&packet, false)
+        .unwrap();
     assert_eq!(format!("{text:?}"), "EntryText(question www. IN A)");
     assert_eq!((entries.count(), copy.clone().count()), (0, 1));
     assert!(format!("{copy:?}").starts_with("Entries {"));

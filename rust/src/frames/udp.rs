@@ -329,6 +329,10 @@ impl UdpRepr {
     /// ports.emit_into(&[0x12, 0x34, 0x01], &addresses, &mut octets, &ChecksumCapabilities::default());
     /// assert_eq!(octets, [0xc0, 0, 0, 53, 0, 11, 0xa8, 0x37, 0x12, 0x34, 0x01]);
     /// ```
+    ///
+    /// # Panics
+    ///
+    /// May panic where what is asked for above does not hold.
     pub fn emit_into(
         &self,
         payload: &[u8],

@@ -2,30 +2,28 @@
 //! The names of a server and of a file to start from: texts in fields of fixed size.
 
 use super::packet::{Packet, field};
-use crate::wirebase::{Error, Result};
+use crate::wirebase::{Error, Octets, Result};
 
-impl<'a, B: AsRef<[u8]> + ?Sized> Packet<&'a B> {
-    /// The name of a server, for as long as the octets live: the bytes before the first zero. Refused where there is
-    /// no zero byte, or nothing before it, or no UTF-8. The field begins at byte 34, as in smoltcp, where RFC 2131
-    /// section 2 has the hardware address's padding: a packet with zeros there is refused. Requires at least 108 bytes.
+impl<T: Octets> Packet<T> {
+    /// The name of a server: the bytes before the first zero. Refused where there is no zero byte, or nothing before
+    /// it, or no UTF-8. The field begins at byte 34, as in smoltcp, where RFC 2131 section 2 has the hardware address's
+    /// padding: a packet with zeros there is refused. Requires at least 108 bytes.
     ///
     /// # Panics
     ///
     /// May panic where what is asked for above does not hold.
-    pub fn get_sname(&self) -> Result<&'a str> {
-        let octets: &'a [u8] = self.buffer.as_ref();
-        text_in(&octets[field::SNAME])
+    pub fn get_sname(&self) -> Result<&str> {
+        text_in(self.buffer.field(field::SNAME))
     }
 
-    /// The name of a file to start from, for as long as the octets live: the bytes before the first zero. Refused
-    /// where there is no zero byte, or nothing before it, or no UTF-8. Requires at least 236 bytes.
+    /// The name of a file to start from: the bytes before the first zero. Refused where there is no zero byte, or
+    /// nothing before it, or no UTF-8. Requires at least 236 bytes.
     ///
     /// # Panics
     ///
     /// May panic where what is asked for above does not hold.
-    pub fn get_boot_file(&self) -> Result<&'a str> {
-        let octets: &'a [u8] = self.buffer.as_ref();
-        text_in(&octets[field::FILE])
+    pub fn get_boot_file(&self) -> Result<&str> {
+        text_in(self.buffer.field(field::FILE))
     }
 }
 

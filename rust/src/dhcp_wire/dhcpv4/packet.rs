@@ -61,7 +61,7 @@ impl<T: Octets> Eq for Packet<T> {}
 
 impl<T: Octets> Packet<T> {
     /// The view of these octets, whatever they are.
-    pub fn new_unchecked(buffer: T) -> Packet<T> {
+    pub const fn new_unchecked(buffer: T) -> Packet<T> {
         Packet { buffer }
     }
 
@@ -204,13 +204,38 @@ impl<T: Octets> Packet<T> {
     }
 }
 
-impl<'a, B: AsRef<[u8]> + ?Sized> Packet<&'a B> {
-    /// The options in turn, for as long as the octets live. Requires at least 240 bytes.
+impl<T: Octets> Packet<T> {
+    /// The options in turn. Requires at least 240 bytes.
+    ///
+    /// ```
+    /// use control_wire::dhcpv4::Packet;
+    ///
+    /// let mut octets = vec![0; 240];
+    /// octets.extend([53, 1, 2, 51, 4, 0, 0, 0x0e, 0x10, 255]);
+    /// let packet = Packet::new_checked(octets)?;
+    /// let mut options = packet.options();
+    /// assert_eq!(options.next().unwrap().to_string(), "message-type=OFFER");
+    /// assert_eq!(options.clone().next().unwrap().to_string(), "lease-time=3600");
+    /// assert_eq!(options.count(), 1);
+    /// # Ok::<(), control_wire::Error>(())
+    /// ```
     ///
     /// # Panics
     ///
     /// May panic where what is asked for above does not hold.
-    pub fn options(&self) -> OptionsIter<'a> {
+    pub fn options(&self) -> OptionsIter<'_> {
+        OptionsIter::new(&self.buffer.octets()[field::OPTIONS..])
+    }
+}
+
+impl<'a, B: AsRef<[u8]> + ?Sized> Packet<&'a B> {
+    /// The options in turn, for as long as the octets live, which may be longer than the view. Requires at least 240
+    /// bytes.
+    ///
+    /// # Panics
+    ///
+    /// May panic where what is asked for above does not hold.
+    pub fn into_options(self) -> OptionsIter<'a> {
         let octets: &'a [u8] = self.buffer.as_ref();
         OptionsIter::new(&octets[field::OPTIONS..])
     }

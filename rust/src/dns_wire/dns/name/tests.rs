@@ -5,9 +5,9 @@ use super::NameIter;
 use crate::dns_wire::dns::Packet;
 use crate::dns_wire::dns::tests::damaged::damaged;
 use crate::dns_wire::testing::{fail, holds_of, same, same_of};
-use crate::wirebase::Error;
 #[allow(unused_imports)]
-use rattle_std::prelude::*;
+use crate::rattle_std::prelude::*;
+use crate::wirebase::Error;
 
 // A response for www.facebook.com: its canonical name, and the address of that.
 const RESPONSE: [u8; 79] = [
