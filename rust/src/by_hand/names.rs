@@ -47,13 +47,6 @@ impl fmt::Debug for EntryText<'_> {
     }
 }
 
-/// Types that are equal have the same number.
-impl Hash for Type {
-    fn hash<H: Hasher>(&self, state: &mut H) {
-        u16::from(*self).hash(state);
-    }
-}
-
 /// Names that are equal have the same hash: letters of ASCII count alike in either case.
 impl Hash for Name {
     fn hash<H: Hasher>(&self, state: &mut H) {
