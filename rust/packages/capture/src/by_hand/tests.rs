@@ -48,7 +48,7 @@ fn records_in_turn_and_then_the_end() {
     }
     assert_eq!(
         format!("{records:?}"),
-        "Records { capture: Capture { octets: 1, .. }, ended: true, .. }"
+        "Records { capture: Capture { octets: 0, .. }, ended: true, .. }"
     );
     assert!(records.read().unwrap().is_none());
     assert!(records.next().is_none());
