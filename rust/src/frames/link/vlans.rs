@@ -32,7 +32,7 @@ pub struct VlanTag {
 /// assert_eq!(frame.vlan_tags().next().unwrap().priority, 5);
 /// # Ok::<(), control_wire::Error>(())
 /// ```
-#[derive(Debug)]
+#[derive(Debug, Clone)]
 pub struct VlanTags<'a> {
     // The octets behind the tags that were given.
     left: &'a [u8],
