@@ -102,6 +102,19 @@ def hidden(file, i):
     return file.remove(i, i + 1, comment=False)
 
 
+# Calls that are `const` in smoltcp: by their name, or by crate and name.
+CONSTANT = {"new_unchecked", ("wirebase", "buffer_len")}
+
+
+@rule(VALUES)
+def constant(file, i):
+    """A call that is `const` in smoltcp is so, also where that of the source is not."""
+    name = file.text(i + 2)
+    if not file.texts(i, "pub", "fn") or not file.library or not CONSTANT & {name, (file.crate, name)}:
+        return None
+    return file.insert(i + 1, " const") + 1
+
+
 @rule(VALUES)
 def clone(file, i):
     """A `Clone` by hand, which answers a Result for want of memory, becomes a derive."""

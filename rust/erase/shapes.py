@@ -33,6 +33,7 @@ SHAPES = {
     "hidden": (r"pub", ""),
     "clone": (r"impl Clone for [^{};]*\{ \.\. \}|", r"(, Clone|# \[ derive \( Clone \) \])?"),
     "cloned": (ATTRIBUTES + r"fn \w+ [^{};]*AllocError[^{};]*\{ \.\. \}", ""),
+    "constant": (r"", r"const"),
     "open_enum": (r"", r"# \[ non_exhaustive \]"),
     "open_match": (r"", r"(, )?_ => unreachable ! \( \) ,"),
     "debug": (r"Debug ,", ""),
@@ -159,6 +160,7 @@ CLOSER = {
 # Where something may be put in that stands for nothing: the token before it, `^`, and the one behind it.
 PLACES = {
     "clone": r".+ \^ \)|[;}] \^ (pub|struct|enum)",
+    "constant": r"pub \^ fn",
     "open_enum": r"[;}\]] \^ pub",
     "open_match": r".+ \^ \}",
     "lends_from_any": r"buffer \^ .+|.+ \^ >|impl \^ \w+",

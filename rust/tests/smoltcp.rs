@@ -118,3 +118,37 @@ fn constants() {
     assert_eq!(IPV6_LINK_LOCAL_ALL_NODES.to_string(), "ff02::1");
     assert_eq!(IPV6_LINK_LOCAL_ALL_ROUTERS.to_string(), "ff02::2");
 }
+
+// These calls are const there, so a program may have them in its constants.
+#[test]
+fn views_and_lengths_of_headers_are_constants() {
+    use smoltcp::wire::*;
+    macro_rules! views {
+        ($($view:ident),+ $(,)?) => { $( {
+            const VIEW: $view<Bytes> = $view::new_unchecked(&[1, 2, 3]);
+            assert_eq!(VIEW.into_inner(), [1, 2, 3], stringify!($view));
+        } )+ };
+    }
+    views! {
+        Icmpv4Packet, Icmpv6Packet, IgmpPacket, MldAddressRecord, NdiscOption, Ipv6Option, Ipv6HopByHopHeader,
+        Ipv6ExtHeader, DhcpPacket, DnsPacket, Ipv4Packet, Ipv6Packet,
+    }
+    const fn lens(v4: &Ipv4Repr, v6: &Ipv6Repr) -> [usize; 2] {
+        [v4.buffer_len(), v6.buffer_len()]
+    }
+    let v4 = Ipv4Repr {
+        src_addr: Ipv4Address::UNSPECIFIED,
+        dst_addr: Ipv4Address::UNSPECIFIED,
+        next_header: IpProtocol::Icmp,
+        payload_len: 0,
+        hop_limit: 64,
+    };
+    let v6 = Ipv6Repr {
+        src_addr: Ipv6Address::UNSPECIFIED,
+        dst_addr: Ipv6Address::UNSPECIFIED,
+        next_header: IpProtocol::Icmpv6,
+        payload_len: 0,
+        hop_limit: 64,
+    };
+    assert_eq!(lens(&v4, &v6), [20, 40]);
+}

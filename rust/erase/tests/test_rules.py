@@ -83,6 +83,10 @@ ROWS = {
               "#[derive(Debug, Clone)] struct S(u8);"),
     "hidden": ("pub enum Layout { A } pub enum Other { A }", "enum Layout { A } pub enum Other { A }"),
     "cloned": ("fn cloned(a: &A) -> Result<A, AllocError> { a.clone() } fn f() -> u8 { 1 }", "fn f() -> u8 { 1 }"),
+    "constant": ("impl S { pub fn new_unchecked(a: u8) -> S { S(a) } pub fn new(a: u8) -> S { S(a) } } "
+                 "impl R { pub const fn new_unchecked(a: u8) -> R { R(a) } pub fn buffer_len(&self) -> u8 { 4 } }",
+                 "impl S { pub const fn new_unchecked(a: u8) -> S { S(a) } pub fn new(a: u8) -> S { S(a) } } "
+                 "impl R { pub const fn new_unchecked(a: u8) -> R { R(a) } pub fn buffer_len(&self) -> u8 { 4 } }"),
     "open_enum": ("#[derive(Debug)] pub enum Refusal { A } enum OwnRefusal { A } pub enum Repr { A }",
                   "#[derive(Debug)] #[non_exhaustive] pub enum Refusal { A } enum OwnRefusal { A } pub enum Repr { A }"),
     "debug": ("#[derive(Debug, Clone)] pub struct Ipv4Address; #[derive(Debug, Clone)] pub struct Ipv4Repr;",

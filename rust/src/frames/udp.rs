@@ -51,7 +51,7 @@ pub struct UdpPacket<T: Octets> {
 
 impl<T: Octets> UdpPacket<T> {
     /// The view of these octets, whatever they are.
-    pub fn new_unchecked(buffer: T) -> UdpPacket<T> {
+    pub const fn new_unchecked(buffer: T) -> UdpPacket<T> {
         UdpPacket { buffer }
     }
 

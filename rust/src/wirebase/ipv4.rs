@@ -125,7 +125,7 @@ pub struct Ipv4Packet<T: Octets> {
 
 impl<T: Octets> Ipv4Packet<T> {
     /// The view of these octets, whatever they are.
-    pub fn new_unchecked(buffer: T) -> Ipv4Packet<T> {
+    pub const fn new_unchecked(buffer: T) -> Ipv4Packet<T> {
         Ipv4Packet { buffer }
     }
 
@@ -307,7 +307,7 @@ pub struct Ipv4Repr {
 
 impl Ipv4Repr {
     /// The bytes that the header takes: 20.
-    pub fn buffer_len(&self) -> usize {
+    pub const fn buffer_len(&self) -> usize {
         HEADER_LEN
     }
 

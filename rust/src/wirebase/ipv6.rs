@@ -44,7 +44,7 @@ pub struct Ipv6Packet<T: Octets> {
 
 impl<T: Octets> Ipv6Packet<T> {
     /// The view of these octets, whatever they are.
-    pub fn new_unchecked(buffer: T) -> Ipv6Packet<T> {
+    pub const fn new_unchecked(buffer: T) -> Ipv6Packet<T> {
         Ipv6Packet { buffer }
     }
 
@@ -217,7 +217,7 @@ impl Ipv6Repr {
     }
 
     /// The bytes that the header takes: 40.
-    pub fn buffer_len(&self) -> usize {
+    pub const fn buffer_len(&self) -> usize {
         IPV6_HEADER_LEN
     }
 

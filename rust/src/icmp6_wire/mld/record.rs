@@ -14,7 +14,7 @@ pub struct AddressRecord<T: Octets> {
 
 impl<T: Octets> AddressRecord<T> {
     /// The view of these octets, whatever they are.
-    pub fn new_unchecked(buffer: T) -> AddressRecord<T> {
+    pub const fn new_unchecked(buffer: T) -> AddressRecord<T> {
         AddressRecord { buffer }
     }
 
