@@ -102,17 +102,31 @@ def hidden(file, i):
     return file.remove(i, i + 1, comment=False)
 
 
-# Calls that are `const` in smoltcp: by their name, or by crate and name.
-CONSTANT = {"new_unchecked", ("wirebase", "buffer_len")}
+# What is `const` in smoltcp, and what that calls: of each view, and by module.
+CONSTANT = {
+    "icmpv4/repr": {"buffer_len"},
+    "ipv4": {"buffer_len"},
+    "ipv6": {"buffer_len"},
+    "ethernet": {"len"},
+    "ndisc/options": {"source_len", "target_len", "mtu_len", "prefix_len", "redirected_len"},
+    "ndisc/repr": {"buffer_len", "header_len", "options_len", "router_options_len", "redirect_options_len"},
+    "ndiscoption/repr": {"buffer_len"},
+    "writing": {"link_layer_addr_len", "redirected_len", "units_of"},
+}
 
 
 @rule(VALUES)
 def constant(file, i):
     """A call that is `const` in smoltcp is so, also where that of the source is not."""
-    name = file.text(i + 2)
-    if not file.texts(i, "pub", "fn") or not file.library or not CONSTANT & {name, (file.crate, name)}:
+    if file.text(i) != "fn" or not file.library or file.runtime or file.text(i - 1) == "const":
         return None
-    return file.insert(i + 1, " const") + 1
+    module = "/".join(file.path.parts[3:]).removesuffix(".rt")
+    if file.text(i + 1) != "new_unchecked" and file.text(i + 1) not in CONSTANT.get(module, ()):
+        return None
+    pre = file.tokens[i].pre
+    end = file.insert(i, "const")
+    file.tokens[i].pre, file.tokens[end].pre = pre, " "
+    return end + 1
 
 
 @rule(VALUES)

@@ -160,7 +160,7 @@ CLOSER = {
 # Where something may be put in that stands for nothing: the token before it, `^`, and the one behind it.
 PLACES = {
     "clone": r".+ \^ \)|[;}] \^ (pub|struct|enum)",
-    "constant": r"pub \^ fn",
+    "constant": r"(pub|[;{})\]]) \^ fn",
     "open_enum": r"[;}\]] \^ pub",
     "open_match": r".+ \^ \}",
     "lends_from_any": r"buffer \^ .+|.+ \^ >|impl \^ \w+",
