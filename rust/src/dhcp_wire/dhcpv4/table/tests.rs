@@ -206,10 +206,11 @@ const ROWS: &[Row] = &[
     ),
 ];
 
-fn row_of(kind: u8) -> Option<&'static Row> {
-    for row in ROWS {
-        if row.0 == kind {
-            return Some(row);
+// The names and the format of a kind.
+fn row_of(kind: u8) -> Option<(&'static str, &'static str, Format)> {
+    for &(number, registered, own, format) in ROWS {
+        if number == kind {
+            return Some((registered, own, format));
         }
     }
     None
@@ -296,7 +297,7 @@ fn check_format(kind: u8, format: Format) {
 fn names_and_formats_of_all_kinds() {
     for kind in 0..=255 {
         match row_of(kind) {
-            Some(&(_, registered, own, format)) => {
+            Some((registered, own, format)) => {
                 check_name(kind, registered, own);
                 check_format(kind, format);
             }
