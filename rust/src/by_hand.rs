@@ -3,6 +3,7 @@
 mod addresses;
 mod names;
 mod octets;
+mod packets;
 pub mod smoltcp;
 mod text;
 mod values;

@@ -7,8 +7,8 @@ use control_wire::record::{
     ClassName, EdnsOptions, Entries, Name, NameTextRefusal, Section, TxtStrings, classes, types,
 };
 use control_wire::{
-    ChecksumCapabilities, Duration, Error, EthernetAddress, Ipv4Address, Ipv6Address,
-    RawHardwareAddress, dns, igmp, ndisc,
+    ChecksumCapabilities, Duration, Error, EthernetAddress, Ipv4Address, Ipv6Address, Ipv6Packet,
+    RawHardwareAddress, dns, icmpv6, igmp, ipv6option, mld, ndisc, ndiscoption,
 };
 use std::collections::HashSet;
 use std::hash::{BuildHasher, RandomState};
@@ -252,6 +252,48 @@ fn views_over_what_lends_a_slice_for_writing() {
     assert!(array.verify_checksum() && vector.verify_checksum());
     assert_eq!(array.into_inner(), octets);
     assert_eq!(vector.into_inner(), octets);
+}
+
+// A packet without a message, whose octets a constant has.
+const EMPTY: Packet<[u8; 8]> = Packet::new_unchecked([0; 8]);
+
+const ECHO_LEN: usize = Repr::EchoReply {
+    ident: 1,
+    seq_no: 2,
+    data: &ECHO,
+}
+.buffer_len();
+
+const JOIN: [mld::AddressRecordRepr; 1] = [mld::AddressRecordRepr::new(
+    mld::RecordType::ChangeToExclude,
+    Ipv6Address::new(0xff02, 0, 0, 0, 0, 0, 0, 2),
+)];
+
+const REPORT_LEN: usize = mld::Repr::ReportRecordReprs(&JOIN).packet_len();
+
+const ALERT_LEN: usize = ipv6option::Repr::RouterAlert(ipv6option::RouterAlert::Rsvp).buffer_len();
+
+#[test]
+fn constants_of_views_and_lengths() {
+    assert_eq!(EMPTY.into_inner(), [0; 8]);
+    assert_eq!([ECHO_LEN, REPORT_LEN, ALERT_LEN], [20, 28, 4]);
+    const VIEW: icmpv6::Packet<&[u8]> = icmpv6::Packet::new_unchecked(&ECHO);
+    assert_eq!(VIEW.msg_code(), 0);
+    const OPTION: ndiscoption::NdiscOption<&[u8]> = ndiscoption::NdiscOption::new_unchecked(&ECHO);
+    assert_eq!(OPTION.data_len(), 0);
+    assert_eq!(ipv6option::FailureType::DiscardSendAll as u8, 0x80);
+}
+
+// The octets of whatever lends them.
+fn octets_of(lender: &impl AsRef<[u8]>) -> &[u8] {
+    lender.as_ref()
+}
+
+#[test]
+fn packets_lend_their_octets() {
+    assert_eq!(octets_of(&Packet::new_unchecked(ECHO)), ECHO);
+    assert_eq!(octets_of(&icmpv6::Packet::new_unchecked(ECHO)), ECHO);
+    assert_eq!(octets_of(&Ipv6Packet::new_unchecked(ECHO)), ECHO);
 }
 
 #[test]

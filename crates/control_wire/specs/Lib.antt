@@ -39,6 +39,7 @@ pub use Rattle.icmp6_wire.specs.Icmpv6
 pub use Rattle.icmp6_wire.specs.Icmpv6Packet
 pub use Rattle.icmp6_wire.specs.Icmpv6Tables
 pub use Rattle.icmp6_wire.specs.Mld
+pub use Rattle.icmp6_wire.specs.MldIterators
 pub use Rattle.icmp6_wire.specs.MldPacket
 pub use Rattle.icmp6_wire.specs.MldRecord
 pub use Rattle.icmp6_wire.specs.MldTables

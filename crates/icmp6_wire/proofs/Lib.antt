@@ -3,6 +3,7 @@ pub mod Icmpv6Grammar
 pub mod Icmpv6Seals
 pub mod Icmpv6Texts
 pub mod MldFormat
+pub mod MldGiven
 pub mod MldIterators
 pub mod MldRecords
 pub mod MldTexts

@@ -24,7 +24,7 @@ use Rattle.icmp6_wire.specs.declared.mld.tables.RecordType.TheVariants as record
 
 -- ---- the text
 
-record_text : (kind : RecordType) (words sources : ℕ) (group : Ipv6Address) (rest : List ℕ)
+pub record_text : (kind : RecordType) (words sources : ℕ) (group : Ipv6Address) (rest : List ℕ)
     → text (address_record kind words sources group rest) ≡ record_type_number kind ∷ words
     ∷ (big_bytes 2 sources ++ octets_of group)
 unfolding fields be8 be16

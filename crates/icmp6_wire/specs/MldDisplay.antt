@@ -1,7 +1,9 @@
 -- What messages of multicast listener discovery and their parts print.
-use Rattle.std.specs.Prelude.{ℕ, Bool, List, [], ◌∷◌, codes, decimal, length, if◌then◌else◌}
+use Rattle.std.specs.Prelude.{ℕ, Bool, List, [], ◌∷◌, ◌++◌, codes, decimal, flat_map, length}
+use Rattle.std.specs.Prelude.{if◌then◌else◌}
 use Rattle.wirebase.specs.Display.{pieces}
 use Rattle.wirebase.specs.Ipv6Address.{address_text}
+use Rattle.opt_wire.specs.Digits.{octets_text}
 use Rattle.icmp6_wire.specs.Mld.{MldValue, query, report, records}
 use Rattle.icmp6_wire.specs.MldRecord.{RecordValue, address_record}
 use Rattle.icmp6_wire.specs.declared.mld.refusal.Refusal.{Refusal}
@@ -22,36 +24,41 @@ record_type_display record_type.BlockOldSources = codes "BLOCK_OLD_SOURCES"
 record_type_display (record_type.Unknown n) = pieces (codes "unknown " ∷ decimal n ∷ [])
 
 -- a record: its fields, and the bytes of what stands after them
-abbrev pub record_display : RecordValue → List ℕ
+unfoldable pub record_display : RecordValue → List ℕ
 record_display (address_record kind words sources group rest) =
     pieces (codes "MLD record record_type=" ∷ record_type_display kind
     ∷ codes " aux_data_len=" ∷ decimal words
     ∷ codes " num_srcs=" ∷ decimal sources
     ∷ codes " mcast_addr=" ∷ address_text group
-    ∷ codes " len=" ∷ decimal (length rest) ∷ [])
+    ∷ codes " payload=" ∷ octets_text rest ∷ [])
+
+-- records behind one another, each in parentheses
+abbrev pub records_display : List RecordValue → List ℕ
+records_display rs = flat_map (λ r. codes " (" ++ (record_display r ++ codes ")")) rs
 
 -- a flag
 abbrev truth_text : Bool → List ℕ
 truth_text is = if is then codes "true" else codes "false"
 
--- the fields of a query behind its flag, and the bytes of its data
-abbrev pub counts_display : ℕ → ℕ → ℕ → ℕ → List ℕ
-counts_display qrv qqic sources len =
+-- the fields of a query behind its flag
+abbrev pub counts_display : ℕ → ℕ → ℕ → List ℕ → List ℕ
+counts_display qrv qqic sources d =
     pieces (codes " qrv=" ∷ decimal qrv
     ∷ codes " qqic=" ∷ decimal qqic
     ∷ codes " num_srcs=" ∷ decimal sources
-    ∷ codes " len=" ∷ decimal len ∷ [])
+    ∷ codes " data=" ∷ octets_text d ∷ [])
 
--- a message: its fields, and the bytes of its data; of a report by its records, how many they are
+-- a message: its fields, data in hexadecimal; of a report by its records, how many they are and each of them
 abbrev pub repr_display : MldValue → List ℕ
 repr_display (query code group flag qrv qqic sources d) =
     pieces (codes "MLD query max_resp_code=" ∷ decimal code
     ∷ codes " mcast_addr=" ∷ address_text group
     ∷ codes " s_flag=" ∷ truth_text flag
-    ∷ counts_display qrv qqic sources (length d) ∷ [])
+    ∷ counts_display qrv qqic sources d ∷ [])
 repr_display (report count d) =
-    pieces (codes "MLD report nr_mcast_addr_rcrds=" ∷ decimal count ∷ codes " len=" ∷ decimal (length d) ∷ [])
-repr_display (records rs) = pieces (codes "MLD report nr_mcast_addr_rcrds=" ∷ decimal (length rs) ∷ [])
+    pieces (codes "MLD report nr_mcast_addr_rcrds=" ∷ decimal count ∷ codes " data=" ∷ octets_text d ∷ [])
+repr_display (records rs) =
+    codes "MLD report nr_mcast_addr_rcrds=" ++ (decimal (length rs) ++ records_display rs)
 
 -- why octets are refused
 abbrev pub refusal_display : Refusal → List ℕ

@@ -1,11 +1,13 @@
 -- The records of a report in turn, each with its sources and its auxiliary data (RFC 3810 section 5.2), and the sources
 -- of a record in turn.
 use Rattle.std.specs.Prelude.{◌≡◌, ℕ, zero, suc, ◌*◌, ◌/◌, ◌<◌, ◌⊎◌, min, nat_le, Bool, true, false, List}
-use Rattle.std.specs.Prelude.{[], ◌∷◌, ◌++◌, length, take, drop, Option, None, Some, Result, Ok, Err}
+use Rattle.std.specs.Prelude.{[], ◌∷◌, ◌++◌, length, map, take, drop, Option, None, Some, Result, Ok, Err}
 use Rattle.std.specs.List.{AllByRecursion, concat}
 use Rattle.wirebase.specs.Ipv6Address.{octets_of}
 use Rattle.wirebase.specs.declared.ipv6.address.Ipv6Address.{Ipv6Address}
-use Rattle.icmp6_wire.specs.MldRecord.{record_len_in, value_of, IsRecord}
+use Rattle.icmp6_wire.specs.Mld.{MldValue, records}
+use Rattle.icmp6_wire.specs.MldRecord.{RecordValue, address_record, record_len_in, value_of, IsRecord}
+use Rattle.icmp6_wire.specs.MldRecord.{text as record_text}
 use Rattle.icmp6_wire.specs.MldRefusal.{RefusesRecord}
 use Rattle.icmp6_wire.specs.declared.mld.record.AddressRecordRepr.{AddressRecordRepr}
 use Rattle.icmp6_wire.specs.declared.mld.refusal.RecordRefusal.{RecordRefusal}
@@ -49,6 +51,17 @@ unfoldable pub records_ahead : ℕ → List ℕ → List Answer
 records_ahead zero bytes = []
 records_ahead (suc n) bytes =
     after_record (nat_le (record_len_in bytes) (length bytes)) (record_len_in bytes) bytes (records_ahead n)
+
+-- a record that counts neither sources nor auxiliary data, so that its fields are all of it
+abbrev pub IsBare : RecordValue → Type 0
+IsBare (address_record kind words sources group rest) = (words ≡ 0) × (sources ≡ 0)
+
+-- A list of such records is written as just these records. One that counts what stands behind its fields is written
+-- without it, so that a reader takes the record behind it for that, or finds the record cut.
+abbrev pub AreGiven : MldValue → List ℕ → Type 0
+AreGiven (records rs) bytes =
+    AllByRecursion IsBare rs → AreRecords (length rs) (drop 8 bytes) (map (λ r. Ok (record_text r)) rs)
+AreGiven v bytes = Unit {0}
 
 -- ---- sources
 

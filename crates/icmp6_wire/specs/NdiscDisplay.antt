@@ -1,5 +1,5 @@
 -- What messages of neighbor discovery print.
-use Rattle.std.specs.Prelude.{ℕ, List, [], ◌∷◌, codes, decimal, length, Option, None, Some}
+use Rattle.std.specs.Prelude.{ℕ, List, [], ◌∷◌, codes, decimal, Option, None, Some}
 use Rattle.wirebase.specs.Display.{pieces}
 use Rattle.wirebase.specs.Duration.{duration_text}
 use Rattle.wirebase.specs.Ethernet.{hex_colons}
@@ -7,6 +7,8 @@ use Rattle.wirebase.specs.Ipv6.{header_display}
 use Rattle.wirebase.specs.Ipv6Address.{address_text}
 use Rattle.wirebase.specs.declared.duration.Duration.{Duration}
 use Rattle.wirebase.specs.declared.ipv6.Ipv6Repr.{Ipv6Repr}
+use Rattle.opt_wire.specs.Digits.{octets_text}
+use Rattle.opt_wire.specs.NdiscOptionTables.{flag_bits, flags_text}
 use Rattle.opt_wire.specs.declared.ndiscoption.repr.PrefixInformation.{PrefixInformation}
 use Rattle.icmp6_wire.specs.Ndisc.{NdiscValue, router_solicit, router_advert, neighbor_solicit, neighbor_advert}
 use Rattle.icmp6_wire.specs.Ndisc.{redirect}
@@ -26,13 +28,21 @@ mtu_display (Some n) = pieces (codes " mtu=" ∷ decimal n ∷ [])
 unfoldable pub prefix_display : Option PrefixInformation → List ℕ
 prefix_display None = []
 prefix_display (Some p) =
-    pieces (codes " prefix_info=" ∷ address_text p.prefix ∷ codes "/" ∷ decimal p.prefix_len ∷ [])
+    pieces (codes " prefix_info=(prefix=" ∷ address_text p.prefix
+    ∷ codes "/" ∷ decimal p.prefix_len
+    ∷ codes " flags=" ∷ flags_text (flag_bits p.flags)
+    ∷ codes " valid_lifetime=" ∷ duration_text p.valid_lifetime
+    ∷ codes " preferred_lifetime=" ∷ duration_text p.preferred_lifetime
+    ∷ codes ")" ∷ [])
 
--- a redirected packet by its header, and the bytes of its payload
+-- a redirected packet by its header, the bytes that it counts, and its payload in hexadecimal
 unfoldable pub packet_display : Option (Ipv6Repr × List ℕ) → List ℕ
 packet_display None = []
 packet_display (Some r) =
-    pieces (codes " redirected_hdr=(" ∷ header_display r.0 ∷ codes " len=" ∷ decimal (length r.1) ∷ codes ")" ∷ [])
+    pieces (codes " redirected_hdr=(" ∷ header_display r.0
+    ∷ codes " payload_len=" ∷ decimal r.0.payload_len
+    ∷ codes " data=" ∷ octets_text r.1
+    ∷ codes ")" ∷ [])
 
 -- the times of a router advertisement, and its options
 unfoldable pub times_display : Duration → Duration → Duration → List ℕ

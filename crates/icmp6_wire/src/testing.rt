@@ -52,6 +52,16 @@ pub(crate) fn prints(rt: &impl Abort, alloc: Global, value: &impl Display, text:
     same(rt, printed.as_deref(), Some(text));
 }
 
+// Ends the test where the two print one text, or where there is no memory for it.
+pub(crate) fn print_differently<T: Display>(rt: &impl Abort, alloc: Global, left: &T, right: &T) {
+    let [left, right] = [left.to_string(alloc).ok(), right.to_string(alloc).ok()];
+    holds_of(
+        rt,
+        left.as_deref(),
+        left.is_some() && left.as_deref() != right.as_deref(),
+    );
+}
+
 // A writer that takes so many writes, and fails at the one after them.
 #[derive(Drop)]
 struct FailingWriter {

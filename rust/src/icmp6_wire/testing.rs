@@ -40,6 +40,15 @@ pub(crate) fn prints(value: &impl Display, text: &str) {
     same(printed.as_deref(), Some(text));
 }
 
+// Ends the test where the two print one text, or where there is no memory for it.
+pub(crate) fn print_differently<T: Display>(left: &T, right: &T) {
+    let [left, right] = [left.to_string_in().ok(), right.to_string_in().ok()];
+    holds_of(
+        left.as_deref(),
+        left.is_some() && left.as_deref() != right.as_deref(),
+    );
+}
+
 // A writer that takes so many writes, and fails at the one after them.
 struct FailingWriter {
     left: u32,

@@ -23,6 +23,9 @@ use wirebase::{
     checksum, icmp,
 };
 
+// The bytes of a header as an error quotes it, which has no options.
+const QUOTED_HEADER_LEN: usize = 20;
+
 // The bytes that stand at least behind the header that an error quotes.
 const MIN_QUOTED_DATA: usize = 8;
 
@@ -148,7 +151,7 @@ impl<'a> Repr<'a> {
 
     /// The bytes that the message takes. Requires that a `usize` holds their number.
     #[tactic(auto, using(crate::proofs::Icmpv4Texts::texts))]
-    pub fn buffer_len(&self) -> usize
+    pub const fn buffer_len(&self) -> usize
         requires { text_len (value_of self.now) < 2 ^ 64 }
         ensures value { result ≡ text_len (value_of self.now) }
         ensures exact { (capabilities : ChecksumCapabilities)
@@ -157,11 +160,11 @@ impl<'a> Repr<'a> {
         match self {
             Repr::EchoRequest { data, .. } => field::HEADER_END + data.len(),
             Repr::EchoReply { data, .. } => field::HEADER_END + data.len(),
-            Repr::DstUnreachable { header, data, .. } => {
-                field::HEADER_END + header.buffer_len() + data.len()
+            Repr::DstUnreachable { data, .. } => {
+                field::HEADER_END + QUOTED_HEADER_LEN + data.len()
             }
-            Repr::TimeExceeded { header, data, .. } => {
-                field::HEADER_END + header.buffer_len() + data.len()
+            Repr::TimeExceeded { data, .. } => {
+                field::HEADER_END + QUOTED_HEADER_LEN + data.len()
             }
         }
     }

@@ -25,7 +25,7 @@ pub struct Packet<T: Octets> {
 
 impl<T: Octets> Packet<T> {
     /// The view of these octets, whatever they are.
-    pub fn new_unchecked(buffer: T) -> Packet<T>
+    pub const fn new_unchecked(buffer: T) -> Packet<T>
         ensures { inner result ≡ buffer }
     {
         Packet { buffer }

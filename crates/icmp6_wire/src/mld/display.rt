@@ -1,14 +1,17 @@
-//! What messages and records print, each in one line.
+//! What messages and records print, each in one line, octets in hexadecimal.
 
 ghost use Rattle.std.specs.Prelude.{Some};
-ghost use Rattle.icmp6_wire.specs.Mld.{value_of};
-ghost use Rattle.icmp6_wire.specs.MldDisplay.{repr_display, counts_display, record_display};
+ghost use Rattle.std.specs.Fmt.{WritesOnOk};
+ghost use Rattle.icmp6_wire.specs.Mld.{value_of, values_of};
+ghost use Rattle.icmp6_wire.specs.MldDisplay.{repr_display, counts_display, record_display, records_display};
 ghost use Rattle.icmp6_wire.specs.MldRecord.{value_of as record_value};
 
 use super::{AddressRecordRepr, Repr};
+use opt_wire::digits::Digits;
 use std::fmt;
 
-/// The message with its fields and the bytes of its data, as `MLD report nr_mcast_addr_rcrds=1 len=20`.
+/// The message with its fields, as `MLD report nr_mcast_addr_rcrds=0 data=-`. In place of data a list has each record in
+/// parentheses.
 impl fmt::Display for Repr<'_> {
     ghost output = { λ repr. Some (repr_display (value_of repr)) };
 
@@ -28,7 +31,7 @@ impl fmt::Display for Repr<'_> {
                     qrv: *qrv,
                     qqic: *qqic,
                     num_srcs: *num_srcs,
-                    len: data.len(),
+                    data,
                 };
                 write!(
                     f,
@@ -39,15 +42,16 @@ impl fmt::Display for Repr<'_> {
                 nr_mcast_addr_rcrds,
                 data,
             } => {
-                let len = data.len();
+                let data = Digits(data);
                 write!(
                     f,
-                    "MLD report nr_mcast_addr_rcrds={nr_mcast_addr_rcrds} len={len}"
+                    "MLD report nr_mcast_addr_rcrds={nr_mcast_addr_rcrds} data={data}"
                 )
             }
             Repr::ReportRecordReprs(records) => {
                 let count = records.len();
-                write!(f, "MLD report nr_mcast_addr_rcrds={count}")
+                write!(f, "MLD report nr_mcast_addr_rcrds={count}")?;
+                fmt_records(f, records)
             }
         }
     }
@@ -55,36 +59,60 @@ impl fmt::Display for Repr<'_> {
 
 // The fields of a query behind its flag.
 #[derive(Clone, Copy)]
-struct Counts {
+struct Counts<'a> {
     qrv: u8,
     qqic: u8,
     num_srcs: u16,
-    len: usize,
+    data: &'a [u8],
 }
 
-impl fmt::Display for Counts {
-    ghost output = { λ it. Some (counts_display it.qrv it.qqic it.num_srcs it.len) };
+impl fmt::Display for Counts<'_> {
+    ghost output = { λ it. Some (counts_display it.qrv it.qqic it.num_srcs it.«data».now) };
 
     fn fmt<W: fmt::Write>(&self, f: &mut fmt::Formatter<W>) -> fmt::Result {
         write!(
             f,
-            " qrv={} qqic={} num_srcs={} len={}",
-            self.qrv, self.qqic, self.num_srcs, self.len
+            " qrv={} qqic={} num_srcs={} data={}",
+            self.qrv,
+            self.qqic,
+            self.num_srcs,
+            Digits(self.data)
         )
     }
 }
 
-/// The record with its fields and the bytes of what stands after them, as
-/// `MLD record record_type=MODE_IS_EXCLUDE aux_data_len=0 num_srcs=0 mcast_addr=ff02::2 len=0`.
+// What records print, each in parentheses behind a space.
+fn fmt_records<W: fmt::Write>(
+    f: &mut fmt::Formatter<W>,
+    records: &[AddressRecordRepr<'_>],
+) -> fmt::Result
+    ensures { WritesOnOk W.write_str_gives f.old result (records_display (values_of records.now)) f.new }
+{
+    for record in records {
+        write!(f, " ({record})")?;
+    }
+    Ok(())
+}
+
+/// The record with its fields, as
+/// `MLD record record_type=MODE_IS_EXCLUDE aux_data_len=0 num_srcs=0 mcast_addr=ff02::2 payload=-`.
 impl fmt::Display for AddressRecordRepr<'_> {
     ghost output = { λ repr. Some (record_display (record_value repr)) };
 
+    #[tactic(auto, unfolding(crate::specs::MldDisplay::record_display))]
     fn fmt<W: fmt::Write>(&self, f: &mut fmt::Formatter<W>) -> fmt::Result {
-        let len = self.payload.len();
+        let AddressRecordRepr {
+            record_type,
+            aux_data_len,
+            num_srcs,
+            mcast_addr,
+            payload,
+        } = *self;
+        let payload = Digits(payload);
         write!(
             f,
-            "MLD record record_type={} aux_data_len={} num_srcs={} mcast_addr={} len={len}",
-            self.record_type, self.aux_data_len, self.num_srcs, self.mcast_addr
+            "MLD record record_type={record_type} aux_data_len={aux_data_len} num_srcs={num_srcs} \
+             mcast_addr={mcast_addr} payload={payload}"
         )
     }
 }

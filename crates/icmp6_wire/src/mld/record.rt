@@ -27,7 +27,7 @@ pub struct AddressRecord<T: Octets> {
 
 impl<T: Octets> AddressRecord<T> {
     /// The view of these octets, whatever they are.
-    pub fn new_unchecked(buffer: T) -> AddressRecord<T>
+    pub const fn new_unchecked(buffer: T) -> AddressRecord<T>
         ensures { inner result ≡ buffer }
     {
         AddressRecord { buffer }
@@ -209,7 +209,7 @@ pub struct AddressRecordRepr<'a> {
 
 impl<'a> AddressRecordRepr<'a> {
     /// A record of this type for a group, with no sources and no auxiliary data.
-    pub fn new(record_type: RecordType, mcast_addr: Ipv6Address) -> AddressRecordRepr<'a>
+    pub const fn new(record_type: RecordType, mcast_addr: Ipv6Address) -> AddressRecordRepr<'a>
         ensures { value_of result ≡ address_record record_type 0 0 mcast_addr [] }
     {
         AddressRecordRepr {

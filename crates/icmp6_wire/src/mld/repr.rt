@@ -12,6 +12,7 @@ ghost use Rattle.icmp6_wire.specs.Icmpv6Tables.{is_mld};
 ghost use Rattle.icmp6_wire.specs.Mld.{MldValue, values_of, value_of, query_fields, report_fields, record_texts};
 ghost use Rattle.icmp6_wire.specs.Mld.{message_fields, text};
 ghost use Rattle.icmp6_wire.specs.Mld.{text_len, told_len, AreGroups, CanEmit, IsMessage, format, Emits};
+ghost use Rattle.icmp6_wire.specs.MldIterators.{AreGiven};
 ghost use Rattle.icmp6_wire.specs.MldRecord.{value_of as record_value, text as record_text};
 
 use super::field;
@@ -69,7 +70,9 @@ pub enum Repr<'a> {
         /// The records, which [`Records`](super::Records) gives in turn, and what stands behind them.
         data: &'a [u8],
     },
-    /// A report to be written, by its records.
+    /// A report to be written, by its records, of which the fields alone are written. So [`Records`](super::Records)
+    /// gives back those that count neither sources nor auxiliary data, with an empty payload, and refuses one that
+    /// does as cut. A report of records with sources is written as `Report`, whose data has them.
     ReportRecordReprs(&'a [AddressRecordRepr<'a>]),
 }
 
@@ -104,7 +107,7 @@ impl<'a> Repr<'a> {
 
     /// The bytes that the message takes; of a list of records those before it, 8. Requires that a `usize` holds their
     /// number.
-    pub fn buffer_len(&self) -> usize
+    pub const fn buffer_len(&self) -> usize
         requires { told_len (value_of self.now) < 2 ^ 64 }
         ensures { result ≡ told_len (value_of self.now) }
     {
@@ -117,7 +120,7 @@ impl<'a> Repr<'a> {
     /// The bytes that the packet of the message has, a list of records counted. Requires that a `usize` holds their
     /// number.
     #[tactic(auto, using(crate::proofs::MldTexts::counts))]
-    pub fn packet_len(&self) -> usize
+    pub const fn packet_len(&self) -> usize
         requires { text_len (value_of self.now) < 2 ^ 64 }
         ensures value { result ≡ text_len (value_of self.now) }
         ensures exact { result ≡ length (text (value_of self.now)) }
@@ -133,12 +136,13 @@ impl<'a> Repr<'a> {
 
     /// Writes the message over the front of the octets, with the checksum zero; the others stay. Requires exactly
     /// `packet_len()` bytes, of a list of records at least as many; a robustness variable below 8; and at most 65,535
-    /// records, each of a group.
+    /// records, each of a group. What records count behind their fields is not written.
     pub fn emit<T: OctetsMut>(&self, packet: &mut Packet<T>)
         requires { CanEmit (value_of self.now) (T.bytes (inner packet.old)) }
         ensures place { inner packet.new ≡ T.put (inner packet.old) (T.bytes (inner packet.new)) }
         ensures emits { Emits (value_of self.now) (T.bytes (inner packet.old))
             (T.bytes (inner packet.new)) }
+        ensures records { AreGiven (value_of self.now) (T.bytes (inner packet.new)) }
     {
         self.emit_into(packet.buffer.octets_mut());
     }
@@ -146,7 +150,8 @@ impl<'a> Repr<'a> {
     /// The same into a slice. Give it exactly `packet_len()` bytes.
     pub fn emit_into(&self, octets: &mut [u8])
         requires { CanEmit (value_of self.now) octets.old }
-        ensures { Emits (value_of self.now) octets.old octets.new }
+        ensures emits { Emits (value_of self.now) octets.old octets.new }
+        ensures records { AreGiven (value_of self.now) octets.new }
     {
         self.write(octets);
     }

@@ -8,11 +8,12 @@ ghost use Rattle.icmp6_wire.specs.NdiscDisplay.{repr_display, times_display, opt
 ghost use Rattle.icmp6_wire.specs.NdiscFound.{link_of, packet_of};
 
 use super::Repr;
+use opt_wire::digits::Digits;
 use opt_wire::ndiscoption::{PrefixInformation, RedirectedHeader};
 use std::fmt;
 use wirebase::{Duration, RawHardwareAddress};
 
-/// The message with its fields and the options that are there, flags by their names, as
+/// The message with its fields and the options that are there, flags by their names and octets in hexadecimal, as
 /// `NDISC neighbor solicitation target_addr=fe80::2 lladdr=52:54:00:12:34:56`.
 impl fmt::Display for Repr<'_> {
     ghost output = { λ repr. Some (repr_display (value_of repr)) };
@@ -166,7 +167,20 @@ impl fmt::Display for Prefix {
     #[tactic(auto, unfolding(crate::specs::NdiscDisplay::prefix_display))]
     fn fmt<W: fmt::Write>(&self, f: &mut fmt::Formatter<W>) -> fmt::Result {
         match self.0 {
-            Some(info) => write!(f, " prefix_info={}/{}", info.prefix, info.prefix_len),
+            Some(info) => {
+                let PrefixInformation {
+                    prefix_len,
+                    flags,
+                    valid_lifetime,
+                    preferred_lifetime,
+                    prefix,
+                } = info;
+                write!(
+                    f,
+                    " prefix_info=(prefix={prefix}/{prefix_len} flags={flags} \
+                     valid_lifetime={valid_lifetime} preferred_lifetime={preferred_lifetime})"
+                )
+            }
             None => Ok(()),
         }
     }
@@ -182,8 +196,13 @@ impl fmt::Display for Redirected<'_> {
     fn fmt<W: fmt::Write>(&self, f: &mut fmt::Formatter<W>) -> fmt::Result {
         match self.0 {
             Some(packet) => {
-                let len = packet.data.len();
-                write!(f, " redirected_hdr=({} len={len})", packet.header)
+                let RedirectedHeader { header, data } = packet;
+                let payload_len = header.payload_len;
+                let data = Digits(data);
+                write!(
+                    f,
+                    " redirected_hdr=({header} payload_len={payload_len} data={data})"
+                )
             }
             None => Ok(()),
         }

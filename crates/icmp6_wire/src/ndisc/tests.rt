@@ -1,6 +1,7 @@
-ghost use Rattle.std.specs.Prelude.{◌≡◌, ◌<◌, ◌≤◌, length};
+ghost use Rattle.std.specs.Prelude.{◌≡◌, ◌<◌, ◌≤◌, ◌×◌, length};
 ghost use Rattle.icmp6_wire.specs.Ndisc.{value_of, text_len, CanEmit};
 ghost use Rattle.wirebase.specs.Duration.{seconds_of};
+ghost use Rattle.opt_wire.specs.NdiscOptionRepr.{HasSeconds};
 
 use super::{NeighborFlags, Repr, RouterFlags};
 use crate::icmpv6::Packet;
@@ -87,9 +88,9 @@ fn check_both<const N: usize>(rt: &impl Abort, repr: &Repr<'_>, octets: &[u8; N]
     check_read(rt, octets, repr);
 }
 
-// Hop limit 64, flag M, a lifetime of 900 s, times of 900 ms, and a link-layer address.
+// Hop limit 64, flag M, a lifetime of 900 s, times of 16,778,216 and 4,278,125,344 ms, and a link-layer address.
 const ROUTER_ADVERT: [u8; 24] = [
-    0x86, 0x00, 0x00, 0x00, 0x40, 0x80, 0x03, 0x84, 0x00, 0x00, 0x03, 0x84, 0x00, 0x00, 0x03, 0x84,
+    0x86, 0x00, 0x00, 0x00, 0x40, 0x80, 0x03, 0x84, 0x01, 0x00, 0x03, 0xe8, 0xfe, 0xff, 0x03, 0x20,
     0x01, 0x01, 0x52, 0x54, 0x00, 0x12, 0x34, 0x56,
 ];
 
@@ -110,8 +111,8 @@ fn router_advert_of(router_lifetime: Duration) -> Repr<'static>
         hop_limit: 64,
         flags: RouterFlags::MANAGED,
         router_lifetime,
-        reachable_time: Duration::from_millis(900),
-        retrans_time: Duration::from_millis(900),
+        reachable_time: Duration::from_millis(16_778_216),
+        retrans_time: Duration::from_millis(4_278_125_344),
         lladdr: Some(RawHardwareAddress::from_bytes(&[0x52, 0x54, 0x00, 0x12, 0x34, 0x56])),
         mtu: None,
         prefix_info: None,
@@ -182,7 +183,7 @@ fn reads_icmpv6(bytes: &[u8], repr: &icmpv6::Repr<'_>, caps: &ChecksumCapabiliti
 
 // The same with the checksum that it has from fe80::1 to fe80::2.
 const SEALED_ADVERT: [u8; 24] = [
-    0x86, 0x00, 0xa9, 0xde, 0x40, 0x80, 0x03, 0x84, 0x00, 0x00, 0x03, 0x84, 0x00, 0x00, 0x03, 0x84,
+    0x86, 0x00, 0xa9, 0xde, 0x40, 0x80, 0x03, 0x84, 0x01, 0x00, 0x03, 0xe8, 0xfe, 0xff, 0x03, 0x20,
     0x01, 0x01, 0x52, 0x54, 0x00, 0x12, 0x34, 0x56,
 ];
 
@@ -228,7 +229,7 @@ fn a_turned_bit_and_another_code_of_an_advertisement_are_refused(rt: HostRuntime
 
 // The same with an MTU of 1,500 and the prefix fe80::1/64, valid for 900 seconds and preferred for 1,000.
 const FULL_ROUTER_ADVERT: [u8; 64] = [
-    0x86, 0x00, 0x00, 0x00, 0x40, 0x80, 0x03, 0x84, 0x00, 0x00, 0x03, 0x84, 0x00, 0x00, 0x03, 0x84,
+    0x86, 0x00, 0x00, 0x00, 0x40, 0x80, 0x03, 0x84, 0x01, 0x00, 0x03, 0xe8, 0xfe, 0xff, 0x03, 0x20,
     0x01, 0x01, 0x52, 0x54, 0x00, 0x12, 0x34, 0x56, 0x05, 0x01, 0x00, 0x00, 0x00, 0x00, 0x05, 0xdc,
     0x03, 0x04, 0x40, 0xc0, 0x00, 0x00, 0x03, 0x84, 0x00, 0x00, 0x03, 0xe8, 0x00, 0x00, 0x00, 0x00,
     0xfe, 0x80, 0, 0, 0, 0, 0, 0, 0, 0, 0, 0, 0, 0, 0, 0x01,
@@ -242,17 +243,23 @@ fn full_router_advert() -> Repr<'static>
         hop_limit: 64,
         flags: RouterFlags::MANAGED,
         router_lifetime: Duration::from_secs(900),
-        reachable_time: Duration::from_millis(900),
-        retrans_time: Duration::from_millis(900),
+        reachable_time: Duration::from_millis(16_778_216),
+        retrans_time: Duration::from_millis(4_278_125_344),
         lladdr: Some(RawHardwareAddress::from_bytes(&[0x52, 0x54, 0x00, 0x12, 0x34, 0x56])),
         mtu: Some(1_500),
-        prefix_info: Some(PrefixInformation {
-            prefix_len: 64,
-            flags: PrefixInfoFlags::ON_LINK | PrefixInfoFlags::ADDRCONF,
-            valid_lifetime: Duration::from_secs(900),
-            preferred_lifetime: Duration::from_secs(1_000),
-            prefix: here(),
-        }),
+        prefix_info: Some(prefix()),
+    }
+}
+
+fn prefix() -> PrefixInformation
+    ensures { HasSeconds result.valid_lifetime × HasSeconds result.preferred_lifetime }
+{
+    PrefixInformation {
+        prefix_len: 64,
+        flags: PrefixInfoFlags::ON_LINK | PrefixInfoFlags::ADDRCONF,
+        valid_lifetime: Duration::from_secs(900),
+        preferred_lifetime: Duration::from_secs(1_000),
+        prefix: here(),
     }
 }
 

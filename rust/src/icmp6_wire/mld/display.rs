@@ -1,10 +1,12 @@
 // Made from crates/icmp6_wire/src/mld/display.rt by rust/erase.
-//! What messages and records print, each in one line.
+//! What messages and records print, each in one line, octets in hexadecimal.
 
 use super::{AddressRecordRepr, Repr};
+use crate::opt_wire::digits::Digits;
 use core::fmt;
 
-/// The message with its fields and the bytes of its data, as `MLD report nr_mcast_addr_rcrds=1 len=20`.
+/// The message with its fields, as `MLD report nr_mcast_addr_rcrds=0 data=-`. In place of data a list has each record in
+/// parentheses.
 impl fmt::Display for Repr<'_> {
     fn fmt(&self, f: &mut fmt::Formatter<'_>) -> fmt::Result {
         match self {
@@ -21,7 +23,7 @@ impl fmt::Display for Repr<'_> {
                     qrv: *qrv,
                     qqic: *qqic,
                     num_srcs: *num_srcs,
-                    len: data.len(),
+                    data,
                 };
                 write!(
                     f,
@@ -32,15 +34,16 @@ impl fmt::Display for Repr<'_> {
                 nr_mcast_addr_rcrds,
                 data,
             } => {
-                let len = data.len();
+                let data = Digits(data);
                 write!(
                     f,
-                    "MLD report nr_mcast_addr_rcrds={nr_mcast_addr_rcrds} len={len}"
+                    "MLD report nr_mcast_addr_rcrds={nr_mcast_addr_rcrds} data={data}"
                 )
             }
             Repr::ReportRecordReprs(records) => {
                 let count = records.len();
-                write!(f, "MLD report nr_mcast_addr_rcrds={count}")
+                write!(f, "MLD report nr_mcast_addr_rcrds={count}")?;
+                fmt_records(f, records)
             }
         }
     }
@@ -48,32 +51,50 @@ impl fmt::Display for Repr<'_> {
 
 // The fields of a query behind its flag.
 #[derive(Clone, Copy)]
-struct Counts {
+struct Counts<'a> {
     qrv: u8,
     qqic: u8,
     num_srcs: u16,
-    len: usize,
+    data: &'a [u8],
 }
 
-impl fmt::Display for Counts {
+impl fmt::Display for Counts<'_> {
     fn fmt(&self, f: &mut fmt::Formatter<'_>) -> fmt::Result {
         write!(
             f,
-            " qrv={} qqic={} num_srcs={} len={}",
-            self.qrv, self.qqic, self.num_srcs, self.len
+            " qrv={} qqic={} num_srcs={} data={}",
+            self.qrv,
+            self.qqic,
+            self.num_srcs,
+            Digits(self.data)
         )
     }
 }
 
-/// The record with its fields and the bytes of what stands after them, as
-/// `MLD record record_type=MODE_IS_EXCLUDE aux_data_len=0 num_srcs=0 mcast_addr=ff02::2 len=0`.
+// What records print, each in parentheses behind a space.
+fn fmt_records(f: &mut fmt::Formatter<'_>, records: &[AddressRecordRepr<'_>]) -> fmt::Result {
+    for record in records {
+        write!(f, " ({record})")?;
+    }
+    Ok(())
+}
+
+/// The record with its fields, as
+/// `MLD record record_type=MODE_IS_EXCLUDE aux_data_len=0 num_srcs=0 mcast_addr=ff02::2 payload=-`.
 impl fmt::Display for AddressRecordRepr<'_> {
     fn fmt(&self, f: &mut fmt::Formatter<'_>) -> fmt::Result {
-        let len = self.payload.len();
+        let AddressRecordRepr {
+            record_type,
+            aux_data_len,
+            num_srcs,
+            mcast_addr,
+            payload,
+        } = *self;
+        let payload = Digits(payload);
         write!(
             f,
-            "MLD record record_type={} aux_data_len={} num_srcs={} mcast_addr={} len={len}",
-            self.record_type, self.aux_data_len, self.num_srcs, self.mcast_addr
+            "MLD record record_type={record_type} aux_data_len={aux_data_len} num_srcs={num_srcs} \
+             mcast_addr={mcast_addr} payload={payload}"
         )
     }
 }

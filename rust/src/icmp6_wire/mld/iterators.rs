@@ -12,7 +12,7 @@ const WORD_LEN: usize = 4;
 /// The records of a report in turn, each with its sources and its auxiliary data as its payload. Where the octets end
 /// before a record does, one refusal, which tells the check that fails first, and then the end for good. What stands
 /// behind the last record is left out (RFC 3810 section 5.2.11).
-#[derive(Debug)]
+#[derive(Debug, Clone)]
 pub struct Records<'a> {
     // How many records are left, and the octets behind those that were given.
     left: u16,
@@ -91,7 +91,7 @@ impl<'a> AddressRecordRepr<'a> {
 }
 
 /// The sources of a record or of a query in turn (RFC 3810 sections 5.2.9 and 5.1.11).
-#[derive(Debug)]
+#[derive(Debug, Clone)]
 pub struct Sources<'a> {
     // The octets behind the sources that were given.
     rest: &'a [u8],

@@ -169,7 +169,7 @@ pub struct AddressRecordRepr<'a> {
 
 impl<'a> AddressRecordRepr<'a> {
     /// A record of this type for a group, with no sources and no auxiliary data.
-    pub fn new(record_type: RecordType, mcast_addr: Ipv6Address) -> AddressRecordRepr<'a> {
+    pub const fn new(record_type: RecordType, mcast_addr: Ipv6Address) -> AddressRecordRepr<'a> {
         AddressRecordRepr {
             record_type,
             aux_data_len: 0,

@@ -56,7 +56,9 @@ pub enum Repr<'a> {
         /// The records, which [`Records`](super::Records) gives in turn, and what stands behind them.
         data: &'a [u8],
     },
-    /// A report to be written, by its records.
+    /// A report to be written, by its records, of which the fields alone are written. So [`Records`](super::Records)
+    /// gives back those that count neither sources nor auxiliary data, with an empty payload, and refuses one that
+    /// does as cut. A report of records with sources is written as `Report`, whose data has them.
     ReportRecordReprs(&'a [AddressRecordRepr<'a>]),
 }
 
@@ -78,11 +80,7 @@ impl<'a> Repr<'a> {
 
     /// The bytes that the message takes; of a list of records those before it, 8. Requires that a `usize` holds their
     /// number.
-    ///
-    /// # Panics
-    ///
-    /// May panic where what is asked for above does not hold.
-    pub fn buffer_len(&self) -> usize {
+    pub const fn buffer_len(&self) -> usize {
         match self {
             Repr::ReportRecordReprs(_) => field::NR_MCAST_RCRDS.end,
             _ => self.packet_len(),
@@ -91,11 +89,7 @@ impl<'a> Repr<'a> {
 
     /// The bytes that the packet of the message has, a list of records counted. Requires that a `usize` holds their
     /// number.
-    ///
-    /// # Panics
-    ///
-    /// May panic where what is asked for above does not hold.
-    pub fn packet_len(&self) -> usize {
+    pub const fn packet_len(&self) -> usize {
         match self {
             Repr::Query { data, .. } => field::QUERY_NUM_SRCS.end + data.len(),
             Repr::Report { data, .. } => field::NR_MCAST_RCRDS.end + data.len(),
@@ -107,20 +101,12 @@ impl<'a> Repr<'a> {
 
     /// Writes the message over the front of the octets, with the checksum zero; the others stay. Requires exactly
     /// `packet_len()` bytes, of a list of records at least as many; a robustness variable below 8; and at most 65,535
-    /// records, each of a group.
-    ///
-    /// # Panics
-    ///
-    /// May panic where what is asked for above does not hold.
+    /// records, each of a group. What records count behind their fields is not written.
     pub fn emit<T: OctetsMut>(&self, packet: &mut Packet<T>) {
         self.emit_into(packet.buffer.octets_mut());
     }
 
     /// The same into a slice. Give it exactly `packet_len()` bytes.
-    ///
-    /// # Panics
-    ///
-    /// May panic where what is asked for above does not hold.
     pub fn emit_into(&self, octets: &mut [u8]) {
         self.write(octets);
     }

@@ -2,11 +2,12 @@
 //! What messages print, each in one line.
 
 use super::Repr;
+use crate::opt_wire::digits::Digits;
 use crate::opt_wire::ndiscoption::{PrefixInformation, RedirectedHeader};
 use crate::wirebase::{Duration, RawHardwareAddress};
 use core::fmt;
 
-/// The message with its fields and the options that are there, flags by their names, as
+/// The message with its fields and the options that are there, flags by their names and octets in hexadecimal, as
 /// `NDISC neighbor solicitation target_addr=fe80::2 lladdr=52:54:00:12:34:56`.
 impl fmt::Display for Repr<'_> {
     fn fmt(&self, f: &mut fmt::Formatter<'_>) -> fmt::Result {
@@ -143,7 +144,20 @@ struct Prefix(Option<PrefixInformation>);
 impl fmt::Display for Prefix {
     fn fmt(&self, f: &mut fmt::Formatter<'_>) -> fmt::Result {
         match self.0 {
-            Some(info) => write!(f, " prefix_info={}/{}", info.prefix, info.prefix_len),
+            Some(info) => {
+                let PrefixInformation {
+                    prefix_len,
+                    flags,
+                    valid_lifetime,
+                    preferred_lifetime,
+                    prefix,
+                } = info;
+                write!(
+                    f,
+                    " prefix_info=(prefix={prefix}/{prefix_len} flags={flags} \
+                     valid_lifetime={valid_lifetime} preferred_lifetime={preferred_lifetime})"
+                )
+            }
             None => Ok(()),
         }
     }
@@ -156,8 +170,13 @@ impl fmt::Display for Redirected<'_> {
     fn fmt(&self, f: &mut fmt::Formatter<'_>) -> fmt::Result {
         match self.0 {
             Some(packet) => {
-                let len = packet.data.len();
-                write!(f, " redirected_hdr=({} len={len})", packet.header)
+                let RedirectedHeader { header, data } = packet;
+                let payload_len = header.payload_len;
+                let data = Digits(data);
+                write!(
+                    f,
+                    " redirected_hdr=({header} payload_len={payload_len} data={data})"
+                )
             }
             None => Ok(()),
         }

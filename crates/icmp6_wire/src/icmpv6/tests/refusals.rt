@@ -30,6 +30,7 @@ fn the_first_check_that_fails_is_told(rt: HostRuntime) {
     check_refusal(&rt, &query, Checksum::Both, Some(Refusal::Length));
     let report = [0x8f, 1, 0, 0, 0, 0, 0, 0];
     check_refusal(&rt, &report, Checksum::None, Some(Refusal::Code(1)));
+    check_refusal(&rt, &report, Checksum::Both, Some(Refusal::Checksum));
 }
 
 #[test]
@@ -60,6 +61,9 @@ fn refused_errors_are_told(rt: HostRuntime) {
     check_refusal(&rt, &TOO_BIG[..47], Checksum::None, Some(Refusal::Quote));
     let other = behind(&[0x02, 0x05, 0, 0, 0, 0, 0x05, 0xdc]);
     check_refusal(&rt, &other, Checksum::None, Some(Refusal::Code(5)));
+    check_refusal(&rt, &other[..47], Checksum::None, Some(Refusal::Quote));
+    check_refusal(&rt, &other[..47], Checksum::Both, Some(Refusal::Checksum));
+    check_refusal(&rt, &other[..7], Checksum::Both, Some(Refusal::Short));
 }
 
 #[test]

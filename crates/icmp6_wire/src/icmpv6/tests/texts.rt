@@ -79,6 +79,6 @@ fn other_messages_print_as_they_do_alone(rt: HostRuntime) {
         &rt,
         alloc,
         &Repr::Mld(report),
-        "MLD report nr_mcast_addr_rcrds=0 len=0",
+        "MLD report nr_mcast_addr_rcrds=0 data=-",
     );
 }

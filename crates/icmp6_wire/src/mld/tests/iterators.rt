@@ -1,8 +1,11 @@
+ghost use Rattle.wirebase.specs.Ipv6Address.{IsMulticast};
+
 use super::{QUERY, short_record};
 use crate::icmpv6::Packet;
 use crate::mld::{AddressRecordRepr, RecordRefusal, RecordType, Records, Repr, Sources};
 use crate::testing::{holds_of, same, same_of};
 use std::process::Abort;
+use std::test::Fail;
 use wirebase::{IPV6_LINK_LOCAL_ALL_NODES, IPV6_LINK_LOCAL_ALL_ROUTERS, Ipv6Address};
 
 // A record of ff02::1 with the source ff02::2 and a word of auxiliary data, and one of ff02::2 with neither.
@@ -12,7 +15,9 @@ const RECORDS: [u8; 60] = [
     0x02, 0, 0, 0, 0, 0, 0, 0, 0, 0, 0, 0, 0, 0, 0x02,
 ];
 
-fn with_source() -> AddressRecordRepr<'static> {
+fn with_source() -> AddressRecordRepr<'static>
+    ensures { IsMulticast result.mcast_addr }
+{
     AddressRecordRepr {
         record_type: RecordType::ModeIsInclude,
         aux_data_len: 1,
@@ -22,7 +27,9 @@ fn with_source() -> AddressRecordRepr<'static> {
     }
 }
 
-fn bare() -> AddressRecordRepr<'static> {
+fn bare() -> AddressRecordRepr<'static>
+    ensures { IsMulticast result.mcast_addr }
+{
     AddressRecordRepr::new(RecordType::ChangeToExclude, IPV6_LINK_LOCAL_ALL_ROUTERS)
 }
 
@@ -59,6 +66,35 @@ fn a_record_that_is_cut_is_refused_once(rt: HostRuntime) {
     same(&rt, records.next(), Some(Ok(with_source())));
     same(&rt, records.next(), Some(Ok(bare())));
     same(&rt, records.next(), Some(Err(RecordRefusal::Short)));
+    same(&rt, records.next(), None);
+}
+
+#[test]
+fn copies_of_records_and_sources_go_on_from_the_same_place(rt: HostRuntime) -> Result<(), Fail> {
+    let mut records = Records::new(2, &RECORDS);
+    same(&rt, records.next(), Some(Ok(with_source())));
+    let mut copy = records.clone()?;
+    same(&rt, copy.next(), Some(Ok(bare())));
+    same(&rt, copy.next(), None);
+    same(&rt, records.next(), Some(Ok(bare())));
+    let mut sources = with_source().sources();
+    let mut copy = sources.clone()?;
+    same(&rt, copy.next(), Some(IPV6_LINK_LOCAL_ALL_ROUTERS));
+    same(&rt, sources.next(), Some(IPV6_LINK_LOCAL_ALL_ROUTERS));
+    Ok(())
+}
+
+#[test]
+fn records_that_count_what_is_not_written_are_cut(rt: HostRuntime) {
+    let mut octets = [0x2a; 48];
+    Repr::ReportRecordReprs(&[bare(), with_source()]).emit_into(&mut octets);
+    let mut records = Records::new(2, &octets[8..]);
+    same(&rt, records.next(), Some(Ok(bare())));
+    same(&rt, records.next(), Some(Err(RecordRefusal::Cut)));
+    // Those that count nothing behind their fields are the ones which were written, whatever stands behind them.
+    Repr::ReportRecordReprs(&[bare()]).emit_into(&mut octets);
+    let mut records = Records::new(1, &octets[8..]);
+    same(&rt, records.next(), Some(Ok(bare())));
     same(&rt, records.next(), None);
 }
 

@@ -5,9 +5,9 @@ use crate::testing::same;
 use bitflags::Flags as _;
 use wirebase::Duration;
 
-// Hop limit 64, flag M with bits that have no name, a lifetime of 900 s, and times of 900 and 901 ms.
+// Hop limit 64, flag M with bits that have no name, a lifetime of 900 s, and times of 16,778,216 and 4,278,125,344 ms.
 const ADVERT_FIELDS: [u8; 16] = [
-    0x86, 0x00, 0xa9, 0xde, 0x40, 0xbf, 0x03, 0x84, 0x00, 0x00, 0x03, 0x84, 0x00, 0x00, 0x03, 0x85,
+    0x86, 0x00, 0xa9, 0xde, 0x40, 0xbf, 0x03, 0x84, 0x01, 0x00, 0x03, 0xe8, 0xfe, 0xff, 0x03, 0x20,
 ];
 
 #[test]
@@ -22,8 +22,8 @@ fn fields_of_a_router_advertisement(rt: HostRuntime) {
     ];
     let wanted = [
         Duration::from_secs(900),
-        Duration::from_millis(900),
-        Duration::from_millis(901),
+        Duration::from_millis(16_778_216),
+        Duration::from_millis(4_278_125_344),
     ];
     same(&rt, times, wanted);
 }
@@ -35,14 +35,14 @@ fn fields_of_a_router_advertisement_are_set(rt: HostRuntime) {
     packet.set_current_hop_limit(64);
     packet.set_router_flags(RouterFlags::all());
     packet.set_router_lifetime(Duration::from_micros(900_999_999));
-    packet.set_reachable_time(Duration::from_micros(900_999));
-    packet.set_retrans_time(Duration::from_millis(901));
+    packet.set_reachable_time(Duration::from_micros(16_778_216_999));
+    packet.set_retrans_time(Duration::from_millis(4_278_125_344));
     same(
         &rt,
         buffer,
         [
-            0x2a, 0x2a, 0x2a, 0x2a, 0x40, 0xc0, 0x03, 0x84, 0x00, 0x00, 0x03, 0x84, 0x00, 0x00,
-            0x03, 0x85,
+            0x2a, 0x2a, 0x2a, 0x2a, 0x40, 0xc0, 0x03, 0x84, 0x01, 0x00, 0x03, 0xe8, 0xfe, 0xff,
+            0x03, 0x20,
         ],
     );
 }

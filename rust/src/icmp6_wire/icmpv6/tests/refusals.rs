@@ -30,6 +30,7 @@ fn the_first_check_that_fails_is_told() {
     check_refusal(&query, Checksum::Both, Some(Refusal::Length));
     let report = [0x8f, 1, 0, 0, 0, 0, 0, 0];
     check_refusal(&report, Checksum::None, Some(Refusal::Code(1)));
+    check_refusal(&report, Checksum::Both, Some(Refusal::Checksum));
 }
 
 #[test]
@@ -56,6 +57,9 @@ fn refused_errors_are_told() {
     check_refusal(&TOO_BIG[..47], Checksum::None, Some(Refusal::Quote));
     let other = behind(&[0x02, 0x05, 0, 0, 0, 0, 0x05, 0xdc]);
     check_refusal(&other, Checksum::None, Some(Refusal::Code(5)));
+    check_refusal(&other[..47], Checksum::None, Some(Refusal::Quote));
+    check_refusal(&other[..47], Checksum::Both, Some(Refusal::Checksum));
+    check_refusal(&other[..7], Checksum::Both, Some(Refusal::Short));
 }
 
 #[test]

@@ -55,5 +55,8 @@ fn other_messages_print_as_they_do_alone() {
         nr_mcast_addr_rcrds: 0,
         data: &[],
     };
-    prints(&Repr::Mld(report), "MLD report nr_mcast_addr_rcrds=0 len=0");
+    prints(
+        &Repr::Mld(report),
+        "MLD report nr_mcast_addr_rcrds=0 data=-",
+    );
 }

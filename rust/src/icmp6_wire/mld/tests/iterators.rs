@@ -1,4 +1,5 @@
 // Made from crates/icmp6_wire/src/mld/tests/iterators.rt by rust/erase.
+
 use super::{QUERY, short_record};
 use crate::icmp6_wire::icmpv6::Packet;
 use crate::icmp6_wire::mld::{
@@ -6,6 +7,9 @@ use crate::icmp6_wire::mld::{
 };
 use crate::icmp6_wire::testing::{holds_of, same, same_of};
 use crate::wirebase::{IPV6_LINK_LOCAL_ALL_NODES, IPV6_LINK_LOCAL_ALL_ROUTERS, Ipv6Address};
+#[allow(unused_imports)]
+use rattle_std::prelude::*;
+use rattle_std::test::Fail;
 
 // A record of ff02::1 with the source ff02::2 and a word of auxiliary data, and one of ff02::2 with neither.
 const RECORDS: [u8; 60] = [
@@ -61,6 +65,35 @@ fn a_record_that_is_cut_is_refused_once() {
     same(records.next(), Some(Ok(with_source())));
     same(records.next(), Some(Ok(bare())));
     same(records.next(), Some(Err(RecordRefusal::Short)));
+    same(records.next(), None);
+}
+
+#[test]
+fn copies_of_records_and_sources_go_on_from_the_same_place() -> Result<(), Fail> {
+    let mut records = Records::new(2, &RECORDS);
+    same(records.next(), Some(Ok(with_source())));
+    let mut copy = records.try_clone()?;
+    same(copy.next(), Some(Ok(bare())));
+    same(copy.next(), None);
+    same(records.next(), Some(Ok(bare())));
+    let mut sources = with_source().sources();
+    let mut copy = sources.try_clone()?;
+    same(copy.next(), Some(IPV6_LINK_LOCAL_ALL_ROUTERS));
+    same(sources.next(), Some(IPV6_LINK_LOCAL_ALL_ROUTERS));
+    Ok(())
+}
+
+#[test]
+fn records_that_count_what_is_not_written_are_cut() {
+    let mut octets = [0x2a; 48];
+    Repr::ReportRecordReprs(&[bare(), with_source()]).emit_into(&mut octets);
+    let mut records = Records::new(2, &octets[8..]);
+    same(records.next(), Some(Ok(bare())));
+    same(records.next(), Some(Err(RecordRefusal::Cut)));
+    // Those that count nothing behind their fields are the ones which were written, whatever stands behind them.
+    Repr::ReportRecordReprs(&[bare()]).emit_into(&mut octets);
+    let mut records = Records::new(1, &octets[8..]);
+    same(records.next(), Some(Ok(bare())));
     same(records.next(), None);
 }
 

@@ -1,34 +1,82 @@
 // Made from crates/icmp6_wire/src/mld/tests/texts.rt by rust/erase.
 use super::{query, report_of, short_record};
 use crate::icmp6_wire::mld::{AddressRecordRepr, RecordType, Repr};
-use crate::icmp6_wire::testing::{prints, takes_writes};
-use crate::wirebase::IPV6_LINK_LOCAL_ALL_ROUTERS;
+use crate::icmp6_wire::testing::{print_differently, prints, takes_writes};
+use crate::wirebase::IPV6_LINK_LOCAL_ALL_NODES;
 
 #[test]
 fn texts_of_messages() {
     prints(
         &query(),
-        "MLD query max_resp_code=1024 mcast_addr=ff02::1 s_flag=true qrv=2 qqic=18 num_srcs=1 len=16",
+        "MLD query max_resp_code=1024 mcast_addr=ff02::1 s_flag=true qrv=2 qqic=18 num_srcs=1 \
+         data=ff020000000000000000000000000002",
     );
-    prints(&report_of(1), "MLD report nr_mcast_addr_rcrds=1 len=20");
-    takes_writes(&report_of(1), 4);
+    prints(
+        &report_of(1),
+        "MLD report nr_mcast_addr_rcrds=1 data=04000000ff020000000000000000000000000002",
+    );
+    let empty = Repr::Report {
+        nr_mcast_addr_rcrds: 0,
+        data: &[],
+    };
+    takes_writes(&empty, 4);
 }
 
 #[test]
-fn a_list_of_records_prints_how_many_they_are() {
-    let records = [AddressRecordRepr::new(
-        RecordType::ChangeToExclude,
-        IPV6_LINK_LOCAL_ALL_ROUTERS,
-    )];
-    let list = Repr::ReportRecordReprs(&records);
-    prints(&list, "MLD report nr_mcast_addr_rcrds=1");
+fn a_list_prints_each_record() {
+    let none = Repr::ReportRecordReprs(&[]);
+    prints(&none, "MLD report nr_mcast_addr_rcrds=0");
+    let leaves = AddressRecordRepr::new(RecordType::ChangeToInclude, IPV6_LINK_LOCAL_ALL_NODES);
+    let records = [leaves, short_record()];
+    prints(
+        &Repr::ReportRecordReprs(&records),
+        "MLD report nr_mcast_addr_rcrds=2 (MLD record record_type=CHANGE_TO_INCLUDE_MODE aux_data_len=0 num_srcs=0 \
+         mcast_addr=ff02::1 payload=-) (MLD record record_type=CHANGE_TO_EXCLUDE_MODE aux_data_len=1 num_srcs=2 \
+         mcast_addr=ff02::2 payload=aabb)",
+    );
+}
+
+#[test]
+fn records_that_differ_in_one_field_print_differently() {
+    let record = short_record();
+    let others = [
+        AddressRecordRepr {
+            record_type: RecordType::Unknown(4),
+            ..record
+        },
+        AddressRecordRepr {
+            aux_data_len: 2,
+            ..record
+        },
+        AddressRecordRepr {
+            num_srcs: 1,
+            ..record
+        },
+        AddressRecordRepr {
+            mcast_addr: IPV6_LINK_LOCAL_ALL_NODES,
+            ..record
+        },
+        AddressRecordRepr {
+            payload: &[0xaa, 0xbc],
+            ..record
+        },
+    ];
+    for other in others {
+        print_differently(&record, &other);
+        let lists = [[record], [other]];
+        print_differently(
+            &Repr::ReportRecordReprs(&lists[0]),
+            &Repr::ReportRecordReprs(&lists[1]),
+        );
+    }
 }
 
 #[test]
 fn texts_of_records() {
     prints(
         &short_record(),
-        "MLD record record_type=CHANGE_TO_EXCLUDE_MODE aux_data_len=1 num_srcs=2 mcast_addr=ff02::2 len=2",
+        "MLD record record_type=CHANGE_TO_EXCLUDE_MODE aux_data_len=1 num_srcs=2 mcast_addr=ff02::2 \
+         payload=aabb",
     );
 }
 
