@@ -31,6 +31,7 @@ const MIN_QUOTED_DATA: usize = 8;
 /// assert_eq!(Repr::parse(&Packet::new_unchecked(&*octets), &checksums), Ok(message));
 /// ```
 #[derive(Debug, PartialEq, Eq, Clone, Copy)]
+#[non_exhaustive]
 pub enum Repr<'a> {
     /// An echo request.
     EchoRequest {
@@ -121,6 +122,10 @@ impl<'a> Repr<'a> {
     }
 
     /// The bytes that the message takes. Requires that a `usize` holds their number.
+    ///
+    /// # Panics
+    ///
+    /// May panic where what is asked for above does not hold.
     pub const fn buffer_len(&self) -> usize {
         match self {
             Repr::EchoRequest { data, .. } => field::HEADER_END + data.len(),
@@ -134,12 +139,20 @@ impl<'a> Repr<'a> {
     /// computed, the checksum of all of them. Give exactly `buffer_len()` bytes: in a longer buffer the checksum covers
     /// what follows the message, in a shorter one an echo is cut. An echo requires at least 8 bytes; an error requires
     /// exactly `buffer_len()`, and that the quoted `payload_len` is at most 65,515.
+    ///
+    /// # Panics
+    ///
+    /// May panic where what is asked for above does not hold.
     pub fn emit<T: OctetsMut>(&self, packet: &mut Packet<T>, checksum_caps: &ChecksumCapabilities) {
         self.emit_into(packet.buffer.octets_mut(), checksum_caps);
     }
 
     /// The same into a slice. Give it exactly `buffer_len()` bytes: in a longer one the checksum covers what follows
     /// the message, in a shorter one an echo is cut.
+    ///
+    /// # Panics
+    ///
+    /// May panic where what is asked for above does not hold.
     pub fn emit_into(&self, octets: &mut [u8], checksum_caps: &ChecksumCapabilities) {
         self.write(octets, checksum_caps);
         seal(octets, checksum_caps);

@@ -80,6 +80,10 @@ impl<'a> Repr<'a> {
 
     /// The bytes that the message takes; of a list of records those before it, 8. Requires that a `usize` holds their
     /// number.
+    ///
+    /// # Panics
+    ///
+    /// May panic where what is asked for above does not hold.
     pub const fn buffer_len(&self) -> usize {
         match self {
             Repr::ReportRecordReprs(_) => field::NR_MCAST_RCRDS.end,
@@ -89,6 +93,10 @@ impl<'a> Repr<'a> {
 
     /// The bytes that the packet of the message has, a list of records counted. Requires that a `usize` holds their
     /// number.
+    ///
+    /// # Panics
+    ///
+    /// May panic where what is asked for above does not hold.
     pub const fn packet_len(&self) -> usize {
         match self {
             Repr::Query { data, .. } => field::QUERY_NUM_SRCS.end + data.len(),
@@ -102,11 +110,19 @@ impl<'a> Repr<'a> {
     /// Writes the message over the front of the octets, with the checksum zero; the others stay. Requires exactly
     /// `packet_len()` bytes, of a list of records at least as many; a robustness variable below 8; and at most 65,535
     /// records, each of a group. What records count behind their fields is not written.
+    ///
+    /// # Panics
+    ///
+    /// May panic where what is asked for above does not hold.
     pub fn emit<T: OctetsMut>(&self, packet: &mut Packet<T>) {
         self.emit_into(packet.buffer.octets_mut());
     }
 
     /// The same into a slice. Give it exactly `packet_len()` bytes.
+    ///
+    /// # Panics
+    ///
+    /// May panic where what is asked for above does not hold.
     pub fn emit_into(&self, octets: &mut [u8]) {
         self.write(octets);
     }

@@ -6,10 +6,10 @@ use crate::icmp6_wire::mld::{
     AddressRecordRepr, RecordRefusal, RecordType, Records, Repr, Sources,
 };
 use crate::icmp6_wire::testing::{holds_of, same, same_of};
-use crate::wirebase::{IPV6_LINK_LOCAL_ALL_NODES, IPV6_LINK_LOCAL_ALL_ROUTERS, Ipv6Address};
 #[allow(unused_imports)]
-use rattle_std::prelude::*;
-use rattle_std::test::Fail;
+use crate::rattle_std::prelude::*;
+use crate::rattle_std::test::Fail;
+use crate::wirebase::{IPV6_LINK_LOCAL_ALL_NODES, IPV6_LINK_LOCAL_ALL_ROUTERS, Ipv6Address};
 
 // A record of ff02::1 with the source ff02::2 and a word of auxiliary data, and one of ff02::2 with neither.
 const RECORDS: [u8; 60] = [
