@@ -55,7 +55,7 @@ def listing(octets, is_multicast, lines):
             else:
                 at, of = record(octets, at, section)
                 if of.kind == OPT:
-                    lines += extensions(octets, of)
+                    extensions(octets, of, lines)
                 else:
                     lines.append(field(section, record_text(octets, of, is_multicast)))
 
@@ -227,9 +227,9 @@ def string_character(octet):
     return chr(octet) if 32 <= octet <= 126 else "\\%03d" % octet
 
 
-def extensions(octets, of):
-    """The lines of OPT (RFC 6891 section 6.1)."""
-    lines = [
+def extensions(octets, of, lines):
+    """Adds the lines of OPT (RFC 6891 section 6.1), those before an option that is cut too."""
+    lines += [
         field("opt.udp_size", of.of_class), field("opt.extended_rcode", of.ttl >> 24),
         field("opt.version", of.ttl >> 16 & 255), field("opt.flags", of.ttl & 65535),
     ]
@@ -240,4 +240,3 @@ def extensions(octets, of):
         OPTIONS.accept(len(data) >= 4 + length, "the data of the option is cut")
         lines.append(field("opt.option", "%d %s" % (code, hexadecimal(data[4:4 + length]))))
         data = data[4 + length:]
-    return lines

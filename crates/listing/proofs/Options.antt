@@ -1,58 +1,25 @@
--- The options of OPT.
-use Rattle.std.proofs.Common.{ℕ, ◌<◌, ◌≤◌, List, [], ◌∷◌, ◌++◌, length, drop, refl, sym, ap, ◌∙◌, subst, arith}
-use Rattle.std.proofs.Common.{length-drop, Option, None, Some, IfSome}
-use Rattle.record_wire.specs.Edns.{OptionValue, IsOption, option_len, RefusesOption}
-use Rattle.record_wire.specs.declared.edns.OptionRefusal.{OptionRefusal}
-use Rattle.listing.specs.ListingEdns.{AreOptions, AreOptionsThen, RefusesOptions, option_line}
-use Rattle.listing.specs.ListingParts.{OptionsShown}
+-- The lines of an OPT record.
+use Rattle.std.proofs.Common.{◌≡◌, List, ℕ, ◌++◌, Option, Result, Ok, Err, IfOk, sym, subst}
+use Rattle.record_wire.specs.Edns.{EdnsValue, IsEdns, Answer, Tile}
+use Rattle.record_wire.specs.Record.{RecordValue}
+use Rattle.listing.specs.ListingEdns.{OptPrints, says, sender_listing, options_listing, unread_option}
+use Rattle.listing.specs.ListingRecord.{NameReads}
+use Rattle.listing.specs.Output.{Gains, GainsSome}
+use Rattle.listing.specs.declared.message.unread.Unread.{Unread}
+use Rattle.listing.proofs.Printing.{gains_both}
 
--- an option is followed by fewer octets
-pub fewer_behind : (octets rest : List ℕ) (option : OptionValue) → IsOption octets option rest
-    → length rest < length octets
-fewer_behind octets rest option is =
-    omega (arith, is.reaches, ap length is.rest_, length-drop (option_len octets) (drop 4 octets), length-drop 4 octets)
-
--- octets are options where those behind the first one are, and the other way round
-pub options_before : (octets rest : List ℕ) (option : OptionValue) → IsOption octets option rest
-    → (options : List OptionValue) × AreOptions rest options → (options : List OptionValue) × AreOptions octets options
-options_before octets rest option is (options, are) = (option ∷ options, (rest, is, are))
-
-pub options_behind : (octets rest : List ℕ) (option : OptionValue) → IsOption octets option rest
-    → (options : List OptionValue) × AreOptions octets options → (options : List OptionValue) × AreOptions rest options
-options_behind octets rest option is ([], none) = absurd (omega (arith, is.reaches, ap length none))
-options_behind octets rest option is (first ∷ options, (others, one, are)) =
-    (options, subst (λ (bytes : List ℕ). AreOptions bytes options) (one.rest_ ∙ sym is.rest_) are)
-
-pub options_more : (margin octets rest : List ℕ) (option : OptionValue) → IsOption octets option rest
-    → (text : List ℕ) → OptionsShown margin rest text → OptionsShown margin octets (option_line margin option ++ text)
-options_more margin octets rest option is text (options, are, shown) =
-    (option ∷ options, (rest, is, are), ap (λ t. option_line margin option ++ t) shown)
-
--- where no option begins there is none
-pub no_options : (margin octets : List ℕ) → ((option : OptionValue) (rest : List ℕ) → IsOption octets option rest → ⊥)
-    → (options : List OptionValue) × AreOptions octets options → OptionsShown margin octets []
-no_options margin octets none ([], is) = ([], is, refl)
-no_options margin octets none (option ∷ options, (rest, is, are)) = absurd (none option rest is)
-
--- options of some octets begin with one
-pub option_begins : (octets : List ℕ) → 1 ≤ length octets → (options : List OptionValue) × AreOptions octets options
-    → (option : OptionValue) × (rest : List ℕ) × IsOption octets option rest
-option_begins octets some ([], none) = absurd (omega (arith, some, ap length none))
-option_begins octets some (option ∷ options, (rest, is, are)) = (option, rest, is)
-
--- one option more stands before what is left
-pub one_option_more : (octets left rest : List ℕ) (option : OptionValue) (options : List OptionValue)
-    → AreOptionsThen octets options left → IsOption left option rest
-    → (more : List OptionValue) × AreOptionsThen octets more rest
-one_option_more octets left rest option [] are is =
-    (option ∷ [], (rest, subst (λ (bytes : List ℕ). IsOption bytes option rest) (sym are) is, refl))
-one_option_more octets left rest option (first ∷ options) (others, one, are) is =
-    let (more, then_) = one_option_more others left rest option options are is in
-    (first ∷ more, (others, one, then_))
-
--- and no option begins in what is left
-pub options_refused : (octets left : List ℕ) (why : Option OptionRefusal)
-    → (options : List OptionValue) × AreOptionsThen octets options left → 1 ≤ length left
-    → IfSome why (λ refusal. RefusesOption left refusal) → IfSome why (RefusesOptions octets)
-options_refused octets left None before some told = tt
-options_refused octets left (Some why) (options, are) some told = (options, left, are, some, told)
+-- what it says of its sender, and then its options up to one that is cut
+pub opt_printed : {E : Type 0} (margin message : List ℕ) (r : RecordValue) (edns : EdnsValue) (owner : List ℕ)
+    (answers : List Answer) (a b c : Option (List ℕ)) (result : Result (Option Unread) E) → IsEdns r edns
+    → NameReads message r.name owner → Tile edns.options answers → Gains a b (sender_listing margin edns)
+    → IfOk result (λ unread. (unread ≡ unread_option answers) × Gains b c (options_listing margin answers))
+    → IfOk result (λ unread. GainsSome a c (λ text. OptPrints margin message r text unread))
+opt_printed margin message r edns owner answers a b c (Ok unread) is reads tile first (told, next) = (
+  sender_listing margin edns ++ options_listing margin answers,
+  subst
+      (λ (u : Option Unread). OptPrints margin message r (sender_listing margin edns ++ options_listing margin answers)
+      u)
+      (sym told) (says edns owner answers is reads tile),
+  gains_both _ _ _ _ _ first next,
+)
+opt_printed margin message r edns owner answers a b c (Err e) is reads tile first next = tt

@@ -17,8 +17,6 @@ use Rattle.record_wire.specs.declared.name.refusal.NameRefusal.{NameRefusal}
 use Rattle.record_wire.specs.declared.rdata.refusal.DataRefusal.{DataRefusal}
 use Rattle.record_wire.specs.declared.refusal.Refusal.{Refusal}
 use Rattle.record_wire.specs.declared.text.refusal.TextRefusal.TheVariants as refusals
-use Rattle.record_wire.specs.Edns.{OptionValue}
-use Rattle.listing.specs.ListingEdns.{AreOptions, options_listing}
 use Rattle.listing.specs.ListingRecord.{line_front, DataReads}
 use Rattle.listing.specs.declared.message.unread.Unread.{Unread}
 use Rattle.listing.specs.declared.message.unread.Unread.TheVariants as unread
@@ -71,12 +69,6 @@ RefusesNext left why =
 abbrev pub HasStrings : RDataValue → Type 0
 HasStrings (strings bytes) = AreStrings bytes
 HasStrings _ = Unit {0}
-
--- ---- options
-
-abbrev pub OptionsShown : List ℕ → List ℕ → List ℕ → Type 0
-OptionsShown margin bytes text =
-    (options : List OptionValue) × AreOptions bytes options × (text ≡ options_listing margin options)
 
 -- ---- flags
 

@@ -2,24 +2,23 @@
 
 #![tactic(auto, using(crate::proofs::Printing::gains_both))]
 
-ghost use Rattle.std.specs.Prelude.{◌↔◌, List, IfOk, OnOk, IfSome, IsNone};
+ghost use Rattle.std.specs.Prelude.{◌≡◌, IfOk, OnOk};
 ghost use Rattle.dns_wire.specs.DnsPacket.{view_octets};
-ghost use Rattle.record_wire.specs.Edns.{edns_of, IsEdns, OptionValue, option_of};
+ghost use Rattle.record_wire.specs.Edns.{edns_of, IsEdns, option_of};
 ghost use Rattle.record_wire.specs.Record.{record_of};
 ghost use Rattle.listing.specs.ListingEdns.{OptPrints, sender_listing, opt_field as opt_field_text};
-ghost use Rattle.listing.specs.ListingEdns.{AreOptions, RefusesOptions, option_text};
-ghost use Rattle.listing.specs.ListingParts.{OptionsShown};
+ghost use Rattle.listing.specs.ListingEdns.{option_text, options_listing, unread_option};
 ghost use Rattle.listing.specs.Output.{Gains, GainsSome};
 
 use crate::message::Unread;
 use crate::printer::{Value, part_field};
 use crate::zone::{NameText, word};
 use dns_wire::dns::Packet;
-use record_wire::{Edns, EdnsOption, OptionRefusal, Record, TextRefusal};
+use record_wire::{Edns, EdnsOption, EdnsOptions, Record, TextRefusal};
 use std::io;
 use std::io::Write;
 
-/// Prints an OPT record, which says this.
+/// Prints an OPT record, which says this, up to an option that is cut.
 pub fn show_opt<'a, W: Write>(
     output: &mut W,
     margin: &str,
@@ -36,12 +35,8 @@ pub fn show_opt<'a, W: Write>(
     if let Err(refusal) = owner.read(packet, record.name) {
         return Ok(Some(Unread::Record(TextRefusal::Owner(refusal))));
     }
-    if let Some(refusal) = why_no_options(edns.options) {
-        return Ok(Some(Unread::Option(refusal)));
-    }
     show_sender(output, margin, edns)?;
-    show_options(output, margin, edns.options)?;
-    Ok(None)
+    show_options(output, margin, edns.options())
 }
 
 // Prints what the record says of its sender.
@@ -80,32 +75,20 @@ impl Value for EdnsOption<'_> {
     }
 }
 
-// Why no option begins where the first does that does not read; None where these bytes are options, one after another,
-// and nothing more.
-fn why_no_options(octets: &[u8]) -> Option<OptionRefusal>
-    ensures told { IfSome result (RefusesOptions octets.now) }
-    ensures exact { IsNone result ↔ ((options : List OptionValue) × AreOptions octets.now options) }
+// Prints options up to one that is cut, and answers why it is.
+fn show_options<W: Write>(
+    output: &mut W,
+    margin: &str,
+    mut options: EdnsOptions<'_>,
+) -> io::Result<Option<Unread>>
+    ensures { IfOk result (λ unread. (unread ≡ unread_option options.entry)
+        × Gains (W.contents output.old) (W.contents output.new) (options_listing margin.now options.entry)) }
 {
-    let mut left = octets;
-    while !left.is_empty() {
-        match EdnsOption::parse(left) {
-            Ok((rest, _)) => left = rest,
-            Err(_) => return EdnsOption::refusal(left),
+    loop {
+        match options.next() {
+            Some(Ok(option)) => opt_field(output, margin, "option", option)?,
+            Some(Err(refusal)) => return Ok(Some(Unread::Option(refusal))),
+            None => return Ok(None),
         }
     }
-    None
-}
-
-// Prints options.
-fn show_options<W: Write>(output: &mut W, margin: &str, octets: &[u8]) -> io::Result<()>
-    requires { (options : List OptionValue) × AreOptions octets.now options }
-    ensures { OnOk result (GainsSome (W.contents output.old) (W.contents output.new)
-        (OptionsShown margin.now octets.now)) }
-{
-    let mut left = octets;
-    while let Ok((rest, option)) = EdnsOption::parse(left) {
-        opt_field(output, margin, "option", option)?;
-        left = rest;
-    }
-    Ok(())
 }

@@ -5,11 +5,11 @@ use crate::message::Unread;
 use crate::printer::{Value, part_field};
 use crate::zone::{NameText, word};
 use control_wire::dns::Packet;
-use control_wire::record::{Edns, EdnsOption, OptionRefusal, Record, TextRefusal};
+use control_wire::record::{Edns, EdnsOption, EdnsOptions, Record, TextRefusal};
 use rattle_std::io;
 use rattle_std::io::Write;
 
-/// Prints an OPT record, which says this.
+/// Prints an OPT record, which says this, up to an option that is cut.
 pub fn show_opt<'a, W: Write>(
     output: &mut W,
     margin: &str,
@@ -21,12 +21,8 @@ pub fn show_opt<'a, W: Write>(
     if let Err(refusal) = owner.read(packet, record.name) {
         return Ok(Some(Unread::Record(TextRefusal::Owner(refusal))));
     }
-    if let Some(refusal) = why_no_options(edns.options) {
-        return Ok(Some(Unread::Option(refusal)));
-    }
     show_sender(output, margin, edns)?;
-    show_options(output, margin, edns.options)?;
-    Ok(None)
+    show_options(output, margin, edns.options())
 }
 
 // Prints what the record says of its sender.
@@ -56,25 +52,17 @@ impl Value for EdnsOption<'_> {
     }
 }
 
-// Why no option begins where the first does that does not read; None where these bytes are options, one after another,
-// and nothing more.
-fn why_no_options(octets: &[u8]) -> Option<OptionRefusal> {
-    let mut left = octets;
-    while !left.is_empty() {
-        match EdnsOption::parse(left) {
-            Ok((rest, _)) => left = rest,
-            Err(_) => return EdnsOption::refusal(left),
+// Prints options up to one that is cut, and answers why it is.
+fn show_options<W: Write>(
+    output: &mut W,
+    margin: &str,
+    mut options: EdnsOptions<'_>,
+) -> io::Result<Option<Unread>> {
+    loop {
+        match options.next() {
+            Some(Ok(option)) => opt_field(output, margin, "option", option)?,
+            Some(Err(refusal)) => return Ok(Some(Unread::Option(refusal))),
+            None => return Ok(None),
         }
     }
-    None
-}
-
-// Prints options.
-fn show_options<W: Write>(output: &mut W, margin: &str, octets: &[u8]) -> io::Result<()> {
-    let mut left = octets;
-    while let Ok((rest, option)) = EdnsOption::parse(left) {
-        opt_field(output, margin, "option", option)?;
-        left = rest;
-    }
-    Ok(())
 }

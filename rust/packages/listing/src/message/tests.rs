@@ -286,6 +286,10 @@ fn top_bit_of_a_class() {
 // The fields of the header of a message of number 1 without flags.
 const HEADER: &str = "  transaction_id=1\n  flags=-\n  opcode=0\n  rcode=0\n";
 
+// The same, and the lines of an OPT record whose sender takes 512 bytes.
+const OPT_OF_512: &str = "  transaction_id=1\n  flags=-\n  opcode=0\n  rcode=0\n\
+     \x20 opt.udp_size=512\n  opt.extended_rcode=0\n  opt.version=0\n  opt.flags=0\n";
+
 #[test]
 fn messages_that_do_not_read_to_their_end() {
     const ROWS: &[Row] = &[
@@ -352,16 +356,27 @@ fn messages_that_do_not_read_to_their_end() {
         ),
         // An option of one byte more than there are, and one without its length.
         (
-            b"\0\x01\0\0\0\0\0\0\0\0\0\x01\0\0\x29\x02\0\0\0\0\0\0\x05\0\x0a\0\x02\x2a",
+            b"\0\x01\0\0\0\0\0\0\0\0\0\x02\0\0\x29\x02\0\0\0\0\0\0\x05\0\x0a\0\x02\x2a\
+            \0\0\x01\0\x01\0\0\0\0\0\x04\x0a\0\0\x02",
             false,
-            HEADER,
+            OPT_OF_512,
             Some(Unread::Option(OptionRefusal::Data)),
         ),
         (
             b"\0\x01\0\0\0\0\0\0\0\0\0\x01\0\0\x29\x02\0\0\0\0\0\0\x03\0\x0a\0",
             false,
-            HEADER,
+            OPT_OF_512,
             Some(Unread::Option(OptionRefusal::Fields)),
+        ),
+        // Options before the one that is cut.
+        (
+            b"\0\x01\0\0\0\0\0\0\0\0\0\x01\
+            \0\0\x29\x04\xd0\x01\x02\x80\0\0\x0f\0\x03\0\0\0\x0a\0\x02\x01\x23\0\x0c\0\x02\0",
+            false,
+            "  transaction_id=1\n  flags=-\n  opcode=0\n  rcode=0\n\
+             \x20 opt.udp_size=1232\n  opt.extended_rcode=1\n  opt.version=2\n  opt.flags=32768\n\
+             \x20 opt.option=3 -\n  opt.option=10 0123\n",
+            Some(Unread::Option(OptionRefusal::Data)),
         ),
         // The name of a record is read before its data.
         (

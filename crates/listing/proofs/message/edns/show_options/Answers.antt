@@ -1,27 +1,27 @@
--- Each turn prints an option.
-use Rattle.listing.specs.ListingParts.{OptionsShown}
-use Rattle.listing.proofs.Options.{options_behind, options_more, no_options}
-use Rattle.listing.proofs.Showing.{goes_on, goes_on_to_none}
+-- Each turn prints an option, or tells how they end.
+use Rattle.std.proofs.Common.{[], ◌++◌, refl, ap, sym, ◌∙◌, append_assoc, length, arith}
+use Rattle.std.proofs.lemmas.List.{append-nil}
+use Rattle.listing.proofs.Printing.{gains_none, gains_both}
+use Rattle.listing.specs.ListingEdns.{options_listing, unread_option}
 use Rattle.listing.proofs.message.edns.show_options.Goals as goal
 
-pub loop-rest-preserved : goal.loop-rest-preserved
-loop-rest-preserved g c =
+pub loop-option-init : goal.loop-option-init
+loop-option-init g c = record { same = refl; so_far = ([], refl, gains_none _) }
+
+pub loop-option-preserved : goal.loop-option-preserved
+loop-option-preserved g c =
+    let (done, is, gains) = c.loop-option.invariant.so_far in
     let margin = c.args.margin.now in
-    let left = c.loop-rest.left.now in
-    let rest = c.in-Ok.rest.now in
-    let is = c.in-Ok.ensures.sound in
+    let gives = rw c.in-Some-Ok.field-0-is at c.in-Some-Ok.ensures.steps in
     record {
-      are = options_behind left rest _ is c.loop-rest.invariant.are;
-      so_far =
-          goes_on (OptionsShown margin left) (OptionsShown margin rest) (OptionsShown margin c.args.octets.now) _ _ _ _
-          c.loop-rest.invariant.so_far (options_more margin left rest _ is) c.in_ok-opt_field.ensures;
+      same = sym (ap unread_option gives) ∙ c.loop-option.invariant.same;
+      so_far = (
+        _,
+        append_assoc done _ _ ∙ ap (λ rest. done ++ rest) (sym (ap (options_listing margin) gives)) ∙ is,
+        gains_both _ _ _ _ _ gains c.in_ok-opt_field-in-Some-Ok.ensures,
+      );
     }
 
-pub returns : goal.returns
-returns g c =
-    let margin = c.args.margin.now in
-    let left = c.loop-rest.left.now in
-    goes_on_to_none (OptionsShown margin left) (OptionsShown margin c.args.octets.now) _ _
-    c.loop-rest.invariant.so_far
-    (no_options margin left (λ option rest is. absurd (c.in_default.ensures.complete option rest is))
-    c.loop-rest.invariant.are)
+pub loop-option-smaller : goal.loop-option-smaller
+loop-option-smaller g c =
+    omega (arith, ap length (rw c.in-Some-Ok.field-0-is at c.in-Some-Ok.ensures.steps))

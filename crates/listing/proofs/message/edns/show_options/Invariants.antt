@@ -1,18 +1,16 @@
--- What is printed so far goes on to the whole by what the options that are left print.
-use Rattle.std.proofs.Common.{List, length}
-use Rattle.record_wire.specs.Edns.{OptionValue}
-use Rattle.listing.specs.ListingEdns.{AreOptions}
-use Rattle.listing.specs.ListingParts.{OptionsShown}
-use Rattle.listing.specs.Output.{GainsSome}
-use Rattle.listing.proofs.Showing.{GoesOn}
+-- What is printed so far, and what the answers still to come print and tell; each option takes one of these.
+use Rattle.std.proofs.Common.{◌≡◌, ℕ, List, ◌++◌, length}
+use Rattle.listing.specs.ListingEdns.{options_listing, unread_option}
+use Rattle.listing.specs.Output.{Gains}
 use Rattle.listing.proofs.message.edns.show_options.Given as goal
 
-abbrev pub invariant-loop-rest : goal.invariant-loop-rest
-invariant-loop-rest g l = record {
-  are : (options : List OptionValue) × AreOptions l.left options;
-  so_far : GainsSome (g.W.Write.contents l.fn.output) (g.W.Write.contents l.output)
-      (GoesOn (OptionsShown l.margin l.left) (OptionsShown l.margin l.fn.octets));
+abbrev pub invariant-loop-option : goal.invariant-loop-option
+invariant-loop-option g l = record {
+  same : unread_option l.options ≡ unread_option l.initial.options;
+  so_far : (done : List ℕ)
+      × (done ++ options_listing l.margin l.options ≡ options_listing l.margin l.initial.options)
+      × Gains (g.W.Write.contents l.initial.output) (g.W.Write.contents l.output) done;
 }
 
-abbrev pub decreases-loop-rest : goal.decreases-loop-rest
-decreases-loop-rest g l = length l.left
+abbrev pub decreases-loop-option : goal.decreases-loop-option
+decreases-loop-option g l = length l.options
