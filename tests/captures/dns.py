@@ -9,7 +9,9 @@ TYPES = {
     35: "NAPTR", 39: "DNAME", 41: "OPT", 43: "DS", 44: "SSHFP", 46: "RRSIG", 47: "NSEC", 48: "DNSKEY", 50: "NSEC3",
     52: "TLSA", 64: "SVCB", 65: "HTTPS", 99: "SPF", 251: "IXFR", 252: "AXFR", 255: "ANY", 257: "CAA",
 }
-A, NS, CNAME, SOA, PTR, MX, TXT, AAAA, SRV, OPT = 1, 2, 5, 6, 12, 15, 16, 28, 33, 41
+A, SOA, MX, TXT, AAAA, SRV, OPT = 1, 6, 15, 16, 28, 33, 41
+# The types whose data are a name: NS, MD, MF, CNAME, MB, MG, MR, PTR and DNAME.
+NAMED = (2, 3, 4, 5, 7, 8, 9, 12, 39)
 INTERNET = 1
 # The classes of records without data in an update (RFC 2136 section 2.5).
 UPDATED = (254, 255)
@@ -181,7 +183,7 @@ def record_data(octets, of, of_class):
     if of.kind == AAAA and of_class == INTERNET:
         DATA.accept(len(data) == 16, "the address has other than 16 bytes")
         return colons(data)
-    if of.kind in (NS, CNAME, PTR):
+    if of.kind in NAMED:
         return last_name(octets, start, end)
     if of.kind in (MX, SRV):
         count = 1 if of.kind == MX else 3

@@ -6,6 +6,7 @@ from building import (HOST4, HOST6, SERVER4, SERVER6, UDP, hexed, ip4, message, 
 
 QUERY, ANSWER, MULTICAST, UPDATE = 0x0100, 0x8180, 0x8400, 0x2800
 A, NS, CNAME, SOA, PTR, HINFO, MX, TXT, AAAA, SRV, OPT, ANY = 1, 2, 5, 6, 12, 13, 15, 16, 28, 33, 41, 255
+MB, DNAME = 7, 39
 EXAMPLE, WWW = name("example.com"), name("www.example.com")
 # The first name of a message.
 OWNER = pointer(12)
@@ -68,6 +69,8 @@ RECORDS = {
     "dns_txt_past_the_end": answer(TXT, b"\5abcd"),
     "dns_hinfo": answer(HINFO, b"\3CPU\2OS"),
     "dns_of_type_65280": answer(65280, b""),
+    "dns_of_each_type_that_is_a_name": answers(message(ANSWER, [question(EXAMPLE, MB)], [
+        record(OWNER, kind, b"\1x" + OWNER) for kind in (NS, 3, 4, CNAME, MB, 8, 9, PTR, DNAME)])),
     "dns_name_with_an_octet_behind": answer(CNAME, OWNER + b"\0"),
     "dns_of_no_data": answer(NS, b""),
     "dns_sections": answers(message(

@@ -1,6 +1,6 @@
 -- An OPT record as a line (RFC 6891 section 6.1): it is none of a zone file, so it is a comment there.
-use Rattle.std.specs.Prelude.{ℕ, ◌/◌, ◌%◌, ◌==◌, nat_le, Bool, true, false, if◌then◌else◌, List, [], ◌∷◌, ◌++◌, flat_map}
-use Rattle.std.specs.Prelude.{Option, None, Some, Ok, Err, codes, decimal}
+use Rattle.std.specs.Prelude.{ℕ, ◌/◌, ◌%◌, ◌==◌, nat_le, if◌then◌else◌, List, [], ◌∷◌, ◌++◌, flat_map}
+use Rattle.std.specs.Prelude.{Ok, Err, codes, decimal}
 use Rattle.wirebase.specs.Display.{pieces}
 use Rattle.record_wire.specs.Edns.{EdnsValue, Answer, answers_in}
 use Rattle.record_wire.specs.RecordDisplay.{option_display, option_refusal_display}

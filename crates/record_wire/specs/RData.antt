@@ -20,8 +20,8 @@ use Rattle.record_wire.specs.declared.rdata.RData.TheVariants as rdata
 
 -- ---- layouts
 
--- which layout the data of a type has: PTR is 12, MX 15, TXT 16 (RFC 1035 section 3.2.2), SRV 33 (RFC 2782); addresses
--- are those of the internet
+-- Which layout the data of a type has: MD is 3, MF 4, MB 7, MG 8, MR 9, PTR 12, MX 15, TXT 16 (RFC 1035 section 3.2.2),
+-- SRV 33 (RFC 2782) and DNAME 39 (RFC 6672). Addresses are those of the internet.
 abbrev pub layout_of : RecordType → ℕ → Layout
 layout_of kind.A class = if class == internet then layout.Ipv4 else layout.Opaque
 layout_of kind.Aaaa class = if class == internet then layout.Ipv6 else layout.Opaque
@@ -30,6 +30,12 @@ layout_of kind.Ns class = layout.Name
 layout_of kind.Soa class = layout.Authority
 layout_of (kind.Unknown n) class =
     if n == 12 then layout.Name
+    else if n == 39 then layout.Name
+    else if n == 7 then layout.Name
+    else if n == 3 then layout.Name
+    else if n == 4 then layout.Name
+    else if n == 8 then layout.Name
+    else if n == 9 then layout.Name
     else if n == 15 then layout.Mail
     else if n == 16 then layout.Strings
     else if n == 33 then layout.Service

@@ -89,7 +89,8 @@ pub enum DataText<'a> {
     A(Ipv4Address),
     /// An IPv6 address (RFC 3596 section 2.2).
     Aaaa(Ipv6Address),
-    /// A name, of type CNAME, NS or PTR (RFC 1035 sections 3.3.1, 3.3.11 and 3.3.12).
+    /// A name, of type CNAME, NS or PTR (RFC 1035 sections 3.3.1, 3.3.11 and 3.3.12), MB, MD, MF, MG or MR (sections
+    /// 3.3.3 to 3.3.8), or DNAME (RFC 6672 section 2.1).
     Name(Name),
     /// A host that takes mail (RFC 1035 section 3.3.9).
     Mx {

@@ -16,11 +16,26 @@ pub const A: Type = Type::A;
 /// A name server (RFC 1035 section 3.3.11).
 pub const NS: Type = Type::Ns;
 
+/// A host that takes mail, which MX took over (RFC 1035 section 3.3.4).
+pub const MD: Type = Type::Unknown(3);
+
+/// A host that forwards mail, which MX took over (RFC 1035 section 3.3.5).
+pub const MF: Type = Type::Unknown(4);
+
 /// The canonical name of an alias (RFC 1035 section 3.3.1).
 pub const CNAME: Type = Type::Cname;
 
 /// The start of a zone of authority (RFC 1035 section 3.3.13).
 pub const SOA: Type = Type::Soa;
+
+/// A host that has a mailbox (RFC 1035 section 3.3.3).
+pub const MB: Type = Type::Unknown(7);
+
+/// A member of a group of mailboxes (RFC 1035 section 3.3.6).
+pub const MG: Type = Type::Unknown(8);
+
+/// The new name of a mailbox (RFC 1035 section 3.3.8).
+pub const MR: Type = Type::Unknown(9);
 
 /// A pointer to another name (RFC 1035 section 3.3.12).
 pub const PTR: Type = Type::Unknown(12);

@@ -56,7 +56,8 @@ pub enum RData<'a> {
     A(Ipv4Address),
     /// An IPv6 address (RFC 3596 section 2.2), of type AAAA and class 1.
     Aaaa(Ipv6Address),
-    /// A name, of type CNAME, NS or PTR (RFC 1035 sections 3.3.1, 3.3.11 and 3.3.12).
+    /// A name, of type CNAME, NS or PTR (RFC 1035 sections 3.3.1, 3.3.11 and 3.3.12), MB, MD, MF, MG or MR (sections
+    /// 3.3.3 to 3.3.8), or DNAME (RFC 6672 section 2.1).
     Name(&'a [u8]),
     /// A host that takes mail (RFC 1035 section 3.3.9).
     Mx {
@@ -190,7 +191,8 @@ fn find_layout(type_: Type, class: u16) -> Layout {
     match type_ {
         types::A if class == classes::IN => Layout::Ipv4,
         types::AAAA if class == classes::IN => Layout::Ipv6,
-        types::CNAME | types::NS | types::PTR => Layout::Name,
+        types::CNAME | types::NS | types::PTR | types::DNAME => Layout::Name,
+        types::MB | types::MD | types::MF | types::MG | types::MR => Layout::Name,
         types::SOA => Layout::Authority,
         types::MX => Layout::Mail,
         types::TXT => Layout::Strings,

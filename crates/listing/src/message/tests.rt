@@ -117,6 +117,16 @@ fn data_with_names(rt: HostRuntime) {
              \x20 additional=_foobar._tcp.example.com. 60 IN SRV 0 1 9 old-slow-box.example.com.\n",
             None,
         ),
+        (
+            b"\0\x01\x84\0\0\0\0\x02\0\0\0\0\
+            \x07example\x03com\0\0\x07\0\x01\0\0\0\x01\0\x05\x02mb\xc0\x0c\
+            \xc0\x0c\0\x27\0\x01\0\0\0\x01\0\x05\x02dn\xc0\x0c",
+            false,
+            "  transaction_id=1\n  flags=qr,aa\n  opcode=0\n  rcode=0\n\
+             \x20 answer=example.com. 1 IN TYPE7 mb.example.com.\n\
+             \x20 answer=example.com. 1 IN DNAME dn.example.com.\n",
+            None,
+        ),
         // The label of RFC 1035 section 5.3, with a dot in it.
         (
             b"\0\x01\x84\0\0\0\0\x01\0\0\0\0\

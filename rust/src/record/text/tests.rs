@@ -42,7 +42,7 @@ fn check(read: result::Result<RecordText<'_>, TextRefusal>, line: &str) {
 #[test]
 fn lines_by_type() {
     let packet = Packet::new_unchecked(MESSAGE);
-    let rows: [(Type, u16, &[u8], &str); 15] = [
+    let rows: [(Type, u16, &[u8], &str); 21] = [
         (
             types::A,
             1,
@@ -109,6 +109,42 @@ fn lines_by_type() {
             4712,
             b"",
             "example.com. 3600 CLASS4712 TYPE4711 \\# 0",
+        ),
+        (
+            types::MD,
+            1,
+            b"\x02md\xc0\x0c",
+            "example.com. 3600 IN TYPE3 md.example.com.",
+        ),
+        (
+            types::MF,
+            1,
+            b"\x02mf\xc0\x0c",
+            "example.com. 3600 IN TYPE4 mf.example.com.",
+        ),
+        (
+            types::MB,
+            1,
+            b"\x02mb\xc0\x0c",
+            "example.com. 3600 IN TYPE7 mb.example.com.",
+        ),
+        (
+            types::MG,
+            1,
+            b"\x02mg\xc0\x0c",
+            "example.com. 3600 IN TYPE8 mg.example.com.",
+        ),
+        (
+            types::MR,
+            1,
+            b"\x02mr\xc0\x0c",
+            "example.com. 3600 IN TYPE9 mr.example.com.",
+        ),
+        (
+            types::DNAME,
+            1,
+            b"\x02dn\xc0\x0c",
+            "example.com. 3600 IN DNAME dn.example.com.",
         ),
         (
             types::CAA,

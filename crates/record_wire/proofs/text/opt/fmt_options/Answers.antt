@@ -1,5 +1,5 @@
 -- Each turn writes an answer.
-use Rattle.std.proofs.Common.{ℕ, List, [], ◌∷◌, ◌++◌, IsOk, codes, refl, sym, ap, ◌∙◌, subst, rules}
+use Rattle.std.proofs.Common.{ℕ, List, [], ◌++◌, IsOk, codes, refl, sym, ap, ◌∙◌, subst, rules}
 use Rattle.std.proofs.lemmas.Grind.{put_two}
 use Rattle.std.proofs.lemmas.List.{append-nil}
 use Rattle.std.specs.Fmt.{HasWritten}
