@@ -6,9 +6,11 @@ use Rattle.capture.specs.Order.{signed_number, number_in}
 use Rattle.capture.specs.Packet.{PacketValue, packet_in}
 use Rattle.capture.specs.Pcapng.{IsOption, option_end, TellsOption, here, later, HasResolution, told, microseconds}
 use Rattle.capture.specs.Pcapng.{HasOffset, moved_by, not_moved, link_type_field, snap_len_field, IsInterface}
+use Rattle.capture.specs.Pcapng.{IsHead, BeginsPacket, ShowsPacket, first, behind}
 use Rattle.capture.specs.Pcapng.{IsTimed, IsSimple, IsPacket, obsolete, simple, enhanced}
 use Rattle.capture.specs.declared.ending.Refusal.{Refusal}
 use Rattle.capture.specs.declared.order.Order.{Order}
+use Rattle.capture.specs.declared.pcapng.Head.{Head}
 use Rattle.capture.specs.declared.pcapng.Interface.{Interface}
 use Rattle.capture.specs.declared.packet.Packet.{Packet}
 
@@ -150,3 +152,30 @@ module _ (order : Order) (interfaces : List Interface) (bytes : List ℕ) (kind 
   enhanced_timed is e p (enhanced k h) = subst (λ i. IsTimed order interfaces i bytes p) (sym e) h
   enhanced_timed is e p (simple k h) = absurd (omega (arith, is, k))
   enhanced_timed is e p (obsolete k h) = absurd (omega (arith, is, k))
+
+-- ---- what a buffer shows
+
+module _ (section : Order) (bytes : List ℕ) where
+  abbrev pub ShowsBehind : Head → List ℕ → Type 0
+  ShowsBehind h octets = ShowsPacket h.order (drop h.total_len octets)
+
+  shown_behind : (h : Head) → ((k : Head) → IsHead section bytes k → h ≡ k) → (BeginsPacket section bytes → ⊥)
+      → ShowsPacket section bytes → ShowsBehind h bytes
+  shown_behind h one none (first begins) = absurd (none begins)
+  shown_behind h one none (behind k is whole shows) = subst (λ j. ShowsBehind j bytes) (sym (one k is)) shows
+
+  -- behind a block that is there as a whole, what the bytes show that do not begin with a packet
+  pub shows_behind : (h : Head) (most : ℕ) → IsHead section bytes h → ((k : Head) → IsHead section bytes k → h ≡ k)
+      → h.total_len ≤ length bytes → (BeginsPacket section bytes → ⊥) → length (drop h.total_len bytes) ≤ most
+      → ShowsPacket h.order (take most (drop h.total_len bytes)) ↔ ShowsPacket section bytes
+  shows_behind h most is one whole none long =
+      let all = take_all most (drop h.total_len bytes) long in (
+        λ shows. behind h is whole (subst (ShowsPacket h.order) all shows),
+        λ shows. subst (ShowsPacket h.order) (sym all) (shown_behind h one none shows),
+      )
+
+  -- no block that is there as a whole
+  pub shows_none : (BeginsPacket section bytes → ⊥)
+      → ((h : Head) → IsHead section bytes h → h.total_len ≤ length bytes → ⊥) → ShowsPacket section bytes → ⊥
+  shows_none none no_block (first begins) = none begins
+  shows_none none no_block (behind h is whole shows) = no_block h is whole

@@ -299,9 +299,15 @@ pub data RefusesPacket (order : Order) (interfaces : List Interface) (bytes : Li
       → RefusesPacket order interfaces bytes kind r
 
 -- the bytes begin with a whole block that holds a packet, by the kind and the length that its head tells
-pub record ShowsPacket (section : Order) (bytes : List ℕ) : Type 0 where
+pub record BeginsPacket (section : Order) (bytes : List ℕ) : Type 0 where
   pub head : 12 ≤ length bytes
   pub kind : HoldsPacket (number_in section kind_field bytes)
   pub length_ : IsLength (number_in section total_len_field bytes)
   pub few : number_in section total_len_field bytes ≤ 524288
   pub whole : number_in section total_len_field bytes ≤ length bytes
+
+-- The bytes show the next packet of a section: they begin with its block, or with whole blocks before it.
+pub data ShowsPacket : Order → List ℕ → Type 0 where
+  first : {section : Order} {bytes : List ℕ} → BeginsPacket section bytes → ShowsPacket section bytes
+  behind : {section : Order} {bytes : List ℕ} (h : Head) → IsHead section bytes h → h.total_len ≤ length bytes
+      → ShowsPacket h.order (drop h.total_len bytes) → ShowsPacket section bytes

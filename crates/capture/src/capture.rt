@@ -124,9 +124,9 @@ impl Capture {
         Err(Fault::Read)
     }
 
-    /// Whether these octets, which the input's buffer shows, have the whole record or block of the next packet, so that
-    /// `next` need not wait for more. It is false at the start of a capture, before a block without a packet, and
-    /// before one that is longer than is kept; at the end it is true. A program that prints packets as they come writes
+    /// Whether these octets, which the input's buffer shows, have the whole record or block of the next packet, and the
+    /// blocks before it that hold none, so that `next` need not wait for more. It is false at the start of a capture,
+    /// and before a record or block that is longer than is kept; at the end it is true. A program that prints packets as they come writes
     /// out its output where this is false, before it reads on.
     #[inline]
     pub fn shows_next(&self, shown: &[u8]) -> bool

@@ -4,7 +4,7 @@ ghost use Rattle.std.specs.Prelude.{◌≡◌, ◌<◌, ◌≤◌, ◌↔◌, �
 ghost use Rattle.std.specs.Prelude.{IsTrue, length};
 ghost use Rattle.capture.specs.Order.{number_in};
 ghost use Rattle.capture.specs.Pcapng.{kind_field, IsSectionKind, HasOrder, IsRead, IsHead, HeadEnds};
-ghost use Rattle.capture.specs.Pcapng.{HoldsPacket, ShowsPacket, IsClosed, IsSection, SectionEnds};
+ghost use Rattle.capture.specs.Pcapng.{HoldsPacket, BeginsPacket, ShowsPacket, IsClosed, IsSection, SectionEnds};
 ghost use Rattle.capture.specs.Pcapng.{TellsOption, HasResolution, HasOffset, IsInterface};
 ghost use Rattle.capture.specs.declared.order.Order.{Order as AnOrder};
 ghost use Rattle.capture.specs.declared.pcapng.Head.{Head as AHead};
@@ -217,11 +217,32 @@ pub fn holds_packet(kind: u32) -> bool
     matches!(kind, OBSOLETE_PACKET | SIMPLE_PACKET | ENHANCED_PACKET)
 }
 
-/// Whether the octets begin with a whole block that holds a packet, of at most `MOST_BLOCK_OCTETS` bytes, in a section
-/// of this order.
+/// Whether the octets show the next packet of a section of this order: they begin with a whole block that holds a
+/// packet, of at most `MOST_BLOCK_OCTETS` bytes, or with whole blocks before it.
 #[inline]
 pub fn shows_packet(section: Order, octets: &[u8]) -> bool
     ensures { IsTrue result ↔ ShowsPacket section octets.now }
+{
+    let mut order = section;
+    let mut rest = octets;
+    'blocks: while !begins_packet(order, rest) {
+        let Ok(head) = Head::parse(order, rest) else {
+            return false;
+        };
+        let len = head.total_len as usize;
+        if rest.len() < len {
+            return false;
+        }
+        order = head.order;
+        rest = &rest[len..];
+    }
+    true
+}
+
+// Whether the octets begin with a whole block that holds a packet.
+#[inline]
+fn begins_packet(section: Order, octets: &[u8]) -> bool
+    ensures { IsTrue result ↔ BeginsPacket section octets.now }
 {
     if octets.len() < HEAD_LEN || !holds_packet(section.u32_at(octets, field::KIND)) {
         return false;

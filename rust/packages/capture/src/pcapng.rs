@@ -187,10 +187,29 @@ pub fn holds_packet(kind: u32) -> bool {
     matches!(kind, OBSOLETE_PACKET | SIMPLE_PACKET | ENHANCED_PACKET)
 }
 
-/// Whether the octets begin with a whole block that holds a packet, of at most `MOST_BLOCK_OCTETS` bytes, in a section
-/// of this order.
+/// Whether the octets show the next packet of a section of this order: they begin with a whole block that holds a
+/// packet, of at most `MOST_BLOCK_OCTETS` bytes, or with whole blocks before it.
 #[inline]
 pub fn shows_packet(section: Order, octets: &[u8]) -> bool {
+    let mut order = section;
+    let mut rest = octets;
+    while !begins_packet(order, rest) {
+        let Ok(head) = Head::parse(order, rest) else {
+            return false;
+        };
+        let len = head.total_len as usize;
+        if rest.len() < len {
+            return false;
+        }
+        order = head.order;
+        rest = &rest[len..];
+    }
+    true
+}
+
+// Whether the octets begin with a whole block that holds a packet.
+#[inline]
+fn begins_packet(section: Order, octets: &[u8]) -> bool {
     if octets.len() < HEAD_LEN || !holds_packet(section.u32_at(octets, field::KIND)) {
         return false;
     }

@@ -8,24 +8,24 @@ use crate::pcap::shows_record;
 use crate::pcapng::shows_packet;
 use crate::testing::same_of;
 
-// Where the unit behind so many octets ends, and how many packets there are up to its end.
-fn unit_behind(place: usize, units: &[(usize, u64)]) -> Option<(usize, u64)> {
+// Where the unit ends that holds the packet behind so many.
+fn end_of_next(read: u64, units: &[(usize, u64)]) -> Option<usize> {
     for &(end, count) in units {
-        if end > place {
-            return Some((end, count));
+        if count > read {
+            return Some(end);
         }
     }
     None
 }
 
-// Each front of what is left of a file shows the next packet where that packet's record or block is in it.
+// Each front of what is left of a file shows the next packet where all is in it up to the end of that one's unit.
 fn check_fronts(capture: &Capture, file: &File, left: &[u8], read: u64) {
     let &(octets, _, units) = file;
     let place = octets.len().saturating_sub(left.len());
-    let next = unit_behind(place, units);
+    let next = end_of_next(read, units);
     for len in 0..=left.len() {
         let want = match next {
-            Some((end, count)) => count > read && place.saturating_add(len) >= end,
+            Some(end) => place.saturating_add(len) >= end,
             None => false,
         };
         let shown = left.get(..len).unwrap_or(left);
@@ -87,6 +87,43 @@ fn blocks_that_are_shown() {
         (&[0, 0, 0, 5, 0, 0, 0, 12, 0, 0, 0, 12], false),
         // Of the other order of bytes.
         (&[3, 0, 0, 0, 16, 0, 0, 0, 0, 0, 0, 0, 16, 0, 0, 0], false),
+        // A packet behind statistics and a description, and without the last byte.
+        (
+            &[
+                0, 0, 0, 5, 0, 0, 0, 12, 0, 0, 0, 12, 0, 0, 0, 1, 0, 0, 0, 12, 0, 0, 0, 12, 0, 0,
+                0, 3, 0, 0, 0, 16, 0, 0, 0, 0, 0, 0, 0, 16,
+            ],
+            true,
+        ),
+        (
+            &[
+                0, 0, 0, 5, 0, 0, 0, 12, 0, 0, 0, 12, 0, 0, 0, 3, 0, 0, 0, 16, 0, 0, 0, 0, 0, 0, 0,
+            ],
+            false,
+        ),
+        // Behind a section header of the other order, by that, and no longer by the order before it.
+        (
+            &[
+                10, 13, 13, 10, 12, 0, 0, 0, 0x4d, 0x3c, 0x2b, 0x1a, 3, 0, 0, 0, 16, 0, 0, 0, 0, 0,
+                0, 0, 16, 0, 0, 0,
+            ],
+            true,
+        ),
+        (
+            &[
+                10, 13, 13, 10, 12, 0, 0, 0, 0x4d, 0x3c, 0x2b, 0x1a, 0, 0, 0, 3, 0, 0, 0, 16, 0, 0,
+                0, 0, 0, 0, 0, 16,
+            ],
+            false,
+        ),
+        // Behind a block whose length is no block's.
+        (
+            &[
+                0, 0, 0, 5, 0, 0, 0, 13, 0, 0, 0, 0, 13, 0, 0, 0, 3, 0, 0, 0, 16, 0, 0, 0, 0, 0, 0,
+                0, 16,
+            ],
+            false,
+        ),
     ];
     for &(octets, want) in ROWS {
         same_of(octets, shows_packet(Order::Big, octets), want);
