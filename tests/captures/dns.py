@@ -86,7 +86,7 @@ def name_end(octets, at, end, part):
 def labels(octets, at, end, part):
     """The labels of a name. A pointer leads to what stands before the place that the last one led to, and the first one
     anywhere in the message; what is read there ends before that place too."""
-    found, size, below = [], 1, len(octets)
+    found, size, below, pointers = [], 1, len(octets), 0
     while True:
         behind = label_end(octets, at, end, part)
         length = octets[at]
@@ -95,13 +95,15 @@ def labels(octets, at, end, part):
         if length >= 192:
             place = be(octets[at:behind]) % 0x4000
             part.accept(place < below, "a pointer to place %d leads nowhere or round" % place)
+            pointers += 1
+            part.accept(pointers <= 127, "the name follows more than 127 pointers")
             at, end, below = place, below, place
             continue
         found.append(octets[at + 1:behind])
         size += 1 + length
+        # The limit of RFC 1035 section 2.3.4.
+        part.accept(size <= 255, "the name has more than 255 octets")
         at = behind
-    # A name that is too long (RFC 1035 section 2.3.4) is read to its end first.
-    part.accept(size <= 255, "the name has more than 255 octets")
     return found
 
 

@@ -1,14 +1,12 @@
 -- What reads of a record, and what does not.
 use Rattle.std.proofs.Common.{◌≡◌, ℕ, Bool, true, false, ◌&&◌, List, [], ◌∷◌, ◌++◌, Option, None, Some, codes}
 use Rattle.std.proofs.Common.{IfSome, IsSome, refl, sym, ◌∙◌, subst, arith}
-use Rattle.dns_wire.specs.DnsName.{IsName}
-use Rattle.record_wire.specs.Labels.{AreOfName}
-use Rattle.record_wire.specs.NameDotted.{dotted, AreUsual}
+use Rattle.record_wire.specs.NameDotted.{dotted_text, AreUsual}
 use Rattle.record_wire.specs.NameRefusal.{HasName}
 use Rattle.record_wire.specs.Multicast.{flushes}
 use Rattle.record_wire.specs.RData.{RDataValue, IsLaidOut}
 use Rattle.record_wire.specs.Record.{RecordValue}
-use Rattle.record_wire.specs.RecordText.{Names}
+use Rattle.record_wire.specs.Names.{Names}
 use Rattle.record_wire.specs.Update.{IsDataOf}
 use Rattle.record_wire.specs.declared.entries.Section.{Section}
 use Rattle.record_wire.specs.declared.name.refusal.NameRefusal.{NameRefusal}
@@ -28,26 +26,25 @@ use Rattle.listing.proofs.Printing.{gains_both}
 -- a name that was read
 pub reads : (message bytes : List ℕ) (labels : List (List ℕ)) → Names message bytes labels
     → NameReads message bytes (whole_name labels)
-reads message bytes labels names = record { labels = labels; name_ = names.name_; fits = names.fits; is = refl }
+reads message bytes labels names = record { labels = labels; names_ = names; is = refl }
 
 -- one that was not
 pub reads_none : (message bytes : List ℕ) → ((labels : List (List ℕ)) → Names message bytes labels → ⊥)
     → (text : List ℕ) → NameReads message bytes text → ⊥
-reads_none message bytes none text is = none is.labels (record { name_ = is.name_; fits = is.fits })
+reads_none message bytes none text is = none is.labels is.names_
 
 -- a name that reads is one
 pub reads_has : (message bytes text : List ℕ) → NameReads message bytes text → HasName bytes message
-reads_has message bytes text is = (is.labels, is.name_, is.fits)
+reads_has message bytes text is = (is.labels, is.names_)
 
 -- one whose text was put
 pub reads_usual : (message bytes text : List ℕ) (labels : List (List ℕ)) → AreUsual bytes message labels
-    → text ≡ dotted labels → NameReads message bytes text
+    → text ≡ dotted_text labels → NameReads message bytes text
 unfolding whole_name
-reads_usual message bytes text [] usual is = absurd (omega (arith, usual.some))
+reads_usual message bytes text [] usual is = record { labels = []; names_ = usual.names_; is = is }
 reads_usual message bytes text (label ∷ labels) usual is = record {
   labels = label ∷ labels;
-  name_ = usual.name_;
-  fits = usual.fits;
+  names_ = usual.names_;
   is = is ∙ usual_name label labels usual.usual;
 }
 

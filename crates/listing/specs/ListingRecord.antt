@@ -3,9 +3,9 @@ use Rattle.std.specs.Prelude.{◌≡◌, ℕ, ◌&&◌, Bool, if◌then◌else�
 use Rattle.std.specs.Prelude.{codes, decimal, flat_map, Option, None, Some}
 use Rattle.wirebase.specs.Ipv4 as ipv4
 use Rattle.wirebase.specs.Ipv6Address as ipv6
-use Rattle.dns_wire.specs.DnsName.{IsName, written}
+use Rattle.dns_wire.specs.DnsName.{written}
 use Rattle.dns_wire.specs.DnsTables.{type_number}
-use Rattle.record_wire.specs.Labels.{AreOfName}
+use Rattle.record_wire.specs.Names.{Names}
 use Rattle.record_wire.specs.Mnemonics.{type_text, class_text}
 use Rattle.record_wire.specs.Multicast.{class_of, has_top_bit, record_class_of, flushes}
 use Rattle.record_wire.specs.NameRefusal.{RefusesName}
@@ -39,8 +39,7 @@ record_class is_multicast kind class = if is_multicast then record_class_of kind
 -- The name that begins in these bytes, and goes on where its pointers lead in the message, reads, and has this text.
 pub record NameReads (message bytes text : List ℕ) : Type 0 where
   pub labels : List (List ℕ)
-  pub name_ : IsName bytes message labels
-  pub fits : AreOfName labels
+  pub names_ : Names message bytes labels
   pub is : text ≡ whole_name labels
 
 -- ---- data

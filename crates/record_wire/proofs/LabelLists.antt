@@ -224,3 +224,12 @@ name_of octets labels each e h = record {
   each = each;
   fits = omega (arith, h, ap length e, length-append (written_all labels) (0 ∷ []));
 }
+
+-- the octets of a name have its labels, and are those of the labels in them
+pub in_wire : (octets : List ℕ) (labels : List (List ℕ)) → AllByRecursion IsLabel labels → octets ≡ wire labels
+    → labels_in octets ≡ labels
+in_wire octets labels each e = ap labels_in e ∙ labels-wire labels each
+
+pub wire_in : (octets : List ℕ) (labels : List (List ℕ)) → AllByRecursion IsLabel labels → octets ≡ wire labels
+    → wire (labels_in octets) ≡ octets
+wire_in octets labels each e = ap wire (in_wire octets labels each e) ∙ sym e

@@ -11,12 +11,13 @@ use Rattle.dns_wire.specs.DnsName.{IsLabel, written}
 use Rattle.dns_wire.specs.DnsNameAhead.{whole, pointer, stop, torn, front_of}
 use Rattle.dns_wire.proofs.DnsNameTurns.{Whole-front}
 use Rattle.record_wire.specs.Labels.{labels_in, written_all}
-use Rattle.record_wire.specs.NameDotted.{is_usual, are_usual, dotted, AreUsual}
+use Rattle.record_wire.specs.NameDotted.{is_usual, are_usual, dotted, dotted_text, AreUsual}
+use Rattle.record_wire.specs.Names.{Names, most_pointers}
 use Rattle.record_wire.specs.NameParts.{StandInFront}
-use Rattle.record_wire.proofs.LabelLists.{in_written, in_nothing, written_more, each_more, name_of}
+use Rattle.record_wire.proofs.LabelLists.{in_written, in_nothing, written_more, each_more}
 use Rattle.record_wire.proofs.NameDotted.{front_usual}
 use Rattle.record_wire.proofs.NameParts.{IsReadTo, nothing_read, pointer_read, label_read, all_read, all_same}
-use Rattle.record_wire.proofs.NameParts.{no_name_far, no_name_torn, room_read, drop_whole}
+use Rattle.record_wire.proofs.NameParts.{no_name_far, no_name_torn, no_name_more, room_read, drop_whole}
 
 -- ---- a label in its place
 
@@ -44,21 +45,23 @@ piece_copied room label ahead part at n fits long within front is =
 -- ---- the text so far
 
 -- The room's front has the labels that were read, each before a dot.
-pub record IsPutTo (text message left reach room : List ℕ) (at dots : ℕ) : Type 0 where
+pub record IsPutTo (text message left reach room : List ℕ) (at dots pointers : ℕ) : Type 0 where
   pub whole_ : length room ≡ 256
   pub octets : List ℕ
-  pub read : IsReadTo text message octets left reach
+  pub read : IsReadTo text message octets left reach pointers
+  pub follows : pointers ≤ most_pointers
   pub long : length octets ≡ at
   pub few : at ≤ 254
   pub less : dots ≤ at
   pub put : take at room ≡ dotted (labels_in octets)
   pub counted : dots ≡ length (labels_in octets)
 
-pub nothing_put : (text message room : List ℕ) → length room ≡ 256 → IsPutTo text message text message room 0 0
+pub nothing_put : (text message room : List ℕ) → length room ≡ 256 → IsPutTo text message text message room 0 0 0
 nothing_put text message room long = record {
   whole_ = long;
   octets = [];
   read = nothing_read text message [] refl;
+  follows = omega arith;
   long = refl;
   few = omega arith;
   less = omega arith;
@@ -66,13 +69,15 @@ nothing_put text message room long = record {
   counted = ap length (sym in_nothing);
 }
 
-pub pointer_put : (text message left reach room : List ℕ) (at dots target : ℕ) (rest front : List ℕ)
-    → IsPutTo text message left reach room at dots → pointer target ≡ front_of left → target < length reach
-    → rest ≡ drop target reach → front ≡ take target reach → IsPutTo text message rest front room at dots
-pointer_put text message left reach room at dots target rest front p e inside rest_ front_ = record {
+pub pointer_put : (text message left reach room : List ℕ) (at dots pointers target : ℕ) (rest front : List ℕ)
+    → IsPutTo text message left reach room at dots pointers → pointer target ≡ front_of left → target < length reach
+    → rest ≡ drop target reach → front ≡ take target reach → pointers + 1 ≤ most_pointers
+    → IsPutTo text message rest front room at dots (pointers + 1)
+pointer_put text message left reach room at dots pointers target rest front p e inside rest_ front_ few = record {
   whole_ = p.whole_;
   octets = p.octets;
-  read = rw (rest_, front_) (pointer_read text message p.octets left reach target p.read e inside);
+  read = rw (rest_, front_) (pointer_read text message p.octets left reach pointers target p.read e inside);
+  follows = few;
   long = p.long;
   few = p.few;
   less = p.less;
@@ -108,17 +113,18 @@ dotted_more labels label =
     ∙ (ap (λ (t : List ℕ). dotted labels ++ t) (append-nil (label ++ codes "."))
     ∙ sym (append_assoc (dotted labels) label (codes ".")))
 
-pub label_put : (text message left reach room next label rest : List ℕ) (at dots end : ℕ)
-    → IsPutTo text message left reach room at dots → whole label rest ≡ front_of left
+pub label_put : (text message left reach room next label rest : List ℕ) (at dots pointers end : ℕ)
+    → IsPutTo text message left reach room at dots pointers → whole label rest ≡ front_of left
     → length next ≡ 256 → at + length label < 254 → end ≡ at + length label + 1
     → take end next ≡ take at room ++ label ++ codes "."
-    → IsPutTo text message rest reach next end (dots + 1)
-label_put text message left reach room next label rest at dots end p e whole_ fits ends is =
+    → IsPutTo text message rest reach next end (dots + 1) pointers
+label_put text message left reach room next label rest at dots pointers end p e whole_ fits ends is =
     let more = one_more p.octets label p.read.done p.read.each p.read.written_ (one_label left label rest e) in
     record {
       whole_ = whole_;
       octets = p.octets ++ written label;
-      read = label_read text message p.octets left reach label rest p.read e;
+      read = label_read text message p.octets left reach label rest pointers p.read e;
+      follows = p.follows;
       long = omega (arith, length-append p.octets (written label), p.long, ends);
       few = omega (arith, ends, fits);
       less = omega (arith, p.less, ends);
@@ -134,69 +140,84 @@ pub none_of : (text message : List ℕ) → ((labels : List (List ℕ)) → AreU
     → IsSome {T = ℕ} None ↔ ((labels : List (List ℕ)) × AreUsual text message labels)
 none_of text message none = (λ e. cc e, λ are. absurd (none are.0 are.1))
 
-pub no_room : (text message left reach room label rest : List ℕ) (at dots : ℕ)
-    → IsPutTo text message left reach room at dots → whole label rest ≡ front_of left → (at + length label < 254 → ⊥)
-    → (labels : List (List ℕ)) → AreUsual text message labels → ⊥
-no_room text message left reach room label rest at dots p e far labels usual =
-    let next = label_read text message p.octets left reach label rest p.read e in
-    let few = room_read text message (p.octets ++ written label) rest reach next labels usual.name_ usual.fits in
+pub no_room : (text message left reach room label rest : List ℕ) (at dots pointers : ℕ)
+    → IsPutTo text message left reach room at dots pointers → whole label rest ≡ front_of left
+    → (at + length label < 254 → ⊥) → (labels : List (List ℕ)) → AreUsual text message labels → ⊥
+no_room text message left reach room label rest at dots pointers p e far labels usual =
+    let next = label_read text message p.octets left reach label rest pointers p.read e in
+    let few =
+    room_read text message (p.octets ++ written label) rest reach pointers next labels usual.names_.name_.is
+    usual.names_.fits in
     omega (arith, few, far, p.long, length-append p.octets (written label))
 
-pub leads_nowhere : (text message left reach room : List ℕ) (at dots target : ℕ)
-    → IsPutTo text message left reach room at dots → pointer target ≡ front_of left → length reach ≤ target
+pub leads_nowhere : (text message left reach room : List ℕ) (at dots pointers target : ℕ)
+    → IsPutTo text message left reach room at dots pointers → pointer target ≡ front_of left → length reach ≤ target
     → (labels : List (List ℕ)) → AreUsual text message labels → ⊥
-leads_nowhere text message left reach room at dots target p e far labels usual =
-    no_name_far text message p.octets left reach target p.read e far labels usual.name_
+leads_nowhere text message left reach room at dots pointers target p e far labels usual =
+    no_name_far text message p.octets left reach pointers target p.read e far labels usual.names_.name_.is
 
-pub is_torn : (text message left reach room : List ℕ) (at dots : ℕ)
-    → IsPutTo text message left reach room at dots → torn ≡ front_of left
+pub leads_on : (text message left reach room : List ℕ) (at dots pointers target : ℕ)
+    → IsPutTo text message left reach room at dots pointers → pointer target ≡ front_of left → target < length reach
+    → pointers ≡ most_pointers → (labels : List (List ℕ)) → AreUsual text message labels → ⊥
+leads_on text message left reach room at dots pointers target p e inside most labels usual =
+    no_name_more text message p.octets left reach pointers target p.read e inside most labels usual.names_
+
+pub is_torn : (text message left reach room : List ℕ) (at dots pointers : ℕ)
+    → IsPutTo text message left reach room at dots pointers → torn ≡ front_of left
     → (labels : List (List ℕ)) → AreUsual text message labels → ⊥
-is_torn text message left reach room at dots p e labels usual =
-    no_name_torn text message p.octets left reach p.read e labels usual.name_
+is_torn text message left reach room at dots pointers p e labels usual =
+    no_name_torn text message p.octets left reach pointers p.read e labels usual.names_.name_.is
 
 -- the labels of the name are those that were put
-all_put : (text message left reach room : List ℕ) (at dots : ℕ) (p : IsPutTo text message left reach room at dots)
+all_put : (text message left reach room : List ℕ) (at dots pointers : ℕ)
+    (p : IsPutTo text message left reach room at dots pointers)
     → stop ≡ front_of left → (labels : List (List ℕ)) → AreUsual text message labels
     → labels_in p.octets ≡ labels
-all_put text message left reach room at dots p e labels usual =
-    in_written p.octets labels usual.fits.each
-    (all_same text message p.octets left reach p.read e labels usual.name_)
+all_put text message left reach room at dots pointers p e labels usual =
+    in_written p.octets labels usual.names_.fits.each
+    (all_same text message p.octets left reach pointers p.read e labels usual.names_.name_.is)
 
-pub is_root : (text message left reach room : List ℕ) (at dots : ℕ)
-    → IsPutTo text message left reach room at dots → stop ≡ front_of left → at ≡ 0
-    → (labels : List (List ℕ)) → AreUsual text message labels → ⊥
-is_root text message left reach room at dots p e zero labels usual =
-    let all = all_put text message left reach room at dots p e labels usual in
-    omega (arith, usual.some, ap length all, p.counted, p.less, zero)
+no_labels : (labels : List (List ℕ)) → length (written_all labels) ≡ 0 → labels ≡ []
+no_labels [] h = refl
+no_labels (label ∷ labels) h = absurd (omega (arith, h))
 
-some_labels : (labels : List (List ℕ)) → 1 ≤ length (written_all labels) → 1 ≤ length labels
+some_labels : (labels : List (List ℕ)) → 1 ≤ length (written_all labels) → dotted labels ≡ dotted_text labels
 some_labels [] h = absurd (omega (arith, h))
-some_labels (label ∷ labels) h = omega arith
+some_labels (label ∷ labels) h = refl
 
-module _ (text message left reach room : List ℕ) (at dots count : ℕ)
-    (p : IsPutTo text message left reach room at dots) (e : stop ≡ front_of left)
-    (is : count ≡ count_by is_usual (take at room)) where
-  pub is_unusual : (count + dots ≡ at → ⊥) → (labels : List (List ℕ)) → AreUsual text message labels → ⊥
-  is_unusual other labels usual =
-      let all = all_put text message left reach room at dots p e labels usual in
-      let few : at ≤ 255 = omega (arith, p.few) in
-      let front = front_usual (labels_in p.octets) room at count dots p.whole_ few p.put is p.counted in
-      other (front.1 (ap are_usual all ∙ usual.usual))
+module _ (text message left reach room : List ℕ) (at dots pointers : ℕ)
+    (p : IsPutTo text message left reach room at dots pointers) (e : stop ≡ front_of left) where
+  names_put : Names message text p.read.done
+  names_put =
+      all_read text message p.octets left reach pointers p.read e (omega (arith, p.long, p.few)) p.follows
 
-  -- the text of a name that was read to its end
-  pub is_text : 1 ≤ at → count + dots ≡ at
-      → (labels : List (List ℕ)) × AreUsual text message labels × (take at room ≡ dotted labels)
-  is_text some sum =
-      let named = all_read text message p.octets left reach p.read e in
-      let same : labels_in p.octets ≡ named.labels = in_written p.octets named.labels named.each named.written in
-      let few : at ≤ 255 = omega (arith, p.few) in
-      let front = front_usual (labels_in p.octets) room at count dots p.whole_ few p.put is p.counted in (
-        named.labels,
-        record {
-          name_ = named.name;
-          fits = name_of p.octets named.labels named.each named.written (omega (arith, p.long, p.few));
-          some = some_labels named.labels (omega (arith, some, p.long, ap length named.written));
-          usual = ap are_usual (sym same) ∙ front.0 sum;
-        },
-        p.put ∙ ap dotted same,
+  -- the root
+  pub is_root : (next : List ℕ) → at ≡ 0 → take 1 next ≡ codes "."
+      → (labels : List (List ℕ)) × AreUsual text message labels × (take 1 next ≡ dotted_text labels)
+  is_root next zero dot =
+      let none = no_labels p.read.done (omega (arith, ap length p.read.written_, p.long, zero)) in (
+        p.read.done,
+        record { names_ = names_put; usual = ap are_usual none },
+        dot ∙ ap dotted_text (sym none),
       )
+
+  module _ (count : ℕ) (is : count ≡ count_by is_usual (take at room)) where
+    pub is_unusual : (count + dots ≡ at → ⊥) → (labels : List (List ℕ)) → AreUsual text message labels → ⊥
+    is_unusual other labels usual =
+        let all = all_put text message left reach room at dots pointers p e labels usual in
+        let few : at ≤ 255 = omega (arith, p.few) in
+        let front = front_usual (labels_in p.octets) room at count dots p.whole_ few p.put is p.counted in
+        other (front.1 (ap are_usual all ∙ usual.usual))
+
+    -- the text of a name that was read to its end
+    pub is_text : 1 ≤ at → count + dots ≡ at
+        → (labels : List (List ℕ)) × AreUsual text message labels × (take at room ≡ dotted_text labels)
+    is_text some sum =
+        let same : labels_in p.octets ≡ p.read.done = in_written p.octets p.read.done p.read.each p.read.written_ in
+        let few : at ≤ 255 = omega (arith, p.few) in
+        let front = front_usual (labels_in p.octets) room at count dots p.whole_ few p.put is p.counted in (
+          p.read.done,
+          record { names_ = names_put; usual = ap are_usual (sym same) ∙ front.0 sum },
+          p.put ∙ (ap dotted same
+              ∙ some_labels p.read.done (omega (arith, some, p.long, ap length p.read.written_))),
+        )

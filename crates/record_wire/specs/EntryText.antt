@@ -9,7 +9,8 @@ use Rattle.record_wire.specs.Name.{labels_of}
 use Rattle.record_wire.specs.NameRefusal.{RefusesName}
 use Rattle.record_wire.specs.Record.{QuestionValue}
 use Rattle.record_wire.specs.RecordDisplay.{section_display}
-use Rattle.record_wire.specs.RecordText.{Names, RecordTextValue, record_text_of, IsRecordText, RefusesText}
+use Rattle.record_wire.specs.Names.{Names}
+use Rattle.record_wire.specs.RecordText.{RecordTextValue, record_text_of, IsRecordText, RefusesText}
 use Rattle.record_wire.specs.RecordText.{question_text, record_text}
 use Rattle.record_wire.specs.declared.entries.Section.{Section}
 use Rattle.record_wire.specs.declared.text.entry.EntryText.{EntryText}

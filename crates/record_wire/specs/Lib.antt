@@ -1,4 +1,5 @@
 pub mod Labels
+pub mod Names
 pub mod NameText
 pub mod NamePieces
 pub mod NameReading

@@ -1,9 +1,8 @@
 -- Names whose text has no backslash: their labels stand in it as they are, each before a dot.
-use Rattle.std.specs.Prelude.{◌≡◌, ℕ, ◌≤◌, ◌==◌, ◌||◌, Bool, true, List, ◌++◌, length, codes, flat_map}
+use Rattle.std.specs.Prelude.{◌≡◌, ℕ, ◌==◌, ◌||◌, Bool, true, List, [], ◌∷◌, ◌++◌, codes, flat_map}
 use Rattle.std.specs.Char.{is_ascii_alphanumeric}
 use Rattle.std.specs.List.{list_all}
-use Rattle.dns_wire.specs.DnsName.{IsName}
-use Rattle.record_wire.specs.Labels.{AreOfName}
+use Rattle.record_wire.specs.Names.{Names}
 
 -- the bytes that names have in practice: letters, digits, `-` and `_`
 abbrev pub is_usual : ℕ → Bool
@@ -19,9 +18,12 @@ are_usual labels = list_all is_usual_label labels
 abbrev pub dotted : List (List ℕ) → List ℕ
 dotted labels = flat_map (λ label. label ++ codes ".") labels
 
--- The name that begins in a text and may go on in a message has these labels: one at least, all of such bytes alone.
+-- the text of such labels; the root, which has none, is a dot
+abbrev pub dotted_text : List (List ℕ) → List ℕ
+dotted_text [] = codes "."
+dotted_text (label ∷ labels) = dotted (label ∷ labels)
+
+-- The name that begins in a text and may go on in a message has these labels, all of such bytes alone.
 pub record AreUsual (text message : List ℕ) (labels : List (List ℕ)) : Type 0 where
-  pub name_ : IsName text message labels
-  pub fits : AreOfName labels
-  pub some : 1 ≤ length labels
+  pub names_ : Names message text labels
   pub usual : are_usual labels ≡ true

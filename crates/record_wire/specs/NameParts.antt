@@ -1,10 +1,11 @@
 -- The parts of a name in a message, as they are read: what private functions answer.
 use Rattle.std.specs.Prelude.{◌≡◌, ℕ, ◌+◌, ◌≤◌, List, ◌++◌, length}
 use Rattle.std.specs.List.{AllByRecursion}
-use Rattle.dns_wire.specs.DnsName.{IsLabel, IsName}
+use Rattle.dns_wire.specs.DnsName.{IsLabel}
 use Rattle.dns_wire.specs.declared.dns.part.Front.{Front}
 use Rattle.dns_wire.specs.declared.dns.part.Front.TheVariants.{Label, Pointer, End, Torn}
-use Rattle.record_wire.specs.Labels.{written_all}
+use Rattle.record_wire.specs.Labels.{wire, written_all}
+use Rattle.record_wire.specs.Names.{Names}
 
 -- whole labels stand at the front of a text, and take so many bytes
 pub record AreInFront (text : List ℕ) (len : ℕ) : Type 0 where
@@ -21,12 +22,11 @@ EndsTooFar len (Pointer target) = Unit {0}
 EndsTooFar len End = Unit {0}
 EndsTooFar len Torn = Unit {0}
 
--- the octets of the labels of the name that begins in a text and may go on in a message
+-- the octets of the name that begins in a text and may go on in a message
 pub record AreNamed (text message octets : List ℕ) : Type 0 where
   pub labels : List (List ℕ)
-  pub each : AllByRecursion IsLabel labels
-  pub name : IsName text message labels
-  pub written : octets ≡ written_all labels
+  pub names_ : Names message text labels
+  pub written_ : octets ≡ wire labels
 
 -- these bytes stand at the front of a text
 pub record StandInFront (bytes text : List ℕ) : Type 0 where

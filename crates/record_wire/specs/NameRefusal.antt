@@ -1,8 +1,8 @@
 -- Why no name begins in a text that may go on in a message: the check that fails first.
 use Rattle.std.specs.Prelude.{◌≡◌, ℕ, ◌+◌, ◌*◌, ◌%◌, ◌<◌, ◌≤◌, List, [], ◌∷◌, ◌++◌, length, take, drop, codes, decimal}
 use Rattle.wirebase.specs.Display.{pieces}
-use Rattle.dns_wire.specs.DnsName.{IsLabel, written, IsName}
-use Rattle.record_wire.specs.Labels.{wire, AreOfName}
+use Rattle.dns_wire.specs.DnsName.{IsLabel, written}
+use Rattle.record_wire.specs.Names.{Names, most_pointers}
 use Rattle.record_wire.specs.RecordRefusal.{IsCut, part_display}
 use Rattle.record_wire.specs.declared.refusal.PartRefusal.TheVariants as part
 use Rattle.record_wire.specs.declared.name.refusal.NameRefusal.{NameRefusal}
@@ -13,37 +13,48 @@ abbrev pub PointsTo : List ℕ → ℕ → Type 0
 PointsTo text place =
     (x : ℕ) × (y : ℕ) × (rest : List ℕ) × (text ≡ x ∷ y ∷ rest) × (192 ≤ x) × (place ≡ 256 * (x % 64) + y)
 
--- Reading a name comes to what is left of it, while these bytes of the message are open: it begins with the
--- text and all
--- the message; a label is passed over; a pointer leads to an open byte, and leaves those before it open.
-pub data ComesTo (text message : List ℕ) : List ℕ → List ℕ → Type 0 where
-  begins : ComesTo text message text message
-  passes : {left : List ℕ} (bytes rest opened : List ℕ) → ComesTo text message rest opened → IsLabel bytes
-      → rest ≡ written bytes ++ left → ComesTo text message left opened
-  follows : {left below : List ℕ} (place : ℕ) (rest opened : List ℕ) → ComesTo text message rest opened
-      → PointsTo rest place → place < length opened → left ≡ drop place opened → below ≡ take place opened
-      → ComesTo text message left below
+-- Reading a name comes to what is left of it, behind labels of so many octets and so many pointers, while these bytes of
+-- the message are open: it begins with the text and all the message; a label is passed over where byte 0 has room behind
+-- it; a pointer leads to an open byte, and leaves those before it open.
+pub data ComesTo (text message : List ℕ) : ℕ → ℕ → List ℕ → List ℕ → Type 0 where
+  begins : ComesTo text message 0 0 text message
+  passes : {left : List ℕ} {all : ℕ} (octets pointers : ℕ) (bytes rest opened : List ℕ)
+      → ComesTo text message octets pointers rest opened → IsLabel bytes → rest ≡ written bytes ++ left
+      → all ≡ octets + length (written bytes) → all < 255 → ComesTo text message all pointers left opened
+  follows : {left below : List ℕ} {all : ℕ} (octets pointers place : ℕ) (rest opened : List ℕ)
+      → ComesTo text message octets pointers rest opened → PointsTo rest place → place < length opened
+      → all ≡ pointers + 1 → all ≤ most_pointers → left ≡ drop place opened → below ≡ take place opened
+      → ComesTo text message octets all left below
 
--- reading comes to octets that are cut, to a label of another kind, or to a pointer to no open byte; or
--- there is a name,
--- and it is too long
+-- what is left of a name, and how reading came to it
+pub record IsLeft (text message left : List ℕ) : Type 0 where
+  pub octets : ℕ
+  pub pointers : ℕ
+  pub opened : List ℕ
+  pub comes : ComesTo text message octets pointers left opened
+
+-- Reading comes to octets that are cut, to a label of another kind, to a pointer to no open byte, to one pointer more than
+-- are followed, or to a label with which the name has more than 255 octets.
 abbrev pub RefusesName : List ℕ → List ℕ → NameRefusal → Type 0
-RefusesName text message (refusal.Part part.Cut) =
-    (left : List ℕ) × (opened : List ℕ) × ComesTo text message left opened × IsCut left
+RefusesName text message (refusal.Part part.Cut) = (left : List ℕ) × IsLeft text message left × IsCut left
 RefusesName text message (refusal.Part (part.LabelType n)) =
-    (rest : List ℕ) × (opened : List ℕ) × ComesTo text message (n ∷ rest) opened × (64 ≤ n) × (n < 192)
+    (rest : List ℕ) × IsLeft text message (n ∷ rest) × (64 ≤ n) × (n < 192)
 RefusesName text message (refusal.Pointer place) =
-    (left : List ℕ) × (opened : List ℕ) × ComesTo text message left opened × PointsTo left place
-    × (length opened ≤ place)
+    (left : List ℕ) × (at : IsLeft text message left) × PointsTo left place × (length at.opened ≤ place)
+RefusesName text message refusal.TooManyPointers =
+    (left : List ℕ) × (place : ℕ) × (at : IsLeft text message left) × PointsTo left place
+    × (place < length at.opened) × (at.pointers ≡ most_pointers)
 RefusesName text message refusal.TooLong =
-    (labels : List (List ℕ)) × IsName text message labels × (255 < length (wire labels))
+    (left : List ℕ) × (bytes : List ℕ) × (rest : List ℕ) × (at : IsLeft text message left) × IsLabel bytes
+    × (left ≡ written bytes ++ rest) × (255 ≤ at.octets + length (written bytes))
 
--- a name of 255 octets at most
+-- a name that is read
 abbrev pub HasName : List ℕ → List ℕ → Type 0
-HasName text message = (labels : List (List ℕ)) × IsName text message labels × AreOfName labels
+HasName text message = (labels : List (List ℕ)) × Names message text labels
 
 abbrev pub name_refusal_display : NameRefusal → List ℕ
 name_refusal_display (refusal.Part why) = part_display why
 name_refusal_display (refusal.Pointer place) =
     pieces (codes "a pointer to place " ∷ decimal place ∷ codes " leads nowhere or round" ∷ [])
+name_refusal_display refusal.TooManyPointers = codes "the name follows more than 127 pointers"
 name_refusal_display refusal.TooLong = codes "the name has more than 255 octets"

@@ -5,15 +5,14 @@ use Rattle.wirebase.specs.Ipv4 as ipv4
 use Rattle.wirebase.specs.Ipv6Address as ipv6
 use Rattle.wirebase.specs.declared.ipv4.Ipv4Address.{Ipv4Address}
 use Rattle.wirebase.specs.declared.ipv6.address.Ipv6Address.{Ipv6Address}
-use Rattle.dns_wire.specs.DnsName.{IsName}
 use Rattle.dns_wire.specs.declared.dns.tables.Type.{«Type» as RecordType}
-use Rattle.record_wire.specs.Labels.{AreOfName}
 use Rattle.dns_wire.specs.DnsDisplay.{type_display}
 use Rattle.record_wire.specs.Edns.{EdnsValue}
 use Rattle.record_wire.specs.Mnemonics.{class_text}
 use Rattle.record_wire.specs.Multicast.{is_opt}
 use Rattle.record_wire.specs.Name.{labels_of}
 use Rattle.record_wire.specs.NameRefusal.{RefusesName, HasName, name_refusal_display}
+use Rattle.record_wire.specs.Names.{Names}
 use Rattle.record_wire.specs.OptText.{edns_by, opt_text}
 use Rattle.record_wire.specs.RData as rdata
 use Rattle.record_wire.specs.Record.{QuestionValue, RecordValue}
@@ -90,11 +89,6 @@ record_text_of r = record {
 }
 
 -- ---- what is read, in a message
-
--- the name of 255 octets at most that begins in these bytes has these labels
-pub record Names (message bytes : List ℕ) (labels : List (List ℕ)) : Type 0 where
-  pub name_ : IsName bytes message labels
-  pub fits : AreOfName labels
 
 pub record IsAuthorityText (message : List ℕ) (soa : rdata.AuthorityValue) (value : AuthorityTextValue) : Type 0 where
   pub primary_ : Names message soa.primary value.primary

@@ -7,22 +7,23 @@ pub mod refusal;
 pub(crate) mod text;
 pub mod text_refusal;
 
-ghost use Rattle.std.specs.Prelude.{◌≡◌, ◌↔◌, ℕ, List, [], IfOk, IsOk, IsOkAnd, OnOk, IsTrue, IfSome, IsNone};
+ghost use Rattle.std.specs.Prelude.{◌≡◌, ◌↔◌, ℕ, List, [], IfOk, IfErr, IsOk, IsOkAnd, OnOk, IsTrue, IfSome, IsNone};
 ghost use Rattle.wirebase.specs.Bytes.{IsBytes};
-ghost use Rattle.dns_wire.specs.DnsName.{IsName};
 ghost use Rattle.dns_wire.specs.DnsPacket.{view_octets};
-ghost use Rattle.record_wire.specs.Labels.{wire, written_all, labels_in, AreOfName};
+ghost use Rattle.record_wire.specs.Labels.{wire, labels_in, AreOfName};
+ghost use Rattle.record_wire.specs.Names.{Names};
 ghost use Rattle.record_wire.specs.NameParts.{AreNamed};
 ghost use Rattle.record_wire.specs.NameCase.{lower_labels};
 ghost use Rattle.record_wire.specs.NameRefusal.{RefusesName, HasName};
 ghost use Rattle.record_wire.specs.TextRefusal.{RefusesText, IsText};
 
 pub use crate::name::label::Labels;
-use crate::name::label::{push_end, push_octets};
+use crate::name::label::{push_end, push_labels};
 use crate::name::part::read_labels;
-use crate::name::refusal::{NameRefusal, why_no_name};
+use crate::name::refusal::NameRefusal;
 use crate::name::text::{fmt_labels, is_root, put_labels};
 use crate::name::text_refusal::{NameTextRefusal, why_no_text};
+use crate::refusal::why_torn;
 use arrayvec::ArrayVec;
 use dns_wire::dns::Packet;
 use dns_wire::message::{Front, follow, octets_of};
@@ -32,6 +33,10 @@ use wirebase::{Error, Result};
 
 /// The most octets that a name has (RFC 1035 section 2.3.4).
 pub const MAX_NAME_LEN: usize = 255;
+
+/// The most pointers that a name is followed behind. A name of 255 octets has 127 labels at most, so behind more
+/// pointers one leads to no label of its own: no encoder writes such a chain, and each turn of it costs time.
+pub const MAX_POINTERS: usize = 127;
 
 /// A whole name, by its octets: each label of 1 to 63 bytes behind its length, and then byte 0; 255 octets at most.
 ///
@@ -54,19 +59,20 @@ impl Name {
     ghost use Rattle.record_wire.specs.NameText.{IsNameText, name_text};
 
     /// The name that begins in `bytes`, a part of the message or not, and goes on where its pointers lead in the
-    /// message. Refused where there is none, or where it has more than 255 octets.
+    /// message. Refused where there is none, where it has more than 255 octets, and where it goes on behind more than
+    /// [`MAX_POINTERS`] pointers.
     pub fn read<'a>(packet: &Packet<&'a [u8]>, bytes: &'a [u8]) -> Result<Name>
         ensures sound { IfOk result (λ name.
-            IsName bytes.entry.now (view_octets packet.entry.now) (labels_of name)) }
-        ensures fits { IfOk result (λ name. AreOfName (labels_of name)) }
+            Names (view_octets packet.entry.now) bytes.entry.now (labels_of name)) }
         ensures complete { (labels : List (List ℕ))
-            → IsName bytes.entry.now (view_octets packet.entry.now) labels → AreOfName labels
+            → Names (view_octets packet.entry.now) bytes.entry.now labels
             → IsOkAnd result (λ name. labels_of name ≡ labels) }
     {
         let mut octets = ArrayVec::new();
-        put_name(&mut octets, octets_of(packet), bytes)?;
-        push_end(&mut octets)?;
-        Ok(Name { octets })
+        match put_name(&mut octets, octets_of(packet), bytes) {
+            Ok(()) => Ok(Name { octets }),
+            Err(_) => Err(Error),
+        }
     }
 
     /// Why [`Name::read`] refuses this, by the check that fails first; None where it reads a name.
@@ -75,9 +81,10 @@ impl Name {
             RefusesName bytes.entry.now (view_octets packet.entry.now) refusal) }
         ensures exact { IsNone result ↔ HasName bytes.entry.now (view_octets packet.entry.now) }
     {
-        match Name::read(packet, bytes) {
-            Ok(_) => None,
-            Err(_) => Some(why_no_name(octets_of(packet), bytes)),
+        let mut octets = ArrayVec::new();
+        match put_name(&mut octets, octets_of(packet), bytes) {
+            Ok(()) => None,
+            Err(refusal) => Some(refusal),
         }
     }
 
@@ -156,36 +163,48 @@ impl Name {
     }
 }
 
-// Writes the labels of the name that begins in `bytes` and goes on in a message, where nothing stands yet: a name is
+// Writes the octets of the name that begins in `bytes` and goes on in a message, where nothing stands yet: a name is
 // large, so it is written where it stays, and labels that stand side by side are copied as one. A pointer leads to one
-// of the bytes that are open, and leaves those below that place open, so this ends. Refused where there is no name, and
-// where its labels have more than 255 octets.
+// of the bytes that are open, and leaves those below that place open, so this ends. Refused by the check that fails
+// first.
 fn put_name<'a>(
     octets: &mut ArrayVec<u8, MAX_NAME_LEN>,
     message: &'a [u8],
     bytes: &'a [u8],
-) -> Result<()>
+) -> result::Result<(), NameRefusal>
     requires { octets.old.items ≡ [] }
     ensures sound { OnOk result (AreNamed bytes.now message.now octets.new.items) }
-    ensures complete { (labels : List (List ℕ)) → IsName bytes.now message.now labels
-        → AreOfName labels → IsOk result × (octets.new.items ≡ written_all labels) }
+    ensures complete { (labels : List (List ℕ)) → Names message.now bytes.now labels
+        → IsOk result × (octets.new.items ≡ wire labels) }
+    ensures told { IfErr result (λ refusal. RefusesName bytes.now message.now refusal) }
 {
     let mut left = bytes;
     // The bytes of the message that are open.
     let mut reach = message;
+    let mut pointers = 0;
     loop {
         let (len, front) = read_labels(left);
-        push_octets(octets, &left[..len])?;
+        let Ok(()) = push_labels(octets, &left[..len]) else {
+            return Err(NameRefusal::TooLong);
+        };
         match front {
-            Front::End => return Ok(()),
+            Front::End => {
+                octets.push(0);
+                return Ok(());
+            }
             Front::Pointer(target) => {
                 let Some((next, open)) = follow(reach, target) else {
-                    return Err(Error);
+                    return Err(NameRefusal::Pointer(target));
                 };
+                if pointers == MAX_POINTERS {
+                    return Err(NameRefusal::TooManyPointers);
+                }
+                pointers += 1;
                 left = next;
                 reach = open;
             }
-            Front::Label(..) | Front::Torn => return Err(Error),
+            Front::Label(..) => return Err(NameRefusal::TooLong),
+            Front::Torn => return Err(NameRefusal::Part(why_torn(&left[len..]))),
         }
     }
 }

@@ -11,17 +11,22 @@ pub mod text_refusal;
 use crate::dns_wire::dns::Packet;
 use crate::dns_wire::message::{Front, follow, octets_of};
 pub use crate::record::name::label::Labels;
-use crate::record::name::label::{push_end, push_octets};
+use crate::record::name::label::{push_end, push_labels};
 use crate::record::name::part::read_labels;
-use crate::record::name::refusal::{NameRefusal, why_no_name};
+use crate::record::name::refusal::NameRefusal;
 use crate::record::name::text::{fmt_labels, is_root, put_labels};
 use crate::record::name::text_refusal::{NameTextRefusal, why_no_text};
+use crate::record::refusal::why_torn;
 use crate::wirebase::{Error, Result};
 use arrayvec::ArrayVec;
-use core::fmt;
+use core::{fmt, result};
 
 /// The most octets that a name has (RFC 1035 section 2.3.4).
 pub const MAX_NAME_LEN: usize = 255;
+
+/// The most pointers that a name is followed behind. A name of 255 octets has 127 labels at most, so behind more
+/// pointers one leads to no label of its own: no encoder writes such a chain, and each turn of it costs time.
+pub const MAX_POINTERS: usize = 127;
 
 /// A whole name, by its octets: each label of 1 to 63 bytes behind its length, and then byte 0; 255 octets at most.
 ///
@@ -40,15 +45,17 @@ pub struct Name {
 
 impl Name {
     /// The name that begins in `bytes`, a part of the message or not, and goes on where its pointers lead in the
-    /// message. Refused where there is none, or where it has more than 255 octets.
+    /// message. Refused where there is none, where it has more than 255 octets, and where it goes on behind more than
+    /// [`MAX_POINTERS`] pointers.
     pub fn read<'a, B: AsRef<[u8]> + ?Sized>(
         packet: &Packet<&'a B>,
         bytes: &'a [u8],
     ) -> Result<Name> {
         let mut octets = ArrayVec::new();
-        put_name(&mut octets, octets_of(packet), bytes)?;
-        push_end(&mut octets)?;
-        Ok(Name { octets })
+        match put_name(&mut octets, octets_of(packet), bytes) {
+            Ok(()) => Ok(Name { octets }),
+            Err(_) => Err(Error),
+        }
     }
 
     /// Why [`Name::read`] refuses this, by the check that fails first; None where it reads a name.
@@ -56,9 +63,10 @@ impl Name {
         packet: &Packet<&'a B>,
         bytes: &'a [u8],
     ) -> Option<NameRefusal> {
-        match Name::read(packet, bytes) {
-            Ok(_) => None,
-            Err(_) => Some(why_no_name(octets_of(packet), bytes)),
+        let mut octets = ArrayVec::new();
+        match put_name(&mut octets, octets_of(packet), bytes) {
+            Ok(()) => None,
+            Err(refusal) => Some(refusal),
         }
     }
 
@@ -118,31 +126,42 @@ impl Name {
     }
 }
 
-// Writes the labels of the name that begins in `bytes` and goes on in a message, where nothing stands yet: a name is
+// Writes the octets of the name that begins in `bytes` and goes on in a message, where nothing stands yet: a name is
 // large, so it is written where it stays, and labels that stand side by side are copied as one. A pointer leads to one
-// of the bytes that are open, and leaves those below that place open, so this ends. Refused where there is no name, and
-// where its labels have more than 255 octets.
+// of the bytes that are open, and leaves those below that place open, so this ends. Refused by the check that fails
+// first.
 fn put_name<'a>(
     octets: &mut ArrayVec<u8, MAX_NAME_LEN>,
     message: &'a [u8],
     bytes: &'a [u8],
-) -> Result<()> {
+) -> result::Result<(), NameRefusal> {
     let mut left = bytes;
     // The bytes of the message that are open.
     let mut reach = message;
+    let mut pointers = 0;
     loop {
         let (len, front) = read_labels(left);
-        push_octets(octets, &left[..len])?;
+        let Ok(()) = push_labels(octets, &left[..len]) else {
+            return Err(NameRefusal::TooLong);
+        };
         match front {
-            Front::End => return Ok(()),
+            Front::End => {
+                octets.push(0);
+                return Ok(());
+            }
             Front::Pointer(target) => {
                 let Some((next, open)) = follow(reach, target) else {
-                    return Err(Error);
+                    return Err(NameRefusal::Pointer(target));
                 };
+                if pointers == MAX_POINTERS {
+                    return Err(NameRefusal::TooManyPointers);
+                }
+                pointers += 1;
                 left = next;
                 reach = open;
             }
-            Front::Label(..) | Front::Torn => return Err(Error),
+            Front::Label(..) => return Err(NameRefusal::TooLong),
+            Front::Torn => return Err(NameRefusal::Part(why_torn(&left[len..]))),
         }
     }
 }

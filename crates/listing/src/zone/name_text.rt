@@ -42,7 +42,7 @@ impl NameText {
     }
 
     /// Reads the name that begins in `bytes`, a part of the message or not, and goes on where its pointers lead in the
-    /// message, and keeps its text. Refused where there is none of 255 octets at most.
+    /// message, and keeps its text. Refused as [`Name::read`] refuses it.
     #[inline(always)]
     pub fn read<'a>(
         &mut self,

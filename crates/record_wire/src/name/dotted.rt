@@ -3,9 +3,10 @@
 ghost use Rattle.std.specs.Prelude.{◌≡◌, ◌↔◌, ◌+◌, ◌<◌, ◌≤◌, ◌++◌, ℕ, List, codes, length, take, IsSome, IfSome};
 ghost use Rattle.std.specs.List.{count_by};
 ghost use Rattle.dns_wire.specs.DnsPacket.{view_octets};
-ghost use Rattle.record_wire.specs.NameDotted.{is_usual, dotted, AreUsual};
+ghost use Rattle.record_wire.specs.NameDotted.{is_usual, dotted_text, AreUsual};
 ghost use Rattle.record_wire.specs.NameParts.{StandInFront};
 
+use crate::name::MAX_POINTERS;
 use dns_wire::dns::Packet;
 use dns_wire::message::{Front, follow, octets_of, read_front};
 
@@ -19,9 +20,8 @@ const MOST: usize = 254;
 const PIECE: usize = 16;
 
 /// Puts the text of the name that begins in `bytes`, and goes on where its pointers lead in the message, into the
-/// room's front, each label before a dot, and answers its length. The root has no labels, and another text. None where
-/// there is no name, where it has more than 255 octets, and where a byte of a label is not a letter, a digit, `-` or
-/// `_`, since its text may need a backslash then.
+/// room's front, each label before a dot, or a dot alone for the root, and answers its length. None where no name is
+/// read, and where a byte of a label is not a letter, a digit, `-` or `_`, since its text may need a backslash then.
 pub fn put_dotted<'a>(
     room: &mut [u8; ROOM_LEN],
     packet: &Packet<&'a [u8]>,
@@ -31,7 +31,7 @@ pub fn put_dotted<'a>(
         ↔ ((labels : List (List ℕ)) × AreUsual bytes.now (view_octets packet.now) labels) }
     ensures fits { IfSome result (λ len. len ≤ 256) }
     ensures text { IfSome result (λ len. (labels : List (List ℕ))
-        × AreUsual bytes.now (view_octets packet.now) labels × (take len room.new ≡ dotted labels)) }
+        × AreUsual bytes.now (view_octets packet.now) labels × (take len room.new ≡ dotted_text labels)) }
 {
     put_text(room, octets_of(packet), bytes)
 }
@@ -42,10 +42,11 @@ fn put_text(room: &mut [u8; ROOM_LEN], message: &[u8], bytes: &[u8]) -> Option<u
     ensures some { IsSome result ↔ ((labels : List (List ℕ)) × AreUsual bytes.now message.now labels) }
     ensures fits { IfSome result (λ len. len ≤ 256) }
     ensures text { IfSome result (λ len. (labels : List (List ℕ)) × AreUsual bytes.now message.now labels
-        × (take len room.new ≡ dotted labels)) }
+        × (take len room.new ≡ dotted_text labels)) }
 {
     let mut at = 0;
     let mut dots = 0;
+    let mut pointers = 0;
     let mut left = bytes;
     // The bytes of the message that are open.
     let mut reach = message;
@@ -63,12 +64,20 @@ fn put_text(room: &mut [u8; ROOM_LEN], message: &[u8], bytes: &[u8]) -> Option<u
                 let Some((next, open)) = follow(reach, target) else {
                     return None;
                 };
+                if pointers == MAX_POINTERS {
+                    return None;
+                }
+                pointers += 1;
                 left = next;
                 reach = open;
             }
             Front::End => {
+                if at == 0 {
+                    room[0] = b'.';
+                    return Some(1);
+                }
                 // No dot is usual, and none but these may stand there.
-                if at == 0 || count_usual(&room[..at]) + dots != at {
+                if count_usual(&room[..at]) + dots != at {
                     return None;
                 }
                 return Some(at);

@@ -87,12 +87,21 @@ pub(super) fn push_label(octets: &mut ArrayVec<u8, MAX_NAME_LEN>, label: &[u8]) 
     Ok(())
 }
 
-/// Writes octets behind the others. Refused where there is no room.
-pub(super) fn push_octets(octets: &mut ArrayVec<u8, MAX_NAME_LEN>, more: &[u8]) -> Result<()>
-    ensures room { IsOk result ↔ (length octets.old.items + length more.now ≤ 255) }
-    ensures pushes { OnOk result (octets.new.items ≡ octets.old.items ++ more.now) }
+/// Writes labels behind the others. Refused where no name has room for them, which byte 0 ends. Of none nothing is
+/// copied: between two pointers often no label stands.
+#[inline]
+pub(super) fn push_labels(octets: &mut ArrayVec<u8, MAX_NAME_LEN>, labels: &[u8]) -> Result<()>
+    requires { length octets.old.items < 255 }
+    ensures room { IsOk result ↔ (length octets.old.items + length labels.now < 255) }
+    ensures pushes { OnOk result (octets.new.items ≡ octets.old.items ++ labels.now) }
 {
-    if octets.try_extend_from_slice(more).is_err() {
+    if labels.is_empty() {
+        return Ok(());
+    }
+    if labels.len() >= MAX_NAME_LEN - octets.len() {
+        return Err(Error);
+    }
+    if octets.try_extend_from_slice(labels).is_err() {
         return Err(Error);
     }
     Ok(())

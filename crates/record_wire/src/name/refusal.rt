@@ -1,15 +1,14 @@
 //! Why no name begins in octets: the check that fails first.
 
 ghost use Rattle.std.specs.Prelude.{◌≡◌, List, ℕ, IfOk, IfErr, IsOkAnd};
-ghost use Rattle.dns_wire.specs.DnsName.{IsName};
 ghost use Rattle.dns_wire.specs.DnsPacket.{view_octets};
-ghost use Rattle.record_wire.specs.Labels.{AreOfName};
 ghost use Rattle.record_wire.specs.NameRefusal.{RefusesName};
 
-use crate::name::Name;
-use crate::refusal::{PartRefusal, why_torn};
+use crate::name::{Name, put_name};
+use crate::refusal::PartRefusal;
+use arrayvec::ArrayVec;
 use dns_wire::dns::Packet;
-use dns_wire::message::{Front, follow, octets_of, read_front};
+use dns_wire::message::octets_of;
 use std::{fmt, result};
 
 /// Why [`crate::Name::read`] refuses octets and their message: the check that fails first.
@@ -20,6 +19,8 @@ pub enum NameRefusal {
     /// A pointer to this place leads nowhere or round: out of the message, or, behind another pointer, not to below the
     /// place that the one before it led to (RFC 1035 section 4.1.4).
     Pointer(usize),
+    /// More than [`crate::name::MAX_POINTERS`] pointers lead from one to the next.
+    TooManyPointers,
     /// The name has more than 255 octets (RFC 1035 section 2.3.4).
     TooLong,
 }
@@ -37,6 +38,7 @@ impl fmt::Display for NameRefusal {
             NameRefusal::Pointer(place) => {
                 write!(f, "a pointer to place {place} leads nowhere or round")
             }
+            NameRefusal::TooManyPointers => write!(f, "the name follows more than 127 pointers"),
             NameRefusal::TooLong => write!(f, "the name has more than 255 octets"),
         }
     }
@@ -44,7 +46,7 @@ impl fmt::Display for NameRefusal {
 
 impl Name {
     ghost use Rattle.record_wire.specs.Name.{labels_of};
-    ghost use Rattle.record_wire.specs.RecordText.{Names};
+    ghost use Rattle.record_wire.specs.Names.{Names};
 
     /// The name, as [`Name::read`] reads it, or else why it refuses this, as [`Name::read_refusal`] tells it: the check
     /// that fails first.
@@ -60,33 +62,10 @@ impl Name {
         ensures told { IfErr result (λ refusal.
             RefusesName bytes.entry.now (view_octets packet.entry.now) refusal) }
     {
-        match Name::read(packet, bytes) {
-            Ok(name) => Ok(name),
-            Err(_) => Err(why_no_name(octets_of(packet), bytes)),
-        }
-    }
-}
-
-/// Why no name of 255 octets at most begins in bytes and goes on in a message.
-pub(crate) fn why_no_name<'a>(message: &'a [u8], bytes: &'a [u8]) -> NameRefusal
-    requires { (labels : List (List ℕ)) → IsName bytes.now message.now labels → AreOfName labels → ⊥ }
-    ensures { RefusesName bytes.now message.now result }
-{
-    let mut left = bytes;
-    // The bytes of the message that are open.
-    let mut reach = message;
-    loop {
-        match read_front(left) {
-            Front::Label(_, rest) => left = rest,
-            Front::Pointer(target) => {
-                let Some((next, open)) = follow(reach, target) else {
-                    return NameRefusal::Pointer(target);
-                };
-                left = next;
-                reach = open;
-            }
-            Front::End => return NameRefusal::TooLong,
-            Front::Torn => return NameRefusal::Part(why_torn(left)),
+        let mut octets = ArrayVec::new();
+        match put_name(&mut octets, octets_of(packet), bytes) {
+            Ok(()) => Ok(Name { octets }),
+            Err(refusal) => Err(refusal),
         }
     }
 }

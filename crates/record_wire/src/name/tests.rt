@@ -308,20 +308,78 @@ fn names_that_are_refused(rt: HostRuntime) {
     }
 }
 
+// Why the name at the front of octets is refused; None where it is read.
+fn refusal_of(octets: &[u8]) -> Option<NameRefusal> {
+    Name::read_refusal(&Packet::new_unchecked(octets), octets)
+}
+
 #[test]
 fn a_name_of_more_than_255_octets_is_refused(rt: HostRuntime) {
     // Labels of one byte: 127 of them and byte 0 have 255 octets, and 128 have 257.
     let mut octets = [1; 257];
     octets[256] = 0;
     let longest = octets.get(2..).unwrap_or(&[]);
-    let packet = Packet::new_unchecked(longest);
-    same(&rt, Name::read_refusal(&packet, longest), None);
-    let packet = Packet::new_unchecked(octets.as_slice());
+    same(&rt, refusal_of(longest), None);
+    same(&rt, refusal_of(&octets), Some(NameRefusal::TooLong));
+}
+
+#[test]
+fn what_stands_behind_255_octets_is_not_looked_at(rt: HostRuntime) {
+    // 126 labels of one byte have 252 octets. Behind them stands a label of one byte or of two, and then none.
+    let mut octets = [1; 256];
+    for last in [b"\x01\x01\x80".as_slice(), b"\x01\x01\xc0\xff"] {
+        octets[252..252 + last.len()].copy_from_slice(last);
+        let front = &octets[..252 + last.len()];
+        same_of(
+            &rt,
+            last,
+            refusal_of(front) == Some(NameRefusal::TooLong),
+            false,
+        );
+    }
+    for last in [b"\x02\x01\x01\x80".as_slice(), b"\x02\x01\x01\xc0"] {
+        octets[252..256].copy_from_slice(last);
+        same_of(&rt, last, refusal_of(&octets), Some(NameRefusal::TooLong));
+    }
+    // The label that is one too many is cut itself.
     same(
         &rt,
-        Name::read_refusal(&packet, octets.as_slice()),
-        Some(NameRefusal::TooLong),
+        refusal_of(&octets[..254]),
+        Some(NameRefusal::Part(PartRefusal::Cut)),
     );
+}
+
+// Byte 0, and then pointers, the first to that byte and each other one to the pointer before it.
+fn pointers() -> [u8; 257] {
+    let mut message = [0; 257];
+    for k in 0..128usize {
+        message[2 * k + 1] = 0xc0;
+        message[2 * k + 2] = (2 * k).saturating_sub(1) as u8;
+    }
+    message
+}
+
+#[test]
+fn a_name_behind_more_than_127_pointers_is_refused(rt: HostRuntime) {
+    // The place of a pointer, and why the name that begins with it is refused.
+    const ROWS: &[(usize, Option<NameRefusal>)] = &[
+        (1, None),
+        (251, None),
+        (253, None),
+        (255, Some(NameRefusal::TooManyPointers)),
+    ];
+    let message = pointers();
+    let packet = Packet::new_unchecked(message.as_slice());
+    for (place, refusal) in ROWS {
+        let bytes = message.get(*place..).unwrap_or(&[]);
+        same_of(&rt, *place, Name::read_refusal(&packet, bytes), *refusal);
+        same_of(
+            &rt,
+            *place,
+            Name::read(&packet, bytes).is_ok(),
+            refusal.is_none(),
+        );
+    }
 }
 
 #[test]
@@ -331,6 +389,10 @@ fn texts_of_reasons_of_names(rt: HostRuntime) {
         (
             NameRefusal::Pointer(300),
             "a pointer to place 300 leads nowhere or round",
+        ),
+        (
+            NameRefusal::TooManyPointers,
+            "the name follows more than 127 pointers",
         ),
         (NameRefusal::TooLong, "the name has more than 255 octets"),
     ];

@@ -6,7 +6,8 @@ ghost use Rattle.record_wire.specs.Multicast.{class_of};
 ghost use Rattle.record_wire.specs.Name.{labels_of};
 ghost use Rattle.record_wire.specs.NameRefusal.{RefusesName};
 ghost use Rattle.record_wire.specs.Record.{question_of};
-ghost use Rattle.record_wire.specs.RecordText.{Names, IsQuestionText, question_text};
+ghost use Rattle.record_wire.specs.Names.{Names};
+ghost use Rattle.record_wire.specs.RecordText.{IsQuestionText, question_text};
 
 use crate::classes::ClassName;
 use crate::name::Name;

@@ -3,6 +3,7 @@
 
 use crate::dns_wire::dns::Packet;
 use crate::dns_wire::message::{Front, follow, octets_of, read_front};
+use crate::record::name::MAX_POINTERS;
 
 /// The room that the text of any name of such bytes has.
 pub const ROOM_LEN: usize = 256;
@@ -14,9 +15,8 @@ const MOST: usize = 254;
 const PIECE: usize = 16;
 
 /// Puts the text of the name that begins in `bytes`, and goes on where its pointers lead in the message, into the
-/// room's front, each label before a dot, and answers its length. The root has no labels, and another text. None where
-/// there is no name, where it has more than 255 octets, and where a byte of a label is not a letter, a digit, `-` or
-/// `_`, since its text may need a backslash then.
+/// room's front, each label before a dot, or a dot alone for the root, and answers its length. None where no name is
+/// read, and where a byte of a label is not a letter, a digit, `-` or `_`, since its text may need a backslash then.
 pub fn put_dotted<'a, B: AsRef<[u8]> + ?Sized>(
     room: &mut [u8; ROOM_LEN],
     packet: &Packet<&'a B>,
@@ -30,6 +30,7 @@ pub fn put_dotted<'a, B: AsRef<[u8]> + ?Sized>(
 fn put_text(room: &mut [u8; ROOM_LEN], message: &[u8], bytes: &[u8]) -> Option<usize> {
     let mut at = 0;
     let mut dots = 0;
+    let mut pointers = 0;
     let mut left = bytes;
     // The bytes of the message that are open.
     let mut reach = message;
@@ -47,12 +48,20 @@ fn put_text(room: &mut [u8; ROOM_LEN], message: &[u8], bytes: &[u8]) -> Option<u
                 let Some((next, open)) = follow(reach, target) else {
                     return None;
                 };
+                if pointers == MAX_POINTERS {
+                    return None;
+                }
+                pointers += 1;
                 left = next;
                 reach = open;
             }
             Front::End => {
+                if at == 0 {
+                    room[0] = b'.';
+                    return Some(1);
+                }
                 // No dot is usual, and none but these may stand there.
-                if at == 0 || count_usual(&room[..at]) + dots != at {
+                if count_usual(&room[..at]) + dots != at {
                     return None;
                 }
                 return Some(at);

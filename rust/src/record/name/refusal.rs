@@ -2,20 +2,22 @@
 //! Why no name begins in octets: the check that fails first.
 
 use crate::dns_wire::dns::Packet;
-use crate::dns_wire::message::{Front, follow, octets_of, read_front};
-use crate::record::name::Name;
-use crate::record::refusal::{PartRefusal, why_torn};
+use crate::dns_wire::message::octets_of;
+use crate::record::name::{Name, put_name};
+use crate::record::refusal::PartRefusal;
+use arrayvec::ArrayVec;
 use core::{fmt, result};
 
 /// Why [`crate::record::Name::read`] refuses octets and their message: the check that fails first.
 #[derive(Debug, PartialEq, Eq, Clone, Copy)]
-#[non_exhaustive]
 pub enum NameRefusal {
     /// The name is cut, or has a label of another kind.
     Part(PartRefusal),
     /// A pointer to this place leads nowhere or round: out of the message, or, behind another pointer, not to below the
     /// place that the one before it led to (RFC 1035 section 4.1.4).
     Pointer(usize),
+    /// More than [`crate::record::name::MAX_POINTERS`] pointers lead from one to the next.
+    TooManyPointers,
     /// The name has more than 255 octets (RFC 1035 section 2.3.4).
     TooLong,
 }
@@ -28,6 +30,7 @@ impl fmt::Display for NameRefusal {
             NameRefusal::Pointer(place) => {
                 write!(f, "a pointer to place {place} leads nowhere or round")
             }
+            NameRefusal::TooManyPointers => write!(f, "the name follows more than 127 pointers"),
             NameRefusal::TooLong => write!(f, "the name has more than 255 octets"),
         }
     }
@@ -40,34 +43,10 @@ impl Name {
         packet: &Packet<&'a B>,
         bytes: &'a [u8],
     ) -> result::Result<Name, NameRefusal> {
-        match Name::read(packet, bytes) {
-            Ok(name) => Ok(name),
-            Err(_) => Err(why_no_name(octets_of(packet), bytes)),
-        }
-    }
-}
-
-/// Why no name of 255 octets at most begins in bytes and goes on in a message.
-///
-/// # Panics
-///
-/// May panic where what is asked for above does not hold.
-pub(crate) fn why_no_name<'a>(message: &'a [u8], bytes: &'a [u8]) -> NameRefusal {
-    let mut left = bytes;
-    // The bytes of the message that are open.
-    let mut reach = message;
-    loop {
-        match read_front(left) {
-            Front::Label(_, rest) => left = rest,
-            Front::Pointer(target) => {
-                let Some((next, open)) = follow(reach, target) else {
-                    return NameRefusal::Pointer(target);
-                };
-                left = next;
-                reach = open;
-            }
-            Front::End => return NameRefusal::TooLong,
-            Front::Torn => return NameRefusal::Part(why_torn(left)),
+        let mut octets = ArrayVec::new();
+        match put_name(&mut octets, octets_of(packet), bytes) {
+            Ok(()) => Ok(Name { octets }),
+            Err(refusal) => Err(refusal),
         }
     }
 }

@@ -40,7 +40,7 @@ fn texts_of_names_without_pointers(rt: HostRuntime) {
             Some(b"aaaaaaaaaabbbbbbbbbbccccccccccddddddddddeeeeeeeeeeffffffffffggg."),
         ),
         // The root.
-        (b"\0", None),
+        (b"\0", Some(b".")),
         // A dot, a blank, a backslash, and a letter that is no ASCII in a label.
         (b"\x03a.b\x03com\0", None),
         (b"\x03com\x03a b\0", None),
@@ -73,7 +73,7 @@ fn texts_of_names_with_pointers(rt: HostRuntime) {
         (12, Some(b"FOO.F.ISI.ARPA.")),
         (16, Some(b"F.ISI.ARPA.")),
         (18, Some(b"ARPA.")),
-        (20, None),
+        (20, Some(b".")),
         (21, None),
         (23, None),
         (25, None),
@@ -122,4 +122,16 @@ fn texts_of_names_of_254_to_256_octets(rt: HostRuntime) {
     check_text(&rt, ONE_LESS, 0, Some(ONE_LESS_TEXT));
     check_text(&rt, LONGEST, 0, Some(LONGEST_TEXT));
     check_text(&rt, TOO_LONG, 0, None);
+}
+
+#[test]
+fn texts_of_names_behind_many_pointers(rt: HostRuntime) {
+    // Byte 0, and then pointers, the first to that byte and each other one to the pointer before it.
+    let mut message = [0; 257];
+    for k in 0..128usize {
+        message[2 * k + 1] = 0xc0;
+        message[2 * k + 2] = (2 * k).saturating_sub(1) as u8;
+    }
+    check_text(&rt, &message, 253, Some(b"."));
+    check_text(&rt, &message, 255, None);
 }

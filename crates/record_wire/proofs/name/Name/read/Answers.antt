@@ -1,56 +1,30 @@
-use Rattle.std.proofs.Common.{◌≡◌, [], ◌∷◌, ◌++◌, refl, sym, ap, ◌∙◌, subst}
-use Rattle.dns_wire.specs.DnsName.{IsName}
+-- The octets that were put.
+use Rattle.std.proofs.Common.{sym, subst}
 use Rattle.dns_wire.specs.DnsPacket.{view_octets}
-use Rattle.record_wire.specs.Labels.{wire, labels_in, AreOfName}
-use Rattle.record_wire.proofs.LabelLists.{written_in, whole_wire, ended, in_written, room_for_end, name_of}
+use Rattle.record_wire.specs.Names.{Names}
+use Rattle.record_wire.proofs.LabelLists.{in_wire, wire_in}
 use Rattle.record_wire.proofs.name.Name.read.Goals as goal
 
 pub invariant_of-result : goal.invariant_of-result
 invariant_of-result c =
-    let named = c.in_ok-put_name.ensures.sound in
-    let octets = c.put_name.new.octets.items in
-    let pushed : c.push_end.new.octets.items ≡ octets ++ 0 ∷ [] = c.in_ok-push_end.ensures.pushes in
-    record {
-      whole = subst (λ o. wire (labels_in o) ≡ o) (sym pushed)
-          (whole_wire octets (written_in octets named.labels named.each named.written));
-    }
+    let named = c.in-Ok.ensures.sound in
+    record { whole = wire_in c.put_name.new.octets.items named.labels named.names_.fits.each named.written_ }
 
-pub returns-clause-sound : goal.returns-clause-sound
-returns-clause-sound c =
-    let named = c.in_ok-put_name.ensures.sound in
-    let octets = c.put_name.new.octets.items in
-    let pushed : c.push_end.new.octets.items ≡ octets ++ 0 ∷ [] = c.in_ok-push_end.ensures.pushes in
-    let same = ap labels_in pushed ∙ (ended octets (written_in octets named.labels named.each named.written)
-    ∙ in_written octets named.labels named.each named.written) in
-    subst (λ labels. IsName c.args.bytes.now (view_octets c.args.packet.now) labels) (sym same)
-    (subst (λ m. IsName c.args.bytes.now m named.labels) c.octets_of.ensures named.name)
+pub returns-in-Ok-clause-sound : goal.returns-in-Ok-clause-sound
+returns-in-Ok-clause-sound c =
+    let named = c.in-Ok.ensures.sound in
+    let same = in_wire c.put_name.new.octets.items named.labels named.names_.fits.each named.written_ in
+    subst (λ labels. Names (view_octets c.args.packet.now) c.args.bytes.now labels) (sym same)
+    (subst (λ m. Names m c.args.bytes.now named.labels) c.octets_of.ensures named.names_)
 
-pub returns-clause-fits : goal.returns-clause-fits
-returns-clause-fits c =
-    let named = c.in_ok-put_name.ensures.sound in
-    let octets = c.put_name.new.octets.items in
-    let pushed : c.push_end.new.octets.items ≡ octets ++ 0 ∷ [] = c.in_ok-push_end.ensures.pushes in
-    subst (λ o. AreOfName (labels_in o)) (sym pushed)
-    (rw (
-      ended octets (written_in octets named.labels named.each named.written),
-      in_written octets named.labels named.each named.written,
-    )
-    (name_of octets named.labels named.each named.written (c.in_ok-push_end.ensures.room.0 refl)))
+pub returns-in-Ok-clause-complete : goal.returns-in-Ok-clause-complete
+returns-in-Ok-clause-complete c = λ labels names.
+    let written = (c.in-Ok.ensures.complete labels
+    (subst (λ m. Names m c.args.bytes.now labels) (sym c.octets_of.ensures) names)).1 in
+    in_wire c.put_name.new.octets.items labels names.fits.each written
 
-pub returns-clause-complete : goal.returns-clause-complete
-returns-clause-complete c = λ labels is name.
-    let octets = c.put_name.new.octets.items in
-    let written = (c.in_ok-put_name.ensures.complete labels
-    (subst (λ m. IsName c.args.bytes.now m labels) (sym c.octets_of.ensures) is) name).1 in
-    let pushed : c.push_end.new.octets.items ≡ octets ++ 0 ∷ [] = c.in_ok-push_end.ensures.pushes in
-    ap labels_in pushed ∙ (ended octets (written_in octets labels name.each written)
-    ∙ in_written octets labels name.each written)
-
-pub returns-in_err-push_end-clause-complete : goal.returns-in_err-push_end-clause-complete
-returns-in_err-push_end-clause-complete c = λ labels is name.
-    let octets = c.put_name.new.octets.items in
-    let written = (c.in_ok-put_name.ensures.complete labels
-    (subst (λ m. IsName c.args.bytes.now m labels) (sym c.octets_of.ensures) is) name).1 in
-    let room = room_for_end octets labels written name.fits in
-    let ok = c.in_err-push_end.ensures.room.1 room in
+pub returns-in-Err-clause-complete : goal.returns-in-Err-clause-complete
+returns-in-Err-clause-complete c = λ labels names.
+    let ok = (c.in-Err.ensures.complete labels
+    (subst (λ m. Names m c.args.bytes.now labels) (sym c.octets_of.ensures) names)).0 in
     absurd (cc ok)
