@@ -7,7 +7,7 @@ mod echo {
     /// Writes the answer to an echo request, and says how many bytes it takes. The checksum of what comes in is looked
     /// at, and the interface writes that of what goes out.
     pub fn answer(request: &[u8], reply: &mut [u8]) -> Result<usize, Error> {
-        let mut checksums = ChecksumCapabilities::default();
+        let mut checksums = ChecksumCapabilities::ignored();
         checksums.icmpv4 = Checksum::Rx;
         let packet = Icmpv4Packet::new_checked(request)?;
         let Icmpv4Repr::EchoRequest {
