@@ -102,17 +102,9 @@ def hidden(file, i):
     return file.remove(i, i + 1, comment=False)
 
 
-# What is `const` in smoltcp, and what that calls: of each view, and by module.
-CONSTANT = {
-    "icmpv4/repr": {"buffer_len"},
-    "ipv4": {"buffer_len"},
-    "ipv6": {"buffer_len"},
-    "ethernet": {"len"},
-    "ndisc/options": {"source_len", "target_len", "mtu_len", "prefix_len", "redirected_len"},
-    "ndisc/repr": {"buffer_len", "header_len", "options_len", "router_options_len", "redirect_options_len"},
-    "ndiscoption/repr": {"buffer_len"},
-    "writing": {"link_layer_addr_len", "redirected_len", "units_of"},
-}
+# What is `const` in smoltcp: of each view, and by module. With those of `ndisc` and of neighbor options, and what they
+# call, rustc's code for the job `hosts` takes 0.58 % more instructions.
+CONSTANT = {"ipv4": {"buffer_len"}, "ipv6": {"buffer_len"}}
 
 
 @rule(VALUES)

@@ -151,14 +151,4 @@ fn views_and_lengths_are_constants() {
         hop_limit: 64,
     };
     assert_eq!(lens(&v4, &v6), [20, 40]);
-
-    const ECHO: Icmpv4Repr<'_> = Icmpv4Repr::EchoRequest {
-        ident: 1,
-        seq_no: 2,
-        data: &[0; 4],
-    };
-    const MTU: NdiscOptionRepr<'_> = NdiscOptionRepr::Mtu(1500);
-    const SOLICIT: NdiscRepr<'_> = NdiscRepr::RouterSolicit { lladdr: None };
-    const LENS: [usize; 3] = [ECHO.buffer_len(), MTU.buffer_len(), SOLICIT.buffer_len()];
-    assert_eq!(LENS, [12, 8, 8]);
 }

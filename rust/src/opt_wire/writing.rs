@@ -20,7 +20,7 @@ const HEADER_LEN: usize = 2;
 const REDIRECTED_HEADER_LEN: usize = UNIT + IPV6_HEADER_LEN;
 
 /// The bytes of the option of a link-layer address: whole units.
-pub const fn link_layer_addr_len(addr: &RawHardwareAddress) -> usize {
+pub fn link_layer_addr_len(addr: &RawHardwareAddress) -> usize {
     UNIT * units_of(HEADER_LEN + addr.len())
 }
 
@@ -29,12 +29,12 @@ pub const fn link_layer_addr_len(addr: &RawHardwareAddress) -> usize {
 /// # Panics
 ///
 /// May panic where what is asked for above does not hold.
-pub const fn redirected_len(redirected: &RedirectedHeader<'_>) -> usize {
+pub fn redirected_len(redirected: &RedirectedHeader<'_>) -> usize {
     UNIT * units_of(REDIRECTED_HEADER_LEN + redirected.data.len())
 }
 
 // The units that so many bytes take.
-const fn units_of(count: usize) -> usize {
+fn units_of(count: usize) -> usize {
     count.div_ceil(UNIT)
 }
 

@@ -79,7 +79,7 @@ impl RawHardwareAddress {
     }
 
     /// The number of bytes, 0 to 8.
-    pub const fn len(&self) -> usize {
+    pub fn len(&self) -> usize {
         self.len
     }
 

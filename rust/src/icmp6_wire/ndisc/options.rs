@@ -6,7 +6,7 @@ use crate::opt_wire::writing;
 use crate::wirebase::{ByteWriter, RawHardwareAddress};
 
 // The bytes of the option of a link-layer address of the sender.
-pub(super) const fn source_len(lladdr: &Option<RawHardwareAddress>) -> usize {
+pub(super) fn source_len(lladdr: &Option<RawHardwareAddress>) -> usize {
     match lladdr {
         Some(addr) => writing::link_layer_addr_len(addr),
         None => 0,
@@ -14,7 +14,7 @@ pub(super) const fn source_len(lladdr: &Option<RawHardwareAddress>) -> usize {
 }
 
 // The bytes of the option of a link-layer address of the target.
-pub(super) const fn target_len(lladdr: &Option<RawHardwareAddress>) -> usize {
+pub(super) fn target_len(lladdr: &Option<RawHardwareAddress>) -> usize {
     match lladdr {
         Some(addr) => writing::link_layer_addr_len(addr),
         None => 0,
@@ -22,7 +22,7 @@ pub(super) const fn target_len(lladdr: &Option<RawHardwareAddress>) -> usize {
 }
 
 // The bytes of the option of an MTU.
-pub(super) const fn mtu_len(mtu: &Option<u32>) -> usize {
+pub(super) fn mtu_len(mtu: &Option<u32>) -> usize {
     match mtu {
         Some(_) => writing::MTU_LEN,
         None => 0,
@@ -30,7 +30,7 @@ pub(super) const fn mtu_len(mtu: &Option<u32>) -> usize {
 }
 
 // The bytes of the option of a prefix.
-pub(super) const fn prefix_len(prefix_info: &Option<PrefixInformation>) -> usize {
+pub(super) fn prefix_len(prefix_info: &Option<PrefixInformation>) -> usize {
     match prefix_info {
         Some(_) => writing::PREFIX_LEN,
         None => 0,
@@ -38,7 +38,7 @@ pub(super) const fn prefix_len(prefix_info: &Option<PrefixInformation>) -> usize
 }
 
 // The bytes of the option of a redirected packet.
-pub(super) const fn redirected_len(header: &Option<RedirectedHeader<'_>>) -> usize {
+pub(super) fn redirected_len(header: &Option<RedirectedHeader<'_>>) -> usize {
     match header {
         Some(header) => writing::redirected_len(header),
         None => 0,

@@ -131,12 +131,12 @@ impl<'a> Repr<'a> {
     /// # Panics
     ///
     /// May panic where what is asked for above does not hold.
-    pub const fn buffer_len(&self) -> usize {
+    pub fn buffer_len(&self) -> usize {
         self.header_len() + self.options_len()
     }
 
     // The bytes of the header.
-    const fn header_len(&self) -> usize {
+    fn header_len(&self) -> usize {
         match self {
             Repr::RouterSolicit { .. } => field::RESERVED_END,
             Repr::RouterAdvert { .. } => field::RETRANS_TIME.end,
@@ -147,7 +147,7 @@ impl<'a> Repr<'a> {
     }
 
     // The bytes of the options.
-    const fn options_len(&self) -> usize {
+    fn options_len(&self) -> usize {
         match self {
             Repr::RouterSolicit { lladdr } => source_len(lladdr),
             Repr::RouterAdvert {
@@ -253,7 +253,7 @@ impl<'a> Repr<'a> {
 }
 
 // The bytes of the options of a router advertisement.
-const fn router_options_len(
+fn router_options_len(
     lladdr: &Option<RawHardwareAddress>,
     mtu: &Option<u32>,
     prefix_info: &Option<PrefixInformation>,
@@ -262,7 +262,7 @@ const fn router_options_len(
 }
 
 // The bytes of the options of a redirect.
-const fn redirect_options_len(
+fn redirect_options_len(
     lladdr: &Option<RawHardwareAddress>,
     header: &Option<RedirectedHeader<'_>>,
 ) -> usize {

@@ -163,7 +163,7 @@ impl<'a> Repr<'a> {
     /// # Panics
     ///
     /// May panic where what is asked for above does not hold.
-    pub const fn buffer_len(&self) -> usize {
+    pub fn buffer_len(&self) -> usize {
         match self {
             Repr::SourceLinkLayerAddr(addr) => writing::link_layer_addr_len(addr),
             Repr::TargetLinkLayerAddr(addr) => writing::link_layer_addr_len(addr),
