@@ -210,32 +210,62 @@ fn later(responses: &[Vec<u8>]) {
     texts(responses);
 }
 
+// A response of 40 addresses of one host, whose name stands behind a chain of 1,000 pointers, in the data of a record.
+#[cfg(feature = "later")]
+fn chained(random: &mut Random) -> Vec<u8> {
+    let mut octets = random.octets(2);
+    octets.extend_from_slice(&[0x81, 0x80, 0, 0, 0, 41, 0, 0, 0, 0]);
+    octets.extend_from_slice(&[0, 0, 99, 0, 1, 0, 0, 0, 60]);
+    let name = name(random, 2);
+    octets.extend_from_slice(&(name.len() as u16 + 2_000).to_be_bytes());
+    let mut target = octets.len();
+    octets.extend_from_slice(&name);
+    for _ in 0..1_000 {
+        let start = octets.len();
+        octets.extend_from_slice(&(0xc000 + target as u16).to_be_bytes());
+        target = start;
+    }
+    for _ in 0..40 {
+        octets.extend_from_slice(&(0xc000 + target as u16).to_be_bytes());
+        octets.extend_from_slice(&[0, 1, 0, 1, 0, 0, 0, 60, 0, 4]);
+        octets.extend_from_slice(&random.octets(4));
+    }
+    octets
+}
+
 // Entries as lines of a zone file: what is read for them, and how they are printed.
 #[cfg(feature = "later")]
 fn texts(responses: &[Vec<u8>]) {
     use crate::measure::{Case, measured};
+    use control_wire::record::{Entry, EntryText};
     use std::fmt::Write;
     use std::hint::black_box;
 
-    let mut case = Case::new("dns_entry_text");
     let mut printed = Case::new("dns_entry_text_display");
-    let mut text = arrayvec::ArrayString::<2_048>::new();
-    for octets in responses {
-        let packet = Packet::new_unchecked(&octets[..]);
-        for entry in Entries::new(&packet).flatten() {
-            let answer = measured(
-                |(entry, packet): (&control_wire::record::Entry<'_>, _)| entry.text(packet, false),
-                black_box((&entry, &packet)),
-            );
-            text.clear();
-            match answer {
-                Ok(answer) => write!(text, "{answer}").unwrap(),
-                Err(refusal) => write!(text, "{refusal:?}").unwrap(),
+    let mut text = arrayvec::ArrayString::<8_192>::new();
+    let chained = [chained(&mut Random::new(89))];
+    for (name, messages) in [
+        ("dns_entry_text", responses),
+        ("dns_entry_text_behind_a_chain", &chained),
+    ] {
+        let mut case = Case::new(name);
+        for octets in messages {
+            let packet = Packet::new_unchecked(&octets[..]);
+            for entry in Entries::new(&packet).flatten() {
+                let answer = measured(
+                    |(entry, packet): (&Entry<'_>, _)| entry.text(packet, false),
+                    black_box((&entry, &packet)),
+                );
+                text.clear();
+                match answer {
+                    Ok(answer) => write!(text, "{answer}").unwrap(),
+                    Err(refusal) => write!(text, "{refusal:?}").unwrap(),
+                }
+                case.add_octets(text.as_bytes());
             }
-            case.add_octets(text.as_bytes());
         }
+        case.end();
     }
-    case.end();
     for octets in responses {
         let packet = Packet::new_unchecked(&octets[..]);
         for entry in Entries::new(&packet).flatten() {
@@ -244,20 +274,13 @@ fn texts(responses: &[Vec<u8>]) {
             };
             text.clear();
             printed.add(measured(
-                |(answer, text): (&control_wire::record::EntryText<'_>, _)| write_to(text, answer),
+                |(answer, text): (&EntryText<'_>, &mut arrayvec::ArrayString<8_192>)| {
+                    write!(text, "{answer}")
+                },
                 black_box((&answer, &mut text)),
             ));
             printed.add_octets(text.as_bytes());
         }
     }
     printed.end();
-}
-
-#[cfg(feature = "later")]
-fn write_to(
-    text: &mut arrayvec::ArrayString<2_048>,
-    answer: &control_wire::record::EntryText<'_>,
-) -> std::fmt::Result {
-    use std::fmt::Write;
-    write!(text, "{answer}")
 }
