@@ -25,6 +25,17 @@ pub fn cases() {
         Duration::from_micros(random.below(1 << 40))
     });
     prints("duration_display", &durations);
+    let texts: Vec<String> = addresses.iter().map(Ipv6Address::to_string).collect();
+    reads("ipv6_address_from_str", &texts, |text| {
+        text.parse::<Ipv6Address>()
+    });
+    #[cfg(feature = "later")]
+    {
+        let texts = ["A", "AAAA", "MX", "SOA", "TYPE99", "TYPE65535", "FOO", "a"];
+        reads("dns_type_from_str", texts, |text| {
+            text.parse::<control_wire::dns::Type>().ok()
+        });
+    }
     reads("ipv6_address_is_multicast", &addresses, |address| {
         (address.is_multicast(), address.is_link_local())
     });
