@@ -1,5 +1,5 @@
 -- The octets begin with a packet, or those behind a block show one.
-use Rattle.std.proofs.Common.{arith, length-drop, ap, refl, IsTrue, false, true, ◌≡◌}
+use Rattle.std.proofs.Common.{arith, length-drop, ap, refl, IsTrue, false}
 use Rattle.capture.specs.Pcapng.{first}
 use Rattle.capture.proofs.Blocks.{shows_behind, shows_none}
 use Rattle.capture.proofs.pcapng.shows_packet.Goals as goal
