@@ -126,7 +126,7 @@ impl<'a> Repr<'a> {
     /// # Panics
     ///
     /// May panic where what is asked for above does not hold.
-    pub fn buffer_len(&self) -> usize {
+    pub const fn buffer_len(&self) -> usize {
         match self {
             Repr::EchoRequest { data, .. } => field::HEADER_END + data.len(),
             Repr::EchoReply { data, .. } => field::HEADER_END + data.len(),

@@ -64,6 +64,10 @@ pub(super) fn push_label(octets: &mut ArrayVec<u8, MAX_NAME_LEN>, label: &[u8]) 
 
 /// Writes labels behind the others. Refused where no name has room for them, which byte 0 ends. Of none nothing is
 /// copied: between two pointers often no label stands.
+///
+/// # Panics
+///
+/// May panic where what is asked for above does not hold.
 #[inline]
 pub(super) fn push_labels(octets: &mut ArrayVec<u8, MAX_NAME_LEN>, labels: &[u8]) -> Result<()> {
     if labels.is_empty() {

@@ -10,6 +10,7 @@ use core::{fmt, result};
 
 /// Why [`crate::record::Name::read`] refuses octets and their message: the check that fails first.
 #[derive(Debug, PartialEq, Eq, Clone, Copy)]
+#[non_exhaustive]
 pub enum NameRefusal {
     /// The name is cut, or has a label of another kind.
     Part(PartRefusal),
