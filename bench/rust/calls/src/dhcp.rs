@@ -92,6 +92,14 @@ fn write(message: &Repr<'_>) -> Vec<u8> {
     octets
 }
 
+// Views of packets.
+fn views(octets: &[Vec<u8>]) -> Vec<Packet<&[u8]>> {
+    octets
+        .iter()
+        .map(|octets| Packet::new_unchecked(&octets[..]))
+        .collect()
+}
+
 /// The cases.
 pub fn cases() {
     let all = [
@@ -135,9 +143,7 @@ pub fn cases() {
         few.extend_from_slice(&octets[..16]);
         values.extend_from_slice(&messages[..16]);
     }
-    iterates("dhcp_options", &few, |octets| {
-        Packet::new_unchecked(octets).options()
-    });
+    iterates("dhcp_options", &views(&few), |packet| packet.options());
     names(&few);
     option_writer();
     #[cfg(feature = "later")]
@@ -155,11 +161,10 @@ fn names(octets: &[Vec<u8>]) {
             octets
         })
         .collect();
-    reads("dhcp_get_sname", &named, |octets| {
-        Packet::new_unchecked(octets).get_sname()
-    });
-    reads("dhcp_get_boot_file", &named, |octets| {
-        Packet::new_unchecked(octets).get_boot_file()
+    let packets = views(&named);
+    reads("dhcp_get_sname", &packets, |packet| packet.get_sname());
+    reads("dhcp_get_boot_file", &packets, |packet| {
+        packet.get_boot_file()
     });
 }
 
@@ -213,10 +218,8 @@ fn later(octets: &[Vec<u8>], values: &[Repr<'_>]) {
         Repr::refusal(&Packet::new_unchecked(octets))
     });
     prints("dhcp_display", values);
-    let options: Vec<DhcpOption<'_>> = octets
-        .iter()
-        .flat_map(|octets| Packet::new_unchecked(octets).options())
-        .collect();
+    let packets = views(octets);
+    let options: Vec<DhcpOption<'_>> = packets.iter().flat_map(|packet| packet.options()).collect();
     reads("dhcp_option_value", &options, DhcpOption::value);
     reads("dhcp_option_name", &options, DhcpOption::name);
     prints("dhcp_option_display", &options);

@@ -76,6 +76,14 @@ fn chain(random: &mut Random) -> Placed {
     }
 }
 
+// Views of messages, and the bytes from where the name begins.
+fn views(placed: &[Placed]) -> Vec<(Packet<&[u8]>, &[u8])> {
+    placed
+        .iter()
+        .map(|Placed { message, start }| (Packet::new_unchecked(&message[..]), &message[*start..]))
+        .collect()
+}
+
 // A case of `Name::read`.
 fn read(title: &'static str, placed: &[Placed]) {
     let mut case = Case::new(title);
@@ -101,12 +109,14 @@ pub fn cases() {
     read("name_read_by_pointers", &pointed);
     read("name_read_in_pieces", pieces);
     read("name_read_behind_a_chain", &chains);
-    iterates("dns_parse_name", &pointed, |placed| {
-        Packet::new_unchecked(&placed.message[..]).parse_name(&placed.message[placed.start..])
+    iterates("dns_parse_name", &views(&pointed), |(packet, bytes)| {
+        packet.parse_name(bytes)
     });
-    iterates("dns_parse_name_behind_a_chain", &chains, |placed| {
-        Packet::new_unchecked(&placed.message[..]).parse_name(&placed.message[placed.start..])
-    });
+    iterates(
+        "dns_parse_name_behind_a_chain",
+        &views(&chains),
+        |(packet, bytes)| packet.parse_name(bytes),
+    );
     from_text();
     #[cfg(feature = "later")]
     {
