@@ -117,6 +117,16 @@ fn datagrams_of_udp() {
     });
     #[cfg(feature = "later")]
     {
+        writes(
+            "udp_emit",
+            &datagrams,
+            |udp| udp.octets.len(),
+            |udp, out| {
+                let (src_port, dst_port) = ports(&udp.octets);
+                let ports = UdpRepr { src_port, dst_port };
+                ports.emit_into(&udp.octets[8..], &udp.addresses, out, caps)
+            },
+        );
         reads("udp_parse_or_refusal", &datagrams, |udp| {
             let packet = UdpPacket::new_unchecked(&udp.octets);
             UdpRepr::parse_or_refusal(&packet, &udp.addresses, caps)
@@ -140,6 +150,12 @@ fn datagrams_of_udp() {
             UdpRepr::refusal(&packet, &udp.addresses, caps)
         });
     }
+}
+
+#[cfg(feature = "later")]
+fn ports(octets: &[u8]) -> (u16, u16) {
+    let packet = UdpPacket::new_unchecked(octets);
+    (packet.src_port(), packet.dst_port())
 }
 
 fn headers() {
