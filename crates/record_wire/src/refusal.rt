@@ -81,7 +81,9 @@ pub(crate) fn why_no_part(text: &[u8]) -> PartRefusal
     }
 }
 
-/// Why nothing whole stands at the front of octets.
+/// Why nothing whole stands at the front of octets. It is rare, and inlined it would take registers of the loop that
+/// reads names.
+#[inline(never)]
 pub(crate) fn why_torn(octets: &[u8]) -> PartRefusal
     requires { torn ≡ front_of octets.now }
     ensures { IsNoPart octets.now result }

@@ -70,11 +70,13 @@ pub(crate) fn why_no_part(text: &[u8]) -> PartRefusal {
     }
 }
 
-/// Why nothing whole stands at the front of octets.
+/// Why nothing whole stands at the front of octets. It is rare, and inlined it would take registers of the loop that
+/// reads names.
 ///
 /// # Panics
 ///
 /// May panic where what is asked for above does not hold.
+#[inline(never)]
 pub(crate) fn why_torn(octets: &[u8]) -> PartRefusal {
     if octets.is_empty() {
         return PartRefusal::Cut;
