@@ -107,8 +107,8 @@ pub data Ends (s : State) (bytes : List ℕ) (ending : Ending) : Type 0 where
   no_block : (section : Order) → s.stage ≡ stage.Section section → BlockEnds section s.interfaces bytes ending
       → Ends s bytes ending
 
--- These bytes show the next packet's record or block as a whole, and the blocks before it; at the start nothing is known
--- of what comes, and behind the end nothing is read.
+-- These bytes show the next packet's record or block as a whole, and the blocks before it; at the start nothing is
+-- known of what comes, and behind the end nothing is read.
 abbrev pub ShowsNext : Stage → List ℕ → Type 0
 ShowsNext stage.Start shown = ⊥
 ShowsNext (stage.File h) shown = ShowsRecord most_octets h.order shown

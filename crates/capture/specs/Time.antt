@@ -25,7 +25,7 @@ pub record IsTime (t : Time) (nanoseconds digits : ℕ) : Type 0 where
   pub part_ : t.nanoseconds < 1000000000
   pub digits_ : t.digits ≡ digits
 
--- the time of these seconds and nanoseconds, in whole seconds
+-- the time of these seconds and nanoseconds, told to no digits
 abbrev pub time_of : ℕ × ℕ → Time
 time_of parts = record { seconds = parts.0; nanoseconds = parts.1; digits = 0 }
 

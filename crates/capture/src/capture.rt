@@ -126,8 +126,8 @@ impl Capture {
 
     /// Whether these octets, which the input's buffer shows, have the whole record or block of the next packet, and the
     /// blocks before it that hold none, so that `next` need not wait for more. It is false at the start of a capture,
-    /// and before a record or block that is longer than is kept; at the end it is true. A program that prints packets as they come writes
-    /// out its output where this is false, before it reads on.
+    /// and before a packet whose record or block is longer than is kept; at the end it is true. A program that prints
+    /// packets as they come writes out its output where this is false, before it reads on.
     #[inline]
     pub fn shows_next(&self, shown: &[u8]) -> bool
         ensures { IsTrue result ↔ ShowsUnit (state_of self.now) shown.now }

@@ -22,7 +22,7 @@ RefusesLen bytes (Length n) = (8 ≤ length bytes) × (len_in bytes ≡ n) × (n
 RefusesLen bytes (Cut n) = (8 ≤ length bytes) × (len_in bytes ≡ n) × (8 ≤ n) × (length bytes < n)
 RefusesLen bytes _ = ⊥
 
--- a whole datagram to some port, whose checksum is verified
+-- a whole datagram to some port, whose checksum is to be verified
 pub record IsChecked (capabilities : ChecksumCapabilities) (bytes : List ℕ) : Type 0 where
   pub whole : BeginsWhole bytes
   pub port : number_of dst_port_field bytes ≢ 0

@@ -288,8 +288,8 @@ pub struct UdpRepr {
 
 impl UdpRepr {
     /// The ports of the datagram at the front of the octets. Refused where that is not whole, is to port 0, and where
-    /// `checksum_caps.udp` has the checksum verified and it does not hold. A checksum of 0 says that there is none: over
-    /// IPv4 it need not be there (RFC 768), and over IPv6 the datagram is refused (RFC 8200 section 8.1).
+    /// `checksum_caps.udp` has the checksum verified and it does not hold. A checksum of 0 says that there is none: where
+    /// it is verified, it need not be there over IPv4 (RFC 768), and has to over IPv6 (RFC 8200 section 8.1).
     pub fn parse(
         packet: &UdpPacket<&[u8]>,
         addresses: &Addresses,
@@ -377,10 +377,10 @@ impl UdpRepr {
         }
     }
 
-    /// Writes the datagram of this payload over the front of the octets, with its checksum where `checksum_caps.udp` has
-    /// it computed, and else with 0 for none; what stands behind it stays. A checksum of 0 is written as 0xffff, which
-    /// is the same sum (RFC 768). It takes 8 bytes and the payload: requires that the octets have them, and that they
-    /// are at most 65,535.
+    /// Writes the datagram of this payload over the front of the octets, with its checksum where `checksum_caps.udp`
+    /// has it computed, and else with 0 for none, which no receiver takes over IPv6; what stands behind it stays. A
+    /// checksum of 0 is written as 0xffff, which is the same sum (RFC 768). It takes 8 bytes and the payload: requires
+    /// that the octets have them, and that they are at most 65,535.
     ///
     /// ```
     /// use frame_wire::{Addresses, UdpRepr};

@@ -58,7 +58,7 @@ pub(crate) fn print_differently<T: Display>(rt: &impl Abort, alloc: Global, left
     holds_of(
         rt,
         left.as_deref(),
-        left.is_some() && left.as_deref() != right.as_deref(),
+        left.is_some() && right.is_some() && left.as_deref() != right.as_deref(),
     );
 }
 

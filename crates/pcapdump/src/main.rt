@@ -47,7 +47,7 @@ const FAILED: u8 = 3;
 // The bytes of the output's buffer.
 const BUFFER_LEN: usize = 65_536;
 
-// An input that keeps the error with which its last read failed.
+// An input that keeps the last error of a read.
 #[derive(Drop)]
 struct Watched<R> {
     input: R,

@@ -51,8 +51,8 @@ use std::{fmt, result};
 use wirebase::{Ipv4Address, Ipv6Address};
 
 /// A record whose names are read, which prints its line of a zone file: the name with its last dot, the time to live,
-/// the class, the type, and the data. In records that are equal names are compared without regard to the case of ASCII
-/// letters.
+/// the class, the type, and the data; an OPT record prints a comment. In records that are equal names are compared
+/// without regard to the case of ASCII letters.
 ///
 /// ```
 /// use record_wire::{Name, types};
@@ -90,7 +90,7 @@ pub enum DataText<'a> {
     /// An IPv6 address (RFC 3596 section 2.2).
     Aaaa(Ipv6Address),
     /// A name, of type CNAME, NS or PTR (RFC 1035 sections 3.3.1, 3.3.11 and 3.3.12), MB, MD, MF, MG or MR (sections
-    /// 3.3.3 to 3.3.8), or DNAME (RFC 6672 section 2.1).
+    /// 3.3.3 to 3.3.6 and 3.3.8), or DNAME (RFC 6672 section 2.1).
     Name(Name),
     /// A host that takes mail (RFC 1035 section 3.3.9).
     Mx {
@@ -138,9 +138,9 @@ pub struct AuthorityText {
 }
 
 /// The line of a zone file, without its end: names with their last dot, times in seconds, the class and the type by
-/// their mnemonics, or as `CLASS` and `TYPE` with the number, and the data. An OPT record belongs to a message and to no
-/// zone (RFC 6891 section 6.1.1), so that it is a comment, in the manner of dig: the version, the flags, the size of
-/// UDP payloads, the upper bits of the response code, and each option, as
+/// their mnemonics, or as `CLASS` and `TYPE` with the number, and the data. An OPT record belongs to a message and to
+/// no zone (RFC 6891 section 6.1.1), so that it is a comment, in the manner of dig, without its name: the version, the
+/// flags, the size of UDP payloads, the upper bits of the response code, and each option, as
 /// `; EDNS: version: 0, flags: do; udp: 1232; extended_rcode: 0; cookie=0123456789abcdef`. Where an option is cut, it
 /// says so in its place.
 impl fmt::Display for RecordText<'_> {
@@ -230,8 +230,9 @@ impl fmt::Display for AuthorityText {
 }
 
 impl<'a> Record<'a> {
-    /// The record with its name and those in its data read, which prints its line of a zone file. An update's record of
-    /// class NONE or ANY may have no data. Refused where a name does not read, and where the data is not laid out as
+    /// The record with its name and those in its data read, which prints its line of a zone file, or a comment where it
+    /// is an OPT record. Data of a type that [`RData`] does not read print as octets: names that are compressed in them
+    /// have a meaning in this message alone. An update's record of class NONE or ANY may have no data. Refused where a name does not read, and where the data is not laid out as
     /// its type has it.
     ///
     /// ```

@@ -45,7 +45,7 @@ pub(crate) fn print_differently<T: Display>(left: &T, right: &T) {
     let [left, right] = [left.to_string_in().ok(), right.to_string_in().ok()];
     holds_of(
         left.as_deref(),
-        left.is_some() && left.as_deref() != right.as_deref(),
+        left.is_some() && right.is_some() && left.as_deref() != right.as_deref(),
     );
 }
 

@@ -57,7 +57,7 @@ pub enum RData<'a> {
     /// An IPv6 address (RFC 3596 section 2.2), of type AAAA and class 1.
     Aaaa(Ipv6Address),
     /// A name, of type CNAME, NS or PTR (RFC 1035 sections 3.3.1, 3.3.11 and 3.3.12), MB, MD, MF, MG or MR (sections
-    /// 3.3.3 to 3.3.8), or DNAME (RFC 6672 section 2.1).
+    /// 3.3.3 to 3.3.6 and 3.3.8), or DNAME (RFC 6672 section 2.1).
     Name(&'a [u8]),
     /// A host that takes mail (RFC 1035 section 3.3.9).
     Mx {

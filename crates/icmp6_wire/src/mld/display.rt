@@ -10,8 +10,8 @@ use super::{AddressRecordRepr, Repr};
 use opt_wire::digits::Digits;
 use std::fmt;
 
-/// The message with its fields, as `MLD report nr_mcast_addr_rcrds=0 data=-`. In place of data a list has each record in
-/// parentheses.
+/// The message with its fields, as `MLD report nr_mcast_addr_rcrds=0 data=-`. In place of data a list has each record
+/// in parentheses.
 impl fmt::Display for Repr<'_> {
     ghost output = { λ repr. Some (repr_display (value_of repr)) };
 

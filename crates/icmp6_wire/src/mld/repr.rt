@@ -71,8 +71,9 @@ pub enum Repr<'a> {
         data: &'a [u8],
     },
     /// A report to be written, by its records, of which the fields alone are written. So [`Records`](super::Records)
-    /// gives back those that count neither sources nor auxiliary data, with an empty payload, and refuses one that
-    /// does as cut. A report of records with sources is written as `Report`, whose data has them.
+    /// gives back those that count neither sources nor auxiliary data, with an empty payload; for one that counts some
+    /// it takes the record behind it, or finds it cut. A report of records with sources is written as `Report`, whose
+    /// data has them.
     ReportRecordReprs(&'a [AddressRecordRepr<'a>]),
 }
 

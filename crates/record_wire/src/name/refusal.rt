@@ -19,7 +19,7 @@ pub enum NameRefusal {
     /// A pointer to this place leads nowhere or round: out of the message, or, behind another pointer, not to below the
     /// place that the one before it led to (RFC 1035 section 4.1.4).
     Pointer(usize),
-    /// More than [`crate::name::MAX_POINTERS`] pointers lead from one to the next.
+    /// The name follows more than [`crate::name::MAX_POINTERS`] pointers, with labels between them or not.
     TooManyPointers,
     /// The name has more than 255 octets (RFC 1035 section 2.3.4).
     TooLong,

@@ -18,8 +18,8 @@ use dns_wire::dns::Packet;
 use std::{fmt, result};
 
 /// A question or a record whose names are read, which prints its line: the section, the question or the record as a
-/// zone file has it, and a mark where its flag of multicast DNS is set. [`Entry::text`] reads it. In entries that are
-/// equal names are compared without regard to the case of ASCII letters.
+/// zone file has it, or a comment for an OPT record, and a mark where its flag of multicast DNS is set. [`Entry::text`]
+/// reads it. In entries that are equal names are compared without regard to the case of ASCII letters.
 #[derive(PartialEq, Eq, Clone, Drop)]
 pub enum EntryText<'a> {
     /// A question.

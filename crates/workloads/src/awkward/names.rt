@@ -21,8 +21,8 @@ pub const PIECES_LEN: usize = HEADER_LEN + PIECE_LEN * PIECES + 1;
 /// The bytes of a message of pointers, the most that a pointer reaches.
 pub const CHAIN_LEN: usize = 16_384;
 
-// Adds the name that begins at a place of a message: its labels, its octets and its text.
-fn add_name(message: &[u8], place: usize, digest: &mut Digest) {
+// Adds the labels of the name that begins at a place of a message.
+fn add_labels(message: &[u8], place: usize, digest: &mut Digest) {
     let Some(bytes) = message.get(place..) else {
         return;
     };
@@ -33,6 +33,15 @@ fn add_name(message: &[u8], place: usize, digest: &mut Digest) {
             Err(_) => digest.add(1),
         }
     }
+}
+
+// Adds the name that begins at a place of a message: its labels, its octets and its text.
+fn add_name(message: &[u8], place: usize, digest: &mut Digest) {
+    add_labels(message, place, digest);
+    let Some(bytes) = message.get(place..) else {
+        return;
+    };
+    let packet = Packet::new_unchecked(message);
     let Ok(name) = Name::read(&packet, bytes) else {
         digest.add(2);
         return;
@@ -79,8 +88,14 @@ pub fn write_chain(message: &mut [u8]) {
     }
 }
 
-/// Reads the name at a place among the pointers.
+/// Reads the labels of a name behind thousands of pointers, and a whole name behind 127 at most, as many as are
+/// followed.
 pub fn read_chain(number: u64, message: &[u8], digest: &mut Digest) {
-    let place = HEADER_LEN + 4 + 2 * (number % 8_000) as usize;
-    add_name(message, place, digest);
+    add_labels(message, place_behind(number % 8_000), digest);
+    add_name(message, place_behind(number % 127), digest);
+}
+
+// The place of a pointer behind so many others.
+fn place_behind(pointers: u64) -> usize {
+    HEADER_LEN + 4 + 2 * pointers as usize
 }

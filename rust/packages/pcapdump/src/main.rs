@@ -49,7 +49,7 @@ const FAILED: u8 = 3;
 // The bytes of the output's buffer.
 const BUFFER_LEN: usize = 65_536;
 
-// An input that keeps the error with which its last read failed.
+// An input that keeps the last error of a read.
 struct Watched<R> {
     input: R,
     error: Option<io::Error>,

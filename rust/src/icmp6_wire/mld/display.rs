@@ -5,8 +5,8 @@ use super::{AddressRecordRepr, Repr};
 use crate::opt_wire::digits::Digits;
 use core::fmt;
 
-/// The message with its fields, as `MLD report nr_mcast_addr_rcrds=0 data=-`. In place of data a list has each record in
-/// parentheses.
+/// The message with its fields, as `MLD report nr_mcast_addr_rcrds=0 data=-`. In place of data a list has each record
+/// in parentheses.
 impl fmt::Display for Repr<'_> {
     fn fmt(&self, f: &mut fmt::Formatter<'_>) -> fmt::Result {
         match self {

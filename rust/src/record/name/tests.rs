@@ -326,10 +326,13 @@ fn a_name_of_more_than_255_octets_is_refused() {
 fn what_stands_behind_255_octets_is_not_looked_at() {
     // 126 labels of one byte have 252 octets. Behind them stands a label of one byte or of two, and then none.
     let mut octets = [1; 256];
-    for last in [b"\x01\x01\x80".as_slice(), b"\x01\x01\xc0\xff"] {
+    for (last, refusal) in [
+        (b"\x01\x01\x80".as_slice(), PartRefusal::LabelType(0x80)),
+        (b"\x01\x01\xc0\xff", PartRefusal::Cut),
+    ] {
         octets[252..252 + last.len()].copy_from_slice(last);
         let front = &octets[..252 + last.len()];
-        same_of(last, refusal_of(front) == Some(NameRefusal::TooLong), false);
+        same_of(last, refusal_of(front), Some(NameRefusal::Part(refusal)));
     }
     for last in [b"\x02\x01\x01\x80".as_slice(), b"\x02\x01\x01\xc0"] {
         octets[252..256].copy_from_slice(last);

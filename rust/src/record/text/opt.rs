@@ -4,7 +4,7 @@
 use crate::record::edns::{Edns, EdnsOption, EdnsOptions, OptionRefusal};
 use core::{fmt, result};
 
-/// What an OPT record says, as a comment of a zone file: dig writes the first three so.
+/// What an OPT record says, as a comment of a zone file, in the manner of dig.
 #[derive(Clone, Copy)]
 pub(super) struct Comment<'a>(pub(super) Edns<'a>);
 

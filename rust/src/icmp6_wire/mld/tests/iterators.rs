@@ -90,6 +90,11 @@ fn records_that_count_what_is_not_written_are_cut() {
     let mut records = Records::new(2, &octets[8..]);
     same(records.next(), Some(Ok(bare())));
     same(records.next(), Some(Err(RecordRefusal::Cut)));
+    // One that counts a source takes 16 bytes of the record behind it, which then is cut.
+    Repr::ReportRecordReprs(&[with_source(), bare()]).emit_into(&mut octets);
+    let mut records = Records::new(2, &octets[8..]);
+    holds_of(1, records.next().is_some());
+    same(records.next(), Some(Err(RecordRefusal::Short)));
     // Those that count nothing behind their fields are the ones which were written, whatever stands behind them.
     Repr::ReportRecordReprs(&[bare()]).emit_into(&mut octets);
     let mut records = Records::new(1, &octets[8..]);
