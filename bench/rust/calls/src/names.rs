@@ -7,8 +7,10 @@ use control_wire::dns::Packet;
 use control_wire::record::Name;
 use std::hint::black_box;
 
-// The pointers of a chain.
+// The pointers of a long chain, and of the longest that `Name::read` follows.
 const CHAIN: usize = 4_000;
+
+const FOLLOWED: usize = 127;
 
 /// A message, and where a name begins in it.
 struct Placed {
@@ -61,11 +63,11 @@ fn pieces(random: &mut Random, _: usize) -> Placed {
     }
 }
 
-// A chain of pointers with no label between them, which leads to a name.
-fn chain(random: &mut Random) -> Placed {
+// A chain of so many pointers with no label between them, which leads to a name.
+fn chain(random: &mut Random, pointers: usize) -> Placed {
     let mut message = [vec![0; HEADER_LEN], name(random, 2)].concat();
     let mut target = HEADER_LEN;
-    for _ in 0..CHAIN {
+    for _ in 0..pointers {
         let start = message.len();
         message.extend_from_slice(&pointer(target));
         target = start;
@@ -104,10 +106,12 @@ pub fn cases() {
     let pointed = many(91, pointed);
     let pieces = &many(92, pieces)[..8];
     let mut random = Random::new(93);
-    let chains = [chain(&mut random), chain(&mut random)];
+    let chains = [chain(&mut random, CHAIN), chain(&mut random, CHAIN)];
+    let followed = many(96, |random, _| chain(random, FOLLOWED));
     read("name_read", &plain);
     read("name_read_by_pointers", &pointed);
     read("name_read_in_pieces", pieces);
+    read("name_read_behind_127_pointers", &followed);
     read("name_read_behind_a_chain", &chains);
     iterates("dns_parse_name", &views(&pointed), |(packet, bytes)| {
         packet.parse_name(bytes)
