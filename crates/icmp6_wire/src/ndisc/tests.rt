@@ -1,4 +1,4 @@
-ghost use Rattle.std.specs.Prelude.{◌≡◌, ◌<◌, ◌≤◌, ◌×◌, length};
+ghost use Rattle.std.specs.Prelude.{◌≡◌, ◌<◌, ◌≤◌, length};
 ghost use Rattle.icmp6_wire.specs.Ndisc.{value_of, text_len, CanEmit};
 ghost use Rattle.wirebase.specs.Duration.{seconds_of};
 ghost use Rattle.opt_wire.specs.NdiscOptionRepr.{HasSeconds};
