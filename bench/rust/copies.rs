@@ -1,6 +1,6 @@
 //! libc's copies, fills and comparisons, which take as many instructions as octets on every processor: `bench/count`
 //! loads them before libc's own, of which each processor has another form. What each takes beside its octets stands
-//! with it, and `bench/count` takes that off.
+//! with it.
 #![no_std]
 
 use core::arch::naked_asm;
