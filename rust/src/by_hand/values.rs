@@ -18,6 +18,7 @@
 //! fn is_short(refusal: Refusal) -> bool {
 //!     match refusal {
 //!         Refusal::Short => true,
+//!         Refusal::UnknownType(_) | Refusal::Group(_) => false,
 //!         _ => false,
 //!     }
 //! }
