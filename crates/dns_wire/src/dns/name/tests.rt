@@ -53,10 +53,10 @@ fn check_next<'a>(
 }
 
 // The walk gives these labels, an error where the name is broken, and then the end for good, after so many steps.
-fn check(
+fn check<'a>(
     rt: &impl Abort,
-    message: &[u8],
-    slice: &[u8],
+    message: &'a [u8],
+    slice: &'a [u8],
     labels: &[&[u8]],
     broken: bool,
     steps: usize,
@@ -196,7 +196,7 @@ fn check_told(rt: &impl Abort, message: &[u8], slice: &[u8], broken: bool) {
 
 // Compares the walk over the name that begins in a slice with one along the falling path, a window after another. Each
 // turn is one step.
-fn compare_walk(rt: &impl Abort, message: &[u8], slice: &[u8]) {
+fn compare_walk<'a>(rt: &impl Abort, message: &'a [u8], slice: &'a [u8]) {
     let packet = Packet::new_unchecked(message);
     let mut walk = packet.parse_name(slice);
     let mut window = slice;

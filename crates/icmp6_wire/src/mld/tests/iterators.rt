@@ -85,25 +85,6 @@ fn copies_of_records_and_sources_go_on_from_the_same_place(rt: HostRuntime) -> R
 }
 
 #[test]
-fn records_that_count_what_is_not_written_are_cut(rt: HostRuntime) {
-    let mut octets = [0x2a; 48];
-    Repr::ReportRecordReprs(&[bare(), with_source()]).emit_into(&mut octets);
-    let mut records = Records::new(2, &octets[8..]);
-    same(&rt, records.next(), Some(Ok(bare())));
-    same(&rt, records.next(), Some(Err(RecordRefusal::Cut)));
-    // One that counts a source takes 16 bytes of the record behind it, which then is cut.
-    Repr::ReportRecordReprs(&[with_source(), bare()]).emit_into(&mut octets);
-    let mut records = Records::new(2, &octets[8..]);
-    holds_of(&rt, 1, records.next().is_some());
-    same(&rt, records.next(), Some(Err(RecordRefusal::Short)));
-    // Those that count nothing behind their fields are the ones which were written, whatever stands behind them.
-    Repr::ReportRecordReprs(&[bare()]).emit_into(&mut octets);
-    let mut records = Records::new(1, &octets[8..]);
-    same(&rt, records.next(), Some(Ok(bare())));
-    same(&rt, records.next(), None);
-}
-
-#[test]
 fn sources_of_a_record_in_turn(rt: HostRuntime) {
     let mut sources = with_source().sources();
     same(&rt, sources.next(), Some(IPV6_LINK_LOCAL_ALL_ROUTERS));

@@ -54,7 +54,7 @@ fn check_next<'a>(
 }
 
 // The walk gives these labels, an error where the name is broken, and then the end for good, after so many steps.
-fn check(message: &[u8], slice: &[u8], labels: &[&[u8]], broken: bool, steps: usize) {
+fn check<'a>(message: &'a [u8], slice: &'a [u8], labels: &[&[u8]], broken: bool, steps: usize) {
     let packet = Packet::new_unchecked(message);
     let mut walk: NameIter<'_> = packet.parse_name(slice);
     same(walk.steps(), 0);
@@ -190,7 +190,7 @@ fn check_told(message: &[u8], slice: &[u8], broken: bool) {
 
 // Compares the walk over the name that begins in a slice with one along the falling path, a window after another. Each
 // turn is one step.
-fn compare_walk(message: &[u8], slice: &[u8]) {
+fn compare_walk<'a>(message: &'a [u8], slice: &'a [u8]) {
     let packet = Packet::new_unchecked(message);
     let mut walk = packet.parse_name(slice);
     let mut window = slice;

@@ -1,7 +1,7 @@
 // Made from crates/icmp6_wire/src/mld/tests/texts.rt by rust/erase.
 use super::{query, report_of, short_record};
 use crate::icmp6_wire::mld::{AddressRecordRepr, RecordType, Repr};
-use crate::icmp6_wire::testing::{print_differently, prints, takes_writes};
+use crate::icmp6_wire::testing::{prints, takes_writes};
 use crate::wirebase::IPV6_LINK_LOCAL_ALL_NODES;
 
 #[test]
@@ -34,41 +34,6 @@ fn a_list_prints_each_record() {
          mcast_addr=ff02::1 payload=-) (MLD record record_type=CHANGE_TO_EXCLUDE_MODE aux_data_len=1 num_srcs=2 \
          mcast_addr=ff02::2 payload=aabb)",
     );
-}
-
-#[test]
-fn records_that_differ_in_one_field_print_differently() {
-    let record = short_record();
-    let others = [
-        AddressRecordRepr {
-            record_type: RecordType::Unknown(4),
-            ..record
-        },
-        AddressRecordRepr {
-            aux_data_len: 2,
-            ..record
-        },
-        AddressRecordRepr {
-            num_srcs: 1,
-            ..record
-        },
-        AddressRecordRepr {
-            mcast_addr: IPV6_LINK_LOCAL_ALL_NODES,
-            ..record
-        },
-        AddressRecordRepr {
-            payload: &[0xaa, 0xbc],
-            ..record
-        },
-    ];
-    for other in others {
-        print_differently(&record, &other);
-        let lists = [[record], [other]];
-        print_differently(
-            &Repr::ReportRecordReprs(&lists[0]),
-            &Repr::ReportRecordReprs(&lists[1]),
-        );
-    }
 }
 
 #[test]
