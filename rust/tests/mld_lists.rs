@@ -3,9 +3,9 @@
 use control_wire::Ipv6Address;
 use control_wire::mld::{AddressRecordRepr, RecordRefusal, RecordType, Records, Repr};
 
-const GROUP: Ipv6Address = Ipv6Address([0xff, 2, 0, 0, 0, 0, 0, 0, 0, 0, 0, 0, 0, 0, 0, 1]);
+const GROUP: Ipv6Address = Ipv6Address::new(0xff02, 0, 0, 0, 0, 0, 0, 1);
 
-const OTHER: Ipv6Address = Ipv6Address([0xff, 2, 0, 0, 0, 0, 0, 0, 0, 0, 0, 0, 0, 0, 0, 2]);
+const OTHER: Ipv6Address = Ipv6Address::new(0xff02, 0, 0, 0, 0, 0, 0, 2);
 
 fn bare() -> AddressRecordRepr<'static> {
     AddressRecordRepr::new(RecordType::ChangeToExclude, OTHER)
