@@ -32,6 +32,9 @@ fn a_name_whose_labels_all_stand_apart() {
     let last = message.len() - 4;
     let name = Name::read(&packet, &message[last..]).unwrap();
     assert_eq!((name.octets().len(), name.labels().count()), (255, 127));
+    let mut labels = name.labels();
+    labels.next();
+    assert_eq!((labels.clone().count(), labels.count()), (126, 126));
     // Behind one pointer more.
     let pointer = (0xc000 + last as u16).to_be_bytes();
     let packet = Packet::new_unchecked(&message[..]);

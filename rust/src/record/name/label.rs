@@ -20,7 +20,7 @@ pub(super) fn split_label(octets: &[u8]) -> Option<(&[u8], &[u8])> {
 }
 
 /// The labels of a name in turn, each without its length.
-#[derive(Debug)]
+#[derive(Debug, Clone)]
 pub struct Labels<'a> {
     // The octets behind the labels that were given.
     left: &'a [u8],
