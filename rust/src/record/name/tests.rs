@@ -326,23 +326,18 @@ fn a_name_of_more_than_255_octets_is_refused() {
 fn what_stands_behind_255_octets_is_not_looked_at() {
     // 126 labels of one byte have 252 octets. Behind them stands a label of one byte or of two, and then none.
     let mut octets = [1; 256];
-    for (last, refusal) in [
-        (b"\x01\x01\x80".as_slice(), PartRefusal::LabelType(0x80)),
-        (b"\x01\x01\xc0\xff", PartRefusal::Cut),
-    ] {
-        octets[252..252 + last.len()].copy_from_slice(last);
-        let front = &octets[..252 + last.len()];
-        same_of(last, refusal_of(front), Some(NameRefusal::Part(refusal)));
-    }
-    for last in [b"\x02\x01\x01\x80".as_slice(), b"\x02\x01\x01\xc0"] {
-        octets[252..256].copy_from_slice(last);
-        same_of(last, refusal_of(&octets), Some(NameRefusal::TooLong));
-    }
+    octets[252..255].copy_from_slice(b"\x01\x01\x80");
+    let other = NameRefusal::Part(PartRefusal::LabelType(0x80));
+    same(refusal_of(&octets[..255]), Some(other));
+    octets[252..256].copy_from_slice(b"\x01\x01\xc0\xff");
+    let cut = NameRefusal::Part(PartRefusal::Cut);
+    same(refusal_of(&octets), Some(cut));
+    octets[252..256].copy_from_slice(b"\x02\x01\x01\xc0");
+    same(refusal_of(&octets), Some(NameRefusal::TooLong));
+    octets[252..256].copy_from_slice(b"\x02\x01\x01\x80");
+    same(refusal_of(&octets), Some(NameRefusal::TooLong));
     // The label that is one too many is cut itself.
-    same(
-        refusal_of(&octets[..254]),
-        Some(NameRefusal::Part(PartRefusal::Cut)),
-    );
+    same(refusal_of(&octets[..254]), Some(cut));
 }
 
 // Byte 0, and then pointers, the first to that byte and each other one to the pointer before it.
