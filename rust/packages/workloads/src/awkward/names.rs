@@ -92,11 +92,8 @@ pub fn write_chain(message: &mut [u8]) {
 /// Reads the labels of a name behind thousands of pointers, and a whole name behind 127 at most, as many as are
 /// followed.
 pub fn read_chain(number: u64, message: &[u8], digest: &mut Digest) {
-    add_labels(message, place_behind(number % 8_000), digest);
-    add_name(message, place_behind(number % 127), digest);
-}
-
-// The place of a pointer behind so many others.
-fn place_behind(pointers: u64) -> usize {
-    HEADER_LEN + 4 + 2 * pointers as usize
+    let place = HEADER_LEN + 4 + 2 * (number % 8_000) as usize;
+    add_labels(message, place, digest);
+    let place = HEADER_LEN + 4 + 2 * (number % 127) as usize;
+    add_name(message, place, digest);
 }
