@@ -38,13 +38,16 @@ name_or word (Some name) n = name
 -- types of record; a number with no name is written as RFC 3597 section 5 has it
 abbrev pub type_names : List (List ℕ × ℕ)
 type_names =
-    (codes "A", 1) ∷ (codes "NS", 2) ∷ (codes "CNAME", 5) ∷ (codes "SOA", 6)
-    ∷ (codes "PTR", 12) ∷ (codes "HINFO", 13) ∷ (codes "MX", 15) ∷ (codes "TXT", 16)
-    ∷ (codes "AAAA", 28) ∷ (codes "SRV", 33) ∷ (codes "NAPTR", 35) ∷ (codes "DNAME", 39)
-    ∷ (codes "OPT", 41) ∷ (codes "DS", 43) ∷ (codes "SSHFP", 44) ∷ (codes "RRSIG", 46)
-    ∷ (codes "NSEC", 47) ∷ (codes "DNSKEY", 48) ∷ (codes "NSEC3", 50) ∷ (codes "TLSA", 52)
-    ∷ (codes "SVCB", 64) ∷ (codes "HTTPS", 65) ∷ (codes "SPF", 99) ∷ (codes "IXFR", 251)
-    ∷ (codes "AXFR", 252) ∷ (codes "ANY", 255) ∷ (codes "CAA", 257) ∷ []
+    (codes "A", 1) ∷ (codes "NS", 2) ∷ (codes "MD", 3) ∷ (codes "MF", 4)
+    ∷ (codes "CNAME", 5) ∷ (codes "SOA", 6) ∷ (codes "MB", 7) ∷ (codes "MG", 8)
+    ∷ (codes "MR", 9) ∷ (codes "PTR", 12) ∷ (codes "HINFO", 13) ∷ (codes "MINFO", 14)
+    ∷ (codes "MX", 15) ∷ (codes "TXT", 16) ∷ (codes "RP", 17) ∷ (codes "AFSDB", 18)
+    ∷ (codes "RT", 21) ∷ (codes "SIG", 24) ∷ (codes "PX", 26) ∷ (codes "AAAA", 28)
+    ∷ (codes "NXT", 30) ∷ (codes "SRV", 33) ∷ (codes "NAPTR", 35) ∷ (codes "KX", 36)
+    ∷ (codes "DNAME", 39) ∷ (codes "OPT", 41) ∷ (codes "DS", 43) ∷ (codes "SSHFP", 44)
+    ∷ (codes "RRSIG", 46) ∷ (codes "NSEC", 47) ∷ (codes "DNSKEY", 48) ∷ (codes "NSEC3", 50)
+    ∷ (codes "TLSA", 52) ∷ (codes "SVCB", 64) ∷ (codes "HTTPS", 65) ∷ (codes "SPF", 99)
+    ∷ (codes "IXFR", 251) ∷ (codes "AXFR", 252) ∷ (codes "ANY", 255) ∷ (codes "CAA", 257) ∷ []
 
 abbrev pub type_display : RecordType → List ℕ
 type_display t = name_or (codes "TYPE") (name_in type_names (type_number t)) (type_number t)

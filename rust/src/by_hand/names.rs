@@ -171,7 +171,7 @@ impl FromStr for Type {
 }
 
 /// The types that have a mnemonic.
-const NAMED: [Type; 27] = [
+const NAMED: [Type; 40] = [
     types::A,
     types::AAAA,
     types::CNAME,
@@ -199,4 +199,17 @@ const NAMED: [Type; 27] = [
     types::AXFR,
     types::ANY,
     types::CAA,
+    types::MD,
+    types::MF,
+    types::MB,
+    types::MG,
+    types::MR,
+    types::MINFO,
+    types::RP,
+    types::AFSDB,
+    types::RT,
+    types::SIG,
+    types::PX,
+    types::NXT,
+    types::KX,
 ];
