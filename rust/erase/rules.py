@@ -90,16 +90,16 @@ def drop(file, i):
     file.refuse(i, "Drop in another place than a derive or a bound")
 
 
-# Types that contracts of other crates name, and no public call: they are private in Rust.
-HIDDEN = {"Layout"}
+# Types that contracts of other crates name, and no public call: in Rust the crate alone sees them.
+HIDDEN = {"Layout", "Form", "FrontForm", "RestForm"}
 
 
 @rule(VALUES)
 def hidden(file, i):
-    """A type that only contracts name is private."""
-    if not file.texts(i, "pub", "enum") or file.text(i + 2) not in HIDDEN:
+    """A type that only contracts name is not public."""
+    if file.text(i) != "pub" or file.text(i + 1) not in ("enum", "struct") or file.text(i + 2) not in HIDDEN:
         return None
-    return file.remove(i, i + 1, comment=False)
+    return file.replace(i, i + 1, "pub(crate)")
 
 
 # What is `const` in smoltcp: of each view, and by module. With those of `ndisc` and of neighbor options, and what they

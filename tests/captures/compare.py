@@ -59,7 +59,7 @@ def difference(packet, found):
         return f"heading {wanted}", kind, reason
     patterns = expected.listing(packet, kind, reason)
     if kind in ("dns", "mdns"):
-        lines = [names.unescaped(line) for line in lines]
+        lines = [names.unescaped(line, kind) for line in lines]
     for pattern, line in zip(patterns, lines):
         if not re.fullmatch(pattern, line):
             return f"line {pattern}", kind, reason

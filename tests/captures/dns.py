@@ -1,13 +1,17 @@
 """Listings of whole messages of DNS and of multicast DNS."""
+import base64
+
 from frames import Refused
 from text import be, colons, dotted, field, hexadecimal
 
 FLAGS = ((0x8000, "qr"), (0x0400, "aa"), (0x0200, "tc"), (0x0100, "rd"), (0x0080, "ra"), (0x0020, "ad"), (0x0010, "cd"))
 CLASSES = {1: "IN", 3: "CH", 4: "HS", 254: "NONE", 255: "ANY"}
 TYPES = {
-    1: "A", 2: "NS", 5: "CNAME", 6: "SOA", 12: "PTR", 13: "HINFO", 15: "MX", 16: "TXT", 28: "AAAA", 33: "SRV",
-    35: "NAPTR", 39: "DNAME", 41: "OPT", 43: "DS", 44: "SSHFP", 46: "RRSIG", 47: "NSEC", 48: "DNSKEY", 50: "NSEC3",
-    52: "TLSA", 64: "SVCB", 65: "HTTPS", 99: "SPF", 251: "IXFR", 252: "AXFR", 255: "ANY", 257: "CAA",
+    1: "A", 2: "NS", 3: "MD", 4: "MF", 5: "CNAME", 6: "SOA", 7: "MB", 8: "MG", 9: "MR", 12: "PTR", 13: "HINFO",
+    14: "MINFO", 15: "MX", 16: "TXT", 17: "RP", 18: "AFSDB", 21: "RT", 24: "SIG", 26: "PX", 28: "AAAA", 30: "NXT",
+    33: "SRV", 35: "NAPTR", 36: "KX", 39: "DNAME", 41: "OPT", 43: "DS", 44: "SSHFP", 46: "RRSIG", 47: "NSEC",
+    48: "DNSKEY", 50: "NSEC3", 52: "TLSA", 64: "SVCB", 65: "HTTPS", 99: "SPF", 251: "IXFR", 252: "AXFR", 255: "ANY",
+    257: "CAA",
 }
 A, SOA, MX, TXT, AAAA, SRV, OPT = 1, 6, 15, 16, 28, 33, 41
 # The types whose data are a name: NS, MD, MF, CNAME, MB, MG, MR, PTR and DNAME.
@@ -196,6 +200,8 @@ def record_data(octets, of, of_class):
         return authority(octets, start, end)
     if of.kind == TXT:
         return " ".join(strings(data))
+    if of.kind in FORMS:
+        return fields(octets, start, end, *FORMS[of.kind])
     return " ".join(["\\#", str(len(data))] + ([data.hex()] if data else []))
 
 
@@ -219,16 +225,113 @@ def strings(data):
     DATA.accept(data, "there is no string")
     found = []
     while data:
-        DATA.accept(len(data) >= 1 + data[0], "a string is cut")
-        found.append('"%s"' % "".join(map(string_character, data[1:1 + data[0]])))
-        data = data[1 + data[0]:]
+        text, data = first_string(data)
+        found.append(text)
     return found
+
+
+def first_string(data):
+    """The string at the front of the data, in quotes, and what stands behind it."""
+    DATA.accept(data and len(data) >= 1 + data[0], "a string is cut")
+    return '"%s"' % "".join(map(string_character, data[1:1 + data[0]])), data[1 + data[0]:]
 
 
 def string_character(octet):
     if chr(octet) in '"\\':
         return "\\" + chr(octet)
     return chr(octet) if 32 <= octet <= 126 else "\\%03d" % octet
+
+
+# ---- data with fields in front of one name or two and behind them
+
+def no_numbers(data):
+    return [], data
+
+
+def take_numbers(data, *sizes):
+    """Numbers of so many octets each at the front of the data, and what stands behind them."""
+    DATA.accept(len(data) >= sum(sizes), "the numbers in front of the name are cut")
+    found = []
+    for size in sizes:
+        found.append(be(data[:size]))
+        data = data[size:]
+    return found, data
+
+
+def one_number(data):
+    found, data = take_numbers(data, 2)
+    return [str(found[0])], data
+
+
+def rule(data):
+    """An order, a preference, the flags, the services and the regular expression (RFC 3403 section 4.1)."""
+    found, data = take_numbers(data, 2, 2)
+    words = [str(number) for number in found]
+    for _ in range(3):
+        text, data = first_string(data)
+        words.append(text)
+    return words, data
+
+
+def signed(data):
+    """What a signature is of (RFC 2535 section 4.1); times are seconds since 1970 (RFC 4034 section 3.2)."""
+    (covered, *others), data = take_numbers(data, 2, 1, 1, 4, 4, 4, 2)
+    return [type_text(covered)] + [str(number) for number in others], data
+
+
+def nothing(data):
+    DATA.accept(not data, "bytes stand behind the name")
+    return []
+
+
+def signature(data):
+    return [base64.b64encode(data).decode()]
+
+
+def one_map(data):
+    """The types of a map of the first 128 of them. The bit of type 0 tells of another form (RFC 2535 section 5.2)."""
+    DATA.accept(len(data) <= 16 and not (data and data[0] & 0x80), "the type bit maps are malformed")
+    return types_of_map(0, data)
+
+
+def all_maps(data):
+    """The types of maps, each behind the upper octet of its types and its length (RFC 4034 section 4.1.2)."""
+    found = []
+    while data:
+        is_whole = len(data) >= 2 and 1 <= data[1] <= 32 and len(data) >= 2 + data[1]
+        DATA.accept(is_whole, "the type bit maps are malformed")
+        found += types_of_map(256 * data[0], data[2:2 + data[1]])
+        data = data[2 + data[1]:]
+    return found
+
+
+def types_of_map(first, octets):
+    return [type_text(first + at) for at in range(8 * len(octets)) if octets[at // 8] & 0x80 >> at % 8]
+
+
+# Of each type what stands in front of the names, how many names there are, and what stands behind them.
+FORMS = {
+    14: (no_numbers, 2, nothing),  # MINFO (RFC 1035 section 3.3.7)
+    17: (no_numbers, 2, nothing),  # RP (RFC 1183 section 2.2)
+    18: (one_number, 1, nothing),  # AFSDB (RFC 1183 section 1)
+    21: (one_number, 1, nothing),  # RT (RFC 1183 section 3.3)
+    24: (signed, 1, signature),  # SIG (RFC 2535 section 4.1)
+    26: (one_number, 2, nothing),  # PX (RFC 2163 section 4)
+    30: (no_numbers, 1, one_map),  # NXT (RFC 2535 section 5.2)
+    35: (rule, 1, nothing),  # NAPTR (RFC 3403 section 4.1)
+    36: (one_number, 1, nothing),  # KX (RFC 2230 section 3)
+    47: (no_numbers, 1, all_maps),  # NSEC (RFC 4034 section 4.1)
+}
+
+
+def fields(octets, start, end, front, count, behind):
+    """Data of such a form. No pointer is followed before all of it stands there."""
+    words, left = front(octets[start:end])
+    ends = [end - len(left)]
+    for part in (DATA, BEHIND_FIRST_NAME)[:count]:
+        ends.append(name_end(octets, ends[-1], end, part))
+    last = behind(octets[ends[-1]:end])
+    return " ".join(words + [name(octets, *place, NAME_IN_DATA) for place in zip(ends, ends[1:])] + last)
 
 
 def extensions(octets, of, lines):

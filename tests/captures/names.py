@@ -2,18 +2,39 @@
 
 import re
 
-TYPES = {1: "A", 2: "NS", 5: "CNAME", 6: "SOA", 12: "PTR", 13: "HINFO", 15: "MX", 16: "TXT", 28: "AAAA", 33: "SRV",
-         35: "NAPTR", 39: "DNAME", 43: "DS", 44: "SSHFP", 46: "RRSIG", 47: "NSEC", 48: "DNSKEY", 50: "NSEC3",
-         52: "TLSA", 64: "SVCB", 65: "HTTPS", 99: "SPF", 251: "IXFR", 252: "AXFR", 255: "ANY", 257: "CAA"}
+TYPES = {1: "A", 2: "NS", 3: "MD", 4: "MF", 5: "CNAME", 6: "SOA", 7: "MB", 8: "MG", 9: "MR", 12: "PTR", 13: "HINFO",
+         14: "MINFO", 15: "MX", 16: "TXT", 17: "RP", 18: "AFSDB", 21: "RT", 24: "SIG", 26: "PX", 28: "AAAA",
+         30: "NXT", 33: "SRV", 35: "NAPTR", 36: "KX", 39: "DNAME", 43: "DS", 44: "SSHFP", 46: "RRSIG", 47: "NSEC",
+         48: "DNSKEY", 50: "NSEC3", 52: "TLSA", 64: "SVCB", 65: "HTTPS", 99: "SPF", 251: "IXFR", 252: "AXFR",
+         255: "ANY", 257: "CAA"}
 CLASSES = {1: "IN", 3: "CH", 4: "HS", 254: "NONE", 255: "ANY"}
 FLAGS = ((0x8000, "qr"), (0x0400, "aa"), (0x0200, "tc"), (0x0100, "rd"), (0x0080, "ra"), (0x0020, "ad"), (0x0010, "cd"))
-OPT = 41
+OPT, NSEC = 41, 47
 
 # The classes of records without data in an update (RFC 2136 section 2.5).
 UPDATED = (254, 255)
 
+# A character of a label: those that a zone file gives a meaning stand behind a backslash, and bytes that are no visible
+# character are three digits behind one.
+A_CHARACTER = r'(\\\d{3}|\\["$().;@\\]|(?!["$().;@\\])[!-~])'
+# A name, a number, and a string in quotes, as pcapdump prints them: a name is one word.
+A_NAME, A_NUMBER, A_STRING = rf"(\.|({A_CHARACTER}+\.)+)", r"\d+", r'"([^"\\]|\\.)*"'
+# A type.
+A_TYPE = r"[A-Z][A-Z0-9]*"
+
+# The data of types of which the tables have no fields: their shape alone.
+SHAPES = {
+    **dict.fromkeys((3, 4, 7, 8, 9, 39), A_NAME), **dict.fromkeys((14, 17), f"{A_NAME} {A_NAME}"),
+    **dict.fromkeys((18, 21, 36), f"{A_NUMBER} {A_NAME}"), 26: f"{A_NUMBER} {A_NAME} {A_NAME}",
+    24: f"{A_TYPE}( {A_NUMBER}){{6}} {A_NAME} [A-Za-z0-9+/]*={{0,2}}", 30: f"{A_NAME}( {A_TYPE})*",
+    35: f"{A_NUMBER} {A_NUMBER}( {A_STRING}){{3}} {A_NAME}",
+}
+
+# The types whose data `unescaped` leaves as they are; so it does those of NSEC outside of multicast DNS.
+KEPT = [TYPES[number] for number in (16, *SHAPES)]
+
 # The types whose data pcapdump tells, and OPT, which is no record of the zone.
-TOLD = (1, 2, 5, 6, 12, 15, 16, 28, 33, OPT)
+TOLD = (1, 2, 5, 6, 12, 15, 16, 28, 33, OPT, NSEC, *SHAPES)
 
 # The sections of records, and what tshark calls the numbers of their records, in updates as well (RFC 2136).
 SECTIONS = (("answer", "answers", "prerequisites"), ("authority", "auth_rr", "updates"), ("additional", "add_rr"))
@@ -27,7 +48,8 @@ NO_RECORD = NO_QUESTION + "|the data is cut"
 NO_LAYOUT = "|".join((
     NO_NAME, f"behind the first name: ({NO_NAME})", "bytes stand behind the name",
     "the numbers in front of the name are cut", "the numbers behind the names have other than 20 bytes",
-    "the address has other than (4|16) bytes", "there is no string", "a string is cut"))
+    "the address has other than (4|16) bytes", "there is no string", "a string is cut",
+    "the type bit maps are malformed"))
 # Why the data of a record that is there do not read.
 NO_DATA = f"the data: ({NO_LAYOUT})|the options: (the code and the length are cut|the data of the option is cut)"
 
@@ -45,12 +67,12 @@ def class_name(number):
     return CLASSES.get(number, f"CLASS{number}")
 
 
-def unescaped(line):
+def unescaped(line, kind):
     """A line of pcapdump with the characters of its names as they are, so that it can be compared. Strings of TXT stay
-    as they are written."""
+    as they are written, and so do data that are compared by their shape, of which a name is one word."""
     words = line.split(" ")
-    is_text = len(words) > 4 and words[3] == "TXT"
-    return " ".join(word if word == "\\#" or is_text and at > 0 else re.sub(r"\\(\d{3}|.)", character, word)
+    is_kept = len(words) > 4 and words[3] in (KEPT if kind == "mdns" else KEPT + [type_name(NSEC)])
+    return " ".join(word if word == "\\#" or is_kept and at > 0 else re.sub(r"\\(\d{3}|.)", character, word)
                     for at, word in enumerate(words))
 
 
@@ -87,13 +109,17 @@ class Records:
     def type(self):
         return int(self.next("resp.type"))
 
-    def skip_types(self, count):
-        """Takes off the types that a record of NSEC has in its data, so that so many records are left."""
-        types = self.lists["dns.resp.type"]
+    def types_of_data(self):
+        """Takes off the types that a record of NSEC has in its data, so that there is one for each record that is
+        left. tshark has them in the list of the types of records, and nothing of the maps or their lengths, so they
+        can't be bounded by the record: this takes it that there is one NSEC in a message at the most. Of two, the first
+        would take the types of both, and the message would be told as a difference."""
+        types, found = self.lists["dns.resp.type"], []
         names_left = len(self.lists.get("dns.resp.name", [])) + min(types.count("33"), len(
             self.lists.get("dns.srv.name", [])))
-        while len(types) > names_left and count >= 0:
-            types.pop(0)
+        while len(types) > names_left:
+            found.append(int(types.pop(0)))
+        return found
 
     def data(self, number, its_class, length):
         """A pattern of a record's data."""
@@ -111,6 +137,8 @@ class Records:
                 length -= 1 + int(self.lists["dns.txt.length"][0])
                 words.append(string(self.next_text()))
             return re.escape(" ".join(words))
+        if number in SHAPES:
+            return SHAPES[number]
         if number in forms and (number not in (1, 28) or its_class == 1):
             return re.escape(" ".join(name(self.next(key)) if key in are_names else self.next(key)
                                       for key in forms[number]))
@@ -132,14 +160,20 @@ class Records:
         """The lines of the next record."""
         number, length = self.type(), int(self.next("resp.len"))
         owner = self.owner(number)
-        if number == 47:
-            self.skip_types(0)
+        types = self.types_of_data() if number == NSEC else []
         if number == OPT:
             return self.options(length)
-        is_flushed = "dns.resp.cache_flush" in self.lists and self.next("resp.cache_flush") == "1"
+        is_multicast = "dns.resp.cache_flush" in self.lists
+        is_flushed = is_multicast and self.next("resp.cache_flush") == "1"
         its_class, ttl = int(self.next("resp.class"), 0), self.next("resp.ttl")
         front = f"{section}={owner} {ttl} {class_name(its_class)} {type_name(number)} "
-        return [re.escape(front) + self.data(number, its_class, length) + (" ; cache-flush" if is_flushed else "")]
+        if number == NSEC and length > 0:
+            # In multicast DNS the next name is the record's own (RFC 6762 section 6.1).
+            data = re.escape(owner) if is_multicast else A_NAME
+            data += re.escape("".join(" " + type_name(its_type) for its_type in types))
+        else:
+            data = self.data(number, its_class, length)
+        return [re.escape(front) + data + (" ; cache-flush" if is_flushed else "")]
 
 
 def questions(packet):

@@ -7,6 +7,7 @@ from building import (HOST4, HOST6, SERVER4, SERVER6, UDP, hexed, ip4, message, 
 QUERY, ANSWER, MULTICAST, UPDATE = 0x0100, 0x8180, 0x8400, 0x2800
 A, NS, CNAME, SOA, PTR, HINFO, MX, TXT, AAAA, SRV, OPT, ANY = 1, 2, 5, 6, 12, 13, 15, 16, 28, 33, 41, 255
 MB, DNAME = 7, 39
+MINFO, RP, AFSDB, RT, SIG, PX, NXT, NAPTR, KX, NSEC = 14, 17, 18, 21, 24, 26, 30, 35, 36, 47
 EXAMPLE, WWW = name("example.com"), name("www.example.com")
 # The first name of a message.
 OWNER = pointer(12)
@@ -80,7 +81,8 @@ RECORDS = {
     "dns_of_every_class": asks(message(QUERY, [question(b"\0", 0, of_class) for of_class in (3, 4, 254, 255, 0, 2)])),
     "dns_octets_behind": asks(message(QUERY, [question(EXAMPLE, ANY)]) + b"\1\2\3"),
     "dns_of_named_types": asks(message(QUERY, [question(b"\0", kind) for kind in (
-        35, 39, 41, 43, 44, 46, 47, 48, 50, 52, 64, 65, 99, 251, 252, 255, 257, 3)])),
+        35, 39, 41, 43, 44, 46, 47, 48, 50, 52, 64, 65, 99, 251, 252, 255, 257, 3, 4, 7, 8, 9, 14, 17, 18, 21, 24, 26,
+        30, 36, 11)])),
     "dns_of_eleven_octets": asks(message(QUERY)[:11]),
     "dns_question_past_the_end": asks(message(QUERY, [question(EXAMPLE, A)])[:-1]),
     "dns_record_past_the_end": answers(message(ANSWER, [question(EXAMPLE, A)], [address(v4("192.0.2.1"))])[:-1]),
@@ -170,6 +172,56 @@ LAYOUTS = {
     "dns_opt_whose_second_code_is_cut": asks(message(QUERY, (), (), (), [opt(hexed("0003 0000 0a"))])),
 }
 
+# What a signature is of: of A records, made by algorithm 5, with 3 labels, an hour to live, good until 1700000000 and
+# from 1600000000 on, of key 12345.
+SIGNED = struct.pack(">HBBIIIH", A, 5, 3, 3600, 1700000000, 1600000000, 12345)
+# An order, a preference, flags, services and an expression.
+RULE = hexed("0064 000a") + b"\1u\7E2U+sip" + b"\x16!^.*$!sip:\\1@\"a\".test!"
+FIELDS = {
+    "dns_minfo": answer(MINFO, b"\5admin" + OWNER + b"\6errors" + OWNER),
+    "dns_rp": answer(RP, b"\4root" + OWNER + b"\0"),
+    "dns_afsdb": answer(AFSDB, hexed("0001") + b"\3afs" + OWNER),
+    "dns_rt": answer(RT, hexed("0002") + b"\5relay" + OWNER),
+    "dns_kx": answer(KX, hexed("ffff") + OWNER),
+    "dns_px": answer(PX, hexed("000a") + b"\3net" + pointer(20) + b"\4x400" + OWNER),
+    "dns_naptr": answer(NAPTR, RULE + b"\0"),
+    "dns_naptr_of_empty_strings": answer(NAPTR, hexed("0000 ffff 000000") + b"\4_sip\4_udp" + OWNER),
+    "dns_sig": answer(SIG, SIGNED + OWNER + b"abcde"),
+    "dns_sig_of_each_padding": answers(message(ANSWER, [question(EXAMPLE, SIG)], [
+        record(OWNER, SIG, SIGNED + OWNER + hexed("00fb f03e ffff")[:size]) for size in range(7)])),
+    "dns_sig_of_a_message": answer(SIG, struct.pack(">HBBIIIH", 0, 8, 0, 0, 2 ** 32 - 1, 2 ** 31, 1) + OWNER + b"\xff"),
+    "dns_nxt": answer(NXT, b"\1z" + OWNER + hexed("62010002 00000000 00000000 00000001")),
+    "dns_nxt_of_no_types": answer(NXT, OWNER),
+    "dns_nsec": answer(NSEC, b"\4host" + OWNER + hexed("0006 400100000003 0401 40 ff02 0001")),
+    "dns_nsec_of_no_maps": answer(NSEC, OWNER),
+    "dns_nsec_of_32_octets": answer(NSEC, OWNER + hexed("0020") + b"\xff" * 32),
+    "mdns_nsec": multicast(message(MULTICAST, (), [
+        record(LOCAL, A, v4("192.0.2.7"), 120, FLUSH),
+        record(OWNER, NSEC, OWNER + hexed("0005 4000800840"), 120, FLUSH)], ident=0)),
+    "dns_update_of_fields_of_no_data": asks(message(UPDATE, [question(EXAMPLE, SOA)], (), [
+        record(OWNER, kind, b"", 0, EVERY) for kind in (MINFO, SIG, NAPTR, NSEC)])),
+    "dns_afsdb_of_one_octet": answer(AFSDB, b"\0"),
+    "dns_kx_of_no_name": answer(KX, hexed("0001")),
+    "dns_rt_with_an_octet_behind": answer(RT, hexed("0001") + OWNER + b"\0"),
+    "dns_minfo_of_one_name": answer(MINFO, pointer(500)),
+    "dns_rp_of_a_name_and_an_old_label": answer(RP, OWNER + b"\x80"),
+    "dns_px_with_an_octet_behind": answer(PX, hexed("0001") + pointer(500) + OWNER + b"\0"),
+    "dns_px_of_no_name": answer(PX, hexed("0001")),
+    "dns_naptr_of_three_octets": answer(NAPTR, hexed("000000")),
+    "dns_naptr_of_two_strings": answer(NAPTR, hexed("00010002 00 00")),
+    "dns_naptr_whose_third_string_is_cut": answer(NAPTR, hexed("00010002 00 00 0561")),
+    "dns_naptr_of_no_name": answer(NAPTR, hexed("00010002 000000")),
+    "dns_naptr_with_an_octet_behind": answer(NAPTR, hexed("00010002 000000") + OWNER + b"\0"),
+    "dns_sig_of_17_octets": answer(SIG, SIGNED[:17]),
+    "dns_sig_of_no_name": answer(SIG, SIGNED),
+    "dns_nxt_of_another_form": answer(NXT, OWNER + hexed("80")),
+    "dns_nxt_of_17_octets": answer(NXT, pointer(500) + b"\0" * 17),
+    "dns_nsec_of_half_a_map": answer(NSEC, OWNER + hexed("0001 40 00")),
+    "dns_nsec_of_an_empty_map": answer(NSEC, OWNER + hexed("0000")),
+    "dns_nsec_of_33_octets": answer(NSEC, OWNER + hexed("0021") + b"\0" * 33),
+    "dns_nsec_of_a_map_that_is_cut": answer(NSEC, pointer(500) + hexed("0002 40")),
+}
+
 
 def at_section(place, octets):
     """A message with octets where the first question or record should begin of the section with this number."""
@@ -205,6 +257,10 @@ def with_name(octets):
         "mx": holding(record(b"\0", MX, b"\0\1" + octets)), "srv": holding(record(b"\0", SRV, b"\0" * 6 + octets)),
         "first_of_soa": holding(record(b"\0", SOA, octets + pointer(19) + NUMBERS)),
         "second_of_soa": holding(record(b"\0", SOA, b"\0" + octets + NUMBERS)),
+        "naptr": holding(record(b"\0", NAPTR, b"\0" * 7 + octets)),
+        "nsec": holding(record(b"\0", NSEC, octets + hexed("0001 40"))),
+        "first_of_px": holding(record(b"\0", PX, b"\0\1" + octets + pointer(19))),
+        "second_of_px": holding(record(b"\0", PX, b"\0\1\0" + octets)),
     }
 
 
@@ -219,9 +275,13 @@ UNSEALED = {
         record(OWNER, AAAA, v6("2001:db8::1")), record(OWNER, MX, hexed("000a") + OWNER),
         record(OWNER, SRV, hexed("0000 0005 13c4") + OWNER)], [record(OWNER, TXT, b"\1a\0")], [
         record(OWNER, NS, b"\2ns" + OWNER), opt(hexed("000a 0002 0123 0003 0000"))])),
+    "dns_unsealed_fields": unsealed(message(ANSWER, [question(EXAMPLE, ANY)], [
+        record(OWNER, RP, b"\1a" + OWNER + OWNER), record(OWNER, PX, hexed("0001") + OWNER + b"\1x" + OWNER),
+        record(OWNER, NAPTR, hexed("0001 0002") + b"\1u\0\1e" + OWNER), record(OWNER, SIG, SIGNED + OWNER + b"ab")], [
+        record(OWNER, NXT, OWNER + hexed("6001")), record(OWNER, NSEC, OWNER + hexed("0002 4001 0101 40"))])),
 }
 
 DNS = {}
-for _table in (RECORDS, UPDATES, EXTENSIONS, NAMES, MULTICAST_NAMES, LAYOUTS, ENTRIES, UNREAD_NAMES, UNSEALED):
+for _table in (RECORDS, UPDATES, EXTENSIONS, NAMES, MULTICAST_NAMES, LAYOUTS, FIELDS, ENTRIES, UNREAD_NAMES, UNSEALED):
     assert not DNS.keys() & _table.keys()
     DNS.update(_table)

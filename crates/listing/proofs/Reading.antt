@@ -102,4 +102,5 @@ has_strings layout.Mail bytes value is = subst HasStrings (sym is.is) tt
 has_strings layout.Service bytes value is = subst HasStrings (sym is.is) tt
 has_strings layout.Authority bytes value is = subst HasStrings (sym is.is) tt
 has_strings layout.Strings bytes value is = subst HasStrings (sym is.is) is.are
+has_strings (layout.Fields form) bytes value is = subst HasStrings (sym is.2) tt
 has_strings layout.Opaque bytes value is = subst HasStrings (sym is) tt

@@ -5,12 +5,13 @@ use Rattle.wirebase.specs.Ipv4 as ipv4
 use Rattle.wirebase.specs.Ipv6Address as ipv6
 use Rattle.dns_wire.specs.DnsName.{written}
 use Rattle.dns_wire.specs.DnsTables.{type_number}
+use Rattle.record_wire.specs.FieldsText.{FieldsTextValue, IsFieldsText, fields_text}
 use Rattle.record_wire.specs.Names.{Names}
 use Rattle.record_wire.specs.Mnemonics.{type_text, class_text}
 use Rattle.record_wire.specs.Multicast.{class_of, has_top_bit, record_class_of, flushes}
 use Rattle.record_wire.specs.NameRefusal.{RefusesName}
-use Rattle.record_wire.specs.RData.{RDataValue, address4, address6, name, mail, service, authority, strings, other}
-use Rattle.record_wire.specs.RData.{AuthorityValue}
+use Rattle.record_wire.specs.RData.{RDataValue, address4, address6, name, mail, service, authority, strings}
+use Rattle.record_wire.specs.RData.{fields, other, AuthorityValue}
 use Rattle.record_wire.specs.RDataRefusal.{RefusesLayout}
 use Rattle.record_wire.specs.Record.{QuestionValue, RecordValue}
 use Rattle.record_wire.specs.RecordText.{RefusesNameIn}
@@ -70,6 +71,8 @@ DataReads message (service priority weight port bytes) text =
     × (text ≡ word (decimal priority) ++ word (decimal weight) ++ word (decimal port) ++ word host)
 DataReads message (authority soa) text = AuthorityReads message soa text
 DataReads message (strings bytes) text = StringsRead bytes text
+DataReads message (fields those) text =
+    (read : FieldsTextValue) × IsFieldsText message those read × (text ≡ word (fields_text read))
 DataReads message (other bytes) text = text ≡ word (generic_text bytes)
 
 -- ---- lines

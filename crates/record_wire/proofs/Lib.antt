@@ -11,6 +11,8 @@ pub mod NamePieces
 pub mod Outcomes
 pub mod RecordFormat
 pub mod EntryCases
+pub mod FieldParts
+pub mod FieldTexts
 pub mod RDataParts
 pub mod Ahead
 pub mod StringLists

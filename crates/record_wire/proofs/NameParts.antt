@@ -178,8 +178,8 @@ steps_of_name text message labels name =
 
 -- ---- the name so far
 
--- The octets are those of the labels that were read, behind so many pointers. The labels of the name are these, and then
--- those that come from the text that is left, with these bytes of the message open.
+-- The octets are those of the labels that were read, behind so many pointers. The labels of the name are these, and
+-- then those that come from the text that is left, with these bytes of the message open.
 pub record IsReadTo (text message octets left reach : List ℕ) (pointers : ℕ) : Type 0 where
   pub steps : ℕ
   pub done : List (List ℕ)

@@ -8,7 +8,7 @@ use Rattle.std.specs.List.{AllByRecursion}
 use Rattle.dns_wire.specs.DnsName.{IsLabel, written}
 use Rattle.dns_wire.specs.DnsNameAhead.{whole, pointer, stop, torn, front_of}
 use Rattle.dns_wire.proofs.DnsNameTurns.{Whole-front, Points-front, front-whole}
-use Rattle.record_wire.specs.Labels.{wire, written_all}
+use Rattle.record_wire.specs.Labels.{written_all}
 use Rattle.record_wire.specs.NameParts.{AreInFront, AreNamed}
 use Rattle.record_wire.specs.NameRefusal.{PointsTo, ComesTo, begins, passes, follows, IsLeft, RefusesName}
 use Rattle.record_wire.specs.Names.{most_pointers}

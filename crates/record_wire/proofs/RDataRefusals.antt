@@ -75,10 +75,11 @@ behind_refused len bytes (refusal.Address n) fits is = absurd is
 behind_refused len bytes refusal.Numbers fits is = absurd is
 behind_refused len bytes (refusal.Name why) fits is = (fits, is)
 behind_refused len bytes refusal.BehindName fits is = (fits, is)
-behind_refused len bytes (refusal.Mailbox why) fits is = absurd is
+behind_refused len bytes (refusal.SecondName why) fits is = absurd is
 behind_refused len bytes refusal.Times fits is = absurd is
 behind_refused len bytes refusal.NoString fits is = absurd is
 behind_refused len bytes refusal.String fits is = absurd is
+behind_refused len bytes refusal.Types fits is = absurd is
 
 -- two names and twenty bytes are data of a zone
 pub some_authority : (bytes primary behind mailbox after : List ℕ) → IsSplit bytes primary behind

@@ -9,6 +9,8 @@ pub mod NameDotted
 pub mod Multicast
 pub mod Record
 pub mod Entries
+pub mod Fields
+pub mod FieldsText
 pub mod RData
 pub mod Ahead
 pub mod RecordText

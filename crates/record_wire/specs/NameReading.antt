@@ -53,6 +53,21 @@ seen_behind End = at_end
 seen_behind (Label text) = at_label text.now
 seen_behind Other = at_other
 
+-- the first byte, and those behind it; the first three, and those behind them
+abbrev pub first_octet : List ℕ → Option (ℕ × List ℕ)
+first_octet [] = None
+first_octet (byte ∷ rest) = Some (byte, rest)
+
+abbrev pub first_group : List ℕ → Option (ℕ × ℕ × ℕ × List ℕ)
+first_group [] = None
+first_group (a ∷ []) = None
+first_group (a ∷ b ∷ []) = None
+first_group (a ∷ b ∷ c ∷ rest) = Some (a, b, c, rest)
+
+abbrev pub seen_group : Option (ℕ × ℕ × ℕ × Bor (List ℕ)) → Option (ℕ × ℕ × ℕ × List ℕ)
+seen_group None = None
+seen_group (Some (a, b, c, rest)) = Some (a, b, c, rest.now)
+
 -- a pair seen without where the rest lies in memory
 abbrev pub seen_byte : Option (ℕ × Bor (List ℕ)) → Option (ℕ × List ℕ)
 seen_byte None = None

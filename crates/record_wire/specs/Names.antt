@@ -3,8 +3,8 @@ use Rattle.std.specs.Prelude.{ℕ, ◌≤◌, List, length}
 use Rattle.dns_wire.specs.DnsName.{IsName}
 use Rattle.record_wire.specs.Labels.{AreOfName}
 
--- The most pointers that are followed. A name of 255 octets has 127 labels at most, so behind more pointers one leads to
--- no label of its own.
+-- The most pointers that are followed. A name of 255 octets has 127 labels at most, so behind more pointers one leads
+-- to no label of its own.
 abbrev pub most_pointers : ℕ
 most_pointers = 127
 

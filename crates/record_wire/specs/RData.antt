@@ -1,6 +1,6 @@
--- The data of resource records by their type (RFC 1035 sections 3.3 and 3.4, RFC 2782, RFC 3596).
+-- The data of resource records by their type (RFC 1035 sections 3.3 and 3.4, RFC 2782, RFC 3596, RFC 3597 section 4).
 use Rattle.std.specs.Prelude.{◌≡◌, ℕ, ◌==◌, ◌≤◌, if◌then◌else◌, List, [], ◌∷◌, ◌++◌, length, drop}
-use Rattle.std.specs.Prelude.{Option, None, Some, nat_le}
+use Rattle.std.specs.Prelude.{Bool, true, false, Option, None, Some, nat_le}
 use Rattle.std.specs.Borrow.{Bor}
 use Rattle.std.specs.List.{flat_map}
 use Rattle.wirebase.specs.Bytes.{Field, field, Reaches, number_of}
@@ -12,6 +12,12 @@ use Rattle.dns_wire.specs.DnsName.{IsOnePart, written}
 use Rattle.dns_wire.specs.DnsQuestion.{internet}
 use Rattle.dns_wire.specs.declared.dns.tables.Type.{«Type» as RecordType}
 use Rattle.dns_wire.specs.declared.dns.tables.Type.TheVariants as kind
+use Rattle.record_wire.specs.Fields.{FieldsValue, fields_of, IsFields}
+use Rattle.record_wire.specs.declared.rdata.fields.Form.{Form}
+use Rattle.record_wire.specs.declared.rdata.fields.FrontForm.{FrontForm}
+use Rattle.record_wire.specs.declared.rdata.fields.FrontForm.TheVariants as front_form
+use Rattle.record_wire.specs.declared.rdata.fields.RestForm.{RestForm}
+use Rattle.record_wire.specs.declared.rdata.fields.RestForm.TheVariants as rest_form
 use Rattle.record_wire.specs.declared.rdata.Layout.{Layout}
 use Rattle.record_wire.specs.declared.rdata.Layout.TheVariants as layout
 use Rattle.record_wire.specs.declared.rdata.Authority.{Authority}
@@ -20,8 +26,14 @@ use Rattle.record_wire.specs.declared.rdata.RData.TheVariants as rdata
 
 -- ---- layouts
 
--- Which layout the data of a type has: MD is 3, MF 4, MB 7, MG 8, MR 9, PTR 12, MX 15, TXT 16 (RFC 1035 section 3.2.2),
--- SRV 33 (RFC 2782) and DNAME 39 (RFC 6672). Addresses are those of the internet.
+-- fields in front of one name or two and behind them
+abbrev pub form : FrontForm → Bool → RestForm → Layout
+form front has_two rest = layout.Fields (record { front = front; has_two = has_two; «rest» = rest })
+
+-- Which layout the data of a type has: MD is 3, MF 4, MB 7, MG 8, MR 9, PTR 12, MINFO 14, MX 15, TXT 16 (RFC 1035
+-- section 3.2.2), RP 17, AFSDB 18, RT 21 (RFC 1183), SIG 24, NXT 30 (RFC 2535), PX 26 (RFC 2163), SRV 33 (RFC 2782),
+-- NAPTR 35 (RFC 3403), KX 36 (RFC 2230), DNAME 39 (RFC 6672) and NSEC 47 (RFC 4034). Addresses are those of the
+-- internet.
 abbrev pub layout_of : RecordType → ℕ → Layout
 layout_of kind.A class = if class == internet then layout.Ipv4 else layout.Opaque
 layout_of kind.Aaaa class = if class == internet then layout.Ipv6 else layout.Opaque
@@ -39,6 +51,16 @@ layout_of (kind.Unknown n) class =
     else if n == 15 then layout.Mail
     else if n == 16 then layout.Strings
     else if n == 33 then layout.Service
+    else if n == 14 then form front_form.Nothing true rest_form.Nothing
+    else if n == 17 then form front_form.Nothing true rest_form.Nothing
+    else if n == 18 then form front_form.Number false rest_form.Nothing
+    else if n == 21 then form front_form.Number false rest_form.Nothing
+    else if n == 36 then form front_form.Number false rest_form.Nothing
+    else if n == 26 then form front_form.Number true rest_form.Nothing
+    else if n == 35 then form front_form.Rule false rest_form.Nothing
+    else if n == 24 then form front_form.Signed false rest_form.Signature
+    else if n == 30 then form front_form.Nothing false rest_form.Bits
+    else if n == 47 then form front_form.Nothing false rest_form.Types
     else layout.Opaque
 
 -- ---- data
@@ -103,6 +125,7 @@ pub data RDataValue : Type 0 where
   service : ℕ → ℕ → ℕ → List ℕ → RDataValue
   authority : AuthorityValue → RDataValue
   strings : List ℕ → RDataValue
+  fields : FieldsValue → RDataValue
   other : List ℕ → RDataValue
 
 abbrev pub authority_of : Authority → AuthorityValue
@@ -124,6 +147,7 @@ rdata_of (rdata.Mx preference exchange) = mail preference exchange.now
 rdata_of (rdata.Srv priority weight port target) = service priority weight port target.now
 rdata_of (rdata.Soa soa) = authority (authority_of soa)
 rdata_of (rdata.Txt bytes) = strings bytes.now
+rdata_of (rdata.Fields read) = fields (fields_of read)
 rdata_of (rdata.Other bytes) = other bytes.now
 
 -- ---- the grammar of each layout
@@ -183,6 +207,10 @@ pub record IsStrings (bytes : List ℕ) (value : RDataValue) : Type 0 where
   pub are : AreStrings bytes
   pub is : value ≡ strings bytes
 
+-- fields and one name or two
+abbrev pub IsFieldsData : Form → List ℕ → RDataValue → Type 0
+IsFieldsData form bytes value = (read : FieldsValue) × IsFields form bytes read × (value ≡ fields read)
+
 -- the data of a type and a class
 abbrev pub IsLaidOut : Layout → List ℕ → RDataValue → Type 0
 IsLaidOut layout.Ipv4 bytes value = IsAddress4 bytes value
@@ -192,6 +220,7 @@ IsLaidOut layout.Mail bytes value = IsMail bytes value
 IsLaidOut layout.Service bytes value = IsService bytes value
 IsLaidOut layout.Authority bytes value = IsAuthority bytes value
 IsLaidOut layout.Strings bytes value = IsStrings bytes value
+IsLaidOut (layout.Fields form) bytes value = IsFieldsData form bytes value
 IsLaidOut layout.Opaque bytes value = value ≡ other bytes
 
 abbrev pub IsRData : RecordType → ℕ → List ℕ → RDataValue → Type 0

@@ -1,11 +1,19 @@
 -- Why the data of a record is not laid out as its type has it: the check that fails first.
 use Rattle.std.specs.Prelude.{◌≡◌, ◌≢◌, ℕ, ◌<◌, ◌≤◌, List, [], ◌∷◌, ◌++◌, length, drop, codes, decimal, flat_map}
+use Rattle.std.specs.Prelude.{true, Option}
 use Rattle.wirebase.specs.Display.{pieces}
 use Rattle.dns_wire.specs.DnsName.{written}
 use Rattle.dns_wire.specs.DnsPart.{IsSplit}
 use Rattle.dns_wire.specs.declared.dns.tables.Type.{«Type» as RecordType}
+use Rattle.record_wire.specs.Fields.{FrontValue, IsFront, AreThree, IsSecond, IsMap, AreMaps}
 use Rattle.record_wire.specs.RData.{RDataValue, layout_of, IsRData}
 use Rattle.record_wire.specs.RecordRefusal.{IsNoPart, part_display}
+use Rattle.record_wire.specs.declared.rdata.fields.Form.{Form}
+use Rattle.record_wire.specs.declared.rdata.fields.FrontForm.{FrontForm}
+use Rattle.record_wire.specs.declared.rdata.fields.FrontForm.TheVariants as front_form
+use Rattle.record_wire.specs.declared.rdata.fields.RestForm.{RestForm}
+use Rattle.record_wire.specs.declared.rdata.fields.RestForm.TheVariants as rest_form
+use Rattle.record_wire.specs.declared.refusal.PartRefusal.{PartRefusal}
 use Rattle.record_wire.specs.declared.rdata.Layout.{Layout}
 use Rattle.record_wire.specs.declared.rdata.Layout.TheVariants as layout
 use Rattle.record_wire.specs.declared.rdata.refusal.DataRefusal.{DataRefusal}
@@ -26,7 +34,7 @@ RefusesBehind len bytes why = (len ≤ length bytes) × RefusesName (drop len by
 -- the first name is none; the second is none; behind both stand other than 20 bytes
 abbrev pub RefusesAuthority : List ℕ → DataRefusal → Type 0
 RefusesAuthority bytes (refusal.Name why) = IsNoPart bytes why
-RefusesAuthority bytes (refusal.Mailbox why) =
+RefusesAuthority bytes (refusal.SecondName why) =
     (primary : List ℕ) × (behind : List ℕ) × IsSplit bytes primary behind × IsNoPart behind why
 RefusesAuthority bytes refusal.Times =
     (primary : List ℕ) × (mailbox : List ℕ) × (behind : List ℕ) × (after : List ℕ)
@@ -41,6 +49,62 @@ RefusesStrings bytes refusal.String =
     × (bytes ≡ flat_map written strings ++ len ∷ rest) × (length rest < len)
 RefusesStrings bytes _ = ⊥
 
+-- the numbers in front of a name are cut; behind those of a rule no three strings stand
+abbrev pub RefusesFront : FrontForm → List ℕ → DataRefusal → Type 0
+RefusesFront front_form.Number bytes refusal.Numbers = length bytes < 2
+RefusesFront front_form.Rule bytes refusal.Numbers = length bytes < 4
+RefusesFront front_form.Rule bytes refusal.String =
+    (4 ≤ length bytes) × ((strings rest : List ℕ) → AreThree (drop 4 bytes) strings rest → ⊥)
+RefusesFront front_form.Signed bytes refusal.Numbers = length bytes < 18
+RefusesFront _ bytes _ = ⊥
+
+-- what stands behind the names is not the rest of the data
+abbrev pub RefusesRest : RestForm → List ℕ → DataRefusal → Type 0
+RefusesRest rest_form.Nothing bytes refusal.BehindName = 1 ≤ length bytes
+RefusesRest rest_form.Bits bytes refusal.Types = IsMap bytes → ⊥
+RefusesRest rest_form.Types bytes refusal.Types = AreMaps bytes → ⊥
+RefusesRest _ bytes _ = ⊥
+
+-- behind the fields in front no name stands
+pub record RefusesFirst (form : Form) (bytes : List ℕ) (why : PartRefusal) : Type 0 where
+  pub value : FrontValue
+  pub behind : List ℕ
+  pub front_ : IsFront form.front bytes value behind
+  pub none : IsNoPart behind why
+
+-- behind the first of two names no other stands
+pub record RefusesSecond (form : Form) (bytes : List ℕ) (why : PartRefusal) : Type 0 where
+  pub two : form.has_two ≡ true
+  pub value : FrontValue
+  pub behind : List ℕ
+  pub name : List ℕ
+  pub after : List ℕ
+  pub front_ : IsFront form.front bytes value behind
+  pub name_ : IsSplit behind name after
+  pub none : IsNoPart after why
+
+-- the names stand, and what stands behind them is not the rest
+pub record RefusesBehindNames (form : Form) (bytes : List ℕ) (why : DataRefusal) : Type 0 where
+  pub value : FrontValue
+  pub behind : List ℕ
+  pub name : List ℕ
+  pub after : List ℕ
+  pub second : Option (List ℕ)
+  pub last : List ℕ
+  pub front_ : IsFront form.front bytes value behind
+  pub name_ : IsSplit behind name after
+  pub second_ : IsSecond form.has_two after second last
+  pub refused : RefusesRest form.«rest» last why
+
+abbrev pub RefusesFields : Form → List ℕ → DataRefusal → Type 0
+RefusesFields form bytes (refusal.Name why) = RefusesFirst form bytes why
+RefusesFields form bytes (refusal.SecondName why) = RefusesSecond form bytes why
+RefusesFields form bytes refusal.BehindName = RefusesBehindNames form bytes refusal.BehindName
+RefusesFields form bytes refusal.Types = RefusesBehindNames form bytes refusal.Types
+RefusesFields form bytes refusal.Numbers = RefusesFront form.front bytes refusal.Numbers
+RefusesFields form bytes refusal.String = RefusesFront form.front bytes refusal.String
+RefusesFields form bytes _ = ⊥
+
 abbrev pub RefusesAddress : ℕ → List ℕ → DataRefusal → Type 0
 RefusesAddress len bytes (refusal.Address n) = (n ≡ len) × (length bytes ≢ len)
 RefusesAddress len bytes _ = ⊥
@@ -53,6 +117,7 @@ RefusesLayout layout.Mail bytes why = RefusesBehind 2 bytes why
 RefusesLayout layout.Service bytes why = RefusesBehind 6 bytes why
 RefusesLayout layout.Authority bytes why = RefusesAuthority bytes why
 RefusesLayout layout.Strings bytes why = RefusesStrings bytes why
+RefusesLayout (layout.Fields form) bytes why = RefusesFields form bytes why
 RefusesLayout layout.Opaque bytes why = ⊥
 
 abbrev pub RefusesRData : RecordType → ℕ → List ℕ → DataRefusal → Type 0
@@ -68,7 +133,8 @@ data_refusal_display (refusal.Address len) =
 data_refusal_display refusal.Numbers = codes "the numbers in front of the name are cut"
 data_refusal_display (refusal.Name why) = part_display why
 data_refusal_display refusal.BehindName = codes "bytes stand behind the name"
-data_refusal_display (refusal.Mailbox why) = pieces (codes "behind the first name: " ∷ part_display why ∷ [])
+data_refusal_display (refusal.SecondName why) = pieces (codes "behind the first name: " ∷ part_display why ∷ [])
 data_refusal_display refusal.Times = codes "the numbers behind the names have other than 20 bytes"
 data_refusal_display refusal.NoString = codes "there is no string"
 data_refusal_display refusal.String = codes "a string is cut"
+data_refusal_display refusal.Types = codes "the type bit maps are malformed"

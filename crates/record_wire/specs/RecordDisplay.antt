@@ -6,10 +6,11 @@ use Rattle.wirebase.specs.Ipv4 as ipv4
 use Rattle.wirebase.specs.Ipv6Address as ipv6
 use Rattle.wirebase.specs.Ethernet.{hex_byte}
 use Rattle.dns_wire.specs.DnsDisplay.{name_in, name_or, type_display}
+use Rattle.record_wire.specs.FieldsText.{fields_display}
 use Rattle.record_wire.specs.Mnemonics.{class_text}
 use Rattle.record_wire.specs.Record.{QuestionValue, RecordValue}
 use Rattle.record_wire.specs.RData.{AuthorityValue, RDataValue, address4, address6, name, mail, service, authority}
-use Rattle.record_wire.specs.RData.{strings, other}
+use Rattle.record_wire.specs.RData.{strings, fields, other}
 use Rattle.record_wire.specs.Edns.{EdnsValue, OptionValue}
 use Rattle.record_wire.specs.Entries.{EntryValue, question, record_in}
 use Rattle.record_wire.specs.declared.edns.OptionRefusal.{OptionRefusal}
@@ -58,6 +59,7 @@ rdata_display (service priority weight port target) =
     ∷ codes " target_len=" ∷ decimal (length target) ∷ [])
 rdata_display (authority soa) = authority_display soa
 rdata_display (strings bytes) = pieces (codes "TXT len=" ∷ decimal (length bytes) ∷ [])
+rdata_display (fields read) = fields_display read
 rdata_display (other bytes) = pieces (codes "data len=" ∷ decimal (length bytes) ∷ [])
 
 -- ---- what an OPT record says, and its options

@@ -8,6 +8,7 @@ use Rattle.wirebase.specs.declared.ipv6.address.Ipv6Address.{Ipv6Address}
 use Rattle.dns_wire.specs.declared.dns.tables.Type.{«Type» as RecordType}
 use Rattle.dns_wire.specs.DnsDisplay.{type_display}
 use Rattle.record_wire.specs.Edns.{EdnsValue}
+use Rattle.record_wire.specs.FieldsText.{FieldsTextValue, fields_text_of, IsFieldsText, RefusesNamesIn, fields_text}
 use Rattle.record_wire.specs.Mnemonics.{class_text}
 use Rattle.record_wire.specs.Multicast.{is_opt}
 use Rattle.record_wire.specs.Name.{labels_of}
@@ -48,6 +49,7 @@ pub data DataTextValue : Type 0 where
   service : ℕ → ℕ → ℕ → List (List ℕ) → DataTextValue
   authority : AuthorityTextValue → DataTextValue
   strings : List ℕ → DataTextValue
+  fields : FieldsTextValue → DataTextValue
   other : List ℕ → DataTextValue
 
 -- the time to live is in seconds
@@ -77,6 +79,7 @@ data_text_of (text.Mx preference exchange) = mail preference (labels_of exchange
 data_text_of (text.Srv priority weight port target) = service priority weight port (labels_of target)
 data_text_of (text.Soa soa) = authority (authority_text_of soa)
 data_text_of (text.Txt bytes) = strings bytes.now
+data_text_of (text.Fields read) = fields (fields_text_of read)
 data_text_of (text.Other bytes) = other bytes.now
 
 abbrev pub record_text_of : RecordText → RecordTextValue
@@ -112,6 +115,8 @@ IsDataText message (rdata.service priority weight port bytes) value =
 IsDataText message (rdata.authority soa) value =
     (read : AuthorityTextValue) × IsAuthorityText message soa read × (value ≡ authority read)
 IsDataText message (rdata.strings bytes) value = value ≡ strings bytes
+IsDataText message (rdata.fields those) value =
+    (read : FieldsTextValue) × IsFieldsText message those read × (value ≡ fields read)
 IsDataText message (rdata.other bytes) value = value ≡ other bytes
 
 -- this record, taken as one of a class, with its name and those in its data read
@@ -143,6 +148,7 @@ RefusesNameIn message (rdata.mail preference bytes) why = RefusesName bytes mess
 RefusesNameIn message (rdata.service priority weight port bytes) why = RefusesName bytes message why
 RefusesNameIn message (rdata.authority soa) why = RefusesNamesOf message soa why
 RefusesNameIn message (rdata.strings bytes) why = ⊥
+RefusesNameIn message (rdata.fields those) why = RefusesNamesIn message those why
 RefusesNameIn message (rdata.other bytes) why = ⊥
 
 -- the name is none; the data are none of their type and class; a name in these is none
@@ -174,6 +180,7 @@ data_text (service priority weight port labels) =
     ∷ codes " " ∷ whole_name labels ∷ [])
 data_text (authority soa) = authority_text soa
 data_text (strings bytes) = strings_text (strings_in bytes)
+data_text (fields read) = fields_text read
 data_text (other bytes) = generic_text bytes
 
 abbrev pub zone_line : RecordTextValue → List ℕ

@@ -1,6 +1,6 @@
--- How a zone file has the parts of a record (RFC 1035 section 5.1, RFC 3597 section 5).
-use Rattle.std.specs.Prelude.{ℕ, ◌/◌, ◌%◌, ◌==◌, ◌||◌, ◌&&◌, not, nat_le, Bool, if◌then◌else◌, List, [], ◌∷◌, ◌++◌}
-use Rattle.std.specs.Prelude.{length, flat_map, codes, decimal}
+-- How a zone file has the parts of a record (RFC 1035 section 5.1, RFC 3597 section 5, RFC 4648 section 4).
+use Rattle.std.specs.Prelude.{ℕ, ◌+◌, ◌-◌, ◌*◌, ◌/◌, ◌%◌, ◌==◌, ◌||◌, ◌&&◌, not, nat_le, Bool, if◌then◌else◌}
+use Rattle.std.specs.Prelude.{List, [], ◌∷◌, ◌++◌, length, flat_map, map, codes, decimal}
 use Rattle.wirebase.specs.Ethernet.{hex_byte}
 use Rattle.record_wire.specs.NameText.{name_text}
 
@@ -50,3 +50,25 @@ digits_word (byte ∷ rest) = word (flat_map hex_byte (byte ∷ rest))
 
 abbrev pub generic_text : List ℕ → List ℕ
 generic_text bytes = codes "\\#" ++ word (decimal (length bytes)) ++ digits_word bytes
+
+-- ---- bytes in base64 (RFC 4648 section 4)
+
+-- the character of six bits; of 64, that of padding
+unfoldable pub base64_digit : ℕ → ℕ
+base64_digit six =
+    if nat_le six 25 then 65 + six
+    else if nat_le six 51 then 97 + (six - 26)
+    else if nat_le six 61 then 48 + (six - 52)
+    else if six == 62 then 43
+    else if six == 63 then 47
+    else 61
+
+-- three bytes as numbers of six bits, and the last one or two, with padding for those that are missing
+abbrev pub sixes_of : List ℕ → List ℕ
+sixes_of [] = []
+sixes_of (a ∷ []) = a / 4 ∷ a % 4 * 16 ∷ 64 ∷ 64 ∷ []
+sixes_of (a ∷ b ∷ []) = a / 4 ∷ (a % 4 * 16 + b / 16) ∷ b % 16 * 4 ∷ 64 ∷ []
+sixes_of (a ∷ b ∷ c ∷ rest) = a / 4 ∷ (a % 4 * 16 + b / 16) ∷ (b % 16 * 4 + c / 64) ∷ c % 64 ∷ sixes_of rest
+
+unfoldable pub base64 : List ℕ → List ℕ
+base64 bytes = map base64_digit (sixes_of bytes)

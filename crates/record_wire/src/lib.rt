@@ -49,4 +49,4 @@ pub use record::{Question, Record};
 pub use refusal::{PartRefusal, Refusal};
 pub use strings::TxtStrings;
 pub use text::refusal::TextRefusal;
-pub use text::{AuthorityText, DataText, EntryText, QuestionText, RecordText};
+pub use text::{AuthorityText, DataText, EntryText, FieldsText, QuestionText, RecordText};

@@ -1,14 +1,17 @@
-//! The data of resource records by their type (RFC 1035 sections 3.3 and 3.4, RFC 2782, RFC 3596).
+//! The data of resource records by their type (RFC 1035 sections 3.3 and 3.4, RFC 2782, RFC 3596), and of the types in
+//! which a receiver expects compressed names (RFC 3597 section 4, RFC 6762 section 18.14).
 
+pub mod fields;
 pub mod refusal;
 
 ghost use Rattle.std.specs.Prelude.{◌≡◌, ◌↔◌, IfOk, IsOkAnd, IsTrue};
 ghost use Rattle.dns_wire.specs.DnsName.{IsOnePart};
 ghost use Rattle.record_wire.specs.RData.{layout_of, RDataValue, rdata_of, IsRData, IsLaidOut, IsAddress4, IsAddress6};
 ghost use Rattle.record_wire.specs.RData.{IsNameData, IsMail, IsService, IsAuthority, IsStrings, AreStrings};
-ghost use Rattle.record_wire.specs.RData.{string_rest, seen_rest};
+ghost use Rattle.record_wire.specs.RData.{IsFieldsData, string_rest, seen_rest, form};
 ghost use Rattle.record_wire.specs.Multicast.{class_of};
 
+use crate::rdata::fields::{Fields, Form, FrontForm, RestForm};
 use crate::{classes, multicast, types};
 use dns_wire::dns::{Type, split_name};
 use std::fmt;
@@ -88,6 +91,8 @@ pub enum RData<'a> {
     /// Strings of up to 255 bytes, each behind its length, one at least (RFC 1035 section 3.3.14): `TxtStrings` gives
     /// them in turn.
     Txt(&'a [u8]),
+    /// Fields and one name or two, of type MINFO, RP, AFSDB, RT, SIG, PX, NXT, NAPTR, KX or NSEC.
+    Fields(Fields<'a>),
     /// Data of any other type or class. `EdnsOptions` gives the options of an OPT record in turn.
     Other(&'a [u8]),
 }
@@ -111,7 +116,8 @@ pub struct Authority<'a> {
     pub minimum: u32,
 }
 
-/// Addresses as addresses, numbers by their names, names and strings by their length.
+/// Addresses as addresses, numbers by their names, names and strings by their length; of fields around names all but
+/// the names as a zone file has them.
 impl fmt::Display for RData<'_> {
     ghost use Rattle.std.specs.Prelude.{Some};
     ghost use Rattle.record_wire.specs.RecordDisplay.{rdata_display};
@@ -144,6 +150,7 @@ impl fmt::Display for RData<'_> {
             }
             RData::Soa(authority) => write!(f, "{authority}"),
             RData::Txt(octets) => write!(f, "TXT len={}", octets.len()),
+            RData::Fields(fields) => write!(f, "{fields}"),
             RData::Other(octets) => write!(f, "data len={}", octets.len()),
         }
     }
@@ -185,6 +192,8 @@ pub enum Layout {
     Authority,
     /// Strings.
     Strings,
+    /// Fields and one name or two.
+    Fields(Form),
     /// Any bytes.
     Opaque,
 }
@@ -211,7 +220,9 @@ impl<'a> RData<'a> {
     }
 }
 
-// How the data of this type and class is laid out.
+// How the data of this type and class is laid out. Inlined, where a caller goes by the layout at once, one jump finds
+// both.
+#[inline(always)]
 fn find_layout(type_: Type, class: u16) -> Layout
     ensures { result ≡ layout_of type_ class }
 {
@@ -224,8 +235,26 @@ fn find_layout(type_: Type, class: u16) -> Layout
         types::MX => Layout::Mail,
         types::TXT => Layout::Strings,
         types::SRV => Layout::Service,
+        types::MINFO | types::RP => form(FrontForm::Nothing, true, RestForm::Nothing),
+        types::AFSDB | types::RT | types::KX => form(FrontForm::Number, false, RestForm::Nothing),
+        types::PX => form(FrontForm::Number, true, RestForm::Nothing),
+        types::NAPTR => form(FrontForm::Rule, false, RestForm::Nothing),
+        types::SIG => form(FrontForm::Signed, false, RestForm::Signature),
+        types::NXT => form(FrontForm::Nothing, false, RestForm::Bits),
+        types::NSEC => form(FrontForm::Nothing, false, RestForm::Types),
         _ => Layout::Opaque,
     }
+}
+
+// The layout of fields in front of one name or two and behind them.
+fn form(front: FrontForm, has_two: bool, rest: RestForm) -> Layout
+    ensures { result ≡ form front has_two rest }
+{
+    Layout::Fields(Form {
+        front,
+        has_two,
+        rest,
+    })
 }
 
 // The data of this layout.
@@ -242,6 +271,7 @@ fn read(layout: Layout, octets: &[u8]) -> Result<RData<'_>>
         Layout::Service => read_service(octets),
         Layout::Authority => read_authority(octets),
         Layout::Strings => read_strings(octets),
+        Layout::Fields(form) => read_fields(form, octets),
         Layout::Opaque => Ok(RData::Other(octets)),
     }
 }
@@ -348,6 +378,16 @@ fn read_strings(octets: &[u8]) -> Result<RData<'_>>
         return Err(Error);
     }
     Ok(RData::Txt(octets))
+}
+
+// These types are rare: apart, their fields cost the others nothing.
+#[inline(never)]
+fn read_fields(form: Form, octets: &[u8]) -> Result<RData<'_>>
+    ensures sound { IfOk result (λ read. IsFieldsData form octets.now (rdata_of read)) }
+    ensures complete { (value : RDataValue) → IsFieldsData form octets.now value
+        → IsOkAnd result (λ read. rdata_of read ≡ value) }
+{
+    Ok(RData::Fields(fields::read(form, octets)?))
 }
 
 // Whether these bytes are one part of a name, and nothing more.

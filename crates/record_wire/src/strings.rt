@@ -1,4 +1,4 @@
-//! The strings of TXT data in turn (RFC 1035 sections 3.3 and 3.3.14).
+//! The strings of TXT and NAPTR data in turn (RFC 1035 sections 3.3 and 3.3.14, RFC 3403 section 4.1).
 
 ghost use Rattle.std.specs.Prelude.{◌≡◌, List, ℕ, length};
 ghost use Rattle.record_wire.specs.Ahead.{GivesBytes};
@@ -7,8 +7,8 @@ ghost use Rattle.record_wire.specs.NameReading.{seen_label};
 
 use std::marker::Model;
 
-/// The strings of TXT data in turn, each without the byte of its length. They end where no whole string stands; in the
-/// data of `RData::Txt` they take up all the octets.
+/// The strings of TXT and NAPTR data in turn, each without the byte of its length. They end where no whole string
+/// stands; in the data of `RData::Txt` and in the strings of a rule they take up all the octets.
 ///
 /// ```
 /// use record_wire::TxtStrings;

@@ -43,7 +43,7 @@ pub const PTR: Type = Type::Unknown(12);
 /// The kind of a host (RFC 1035 section 3.3.2).
 pub const HINFO: Type = Type::Unknown(13);
 
-/// Who answers for a mailing list (RFC 1035 section 3.3.7).
+/// Who is responsible for a mailing list, and who gets its errors (RFC 1035 section 3.3.7).
 pub const MINFO: Type = Type::Unknown(14);
 
 /// A host that takes mail (RFC 1035 section 3.3.9).
@@ -55,28 +55,28 @@ pub const TXT: Type = Type::Unknown(16);
 /// Who is responsible for a name (RFC 1183 section 2.2).
 pub const RP: Type = Type::Unknown(17);
 
-/// A host of an AFS cell (RFC 1183 section 1).
+/// A server of an AFS or DCE cell (RFC 1183 section 1).
 pub const AFSDB: Type = Type::Unknown(18);
 
 /// A host that a host is reached through (RFC 1183 section 3.3).
 pub const RT: Type = Type::Unknown(21);
 
-/// A signature, which RRSIG took over (RFC 2535 section 4.1); of a message it still stands (RFC 2931).
+/// A signature of a message (RFC 2931), and of records before RRSIG (RFC 2535 section 4.1).
 pub const SIG: Type = Type::Unknown(24);
 
-/// Names of mail in X.400 (RFC 2163 section 4).
+/// How mail domains of RFC 822 and X.400 correspond (RFC 2163 section 4).
 pub const PX: Type = Type::Unknown(26);
 
 /// An IPv6 address (RFC 3596 section 2.1).
 pub const AAAA: Type = Type::Aaaa;
 
-/// The next name of a zone, which NSEC took over (RFC 2535 section 5.2).
+/// The next name of a zone, before NSEC (RFC 2535 section 5.2).
 pub const NXT: Type = Type::Unknown(30);
 
 /// A host that has a service (RFC 2782).
 pub const SRV: Type = Type::Unknown(33);
 
-/// A pointer to an authority for naming (RFC 3403 section 4).
+/// A rule that rewrites a name (RFC 3403 section 4).
 pub const NAPTR: Type = Type::Unknown(35);
 
 /// A host that exchanges keys (RFC 2230 section 3).

@@ -1,9 +1,12 @@
 // Made from crates/record_wire/src/rdata.rt by rust/erase.
-//! The data of resource records by their type (RFC 1035 sections 3.3 and 3.4, RFC 2782, RFC 3596).
+//! The data of resource records by their type (RFC 1035 sections 3.3 and 3.4, RFC 2782, RFC 3596), and of the types in
+//! which a receiver expects compressed names (RFC 3597 section 4, RFC 6762 section 18.14).
 
+pub mod fields;
 pub mod refusal;
 
 use crate::dns_wire::dns::{Type, split_name};
+use crate::record::rdata::fields::{Fields, Form, FrontForm, RestForm};
 use crate::record::{classes, multicast, types};
 use crate::wirebase::{Error, Ipv4Address, Ipv6Address, Octets, Result};
 use core::fmt;
@@ -82,6 +85,8 @@ pub enum RData<'a> {
     /// Strings of up to 255 bytes, each behind its length, one at least (RFC 1035 section 3.3.14): `TxtStrings` gives
     /// them in turn.
     Txt(&'a [u8]),
+    /// Fields and one name or two, of type MINFO, RP, AFSDB, RT, SIG, PX, NXT, NAPTR, KX or NSEC.
+    Fields(Fields<'a>),
     /// Data of any other type or class. `EdnsOptions` gives the options of an OPT record in turn.
     Other(&'a [u8]),
 }
@@ -105,7 +110,8 @@ pub struct Authority<'a> {
     pub minimum: u32,
 }
 
-/// Addresses as addresses, numbers by their names, names and strings by their length.
+/// Addresses as addresses, numbers by their names, names and strings by their length; of fields around names all but
+/// the names as a zone file has them.
 impl fmt::Display for RData<'_> {
     fn fmt(&self, f: &mut fmt::Formatter<'_>) -> fmt::Result {
         match self {
@@ -133,6 +139,7 @@ impl fmt::Display for RData<'_> {
             }
             RData::Soa(authority) => write!(f, "{authority}"),
             RData::Txt(octets) => write!(f, "TXT len={}", octets.len()),
+            RData::Fields(fields) => write!(f, "{fields}"),
             RData::Other(octets) => write!(f, "data len={}", octets.len()),
         }
     }
@@ -153,7 +160,7 @@ impl fmt::Display for Authority<'_> {
 
 /// How the data of a type is laid out: what contracts say of data names it, and no call takes or gives it.
 #[derive(Debug, PartialEq, Eq, Clone, Copy)]
-enum Layout {
+pub(crate) enum Layout {
     /// An IPv4 address.
     Ipv4,
     /// An IPv6 address.
@@ -168,6 +175,8 @@ enum Layout {
     Authority,
     /// Strings.
     Strings,
+    /// Fields and one name or two.
+    Fields(Form),
     /// Any bytes.
     Opaque,
 }
@@ -186,7 +195,9 @@ impl<'a> RData<'a> {
     }
 }
 
-// How the data of this type and class is laid out.
+// How the data of this type and class is laid out. Inlined, where a caller goes by the layout at once, one jump finds
+// both.
+#[inline(always)]
 fn find_layout(type_: Type, class: u16) -> Layout {
     match type_ {
         types::A if class == classes::IN => Layout::Ipv4,
@@ -197,8 +208,24 @@ fn find_layout(type_: Type, class: u16) -> Layout {
         types::MX => Layout::Mail,
         types::TXT => Layout::Strings,
         types::SRV => Layout::Service,
+        types::MINFO | types::RP => form(FrontForm::Nothing, true, RestForm::Nothing),
+        types::AFSDB | types::RT | types::KX => form(FrontForm::Number, false, RestForm::Nothing),
+        types::PX => form(FrontForm::Number, true, RestForm::Nothing),
+        types::NAPTR => form(FrontForm::Rule, false, RestForm::Nothing),
+        types::SIG => form(FrontForm::Signed, false, RestForm::Signature),
+        types::NXT => form(FrontForm::Nothing, false, RestForm::Bits),
+        types::NSEC => form(FrontForm::Nothing, false, RestForm::Types),
         _ => Layout::Opaque,
     }
+}
+
+// The layout of fields in front of one name or two and behind them.
+fn form(front: FrontForm, has_two: bool, rest: RestForm) -> Layout {
+    Layout::Fields(Form {
+        front,
+        has_two,
+        rest,
+    })
 }
 
 // The data of this layout.
@@ -211,6 +238,7 @@ fn read(layout: Layout, octets: &[u8]) -> Result<RData<'_>> {
         Layout::Service => read_service(octets),
         Layout::Authority => read_authority(octets),
         Layout::Strings => read_strings(octets),
+        Layout::Fields(form) => read_fields(form, octets),
         Layout::Opaque => Ok(RData::Other(octets)),
     }
 }
@@ -293,6 +321,12 @@ fn read_strings(octets: &[u8]) -> Result<RData<'_>> {
         return Err(Error);
     }
     Ok(RData::Txt(octets))
+}
+
+// These types are rare: apart, their fields cost the others nothing.
+#[inline(never)]
+fn read_fields(form: Form, octets: &[u8]) -> Result<RData<'_>> {
+    Ok(RData::Fields(fields::read(form, octets)?))
 }
 
 // Whether these bytes are one part of a name, and nothing more.

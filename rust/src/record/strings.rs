@@ -1,8 +1,8 @@
 // Made from crates/record_wire/src/strings.rt by rust/erase.
-//! The strings of TXT data in turn (RFC 1035 sections 3.3 and 3.3.14).
+//! The strings of TXT and NAPTR data in turn (RFC 1035 sections 3.3 and 3.3.14, RFC 3403 section 4.1).
 
-/// The strings of TXT data in turn, each without the byte of its length. They end where no whole string stands; in the
-/// data of `RData::Txt` they take up all the octets.
+/// The strings of TXT and NAPTR data in turn, each without the byte of its length. They end where no whole string
+/// stands; in the data of `RData::Txt` and in the strings of a rule they take up all the octets.
 ///
 /// ```
 /// use control_wire::record::TxtStrings;

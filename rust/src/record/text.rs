@@ -18,6 +18,7 @@
 //! ```
 
 mod entry;
+pub(crate) mod fields;
 mod opt;
 mod question;
 pub mod refusal;
@@ -37,6 +38,7 @@ use crate::record::text::words::{Generic, Strings, Whole};
 use crate::wirebase::{Ipv4Address, Ipv6Address};
 use core::{fmt, result};
 pub use entry::EntryText;
+pub use fields::FieldsText;
 pub use question::QuestionText;
 
 /// A record whose names are read, which prints its line of a zone file: the name with its last dot, the time to live,
@@ -103,6 +105,8 @@ pub enum DataText<'a> {
     Soa(AuthorityText),
     /// Strings of up to 255 bytes, each behind its length (RFC 1035 section 3.3.14): `TxtStrings` gives them in turn.
     Txt(&'a [u8]),
+    /// Fields and one name or two, of type MINFO, RP, AFSDB, RT, SIG, PX, NXT, NAPTR, KX or NSEC.
+    Fields(FieldsText<'a>),
     /// Data of any other type or class, and that of an update's record without data.
     Other(&'a [u8]),
 }
@@ -157,8 +161,8 @@ impl RecordText<'_> {
     }
 }
 
-/// Addresses as addresses, names with their last dot, strings in quotes, and data of other types as `\#`, the number of
-/// bytes, and these in hexadecimal.
+/// Addresses as addresses, names with their last dot, strings in quotes, types by their mnemonics, a signature in
+/// base64, and data of other types as `\#`, the number of bytes, and these in hexadecimal.
 impl fmt::Display for DataText<'_> {
     fn fmt(&self, f: &mut fmt::Formatter<'_>) -> fmt::Result {
         match self {
@@ -183,6 +187,7 @@ impl fmt::Display for DataText<'_> {
             }
             DataText::Soa(authority) => write!(f, "{authority}"),
             DataText::Txt(octets) => write!(f, "{}", Strings(octets)),
+            DataText::Fields(fields) => write!(f, "{fields}"),
             DataText::Other(octets) => write!(f, "{}", Generic(octets)),
         }
     }
@@ -203,9 +208,10 @@ impl fmt::Display for AuthorityText {
 
 impl<'a> Record<'a> {
     /// The record with its name and those in its data read, which prints its line of a zone file, or a comment where it
-    /// is an OPT record. Data of a type that [`RData`] does not read print as octets: names that are compressed in them
-    /// have a meaning in this message alone. An update's record of class NONE or ANY may have no data. Refused where a name does not read, and where the data is not laid out as
-    /// its type has it.
+    /// is an OPT record. Data of a type that [`RData`] does not read print as octets: neither RFC 3597 section 4 nor
+    /// RFC 6762 section 18.14 has a receiver expect compressed names in them, so they mean the same in each message. An
+    /// update's record of class NONE or ANY may have no data. Refused where a name does not read, and where the data is
+    /// not laid out as its type has it.
     ///
     /// ```
     /// use control_wire::record::{NameRefusal, PartRefusal, Record};
@@ -294,6 +300,7 @@ impl<'a> RData<'a> {
             }),
             RData::Soa(soa) => Ok(DataText::Soa(read_authority(packet, &soa)?)),
             RData::Txt(octets) => Ok(DataText::Txt(octets)),
+            RData::Fields(fields) => Ok(DataText::Fields(fields.text(packet)?)),
             RData::Other(octets) => Ok(DataText::Other(octets)),
         }
     }

@@ -44,20 +44,44 @@ pub const PTR: Type = Type::Unknown(12);
 /// The kind of a host (RFC 1035 section 3.3.2).
 pub const HINFO: Type = Type::Unknown(13);
 
+/// Who is responsible for a mailing list, and who gets its errors (RFC 1035 section 3.3.7).
+pub const MINFO: Type = Type::Unknown(14);
+
 /// A host that takes mail (RFC 1035 section 3.3.9).
 pub const MX: Type = Type::Unknown(15);
 
 /// Strings (RFC 1035 section 3.3.14).
 pub const TXT: Type = Type::Unknown(16);
 
+/// Who is responsible for a name (RFC 1183 section 2.2).
+pub const RP: Type = Type::Unknown(17);
+
+/// A server of an AFS or DCE cell (RFC 1183 section 1).
+pub const AFSDB: Type = Type::Unknown(18);
+
+/// A host that a host is reached through (RFC 1183 section 3.3).
+pub const RT: Type = Type::Unknown(21);
+
+/// A signature of a message (RFC 2931), and of records before RRSIG (RFC 2535 section 4.1).
+pub const SIG: Type = Type::Unknown(24);
+
+/// How mail domains of RFC 822 and X.400 correspond (RFC 2163 section 4).
+pub const PX: Type = Type::Unknown(26);
+
 /// An IPv6 address (RFC 3596 section 2.1).
 pub const AAAA: Type = Type::Aaaa;
+
+/// The next name of a zone, before NSEC (RFC 2535 section 5.2).
+pub const NXT: Type = Type::Unknown(30);
 
 /// A host that has a service (RFC 2782).
 pub const SRV: Type = Type::Unknown(33);
 
-/// A pointer to an authority for naming (RFC 3403 section 4).
+/// A rule that rewrites a name (RFC 3403 section 4).
 pub const NAPTR: Type = Type::Unknown(35);
+
+/// A host that exchanges keys (RFC 2230 section 3).
+pub const KX: Type = Type::Unknown(36);
 
 /// The canonical name of a subtree (RFC 6672 section 2).
 pub const DNAME: Type = Type::Unknown(39);

@@ -2,17 +2,21 @@
 
 #![tactic(auto, using(crate::proofs::Printing::gains_both))]
 
-ghost use Rattle.std.specs.Prelude.{IfOk, slice_index};
+ghost use Rattle.std.specs.Prelude.{IfOk, OnOk, slice_index};
 ghost use Rattle.dns_wire.specs.DnsPacket.{view_octets};
-ghost use Rattle.record_wire.specs.RData.{rdata_of, name, mail, service, authority, authority_of};
+ghost use Rattle.record_wire.specs.RData.{rdata_of, name, mail, service, authority, fields, authority_of};
+ghost use Rattle.record_wire.specs.Fields.{fields_of};
+ghost use Rattle.record_wire.specs.FieldsText.{fields_text, fields_text_of};
+ghost use Rattle.record_wire.specs.ZoneText.{word as word_text};
 ghost use Rattle.listing.specs.ListingParts.{line_text, LineShown, HasStrings};
-ghost use Rattle.listing.specs.Output.{GainsSome};
+ghost use Rattle.listing.specs.Output.{Gains, GainsSome};
 
 use crate::message::record::{Line, write_line};
 use crate::zone::{NameText, generic, ipv6_word, name_word, strings, word};
 use dns_wire::dns::Packet;
-use record_wire::NameRefusal;
+use record_wire::rdata::fields::Fields;
 use record_wire::rdata::{Authority, RData};
+use record_wire::{FieldsText, NameRefusal};
 use std::io;
 use std::io::Write;
 
@@ -42,6 +46,7 @@ pub fn show_data<'a, W: Write>(
             target,
         } => show_service(output, packet, line, [priority, weight, port], target),
         RData::Soa(soa) => show_authority(output, packet, line, &soa),
+        RData::Fields(read) => show_fields(output, packet, line, &read),
         RData::A(address) => {
             write_line(output, line)?;
             word(output, address)?;
@@ -156,4 +161,34 @@ fn show_authority<'a, W: Write>(
     word(output, soa.expire)?;
     word(output, soa.minimum)?;
     Ok(None)
+}
+
+// Prints by way of record_wire's text, which is slower, since these types are rare.
+fn show_fields<'a, W: Write>(
+    output: &mut W,
+    packet: &Packet<&'a [u8]>,
+    line: &Line<'_>,
+    read: &Fields<'a>,
+) -> io::Result<Option<NameRefusal>>
+    ensures { IfOk result (λ refusal. GainsSome (W.contents output.old) (W.contents output.new)
+        (λ text. LineShown (line_text line.now) (view_octets packet.now) (fields (fields_of read.now))
+        text refusal)) }
+{
+    match read.text(packet) {
+        Ok(text) => {
+            write_line(output, line)?;
+            write_fields(output, &text)?;
+            Ok(None)
+        }
+        Err(refusal) => Ok(Some(refusal)),
+    }
+}
+
+// Writes fields behind a space.
+#[tactic(auto, using(crate::proofs::Printing::gained, crate::proofs::Printing::gains_both), unfolding(record_wire::specs::ZoneText::word))]
+fn write_fields<W: Write>(output: &mut W, text: &FieldsText<'_>) -> io::Result<()>
+    ensures { OnOk result (Gains (W.contents output.old) (W.contents output.new)
+        (word_text (fields_text (fields_text_of text.now)))) }
+{
+    write!(output, " {text}")
 }

@@ -1,7 +1,9 @@
 //! The data of records by their type.
 
 use super::{Authority, RData};
+use crate::rdata::fields::{Fields, Front, Rest, Signed};
 use crate::testing::{prints, same_of};
+use crate::types;
 use dns_wire::dns::Type;
 use std::process::Abort;
 use wirebase::{Error, Ipv4Address, Ipv6Address, Result};
@@ -125,6 +127,159 @@ fn strings(rt: HostRuntime) {
     is(&rt, other, b"", Ok(RData::Other(b"")));
 }
 
+// Names behind and in front of fields: NAPTR as in RFC 3403 section 6.1, NXT as in RFC 2535 section 5.4, and NSEC as
+// hosts of multicast DNS have it for A, TXT, AAAA and SRV (RFC 6762 section 6.1), and one with CAA besides.
+#[test]
+fn fields_and_names(rt: HostRuntime) {
+    let rows: [(Type, &[u8], Fields<'static>); 13] = [
+        (
+            types::MINFO,
+            b"\x05admin\xc0\x0c\x06errors\xc0\x14",
+            Fields {
+                front: Front::Nothing,
+                first: b"\x05admin\xc0\x0c",
+                second: Some(b"\x06errors\xc0\x14"),
+                rest: Rest::Nothing,
+            },
+        ),
+        (
+            types::RP,
+            b"\x04root\xc0\x0c\0",
+            Fields {
+                front: Front::Nothing,
+                first: b"\x04root\xc0\x0c",
+                second: Some(b"\0"),
+                rest: Rest::Nothing,
+            },
+        ),
+        (
+            types::AFSDB,
+            b"\0\x01\x03afs\0",
+            Fields {
+                front: Front::Number(1),
+                first: b"\x03afs\0",
+                second: None,
+                rest: Rest::Nothing,
+            },
+        ),
+        (
+            types::RT,
+            b"\0\x02\x05relay\xc0\x0c",
+            Fields {
+                front: Front::Number(2),
+                first: b"\x05relay\xc0\x0c",
+                second: None,
+                rest: Rest::Nothing,
+            },
+        ),
+        (
+            types::PX,
+            b"\0\x0a\x03net\xc0\x0c\x04x400\xc0\x10",
+            Fields {
+                front: Front::Number(10),
+                first: b"\x03net\xc0\x0c",
+                second: Some(b"\x04x400\xc0\x10"),
+                rest: Rest::Nothing,
+            },
+        ),
+        (
+            types::KX,
+            b"\xff\xfe\xc0\x0c",
+            Fields {
+                front: Front::Number(65534),
+                first: b"\xc0\x0c",
+                second: None,
+                rest: Rest::Nothing,
+            },
+        ),
+        (
+            types::NAPTR,
+            b"\0\x64\0\x32\x01a\x0dz3950+N2L+N2C\0\x09cidserver\xc0\x0c",
+            Fields {
+                front: Front::Rule {
+                    order: 100,
+                    preference: 50,
+                    strings: b"\x01a\x0dz3950+N2L+N2C\0",
+                },
+                first: b"\x09cidserver\xc0\x0c",
+                second: None,
+                rest: Rest::Nothing,
+            },
+        ),
+        (
+            types::SIG,
+            b"\0\x01\x05\x03\0\0\x0e\x10\x3b\x9a\xca\0\x3a\xde\x68\xb1\x53\xbb\x01k\xc0\x0cfooba",
+            Fields {
+                front: Front::Signed(Signed {
+                    covered: Type::A,
+                    algorithm: 5,
+                    labels: 3,
+                    original_ttl: 3600,
+                    expiration: 1000000000,
+                    inception: 987654321,
+                    key_tag: 21435,
+                }),
+                first: b"\x01k\xc0\x0c",
+                second: None,
+                rest: Rest::Signature(b"fooba"),
+            },
+        ),
+        (
+            types::NXT,
+            b"\x06medium\xc0\x0c\x40\x01\0\x82",
+            Fields {
+                front: Front::Nothing,
+                first: b"\x06medium\xc0\x0c",
+                second: None,
+                rest: Rest::Bits(b"\x40\x01\0\x82"),
+            },
+        ),
+        (
+            types::NSEC,
+            b"\xc0\x0c\0\x05\x40\0\x80\x08\x40",
+            Fields {
+                front: Front::Nothing,
+                first: b"\xc0\x0c",
+                second: None,
+                rest: Rest::Types(b"\0\x05\x40\0\x80\x08\x40"),
+            },
+        ),
+        (
+            types::NSEC,
+            b"\x01b\0\0\x01\x40\x01\x01\x40",
+            Fields {
+                front: Front::Nothing,
+                first: b"\x01b\0",
+                second: None,
+                rest: Rest::Types(b"\0\x01\x40\x01\x01\x40"),
+            },
+        ),
+        (
+            types::NSEC,
+            b"\0",
+            Fields {
+                front: Front::Nothing,
+                first: b"\0",
+                second: None,
+                rest: Rest::Types(b""),
+            },
+        ),
+        (
+            types::NXT,
+            b"\0",
+            Fields {
+                front: Front::Nothing,
+                first: b"\0",
+                second: None,
+                rest: Rest::Bits(b""),
+            },
+        ),
+    ];
+    for (type_, octets, fields) in rows {
+        is(&rt, type_, octets, Ok(RData::Fields(fields)));
+    }
+}
+
 #[test]
 fn texts_of_data(rt: HostRuntime) {
     let authority = Authority {
@@ -170,5 +325,36 @@ fn texts_of_data(rt: HostRuntime) {
     ];
     for (data, text) in &rows {
         prints(&rt, rt.alloc(), data, text);
+    }
+}
+
+#[test]
+fn texts_of_fields(rt: HostRuntime) {
+    let rows: [(Type, &[u8], &str); 7] = [
+        (types::RP, b"\x04root\xc0\x0c\0", "first_len=7 second_len=1"),
+        (types::KX, b"\xff\xfe\xc0\x0c", "65534 name_len=2"),
+        (
+            types::PX,
+            b"\0\x0a\x01n\xc0\x0c\x04x400\xc0\x10",
+            "10 first_len=4 second_len=7",
+        ),
+        (
+            types::NAPTR,
+            b"\0\x64\0\x32\x01a\0\x02b\"\xc0\x0c",
+            "100 50 \"a\" \"\" \"b\\\"\" name_len=2",
+        ),
+        (
+            types::SIG,
+            b"\0\x01\x05\x03\0\0\x0e\x10\x3b\x9a\xca\0\x3a\xde\x68\xb1\x53\xbb\0foob",
+            "A 5 3 3600 1000000000 987654321 21435 name_len=1 Zm9vYg==",
+        ),
+        (types::NXT, b"\0\x40\x01\0\x82", "name_len=1 A MX SIG NXT"),
+        (types::NSEC, b"\0\0\x01\x40\x01\x01\x40", "name_len=1 A CAA"),
+    ];
+    for (type_, octets, text) in rows {
+        match RData::parse(type_, 1, octets) {
+            Ok(data) => prints(&rt, rt.alloc(), &data, text),
+            Err(refusal) => same_of(&rt, octets, Some(refusal), None),
+        }
     }
 }

@@ -47,7 +47,7 @@ fn check(
 fn lines_by_type(rt: HostRuntime) {
     let alloc = rt.alloc();
     let packet = Packet::new_unchecked(MESSAGE);
-    let rows: [(Type, u16, &[u8], &str); 21] = [
+    let rows: [(Type, u16, &[u8], &str); 22] = [
         (
             types::A,
             1,
@@ -164,6 +164,12 @@ fn lines_by_type(rt: HostRuntime) {
             "example.com. 3600 ANY MX \\# 0",
         ),
         (
+            types::NSEC,
+            classes::ANY,
+            b"",
+            "example.com. 3600 ANY NSEC \\# 0",
+        ),
+        (
             types::A,
             classes::NONE,
             b"",
@@ -176,12 +182,143 @@ fn lines_by_type(rt: HostRuntime) {
     }
 }
 
+// Those of NAPTR are from RFC 3403 sections 6.1 and 6.2, those of NXT and NSEC from RFC 2535 section 5.4 and RFC 4034
+// section 4.3, and the signatures from RFC 4648 sections 9 and 10.
+#[test]
+fn lines_of_fields(rt: HostRuntime) {
+    let alloc = rt.alloc();
+    let packet = Packet::new_unchecked(MESSAGE);
+    let rows: [(Type, &[u8], &str); 23] = [
+        (
+            types::MINFO,
+            b"\x05admin\xc0\x0c\x06errors\xc0\x14",
+            "example.com. 3600 IN MINFO admin.example.com. errors.com.",
+        ),
+        (
+            types::RP,
+            b"\x04r.o@\xc0\x0c\0",
+            "example.com. 3600 IN RP r\\.o\\@.example.com. .",
+        ),
+        (
+            types::AFSDB,
+            b"\0\x01\x03afs\0",
+            "example.com. 3600 IN AFSDB 1 afs.",
+        ),
+        (
+            types::RT,
+            b"\0\x02\x05relay\xc0\x14",
+            "example.com. 3600 IN RT 2 relay.com.",
+        ),
+        (
+            types::PX,
+            b"\0\x0a\x03net\xc0\x0c\x04x400\xc0\x14",
+            "example.com. 3600 IN PX 10 net.example.com. x400.com.",
+        ),
+        (
+            types::KX,
+            b"\xff\xfe\xc0\x0c",
+            "example.com. 3600 IN KX 65534 example.com.",
+        ),
+        (
+            types::NAPTR,
+            b"\0\x64\0\x32\x01a\x0dz3950+N2L+N2C\0\x09cidserver\xc0\x0c",
+            "example.com. 3600 IN NAPTR 100 50 \"a\" \"z3950+N2L+N2C\" \"\" cidserver.example.com.",
+        ),
+        (
+            types::NAPTR,
+            b"\0\x66\0\x0a\x01u\x08smtp+E2U\x21!^.*$!mailto:information@foo.se!i\0",
+            "example.com. 3600 IN NAPTR 102 10 \"u\" \"smtp+E2U\" \"!^.*$!mailto:information@foo.se!i\" .",
+        ),
+        (
+            types::NAPTR,
+            b"\0\0\xff\xff\0\0\x04\\1\"\xff\0",
+            "example.com. 3600 IN NAPTR 0 65535 \"\" \"\" \"\\\\1\\\"\\255\" .",
+        ),
+        (
+            types::SIG,
+            b"\0\x01\x05\x03\0\0\x0e\x10\x3b\x9a\xca\0\x3a\xde\x68\xb1\x53\xbb\x01k\xc0\x0cfoo",
+            "example.com. 3600 IN SIG A 5 3 3600 1000000000 987654321 21435 k.example.com. Zm9v",
+        ),
+        (
+            types::SIG,
+            b"\0\x01\x05\x03\0\0\x0e\x10\x3b\x9a\xca\0\x3a\xde\x68\xb1\x53\xbb\0foob",
+            "example.com. 3600 IN SIG A 5 3 3600 1000000000 987654321 21435 . Zm9vYg==",
+        ),
+        (
+            types::SIG,
+            b"\0\x01\x05\x03\0\0\x0e\x10\x3b\x9a\xca\0\x3a\xde\x68\xb1\x53\xbb\0fooba",
+            "example.com. 3600 IN SIG A 5 3 3600 1000000000 987654321 21435 . Zm9vYmE=",
+        ),
+        (
+            types::SIG,
+            b"\0\x01\x05\x03\0\0\x0e\x10\x3b\x9a\xca\0\x3a\xde\x68\xb1\x53\xbb\0\x14\xfb\x9c\x03\xd9\x7e",
+            "example.com. 3600 IN SIG A 5 3 3600 1000000000 987654321 21435 . FPucA9l+",
+        ),
+        (
+            types::SIG,
+            b"\0\x01\x05\x03\0\0\x0e\x10\x3b\x9a\xca\0\x3a\xde\x68\xb1\x53\xbb\0\xff",
+            "example.com. 3600 IN SIG A 5 3 3600 1000000000 987654321 21435 . /w==",
+        ),
+        (
+            types::SIG,
+            b"\0\0\x08\0\0\0\0\0\xff\xff\xff\xff\x80\0\0\0\0\x01\xc0\x0c",
+            "example.com. 3600 IN SIG TYPE0 8 0 0 4294967295 2147483648 1 example.com. ",
+        ),
+        (
+            types::NXT,
+            b"\x06medium\xc0\x0c\x40\x01\0\x82",
+            "example.com. 3600 IN NXT medium.example.com. A MX SIG NXT",
+        ),
+        (
+            types::NXT,
+            b"\xc0\x0c",
+            "example.com. 3600 IN NXT example.com.",
+        ),
+        (
+            types::NXT,
+            b"\0\x7f\0\0\0\0\0\0\0\0\0\0\0\0\0\0\x01",
+            "example.com. 3600 IN NXT . A NS MD MF CNAME SOA MB TYPE127",
+        ),
+        (
+            types::NSEC,
+            b"\xc0\x0c\0\x05\x40\0\x80\x08\x40",
+            "example.com. 3600 IN NSEC example.com. A TXT AAAA SRV",
+        ),
+        (
+            types::NSEC,
+            b"\x04host\xc0\x0c\0\x06\x40\x01\0\0\0\x03\x04\x1b\0\0\0\0\0\0\0\0\0\0\0\0\0\0\0\0\0\0\0\0\0\0\0\0\0\0\x20",
+            "example.com. 3600 IN NSEC host.example.com. A MX RRSIG NSEC TYPE1234",
+        ),
+        (
+            types::NSEC,
+            b"\x01b\xc0\x14\0\x01\x40\x01\x01\x40",
+            "example.com. 3600 IN NSEC b.com. A CAA",
+        ),
+        (
+            types::NSEC,
+            b"\0\xff\x20\0\0\0\0\0\0\0\0\0\0\0\0\0\0\0\0\0\0\0\0\0\0\0\0\0\0\0\0\0\0\0\x01",
+            "example.com. 3600 IN NSEC . TYPE65535",
+        ),
+        (types::NSEC, b"\0", "example.com. 3600 IN NSEC ."),
+    ];
+    for (type_, octets, text) in rows {
+        let read = record(EXAMPLE, type_, 1, octets).text(&packet);
+        check(&rt, alloc, read, text);
+    }
+}
+
 #[test]
 fn lines_of_multicast_dns(rt: HostRuntime) {
     let alloc = rt.alloc();
     let packet = Packet::new_unchecked(MESSAGE);
     let address = b"\xc0\0\x02\x01";
-    let rows: [(Type, u16, &[u8], &str); 4] = [
+    let rows: [(Type, u16, &[u8], &str); 5] = [
+        (
+            types::NSEC,
+            0x8001,
+            b"\xc0\x0c\0\x05\x40\0\x80\x08\x40",
+            ". 3600 IN NSEC example.com. A TXT AAAA SRV",
+        ),
         (types::A, 0x8001, address, ". 3600 IN A 192.0.2.1"),
         (types::A, 1, address, ". 3600 IN A 192.0.2.1"),
         (types::MX, 0x80ff, b"", ". 3600 ANY MX \\# 0"),
@@ -299,6 +436,61 @@ fn records_that_are_refused(rt: HostRuntime) {
     }
 }
 
+// No pointer is followed before the whole of the data stands there.
+#[test]
+fn fields_that_are_refused(rt: HostRuntime) {
+    const AHEAD: NameRefusal = NameRefusal::Pointer(255);
+    let packet = Packet::new_unchecked(MESSAGE);
+    let rows: [(Type, &[u8], TextRefusal); 10] = [
+        (types::MINFO, b"\xc0\xff\0", TextRefusal::DataName(AHEAD)),
+        (types::RP, b"\0\xc0\xff", TextRefusal::DataName(AHEAD)),
+        (
+            types::PX,
+            b"\0\x0a\xc0\x0c\xc0\xff",
+            TextRefusal::DataName(AHEAD),
+        ),
+        (
+            types::NAPTR,
+            b"\0\x64\0\x0a\0\0\0\xc0\xff",
+            TextRefusal::DataName(AHEAD),
+        ),
+        (
+            types::NSEC,
+            b"\xc0\xff\0\x01\x40",
+            TextRefusal::DataName(AHEAD),
+        ),
+        (
+            types::NXT,
+            b"\xc0\xff\x80",
+            TextRefusal::Data(DataRefusal::Types),
+        ),
+        (
+            types::NSEC,
+            b"\xc0\xff\0\0",
+            TextRefusal::Data(DataRefusal::Types),
+        ),
+        (
+            types::KX,
+            b"\0\x01\xc0\xff\0",
+            TextRefusal::Data(DataRefusal::BehindName),
+        ),
+        (
+            types::PX,
+            b"\0\x0a\xc0\xff",
+            TextRefusal::Data(DataRefusal::SecondName(PartRefusal::Cut)),
+        ),
+        (
+            types::NAPTR,
+            b"\0\x64\0\x0a\0\0\xc0\xff",
+            TextRefusal::Data(DataRefusal::String),
+        ),
+    ];
+    for (type_, octets, refusal) in rows {
+        let read = record(EXAMPLE, type_, 1, octets).text(&packet);
+        same(&rt, read.err(), Some(refusal));
+    }
+}
+
 #[test]
 fn refusals_print(rt: HostRuntime) {
     let alloc = rt.alloc();
@@ -338,6 +530,33 @@ fn records_that_are_equal(rt: HostRuntime) {
     let other = mail(&rt, EXAMPLE, b"\0\x0a\x04post\xc0\x0c");
     same(&rt, small == capital, true);
     same(&rt, small == other, false);
+    let Ok(copy) = small.clone() else {
+        panic!(rt; "no copy");
+    };
+    same(&rt, copy == small, true);
+}
+
+// The record of this type and these data, with its names read.
+fn text_of<'a>(rt: &impl Abort, type_: Type, data: &'a [u8]) -> RecordText<'a> {
+    let packet = Packet::new_unchecked(MESSAGE);
+    let Ok(read) = record(EXAMPLE, type_, 1, data).text(&packet) else {
+        panic!(rt; "no text");
+    };
+    read
+}
+
+#[test]
+fn fields_that_are_equal(rt: HostRuntime) {
+    let small = text_of(&rt, types::PX, b"\0\x0a\x01a\xc0\x0c\x01b\xc0\x0c");
+    let capital = text_of(&rt, types::PX, b"\0\x0a\x01A\xc0\x0c\x01B\xc0\x0c");
+    let number = text_of(&rt, types::PX, b"\0\x0b\x01a\xc0\x0c\x01b\xc0\x0c");
+    let second = text_of(&rt, types::PX, b"\0\x0a\x01a\xc0\x0c\x01c\xc0\x0c");
+    same(&rt, small == capital, true);
+    same(&rt, small == number, false);
+    same(&rt, small == second, false);
+    let kinds = text_of(&rt, types::NSEC, b"\xc0\x0c\0\x01\x40");
+    let others = text_of(&rt, types::NSEC, b"\xc0\x0c\0\x01\x20");
+    same(&rt, kinds == others, false);
     let Ok(copy) = small.clone() else {
         panic!(rt; "no copy");
     };

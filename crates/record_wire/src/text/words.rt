@@ -1,14 +1,15 @@
-//! The words of a line of a zone file (RFC 1035 section 5.1, RFC 3597 section 5).
+//! The words of a line of a zone file (RFC 1035 section 5.1, RFC 3597 section 5, RFC 4648 section 4).
 
 #![tactic(auto, unfolding(crate::specs::ZoneText::word))]
 
-ghost use Rattle.std.specs.Prelude.{◌≡◌, Some, flat_map};
+ghost use Rattle.std.specs.Prelude.{◌≡◌, [], ◌∷◌, Some, None, flat_map, map};
 ghost use Rattle.std.specs.Fmt.{WritesOnOk};
 ghost use Rattle.wirebase.specs.Ethernet.{hex_byte};
 ghost use Rattle.record_wire.specs.Name.{labels_of};
 ghost use Rattle.record_wire.specs.Strings.{strings_in};
 ghost use Rattle.record_wire.specs.ZoneText.{whole_name, string_character, string_text, string_words, strings_text};
-ghost use Rattle.record_wire.specs.ZoneText.{has_meaning, is_itself, generic_text};
+ghost use Rattle.record_wire.specs.ZoneText.{has_meaning, is_itself, generic_text, base64, base64_digit};
+ghost use Rattle.record_wire.specs.NameReading.{seen_byte, first_octet, first_group, seen_group};
 
 use crate::name::Name;
 use crate::name::text::write_piece;
@@ -170,5 +171,88 @@ impl fmt::Display for HexByte {
         let high = self.0 / 16;
         let low = self.0 % 16;
         write!(f, "{high:x}{low:x}")
+    }
+}
+
+/// Bytes in base64, with padding (RFC 4648 section 4).
+#[derive(Clone, Copy)]
+pub(super) struct Base64<'a>(pub(super) &'a [u8]);
+
+impl fmt::Display for Base64<'_> {
+    ghost output = { λ bytes. Some (base64 bytes.0.now) };
+
+    fn fmt<W: fmt::Write>(&self, f: &mut fmt::Formatter<W>) -> fmt::Result {
+        fmt_base64(f, self.0)
+    }
+}
+
+// Writes three bytes in four characters, and one or two at the end with padding.
+fn fmt_base64<W: fmt::Write>(f: &mut fmt::Formatter<W>, bytes: &[u8]) -> fmt::Result
+    ensures { WritesOnOk W.write_str_gives f.old result (base64 bytes.now) f.new }
+{
+    let mut left = bytes;
+    while let Some((a, b, c, rest)) = split_group(left) {
+        write_digits(f, a / 4, a % 4 * 16 + b / 16, b % 16 * 4 + c / 64, c % 64)?;
+        left = rest;
+    }
+    fmt_last(f, left)
+}
+
+// Writes one byte or two, with padding.
+fn fmt_last<W: fmt::Write>(f: &mut fmt::Formatter<W>, left: &[u8]) -> fmt::Result
+    requires { first_group left.now ≡ None }
+    ensures { WritesOnOk W.write_str_gives f.old result (base64 left.now) f.new }
+{
+    let Some((a, rest)) = split_byte(left) else {
+        return Ok(());
+    };
+    match split_byte(rest) {
+        Some((b, _)) => write_digits(f, a / 4, a % 4 * 16 + b / 16, b % 16 * 4, PADDING),
+        None => write_digits(f, a / 4, a % 4 * 16, PADDING, PADDING),
+    }
+}
+
+// What stands for `=` among six bits each.
+const PADDING: u8 = 64;
+
+// Writes a character for six bits each.
+fn write_digits<W: fmt::Write>(f: &mut fmt::Formatter<W>, a: u8, b: u8, c: u8, d: u8) -> fmt::Result
+    ensures { WritesOnOk W.write_str_gives f.old result (map base64_digit (a ∷ b ∷ c ∷ d ∷ [])) f.new }
+{
+    write_piece(f, &[digit(a), digit(b), digit(c), digit(d)])
+}
+
+// The first three bytes, and those behind them.
+fn split_group(bytes: &[u8]) -> Option<(u8, u8, u8, &[u8])>
+    ensures { seen_group result ≡ first_group bytes.now }
+{
+    match bytes {
+        [a, b, c, rest @ ..] => Some((*a, *b, *c, rest)),
+        _ => None,
+    }
+}
+
+/// The first byte, and those behind it.
+pub(super) fn split_byte(bytes: &[u8]) -> Option<(u8, &[u8])>
+    ensures { seen_byte result ≡ first_octet bytes.now }
+{
+    match bytes {
+        [byte, rest @ ..] => Some((*byte, rest)),
+        [] => None,
+    }
+}
+
+// The character of six bits, or of padding.
+#[tactic(auto, unfolding(crate::specs::ZoneText::base64_digit))]
+fn digit(six: u8) -> u8
+    ensures { result ≡ base64_digit six }
+{
+    match six {
+        0..=25 => b'A' + six,
+        26..=51 => b'a' + (six - 26),
+        52..=61 => b'0' + (six - 52),
+        62 => b'+',
+        63 => b'/',
+        _ => b'=',
     }
 }

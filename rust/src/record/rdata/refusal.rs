@@ -3,6 +3,7 @@
 
 use crate::dns_wire::dns::{Type, split_name};
 use crate::record::multicast;
+use crate::record::rdata::fields::{self, Form, FrontForm, RestForm, split_front, split_second};
 use crate::record::rdata::{Layout, RData, field, find_layout};
 use crate::record::record::Record;
 use crate::record::refusal::{PartRefusal, why_no_part};
@@ -24,20 +25,24 @@ use core::fmt;
 pub enum DataRefusal {
     /// An address that has another number of bytes than this: 4 of IPv4, 16 of IPv6.
     Address(usize),
-    /// Fewer bytes than the numbers in front of the name have: 2 of MX, 6 of SRV.
+    /// Fewer bytes than the numbers in front of the name have: 2 of MX, AFSDB, RT, PX and KX, 4 of NAPTR, 6 of SRV, 18
+    /// of SIG.
     Numbers,
-    /// There is no name where one should begin; of SOA, the first.
+    /// There is no name where one should begin; of two names, the first.
     Name(PartRefusal),
-    /// Bytes stand behind the name, where the data should end.
+    /// Bytes stand behind the names, where the data should end.
     BehindName,
-    /// There is no name behind the first one of SOA.
-    Mailbox(PartRefusal),
+    /// There is no name behind the first one: the mailbox of SOA, or the second name of MINFO, RP and PX.
+    SecondName(PartRefusal),
     /// Behind the names of SOA stand fewer or more than the 20 bytes of its numbers.
     Times,
     /// No bytes, where TXT has one string at least.
     NoString,
-    /// A string of TXT has fewer bytes than the length in front of it says.
+    /// A string of TXT or NAPTR has fewer bytes than the length in front of it says, or NAPTR has fewer than three.
     String,
+    /// The types of NXT are not a map of up to 16 bytes whose first bit is clear, or those of NSEC not maps of 1 to 32
+    /// bytes.
+    Types,
 }
 
 /// What is wrong with the data.
@@ -48,12 +53,13 @@ impl fmt::Display for DataRefusal {
             DataRefusal::Numbers => write!(f, "the numbers in front of the name are cut"),
             DataRefusal::Name(refusal) => write!(f, "{refusal}"),
             DataRefusal::BehindName => write!(f, "bytes stand behind the name"),
-            DataRefusal::Mailbox(refusal) => write!(f, "behind the first name: {refusal}"),
+            DataRefusal::SecondName(refusal) => write!(f, "behind the first name: {refusal}"),
             DataRefusal::Times => {
                 write!(f, "the numbers behind the names have other than 20 bytes")
             }
             DataRefusal::NoString => write!(f, "there is no string"),
             DataRefusal::String => write!(f, "a string is cut"),
+            DataRefusal::Types => write!(f, "the type bit maps are malformed"),
         }
     }
 }
@@ -107,6 +113,7 @@ fn why_no_data(layout: Layout, octets: &[u8]) -> DataRefusal {
         Layout::Service => why_not_behind(octets, field::SRV_NAME),
         Layout::Authority => why_no_authority(octets),
         Layout::Strings => why_no_strings(octets),
+        Layout::Fields(form) => why_no_fields(form, octets),
     }
 }
 
@@ -132,7 +139,7 @@ fn why_no_authority(octets: &[u8]) -> DataRefusal {
         return DataRefusal::Name(why_no_part(octets));
     };
     let Ok(_) = split_name(behind) else {
-        return DataRefusal::Mailbox(why_no_part(behind));
+        return DataRefusal::SecondName(why_no_part(behind));
     };
     DataRefusal::Times
 }
@@ -143,6 +150,38 @@ fn why_no_strings(octets: &[u8]) -> DataRefusal {
         return DataRefusal::NoString;
     }
     DataRefusal::String
+}
+
+// Why they are not fields of this form.
+fn why_no_fields(form: Form, octets: &[u8]) -> DataRefusal {
+    let Ok((_, behind)) = split_front(form.front, octets) else {
+        return why_no_front(form.front, octets);
+    };
+    let Ok((_, rest)) = split_name(behind) else {
+        return DataRefusal::Name(why_no_part(behind));
+    };
+    let Ok(_) = split_second(form.has_two, rest) else {
+        return DataRefusal::SecondName(why_no_part(rest));
+    };
+    match form.rest {
+        RestForm::Bits | RestForm::Types => DataRefusal::Types,
+        // A signature of any bytes is not refused.
+        RestForm::Nothing | RestForm::Signature => DataRefusal::BehindName,
+    }
+}
+
+// Why the fields in front of a name do not stand at their front.
+fn why_no_front(form: FrontForm, octets: &[u8]) -> DataRefusal {
+    match form {
+        FrontForm::Rule => {
+            if octets.len() < fields::field::STRINGS {
+                return DataRefusal::Numbers;
+            }
+            DataRefusal::String
+        }
+        // Nothing in front of a name is not refused.
+        FrontForm::Nothing | FrontForm::Number | FrontForm::Signed => DataRefusal::Numbers,
+    }
 }
 
 #[cfg(test)]

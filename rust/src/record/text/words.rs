@@ -1,5 +1,5 @@
 // Made from crates/record_wire/src/text/words.rt by rust/erase.
-//! The words of a line of a zone file (RFC 1035 section 5.1, RFC 3597 section 5).
+//! The words of a line of a zone file (RFC 1035 section 5.1, RFC 3597 section 5, RFC 4648 section 4).
 
 use crate::record::name::Name;
 use crate::record::name::text::write_piece;
@@ -134,5 +134,72 @@ impl fmt::Display for HexByte {
         let high = self.0 / 16;
         let low = self.0 % 16;
         write!(f, "{high:x}{low:x}")
+    }
+}
+
+/// Bytes in base64, with padding (RFC 4648 section 4).
+#[derive(Clone, Copy)]
+pub(super) struct Base64<'a>(pub(super) &'a [u8]);
+
+impl fmt::Display for Base64<'_> {
+    fn fmt(&self, f: &mut fmt::Formatter<'_>) -> fmt::Result {
+        fmt_base64(f, self.0)
+    }
+}
+
+// Writes three bytes in four characters, and one or two at the end with padding.
+fn fmt_base64(f: &mut fmt::Formatter<'_>, bytes: &[u8]) -> fmt::Result {
+    let mut left = bytes;
+    while let Some((a, b, c, rest)) = split_group(left) {
+        write_digits(f, a / 4, a % 4 * 16 + b / 16, b % 16 * 4 + c / 64, c % 64)?;
+        left = rest;
+    }
+    fmt_last(f, left)
+}
+
+// Writes one byte or two, with padding.
+fn fmt_last(f: &mut fmt::Formatter<'_>, left: &[u8]) -> fmt::Result {
+    let Some((a, rest)) = split_byte(left) else {
+        return Ok(());
+    };
+    match split_byte(rest) {
+        Some((b, _)) => write_digits(f, a / 4, a % 4 * 16 + b / 16, b % 16 * 4, PADDING),
+        None => write_digits(f, a / 4, a % 4 * 16, PADDING, PADDING),
+    }
+}
+
+// What stands for `=` among six bits each.
+const PADDING: u8 = 64;
+
+// Writes a character for six bits each.
+fn write_digits(f: &mut fmt::Formatter<'_>, a: u8, b: u8, c: u8, d: u8) -> fmt::Result {
+    write_piece(f, &[digit(a), digit(b), digit(c), digit(d)])
+}
+
+// The first three bytes, and those behind them.
+fn split_group(bytes: &[u8]) -> Option<(u8, u8, u8, &[u8])> {
+    match bytes {
+        [a, b, c, rest @ ..] => Some((*a, *b, *c, rest)),
+        _ => None,
+    }
+}
+
+/// The first byte, and those behind it.
+pub(super) fn split_byte(bytes: &[u8]) -> Option<(u8, &[u8])> {
+    match bytes {
+        [byte, rest @ ..] => Some((*byte, rest)),
+        [] => None,
+    }
+}
+
+// The character of six bits, or of padding.
+fn digit(six: u8) -> u8 {
+    match six {
+        0..=25 => b'A' + six,
+        26..=51 => b'a' + (six - 26),
+        52..=61 => b'0' + (six - 52),
+        62 => b'+',
+        63 => b'/',
+        _ => b'=',
     }
 }

@@ -2,8 +2,9 @@
 //! Types by their mnemonics.
 
 use super::{
-    A, AAAA, ANY, AXFR, CAA, CNAME, DNAME, DNSKEY, DS, HINFO, HTTPS, IXFR, MX, NAPTR, NS, NSEC,
-    NSEC3, OPT, PTR, RRSIG, SOA, SPF, SRV, SSHFP, SVCB, TLSA, TXT,
+    A, AAAA, AFSDB, ANY, AXFR, CAA, CNAME, DNAME, DNSKEY, DS, HINFO, HTTPS, IXFR, KX, MB, MD, MF,
+    MG, MINFO, MR, MX, NAPTR, NS, NSEC, NSEC3, NXT, OPT, PTR, PX, RP, RRSIG, RT, SIG, SOA, SPF,
+    SRV, SSHFP, SVCB, TLSA, TXT,
 };
 use crate::dns_wire::dns::Type;
 use crate::record::testing::{prints, same_of};
@@ -12,15 +13,28 @@ use crate::record::testing::{prints, same_of};
 const ROWS: &[(Type, &str, u16)] = &[
     (A, "A", 1),
     (NS, "NS", 2),
+    (MD, "MD", 3),
+    (MF, "MF", 4),
     (CNAME, "CNAME", 5),
     (SOA, "SOA", 6),
+    (MB, "MB", 7),
+    (MG, "MG", 8),
+    (MR, "MR", 9),
     (PTR, "PTR", 12),
     (HINFO, "HINFO", 13),
+    (MINFO, "MINFO", 14),
     (MX, "MX", 15),
     (TXT, "TXT", 16),
+    (RP, "RP", 17),
+    (AFSDB, "AFSDB", 18),
+    (RT, "RT", 21),
+    (SIG, "SIG", 24),
+    (PX, "PX", 26),
     (AAAA, "AAAA", 28),
+    (NXT, "NXT", 30),
     (SRV, "SRV", 33),
     (NAPTR, "NAPTR", 35),
+    (KX, "KX", 36),
     (DNAME, "DNAME", 39),
     (OPT, "OPT", 41),
     (DS, "DS", 43),
@@ -64,5 +78,5 @@ fn types_in_patterns() {
 #[test]
 fn mnemonics_of_types() {
     same_of(257, Type::from(257).mnemonic(), Some("CAA"));
-    same_of(14, Type::from(14).mnemonic(), None);
+    same_of(11, Type::from(11).mnemonic(), None);
 }

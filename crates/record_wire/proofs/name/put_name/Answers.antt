@@ -8,7 +8,7 @@ use Rattle.record_wire.specs.NameParts.{EndsTooFar}
 use Rattle.record_wire.specs.RecordRefusal.{IsNoPart}
 use Rattle.record_wire.proofs.NameParts.{all_same, no_name_far, no_name_torn, no_name_long, no_name_more}
 use Rattle.record_wire.proofs.NameParts.{room_for_labels, drop_whole}
-use Rattle.record_wire.proofs.NameRefusals.{IsAt, at_start, at_labels, at_pointer, named, labels_long, label_long}
+use Rattle.record_wire.proofs.NameRefusals.{at_start, at_labels, at_pointer, named, labels_long, label_long}
 use Rattle.record_wire.proofs.NameRefusals.{far_pointer, one_pointer_more, part_refused}
 use Rattle.record_wire.proofs.name.put_name.Goals as goal
 

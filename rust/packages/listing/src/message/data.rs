@@ -4,8 +4,9 @@
 use crate::message::record::{Line, write_line};
 use crate::zone::{NameText, generic, ipv6_word, name_word, strings, word};
 use control_wire::dns::Packet;
-use control_wire::record::NameRefusal;
+use control_wire::record::rdata::fields::Fields;
 use control_wire::record::rdata::{Authority, RData};
+use control_wire::record::{FieldsText, NameRefusal};
 use rattle_std::io;
 use rattle_std::io::Write;
 
@@ -30,6 +31,7 @@ pub fn show_data<'a, W: Write>(
             target,
         } => show_service(output, packet, line, [priority, weight, port], target),
         RData::Soa(soa) => show_authority(output, packet, line, &soa),
+        RData::Fields(read) => show_fields(output, packet, line, &read),
         RData::A(address) => {
             write_line(output, line)?;
             word(output, address)?;
@@ -128,4 +130,26 @@ fn show_authority<'a, W: Write>(
     word(output, soa.expire)?;
     word(output, soa.minimum)?;
     Ok(None)
+}
+
+// Prints by way of record_wire's text, which is slower, since these types are rare.
+fn show_fields<'a, W: Write>(
+    output: &mut W,
+    packet: &Packet<&'a [u8]>,
+    line: &Line<'_>,
+    read: &Fields<'a>,
+) -> io::Result<Option<NameRefusal>> {
+    match read.text(packet) {
+        Ok(text) => {
+            write_line(output, line)?;
+            write_fields(output, &text)?;
+            Ok(None)
+        }
+        Err(refusal) => Ok(Some(refusal)),
+    }
+}
+
+// Writes fields behind a space.
+fn write_fields<W: Write>(output: &mut W, text: &FieldsText<'_>) -> io::Result<()> {
+    write!(output, " {text}")
 }

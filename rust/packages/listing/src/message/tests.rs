@@ -117,7 +117,7 @@ fn data_with_names() {
             \xc0\x0c\0\x27\0\x01\0\0\0\x01\0\x05\x02dn\xc0\x0c",
             false,
             "  transaction_id=1\n  flags=qr,aa\n  opcode=0\n  rcode=0\n\
-             \x20 answer=example.com. 1 IN TYPE7 mb.example.com.\n\
+             \x20 answer=example.com. 1 IN MB mb.example.com.\n\
              \x20 answer=example.com. 1 IN DNAME dn.example.com.\n",
             None,
         ),

@@ -340,6 +340,7 @@ fn add_data<'a>(packet: &Packet<&'a [u8]>, data: &RData<'a>, digest: &mut Digest
         }
         RData::Soa(authority) => add_authority(packet, authority, digest),
         RData::Txt(strings) => digest.add_octets(strings),
+        RData::Fields(fields) => add_name(packet, fields.first, digest),
         RData::Other(octets) => {
             digest.add(3);
             digest.add_octets(octets);

@@ -17,6 +17,9 @@ returns-in-Srv g c = rw c.in-Srv.is c.show_service.ensures
 pub returns-in-Soa : goal.returns-in-Soa
 returns-in-Soa g c = rw c.in-Soa.is c.show_authority.ensures
 
+pub returns-in-Fields : goal.returns-in-Fields
+returns-in-Fields g c = rw c.in-Fields.is c.show_fields.ensures
+
 pub returns-in_ok-word-in-A : goal.returns-in_ok-word-in-A
 returns-in_ok-word-in-A g c =
     rw c.in-A.is (_, (_, refl, refl), c.in_ok-write_line-in-A.ensures then c.in_ok-word-in-A.ensures)

@@ -1,5 +1,5 @@
 use Rattle.std.proofs.Common.{refl, inl, inr}
-use Rattle.record_wire.specs.RData.{name, strings, other}
+use Rattle.record_wire.specs.RData.{name, strings, fields, other}
 use Rattle.record_wire.specs.declared.rdata.Layout.TheVariants as layout
 use Rattle.record_wire.proofs.RDataRefusals.{laid_out_at, refused_at, some_address4, some_address6}
 use Rattle.record_wire.proofs.rdata.refusal.why_no_data.Goals as goal
@@ -36,6 +36,12 @@ why_no_strings-requires c = λ some are.
     let octets = c.args.octets.now in
     c.requires (strings octets) (laid_out_at c.args.layout layout.Strings octets (strings octets) c.in-Strings.is
     (record { some = some; are = are; is = refl }))
+
+pub why_no_fields-requires : goal.why_no_fields-requires
+why_no_fields-requires c = λ value is.
+    let octets = c.args.octets.now in
+    c.requires (fields value) (laid_out_at c.args.layout (layout.Fields c.in-Fields.form) octets (fields value)
+    c.in-Fields.is (value, is, refl))
 
 pub returns-in-Ipv4 : goal.returns-in-Ipv4
 returns-in-Ipv4 c =

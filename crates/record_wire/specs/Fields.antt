@@ -1,0 +1,208 @@
+-- Data with fields in front of one or two names and behind them: of MINFO (RFC 1035 section 3.3.7), RP, AFSDB and RT
+-- (RFC 1183), PX (RFC 2163), KX (RFC 2230), SIG and NXT (RFC 2535), NAPTR (RFC 3403) and NSEC (RFC 4034 section 4).
+use Rattle.std.specs.Prelude.{◌≡◌, ℕ, ◌≤◌, ◌<◌, ◌&&◌, nat_le, if◌then◌else◌, Bool, true, false, List, [], ◌∷◌, ◌++◌}
+use Rattle.std.specs.Prelude.{length, take, drop, slice_index, flat_map, Option, None, Some}
+use Rattle.std.specs.Borrow.{Bor}
+use Rattle.std.specs.List.{AllByRecursion}
+use Rattle.wirebase.specs.Bytes.{Field, field, number_of, byte_of}
+use Rattle.dns_wire.specs.DnsName.{written}
+use Rattle.dns_wire.specs.DnsPart.{IsSplit}
+use Rattle.dns_wire.specs.DnsTables.{type_of}
+use Rattle.record_wire.specs.declared.rdata.fields.Fields.{Fields}
+use Rattle.record_wire.specs.declared.rdata.fields.Form.{Form}
+use Rattle.record_wire.specs.declared.rdata.fields.Front.{Front}
+use Rattle.record_wire.specs.declared.rdata.fields.Front.TheVariants as front
+use Rattle.record_wire.specs.declared.rdata.fields.FrontForm.{FrontForm}
+use Rattle.record_wire.specs.declared.rdata.fields.FrontForm.TheVariants as front_form
+use Rattle.record_wire.specs.declared.rdata.fields.Rest.{Rest}
+use Rattle.record_wire.specs.declared.rdata.fields.Rest.TheVariants as rest
+use Rattle.record_wire.specs.declared.rdata.fields.RestForm.{RestForm}
+use Rattle.record_wire.specs.declared.rdata.fields.RestForm.TheVariants as rest_form
+use Rattle.record_wire.specs.declared.rdata.fields.Signed.{Signed}
+
+-- ---- the fields by content
+
+pub data FrontValue : Type 0 where
+  no_front : FrontValue
+  numbered : ℕ → FrontValue
+  rule : ℕ → ℕ → List ℕ → FrontValue
+  signs : Signed → FrontValue
+
+pub data RestValue : Type 0 where
+  no_rest : RestValue
+  signature : List ℕ → RestValue
+  one_map : List ℕ → RestValue
+  all_maps : List ℕ → RestValue
+
+pub record FieldsValue : Type 0 where
+  pub front_ : FrontValue
+  pub first : List ℕ
+  pub second : Option (List ℕ)
+  pub rest_ : RestValue
+
+abbrev pub front_of : Front → FrontValue
+front_of front.Nothing = no_front
+front_of (front.Number n) = numbered n
+front_of (front.Rule order preference strings) = rule order preference strings.now
+front_of (front.Signed s) = signs s
+
+abbrev pub rest_of : Rest → RestValue
+rest_of rest.Nothing = no_rest
+rest_of (rest.Signature bytes) = signature bytes.now
+rest_of (rest.Bits bytes) = one_map bytes.now
+rest_of (rest.Types bytes) = all_maps bytes.now
+
+abbrev pub name_of : Option (Bor (List ℕ)) → Option (List ℕ)
+name_of None = None
+name_of (Some bytes) = Some bytes.now
+
+abbrev pub fields_of : Fields → FieldsValue
+fields_of fields = record {
+  front_ = front_of fields.front;
+  first = fields.first.now;
+  second = name_of fields.second;
+  rest_ = rest_of fields.«rest»;
+}
+
+-- ---- in front of the names
+
+abbrev pub number_field : Field
+number_field = field 0 2
+
+abbrev pub order_field : Field
+order_field = field 0 2
+
+abbrev pub preference_field : Field
+preference_field = field 2 4
+
+abbrev pub covered_field : Field
+covered_field = field 0 2
+
+abbrev pub algorithm_field : Field
+algorithm_field = field 2 3
+
+abbrev pub labels_field : Field
+labels_field = field 3 4
+
+abbrev pub original_ttl_field : Field
+original_ttl_field = field 4 8
+
+abbrev pub expiration_field : Field
+expiration_field = field 8 12
+
+abbrev pub inception_field : Field
+inception_field = field 12 16
+
+abbrev pub key_tag_field : Field
+key_tag_field = field 16 18
+
+-- what a signature is of (RFC 2535 section 4.1)
+abbrev pub signature_in : List ℕ → Signed
+signature_in bytes = record {
+  covered = type_of (number_of covered_field bytes);
+  algorithm = byte_of algorithm_field bytes;
+  labels = byte_of labels_field bytes;
+  original_ttl = number_of original_ttl_field bytes;
+  expiration = number_of expiration_field bytes;
+  inception = number_of inception_field bytes;
+  key_tag = number_of key_tag_field bytes;
+}
+
+-- three strings stand at the front of the bytes: flags, services and a regular expression (RFC 3403 section 4.1)
+pub record AreThree (bytes strings rest : List ℕ) : Type 0 where
+  pub flags : List ℕ
+  pub services : List ℕ
+  pub expression : List ℕ
+  pub are : strings ≡ written flags ++ (written services ++ written expression)
+  pub whole : bytes ≡ strings ++ rest
+
+-- a number
+pub record IsNumber (bytes : List ℕ) (value : FrontValue) (rest : List ℕ) : Type 0 where
+  pub reaches : 2 ≤ length bytes
+  pub is : value ≡ numbered (number_of number_field bytes)
+  pub rest_ : rest ≡ drop 2 bytes
+
+-- an order, a preference, and three strings
+pub record IsRule (bytes : List ℕ) (value : FrontValue) (rest : List ℕ) : Type 0 where
+  pub strings : List ℕ
+  pub reaches : 4 ≤ length bytes
+  pub three : AreThree (drop 4 bytes) strings rest
+  pub is : value ≡ rule (number_of order_field bytes) (number_of preference_field bytes) strings
+
+-- what a signature is of
+pub record IsSignature (bytes : List ℕ) (value : FrontValue) (rest : List ℕ) : Type 0 where
+  pub reaches : 18 ≤ length bytes
+  pub is : value ≡ signs (signature_in bytes)
+  pub rest_ : rest ≡ drop 18 bytes
+
+-- these fields stand at the front of the bytes, and then a rest
+abbrev pub IsFront : FrontForm → List ℕ → FrontValue → List ℕ → Type 0
+IsFront front_form.Nothing bytes value rest = (value ≡ no_front) × (rest ≡ bytes)
+IsFront front_form.Number bytes value rest = IsNumber bytes value rest
+IsFront front_form.Rule bytes value rest = IsRule bytes value rest
+IsFront front_form.Signed bytes value rest = IsSignature bytes value rest
+
+-- ---- names
+
+-- a second name, where there are two, and then a rest
+abbrev pub IsSecond : Bool → List ℕ → Option (List ℕ) → List ℕ → Type 0
+IsSecond false bytes value rest = (value ≡ None) × (rest ≡ bytes)
+IsSecond true bytes value rest = (name : List ℕ) × (value ≡ Some name) × IsSplit bytes name rest
+
+-- ---- behind the names
+
+-- A map of types below 128, a bit for each. That of type 0 is clear: where it is set, a map has another form (RFC 2535
+-- section 5.2).
+pub record IsMap (bytes : List ℕ) : Type 0 where
+  pub len : length bytes ≤ 16
+  pub first : slice_index bytes 0 < 128
+
+-- maps of 1 to 32 bytes, each behind the upper byte of its types and its length (RFC 4034 section 4.1.2)
+pub record MapValue : Type 0 where
+  pub upper : ℕ
+  pub map : List ℕ
+
+pub record IsTypesMap (m : MapValue) : Type 0 where
+  pub some : 1 ≤ length m.map
+  pub most : length m.map ≤ 32
+
+abbrev pub map_bytes : MapValue → List ℕ
+map_bytes m = m.upper ∷ length m.map ∷ m.map
+
+pub record AreMaps (bytes : List ℕ) : Type 0 where
+  pub maps : List MapValue
+  pub each : AllByRecursion IsTypesMap maps
+  pub whole : bytes ≡ flat_map map_bytes maps
+
+-- the fields behind the names are all of the bytes
+abbrev pub IsRest : RestForm → List ℕ → RestValue → Type 0
+IsRest rest_form.Nothing bytes value = (bytes ≡ []) × (value ≡ no_rest)
+IsRest rest_form.Signature bytes value = value ≡ signature bytes
+IsRest rest_form.Bits bytes value = IsMap bytes × (value ≡ one_map bytes)
+IsRest rest_form.Types bytes value = AreMaps bytes × (value ≡ all_maps bytes)
+
+-- ---- data
+
+pub record IsFields (form : Form) (bytes : List ℕ) (value : FieldsValue) : Type 0 where
+  pub behind_front : List ℕ
+  pub behind_first : List ℕ
+  pub behind_second : List ℕ
+  pub front_ : IsFront form.front bytes value.front_ behind_front
+  pub first_ : IsSplit behind_front value.first behind_first
+  pub second_ : IsSecond form.has_two behind_first value.second behind_second
+  pub rest_ : IsRest form.«rest» behind_second value.rest_
+
+-- ---- as it is computed
+
+-- the first map, and what stands behind it
+abbrev pub first_map : List ℕ → Option (MapValue × List ℕ)
+first_map [] = None
+first_map (upper ∷ []) = None
+first_map (upper ∷ n ∷ rest) =
+    if nat_le 1 n && nat_le n 32 && nat_le n (length rest)
+    then Some (record { upper = upper; map = take n rest }, drop n rest)
+    else None
+
+abbrev pub seen_map : Option (ℕ × Bor (List ℕ) × Bor (List ℕ)) → Option (MapValue × List ℕ)
+seen_map None = None
+seen_map (Some (upper, map, rest)) = Some (record { upper = upper; map = map.now }, rest.now)
