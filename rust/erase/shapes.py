@@ -30,7 +30,7 @@ SHAPES = {
     "final": (r"final", ""),
     "model": (r"impl [^{};]*Model for [^{};]*\{ \.\. \}", ""),
     "drop": (r"# \[ \.\. \]|, Drop|Drop ,|\+ Drop|Drop \+|: Drop", ""),
-    "hidden": (r"pub", ""),
+    "hidden": (r"pub", r"pub \( crate \)"),
     "clone": (r"impl Clone for [^{};]*\{ \.\. \}|", r"(, Clone|# \[ derive \( Clone \) \])?"),
     "cloned": (ATTRIBUTES + r"fn \w+ [^{};]*AllocError[^{};]*\{ \.\. \}", ""),
     "constant": (r"", r"const"),

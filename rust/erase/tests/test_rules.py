@@ -81,7 +81,8 @@ ROWS = {
     "clone": ("#[derive(Debug)] struct S(u8); "
               "impl Clone for S { fn clone(&self) -> Result<S, AllocError> { Ok(S(self.0)) } }",
               "#[derive(Debug, Clone)] struct S(u8);"),
-    "hidden": ("pub enum Layout { A } pub enum Other { A }", "enum Layout { A } pub enum Other { A }"),
+    "hidden": ("pub enum Layout { A } pub struct Form { a: u8 } pub enum Other { A }",
+               "pub(crate) enum Layout { A } pub(crate) struct Form { a: u8 } pub enum Other { A }"),
     "cloned": ("fn cloned(a: &A) -> Result<A, AllocError> { a.clone() } fn f() -> u8 { 1 }", "fn f() -> u8 { 1 }"),
     "constant": ("impl S { pub fn new_unchecked(a: u8) -> S { S(a) } pub fn new(a: u8) -> S { S(a) } } "
                  "impl R { pub const fn new_unchecked(a: u8) -> R { R(a) } pub fn buffer_len(&self) -> u8 { 4 } }",
