@@ -340,11 +340,16 @@ fn add_data<'a>(packet: &Packet<&'a [u8]>, data: &RData<'a>, digest: &mut Digest
         }
         RData::Soa(authority) => add_authority(packet, authority, digest),
         RData::Txt(strings) => digest.add_octets(strings),
-        RData::Fields(fields) => add_name(packet, fields.first, digest),
-        RData::Other(octets) => {
-            digest.add(3);
-            digest.add_octets(octets);
-        }
+        // Others, and fields, which the library at the start does not have.
+        _ => add_other(data, digest),
+    }
+}
+
+// Adds the octets of data of another type.
+fn add_other(data: &RData<'_>, digest: &mut Digest) {
+    if let RData::Other(octets) = data {
+        digest.add(3);
+        digest.add_octets(octets);
     }
 }
 
