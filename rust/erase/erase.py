@@ -302,7 +302,8 @@ BROUGHT = "use std::prelude::v1::*;\n"
 
 
 def std_of_tests():
-    """The files of the library with what its tests take of `rattle_std`: so the crate's package has all that they need."""
+    """The files of the library with what its tests take of `rattle_std`: so the crate's package has all that they
+    need."""
     files, folder = {}, HERE.parent / "rattle_std" / "src"
     for name in ("lib", "alloc", "test", "text", "vec"):
         text = UNUSED.sub("", (folder / f"{name}.rs").read_text()).replace("crate::", "crate::rattle_std::")

@@ -30,10 +30,10 @@ use Rattle.record_wire.specs.declared.rdata.RData.TheVariants as rdata
 abbrev pub form : FrontForm → Bool → RestForm → Layout
 form front has_two rest = layout.Fields (record { front = front; has_two = has_two; «rest» = rest })
 
--- Which layout the data of a type has: MD is 3, MF 4, MB 7, MG 8, MR 9, PTR 12, MINFO 14, MX 15, TXT 16 (RFC 1035
--- section 3.2.2), RP 17, AFSDB 18, RT 21 (RFC 1183), SIG 24, NXT 30 (RFC 2535), PX 26 (RFC 2163), SRV 33 (RFC 2782),
--- NAPTR 35 (RFC 3403), KX 36 (RFC 2230), DNAME 39 (RFC 6672) and NSEC 47 (RFC 4034). Addresses are those of the
--- internet.
+-- Which layout the data of a type has, by the type's number: 3 is MD, 4 MF, 7 MB, 8 MG, 9 MR, 12 PTR, 14 MINFO, 15 MX,
+-- 16 TXT (RFC 1035 section 3.2.2), 17 RP, 18 AFSDB, 21 RT (RFC 1183), 24 SIG, 30 NXT (RFC 2535), 26 PX (RFC 2163),
+-- 33 SRV (RFC 2782), 35 NAPTR (RFC 3403), 36 KX (RFC 2230), 39 DNAME (RFC 6672) and 47 NSEC (RFC 4034). Addresses are
+-- those of the internet.
 abbrev pub layout_of : RecordType → ℕ → Layout
 layout_of kind.A class = if class == internet then layout.Ipv4 else layout.Opaque
 layout_of kind.Aaaa class = if class == internet then layout.Ipv6 else layout.Opaque

@@ -83,8 +83,8 @@ class Recursion(unittest.TestCase):
                 self.assertLessEqual(names, way)
 
     def test_functions_of_other_crates_do_not_count(self):
-        self.assertEqual(recursion.recursions([("one.ll", "define void @_RNvC5other4walk() {\n"
-                                                          "  call void @_RNvC5other4walk()\n}\n")], {"planted"}), (0, []))
+        code = "define void @_RNvC5other4walk() {\n  call void @_RNvC5other4walk()\n}\n"
+        self.assertEqual(recursion.recursions([("one.ll", code)], {"planted"}), (0, []))
 
 
 if __name__ == "__main__":

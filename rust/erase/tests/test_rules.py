@@ -89,7 +89,8 @@ ROWS = {
                  "impl S { pub const fn new_unchecked(a: u8) -> S { S(a) } pub fn new(a: u8) -> S { S(a) } } "
                  "impl R { pub const fn new_unchecked(a: u8) -> R { R(a) } pub fn buffer_len(&self) -> u8 { 4 } }"),
     "open_enum": ("#[derive(Debug)] pub enum Refusal { A } enum OwnRefusal { A } pub enum Repr { A }",
-                  "#[derive(Debug)] #[non_exhaustive] pub enum Refusal { A } enum OwnRefusal { A } pub enum Repr { A }"),
+                  "#[derive(Debug)] #[non_exhaustive] pub enum Refusal { A } enum OwnRefusal { A } "
+                  "pub enum Repr { A }"),
     "debug": ("#[derive(Debug, Clone)] pub struct Ipv4Address; #[derive(Debug, Clone)] pub struct Ipv4Repr;",
               "#[derive(Clone)] pub struct Ipv4Address; #[derive(Debug, Clone)] pub struct Ipv4Repr;"),
     "nothing": ("use wirebase::{Error, are_facts}; fn are_facts(a: u8) ensures { a ≡ a } {} "
@@ -133,7 +134,8 @@ RUNTIME_ROWS = {
                "fn main() -> io::Result<()> { rattle_std::println!(\"a\") }"),
     "takes_alloc": ("fn f(alloc: Global) -> u8 { g(a.to_string(alloc), b.clone(), vec![in alloc; 0; 3]) }",
                     "use_prelude fn f() -> u8 { g(a.to_string_in(), b.try_clone(), rattle_std::vec![0; 3]) }"),
-    "open_match": ("use kit::icmpv4::{Packet, Repr}; fn f(a: Repr) -> u8 { match a { Repr::A => 1, Repr::B { .. } => 2 } }",
+    "open_match": ("use kit::icmpv4::{Packet, Repr}; "
+                   "fn f(a: Repr) -> u8 { match a { Repr::A => 1, Repr::B { .. } => 2 } }",
                    "use kit::icmpv4::{Packet, Repr}; "
                    "fn f(a: Repr) -> u8 { match a { Repr::A => 1, Repr::B { .. } => 2, _ => unreachable!(), } }"),
     "reader": ("fn f(rt: &(impl A + B)) -> u8 { run(rt.alloc(), rt.reader(), io::writer(&rt)) }",
@@ -263,7 +265,8 @@ class Rules(unittest.TestCase):
         file.crate = "one_wire"
         erase.erase([unit])
         docs = [line.strip() for line in str(file).splitlines() if line.strip().startswith("///")]
-        self.assertEqual(docs, ["/// One. Requires a.", "///", "/// # Panics", "///", f"/// {rules.PANICS[-1]}", "/// Two."])
+        panics = ["///", "/// # Panics", "///", f"/// {rules.PANICS[-1]}"]
+        self.assertEqual(docs, ["/// One. Requires a.", *panics, "/// Two."])
 
     def test_the_page_of_the_writer_names_each_call(self):
         [page] = [text for text in rules.COMMENTS.values() if "ByteWriter::new" in text]

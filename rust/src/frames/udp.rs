@@ -246,8 +246,8 @@ pub struct UdpRepr {
 
 impl UdpRepr {
     /// The ports of the datagram at the front of the octets. Refused where that is not whole, is to port 0, and where
-    /// `checksum_caps.udp` has the checksum verified and it does not hold. A checksum of 0 says that there is none: where
-    /// it is verified, it need not be there over IPv4 (RFC 768), and has to over IPv6 (RFC 8200 section 8.1).
+    /// `checksum_caps.udp` has the checksum verified and it does not hold. A checksum of 0 says that there is none:
+    /// where it is verified, it need not be there over IPv4 (RFC 768), and has to over IPv6 (RFC 8200 section 8.1).
     pub fn parse<B: AsRef<[u8]> + ?Sized>(
         packet: &UdpPacket<&B>,
         addresses: &Addresses,
