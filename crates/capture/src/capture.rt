@@ -326,6 +326,3 @@ impl Capture {
         }
     }
 }
-
-#[cfg(test)]
-mod tests;

@@ -88,6 +88,3 @@ pub const CLIENT_PORT: u16 = 68;
 
 /// The greatest number of DNS servers that a value holds.
 pub const MAX_DNS_SERVER_COUNT: usize = 5;
-
-#[cfg(test)]
-mod tests;

@@ -2,7 +2,3 @@
 #![tactic(auto)]
 
 pub mod dhcpv4;
-#[cfg(test)]
-mod plain_reader;
-#[cfg(test)]
-mod testing;

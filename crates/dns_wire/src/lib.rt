@@ -3,5 +3,3 @@
 
 pub mod dns;
 pub mod message;
-#[cfg(test)]
-mod testing;

@@ -380,6 +380,3 @@ fn first_address(octets: &[u8]) -> Option<Ipv4Address>
     };
     Some(Ipv4Address::from_octets(*first))
 }
-
-#[cfg(test)]
-mod tests;

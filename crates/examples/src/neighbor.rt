@@ -286,6 +286,3 @@ fn neighbor_in(message: &ndisc::Repr<'_>, destination: &Ipv6Address) -> Option<N
         _ => None,
     }
 }
-
-#[cfg(test)]
-mod tests;

@@ -312,6 +312,3 @@ fn is_end(answer: Option<Result<&[u8]>>) -> bool
         None => true,
     }
 }
-
-#[cfg(test)]
-mod tests;

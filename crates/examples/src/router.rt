@@ -176,6 +176,3 @@ fn prefix_in(block: &[u8]) -> Option<PrefixInformation>
     };
     Some(prefix)
 }
-
-#[cfg(test)]
-mod tests;

@@ -439,6 +439,3 @@ fn routed(header: &[u8], dst_addr: Ipv6Address) -> Ipv6Address
         _ => dst_addr,
     }
 }
-
-#[cfg(test)]
-mod tests;

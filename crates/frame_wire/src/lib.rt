@@ -25,8 +25,6 @@
 
 pub mod datagram;
 pub mod link;
-#[cfg(test)]
-mod testing;
 pub mod udp;
 
 pub use datagram::{Addresses, Captured, Datagram, Extent, Head, Refusal};

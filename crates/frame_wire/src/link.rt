@@ -373,6 +373,3 @@ fn network_of_family(family: u16) -> Network
         other => Network::Other(other),
     }
 }
-
-#[cfg(test)]
-mod tests;

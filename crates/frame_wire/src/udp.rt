@@ -471,6 +471,3 @@ fn has_checksum(packet: &UdpPacket<&[u8]>, addresses: &Addresses) -> bool
     }
     packet.verify_checksum(addresses)
 }
-
-#[cfg(test)]
-mod tests;

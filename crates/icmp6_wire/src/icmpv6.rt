@@ -82,6 +82,3 @@ pub(crate) mod field {
 
     pub const NR_MCAST_RCRDS: Field = 6..8;
 }
-
-#[cfg(test)]
-mod tests;

@@ -62,6 +62,3 @@ mod field {
 
     pub const RECORD_MCAST_ADDR: Field = 4..20;
 }
-
-#[cfg(test)]
-mod tests;

@@ -266,6 +266,3 @@ impl<T: OctetsMut> Packet<T> {
         self.buffer.set_bytes(field::DEST_ADDR, &value.octets());
     }
 }
-
-#[cfg(test)]
-mod tests;

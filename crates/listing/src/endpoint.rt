@@ -72,6 +72,3 @@ fn put_v6(room: &mut [u8; ROOM], address: Ipv6Address, port: Option<u16>) -> usi
     room[end + 1] = b':';
     put_port(room, end + 2, port)
 }
-
-#[cfg(test)]
-mod tests;

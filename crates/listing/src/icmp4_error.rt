@@ -79,6 +79,3 @@ fn name_of(kind: Kind) -> &'static str
         Kind::ParamProblem => "ParamProblem",
     }
 }
-
-#[cfg(test)]
-mod tests;

@@ -24,8 +24,4 @@ pub mod ports;
 pub mod printer;
 pub mod question;
 pub mod quote;
-#[cfg(test)]
-mod testing;
-#[cfg(test)]
-mod tests;
 mod zone;

@@ -118,6 +118,3 @@ fn show_any_record<'a, W: Write>(
     }
     show_record(output, margin, is_multicast, packet, section, record)
 }
-
-#[cfg(test)]
-mod tests;

@@ -94,6 +94,3 @@ fn line_len(text: &[u8]) -> usize
         None => text.len(),
     }
 }
-
-#[cfg(test)]
-mod tests;

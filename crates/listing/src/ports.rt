@@ -31,6 +31,3 @@ fn has_ports(protocol: IpProtocol) -> bool
 {
     matches!(protocol, IpProtocol::Tcp | IpProtocol::Udp)
 }
-
-#[cfg(test)]
-mod tests;

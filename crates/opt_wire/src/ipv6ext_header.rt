@@ -249,6 +249,3 @@ impl<'a> Repr<'a> {
         w.put_u8(self.length);
     }
 }
-
-#[cfg(test)]
-mod tests;

@@ -245,6 +245,3 @@ fn put_options(w: &mut ByteWriter<'_>, options: &[ipv6option::Repr<'_>])
         option.put(w);
     }
 }
-
-#[cfg(test)]
-mod tests;

@@ -415,6 +415,3 @@ fn fmt_unknown<W: fmt::Write>(f: &mut fmt::Formatter<W>, type_: Type, length: u8
 {
     write!(f, "IPv6 Option {type_} length={length} ")
 }
-
-#[cfg(test)]
-mod tests;

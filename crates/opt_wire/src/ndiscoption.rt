@@ -435,6 +435,3 @@ impl<T: Octets> fmt::Display for NdiscOption<T> {
         }
     }
 }
-
-#[cfg(test)]
-mod tests;

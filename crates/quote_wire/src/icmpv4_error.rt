@@ -265,6 +265,3 @@ fn seal(octets: &mut [u8], checksum_caps: &ChecksumCapabilities)
         checksum::fill(octets, field::CHECKSUM, 0);
     }
 }
-
-#[cfg(test)]
-mod tests;

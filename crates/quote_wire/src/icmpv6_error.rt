@@ -294,6 +294,3 @@ fn sum_before(octets: &[u8], src_addr: &Ipv6Address, dst_addr: &Ipv6Address) -> 
     let len = octets.len() as u64 % (1 << 32);
     checksum::pseudo_header_v6(src_addr, dst_addr, IpProtocol::Icmpv6, len as u32)
 }
-
-#[cfg(test)]
-mod tests;

@@ -6,6 +6,3 @@ mod icmpv6;
 
 pub use icmpv4::{Icmpv4Message, Icmpv4Refusal};
 pub use icmpv6::{Icmpv6Message, Icmpv6Refusal};
-
-#[cfg(test)]
-mod tests;

@@ -54,6 +54,3 @@ pub fn mnemonic(number: u16) -> Option<&'static str>
         _ => None,
     }
 }
-
-#[cfg(test)]
-mod tests;

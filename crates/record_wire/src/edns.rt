@@ -328,6 +328,3 @@ fn why_no_option(octets: &[u8]) -> OptionRefusal
     }
     OptionRefusal::Data
 }
-
-#[cfg(test)]
-mod tests;

@@ -250,6 +250,3 @@ fn why_no_entry(section: Section, bytes: &[u8]) -> Option<Refusal>
     }
     Record::refusal(bytes)
 }
-
-#[cfg(test)]
-mod tests;

@@ -283,6 +283,3 @@ impl fmt::Display for Name {
         fmt_labels(f, octets)
     }
 }
-
-#[cfg(test)]
-mod tests;

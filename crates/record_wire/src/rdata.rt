@@ -423,6 +423,3 @@ fn behind_string(octets: &[u8]) -> Option<&[u8]>
         _ => None,
     }
 }
-
-#[cfg(test)]
-mod tests;

@@ -273,6 +273,3 @@ impl fmt::Display for Record<'_> {
         )
     }
 }
-
-#[cfg(test)]
-mod tests;

@@ -100,6 +100,3 @@ pub(crate) fn why_torn(octets: &[u8]) -> PartRefusal
     }
     PartRefusal::LabelType(first)
 }
-
-#[cfg(test)]
-mod tests;

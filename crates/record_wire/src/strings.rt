@@ -74,6 +74,3 @@ fn split_string(octets: &[u8]) -> Option<(&[u8], &[u8])>
         _ => None,
     }
 }
-
-#[cfg(test)]
-mod tests;

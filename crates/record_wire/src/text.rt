@@ -386,6 +386,3 @@ fn read_authority<'a>(
         minimum: soa.minimum,
     })
 }
-
-#[cfg(test)]
-mod tests;

@@ -20,9 +20,6 @@ ghost use Rattle.wirebase.specs.Ethernet.{Ethernet, octets_of, hex_byte, hex_col
 
 use std::fmt::{self, Display};
 
-#[cfg(test)]
-mod tests;
-
 /// The greatest number of bytes of a hardware address.
 pub const MAX_HARDWARE_ADDRESS_LEN: usize = 8;
 

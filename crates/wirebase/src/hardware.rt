@@ -56,6 +56,3 @@ impl fmt::Display for Hardware {
         }
     }
 }
-
-#[cfg(test)]
-mod tests;

@@ -327,6 +327,3 @@ impl fmt::Display for Ipv6Repr {
         )
     }
 }
-
-#[cfg(test)]
-mod tests;

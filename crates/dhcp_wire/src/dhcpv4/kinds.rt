@@ -244,6 +244,3 @@ pub const OPT_STDA_SERVER: u8 = 76;
 
 /// The end of the options: this byte alone (RFC 2132 section 3.2).
 pub const OPT_END: u8 = 255;
-
-#[cfg(test)]
-mod tests;

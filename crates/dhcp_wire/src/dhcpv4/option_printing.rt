@@ -158,6 +158,3 @@ fn fmt_behind_colons<W: fmt::Write>(f: &mut fmt::Formatter<W>, octets: &[u8]) ->
     }
     Ok(())
 }
-
-#[cfg(test)]
-mod tests;

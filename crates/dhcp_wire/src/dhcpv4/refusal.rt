@@ -221,6 +221,3 @@ fn cut_kind(octets: &[u8]) -> Option<u8>
     }
     None
 }
-
-#[cfg(test)]
-mod tests;

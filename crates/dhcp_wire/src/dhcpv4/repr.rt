@@ -186,6 +186,3 @@ fn check_header(packet: &Packet<&[u8]>) -> Result<()>
     }
     Ok(())
 }
-
-#[cfg(test)]
-mod tests;

@@ -186,6 +186,3 @@ fn later_entry(kind: u8) -> Option<(&'static str, Format)>
         _ => None,
     }
 }
-
-#[cfg(test)]
-mod tests;

@@ -111,6 +111,3 @@ pub(crate) fn walk<'a>(message: &'a [u8], slice: &'a [u8]) -> NameIter<'a>
         steps: 0,
     }
 }
-
-#[cfg(test)]
-mod tests;

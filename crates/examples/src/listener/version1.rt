@@ -112,6 +112,3 @@ fn put_fields(kind: u8, group: &Ipv6Address, out: &mut [u8])
     out[..8].copy_from_slice(&[kind, 0, 0, 0, 0, 0, 0, 0]);
     out[8..].copy_from_slice(&group.octets());
 }
-
-#[cfg(test)]
-mod tests;

@@ -101,6 +101,3 @@ impl fmt::Display for Captured<'_> {
         write!(f, "{datagram} {extent}")
     }
 }
-
-#[cfg(test)]
-mod tests;

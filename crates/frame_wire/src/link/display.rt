@@ -64,6 +64,3 @@ impl fmt::Display for Refusal {
         }
     }
 }
-
-#[cfg(test)]
-mod tests;

@@ -95,6 +95,3 @@ fn why_no_character(text: &[u8]) -> NameTextRefusal
         [byte, ..] => NameTextRefusal::Byte(*byte),
     }
 }
-
-#[cfg(test)]
-mod tests;

@@ -234,6 +234,3 @@ fn why_no_front(form: FrontForm, octets: &[u8]) -> DataRefusal
         FrontForm::Nothing | FrontForm::Number | FrontForm::Signed => DataRefusal::Numbers,
     }
 }
-
-#[cfg(test)]
-mod tests;

@@ -204,6 +204,3 @@ impl fmt::Display for EntryText<'_> {
         }
     }
 }
-
-#[cfg(test)]
-mod tests;

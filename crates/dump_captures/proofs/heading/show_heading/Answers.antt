@@ -1,0 +1,12 @@
+-- The words, one after another.
+use Rattle.listing.proofs.Printing.{◌then◌, gained, gains_last}
+use Rattle.dump_captures.specs.Heading.{heading}
+use Rattle.dump_captures.proofs.heading.show_heading.Goals as goal
+
+pub returns : goal.returns
+unfolding heading
+returns g c =
+    gains_last _ _ _
+    (c.in_ok-write_to.ensures then gained _ _ _ c.in_ok-write_all.ensures.bytes then c.in_ok-show_time.ensures
+    then c.in_ok-show_addresses.ensures then c.in_ok-show_tags.ensures then c.in_ok-show_hop_by_hop.ensures
+    then gained _ _ _ c.in_ok-write_all-2.ensures.bytes) (rw c.name.ensures at c.line.ensures)

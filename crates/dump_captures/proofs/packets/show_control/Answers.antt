@@ -1,0 +1,49 @@
+-- It is passed over, counted alone, or printed.
+use Rattle.std.proofs.Common.{◌≡◌, ℕ, [], List, ◌++◌, Option, refl, sym, ◌∙◌}
+use Rattle.capture.specs.Capture.{packet_of}
+use Rattle.listing.specs.Output.{GainsSome}
+use Rattle.listing.proofs.Printing.{gains_none, gains_both}
+use Rattle.dump_captures.specs.Dump.{PacketPrints, printed, counted_alone, passed, outcome_of}
+use Rattle.dump_captures.specs.Heading.{heading}
+use Rattle.dump_captures.specs.Messages.{ListingPrints}
+use Rattle.dump_captures.specs.Sight.{headers_of}
+use Rattle.dump_captures.specs.declared.kind.Reason.{Reason}
+use Rattle.dump_captures.proofs.Printing.{if_ok}
+use Rattle.dump_captures.proofs.packets.show_control.Goals as goal
+
+pub returns-then-not-chooses : goal.returns-then-not-chooses
+returns-then-not-chooses g c = (
+  [],
+  passed (headers_of c.args.headers.now) c.requires.sight (sym c.chooses.ensures ∙ c.if-not-chooses.true) refl refl,
+  gains_none _,
+)
+
+pub returns-then-not-options : goal.returns-then-not-options
+returns-then-not-options g c =
+    let h = headers_of c.args.headers.now in
+    let number = c.args.captured.now.number in
+    let p = packet_of c.args.captured.now c.args.octets.now in
+    let before = g.W.Write.contents c.args.output.now in
+    if_ok (λ outcome. (listing : List ℕ) × (why : Option Reason) × ListingPrints h listing why
+    × (outcome ≡ outcome_of h.kind why))
+    (λ outcome. GainsSome before before (λ text. PacketPrints c.args.options.now number p text outcome))
+    c.count_alone.result
+    (λ outcome told. (
+      [],
+      counted_alone h told.0 told.1 c.requires.sight (sym c.chooses.ensures ∙ c.if-not-chooses.false)
+          c.if-not-options.true told.2 refl told.3,
+      gains_none _,
+    )) c.count_alone.ensures
+
+pub returns : goal.returns
+returns g c =
+    let h = headers_of c.args.headers.now in
+    let p = packet_of c.args.captured.now c.args.octets.now in
+    let title = heading c.args.captured.now.number p h in
+    let listing = c.in_ok-why.ensures in (
+      title ++ listing.0,
+      printed h listing.0 c.in_ok-why.why c.requires.sight
+          (sym c.chooses.ensures ∙ c.if-not-chooses.false) c.if-not-options.false listing.1 refl
+          c.outcome.ensures,
+      gains_both _ _ _ title listing.0 c.in_ok-show_heading.ensures listing.2,
+    )

@@ -1,0 +1,187 @@
+-- What the headers of a packet tell: whether it is a control packet and of which kind, and what its heading says of it.
+use Rattle.std.specs.Prelude.{◌≡◌, ℕ, ◌==◌, nat_lt, Bool, true, false, if◌then◌else◌, List, [], length, drop}
+use Rattle.std.specs.Prelude.{Option, None, Some}
+use Rattle.std.specs.Option.{option_map}
+use Rattle.wirebase.specs.Ipv4.{header_len_in}
+use Rattle.wirebase.specs.declared.ip.IpProtocol.{IpProtocol}
+use Rattle.capture.specs.Packet.{PacketValue}
+use Rattle.frame_wire.specs.Captured.{CapturedValue, IsCaptured4, RefusesCaptured4, IsCaptured6, RefusesCaptured6}
+use Rattle.frame_wire.specs.Datagram.{DatagramValue, IsDatagram4, Refuses4, IsDatagram6, Refuses6}
+use Rattle.frame_wire.specs.Link.{FrameValue, link_of, IsFrame}
+use Rattle.frame_wire.specs.LinkRefusal.{Refuses}
+use Rattle.frame_wire.specs.declared.datagram.Addresses.{Addresses}
+use Rattle.frame_wire.specs.declared.datagram.Addresses.TheVariants.{V4, V6}
+use Rattle.frame_wire.specs.declared.datagram.Head.{Head}
+use Rattle.frame_wire.specs.declared.datagram.Refusal.{Refusal as DatagramRefusal}
+use Rattle.frame_wire.specs.declared.datagram.Refusal.TheVariants as datagram
+use Rattle.frame_wire.specs.declared.link.Link.{Link}
+use Rattle.frame_wire.specs.declared.link.Network.TheVariants as network
+use Rattle.frame_wire.specs.declared.link.refusal.Refusal.{Refusal as LinkRefusal}
+use Rattle.frame_wire.specs.declared.udp.Refusal.TheVariants.{Short}
+use Rattle.listing.specs.Ports.{ports_in}
+use Rattle.dump_captures.specs.Kinds.{kind_of}
+use Rattle.dump_captures.specs.Refusals.{reason_of}
+use Rattle.dump_captures.specs.declared.kind.Kind.{Kind}
+use Rattle.dump_captures.specs.declared.kind.Kind.TheVariants as kind
+use Rattle.dump_captures.specs.declared.kind.Reason.{Reason}
+use Rattle.dump_captures.specs.declared.kind.Reason.TheVariants as reason
+use Rattle.dump_captures.specs.declared.refusal.Refusal.{Refusal}
+use Rattle.dump_captures.specs.declared.refusal.Refusal.TheVariants as refusal
+use Rattle.dump_captures.specs.declared.sight.Content.{Content}
+use Rattle.dump_captures.specs.declared.sight.Content.TheVariants as content
+use Rattle.dump_captures.specs.declared.sight.Headers.{Headers}
+use Rattle.dump_captures.specs.declared.sight.Sight.{Sight}
+use Rattle.dump_captures.specs.declared.sight.Sight.TheVariants as sight
+
+-- ---- by content
+
+-- the payload of a datagram between two addresses; or the reason under which a packet is counted that has none to
+-- read, and why it has none
+pub data ContentValue : Type 0 where
+  whole : Addresses → List ℕ → ContentValue
+  refused : Reason → Refusal → ContentValue
+
+-- what the headers of a control packet tell: VLAN tags of four bytes each, and the addresses, the ports and the
+-- hop-by-hop options where there are any
+pub record HeadersValue : Type 0 where
+  pub tags : List ℕ
+  pub addresses : Option Addresses
+  pub ports : Option (ℕ × ℕ)
+  pub hop_by_hop : Option (List ℕ)
+  pub kind : Kind
+  pub content_ : ContentValue
+
+-- a frame of a link that is not read, a packet of another protocol, or a control packet
+pub data SightValue : Type 0 where
+  unread : SightValue
+  other : SightValue
+  control : HeadersValue → SightValue
+
+abbrev pub content_of : Content → ContentValue
+content_of (content.Whole addresses octets) = whole addresses octets.now
+content_of (content.Refused counted r) = refused counted r
+
+abbrev pub headers_of : Headers → HeadersValue
+headers_of h = record {
+  tags = h.tags.now;
+  addresses = h.addresses;
+  ports = h.ports;
+  hop_by_hop = option_map (λ octets. octets.now) h.hop_by_hop;
+  kind = h.kind;
+  content_ = content_of h.content;
+}
+
+abbrev pub sight_of : Sight → SightValue
+sight_of sight.Unread = unread
+sight_of sight.Other = other
+sight_of (sight.Control h) = control (headers_of h)
+
+-- ---- a datagram that is whole
+
+abbrev pub is_v4 : Addresses → Bool
+is_v4 (V4 source destination) = true
+is_v4 (V6 source destination) = false
+
+-- of UDP without its ports nothing more can be read
+abbrev pub content_by : Kind → Addresses → List ℕ → ContentValue
+content_by kind.Frame addresses payload = refused reason.Short (refusal.Udp Short)
+content_by _ addresses payload = whole addresses payload
+
+abbrev pub datagram_headers : List ℕ → DatagramValue → Kind → HeadersValue
+datagram_headers tags d kind = record {
+  tags = tags;
+  addresses = Some d.addresses;
+  ports = ports_in d.protocol d.payload;
+  hop_by_hop = d.hop_by_hop;
+  kind = kind;
+  content_ = content_by kind d.addresses d.payload;
+}
+
+abbrev pub sight_by : Option Kind → (Kind → HeadersValue) → SightValue
+sight_by None headers = other
+sight_by (Some kind) headers = control (headers kind)
+
+abbrev pub datagram_sight : List ℕ → DatagramValue → SightValue
+datagram_sight tags d =
+    sight_by (kind_of (is_v4 d.addresses) d.protocol (ports_in d.protocol d.payload)) (datagram_headers tags d)
+
+-- ---- a datagram that is refused
+
+-- the capture kept less of the packet than there was
+abbrev pub is_cut : PacketValue → Bool
+is_cut p = nat_lt (length p.octets) p.original_len
+
+abbrev pub refused_headers : List ℕ → Option Addresses → Option (ℕ × ℕ) → Reason → Refusal → Kind → HeadersValue
+refused_headers tags addresses ports counted r kind = record {
+  tags = tags;
+  addresses = addresses;
+  ports = ports;
+  hop_by_hop = None;
+  kind = kind;
+  content_ = refused counted r;
+}
+
+-- nothing is known of it but its VLAN tags
+abbrev pub untold : List ℕ → Reason → Refusal → SightValue
+untold tags counted r = control (refused_headers tags None None counted r kind.Frame)
+
+-- its addresses and its protocol are known, and the ports where they are there
+abbrev pub told : List ℕ → Addresses → IpProtocol → Option (ℕ × ℕ) → Reason → Refusal → SightValue
+told tags addresses protocol ports counted r =
+    sight_by (kind_of (is_v4 addresses) protocol ports) (refused_headers tags (Some addresses) ports counted r)
+
+-- the front of a datagram, as far as the capture has it
+abbrev pub told_front : List ℕ → DatagramValue → Reason → Refusal → SightValue
+told_front tags d = told tags d.addresses d.protocol (ports_in d.protocol d.payload)
+
+-- what is told of one that has no front
+abbrev pub head_of : DatagramRefusal → Option Head
+head_of (datagram.Cut head) = Some head
+head_of (datagram.Fragment head) = Some head
+head_of _ = None
+
+-- the ports behind a header of IPv4; a fragment that is not the first begins with none
+abbrev pub ports_behind : List ℕ → Head → Option (ℕ × ℕ)
+ports_behind bytes h = if h.frag_offset == 0 then ports_in h.protocol (drop (header_len_in bytes) bytes) else None
+
+-- By the front that there is; or else by what is told where there is none.
+pub data IsRefused4 (tags bytes : List ℕ) (counted : Reason) (r : Refusal) (s : SightValue) : Type 0 where
+  by_front : (c : CapturedValue) → IsCaptured4 bytes c → s ≡ told_front tags c.datagram counted r
+      → IsRefused4 tags bytes counted r s
+  by_head : (other : DatagramRefusal) (h : Head) → RefusesCaptured4 bytes other → head_of other ≡ Some h
+      → s ≡ told tags h.addresses h.protocol (ports_behind bytes h) counted r → IsRefused4 tags bytes counted r s
+  by_none : (other : DatagramRefusal) → RefusesCaptured4 bytes other → head_of other ≡ None
+      → s ≡ untold tags counted r → IsRefused4 tags bytes counted r s
+
+pub data IsRefused6 (tags bytes : List ℕ) (counted : Reason) (r : Refusal) (s : SightValue) : Type 0 where
+  by_front : (c : CapturedValue) → IsCaptured6 bytes c → s ≡ told_front tags c.datagram counted r
+      → IsRefused6 tags bytes counted r s
+  by_head : (other : DatagramRefusal) (h : Head) → RefusesCaptured6 bytes other → head_of other ≡ Some h
+      → s ≡ told tags h.addresses h.protocol None counted r → IsRefused6 tags bytes counted r s
+  by_none : (other : DatagramRefusal) → RefusesCaptured6 bytes other → head_of other ≡ None
+      → s ≡ untold tags counted r → IsRefused6 tags bytes counted r s
+
+-- ---- a packet
+
+abbrev pub counted_as : PacketValue → Refusal → Reason
+counted_as p r = reason_of (is_cut p) r
+
+-- The frame of a packet by its network, and the packet by its link.
+pub data IsFrameSight (p : PacketValue) (f : FrameValue) (s : SightValue) : Type 0 where
+  whole4 : (d : DatagramValue) → f.network ≡ network.Ipv4 → IsDatagram4 f.payload d → s ≡ datagram_sight f.tags d
+      → IsFrameSight p f s
+  refused4 : (r : DatagramRefusal) → f.network ≡ network.Ipv4 → Refuses4 f.payload r
+      → IsRefused4 f.tags f.payload (counted_as p (refusal.Datagram r)) (refusal.Datagram r) s → IsFrameSight p f s
+  whole6 : (d : DatagramValue) → f.network ≡ network.Ipv6 → IsDatagram6 f.payload d → s ≡ datagram_sight f.tags d
+      → IsFrameSight p f s
+  refused6 : (r : DatagramRefusal) → f.network ≡ network.Ipv6 → Refuses6 f.payload r
+      → IsRefused6 f.tags f.payload (counted_as p (refusal.Datagram r)) (refusal.Datagram r) s → IsFrameSight p f s
+  other_network : (n : ℕ) → f.network ≡ network.Other n → s ≡ other → IsFrameSight p f s
+
+pub data IsSight (p : PacketValue) (s : SightValue) : Type 0 where
+  no_link : link_of p.link_type ≡ None → s ≡ unread → IsSight p s
+  no_frame : (link : Link) (r : LinkRefusal) → link_of p.link_type ≡ Some link
+      → ((f : FrameValue) → IsFrame link p.octets f → ⊥) → Refuses link p.octets r
+      → s ≡ untold [] (counted_as p (refusal.Frame r)) (refusal.Frame r) → IsSight p s
+  framed : (link : Link) (f : FrameValue) → link_of p.link_type ≡ Some link → IsFrame link p.octets f
+      → IsFrameSight p f s → IsSight p s

@@ -1,0 +1,66 @@
+-- The line that sums up a capture.
+use Rattle.std.specs.Prelude.{ℕ, ◌==◌, if◌then◌else◌, List, [], ◌∷◌, ◌++◌, get_or, codes, decimal, flat_map}
+use Rattle.std.specs.List.{fold}
+use Rattle.dump_captures.specs.Kinds.{reason_place, reason_text}
+use Rattle.dump_captures.specs.Tally.{TallyValue, more_by}
+use Rattle.dump_captures.specs.declared.kind.Reason.{Reason}
+use Rattle.dump_captures.specs.declared.kind.Reason.TheVariants.{Cut, Fragment, Short, Checksum, UnknownType, Quote, Name}
+use Rattle.dump_captures.specs.declared.kind.Reason.TheVariants.{Malformed}
+use Rattle.dump_captures.specs.declared.tally.UnreadLink.{UnreadLink}
+
+-- in the order of their places
+abbrev pub reasons : List Reason
+reasons = Cut ∷ Fragment ∷ Short ∷ Checksum ∷ UnknownType ∷ Quote ∷ Name ∷ Malformed ∷ []
+
+-- ---- how many packets
+
+-- the numbers of some things, added up to the greatest number of 64 bits
+abbrev pub sum_up : {A : Type 0} → (A → ℕ) → List A → ℕ
+sum_up number xs = fold (λ sum x. more_by (number x) sum) 0 xs
+
+-- those of every kind that were listed
+abbrev pub listed_in : TallyValue → ℕ
+listed_in t = sum_up (λ r. r.listed) t.rows
+
+-- those of every kind that were refused for a reason, and for any
+abbrev pub refused_for : TallyValue → Reason → ℕ
+refused_for t reason = sum_up (λ r. get_or r.refused (reason_place reason) 0) t.rows
+
+unfoldable pub refused_in : TallyValue → ℕ
+refused_in t = sum_up (refused_for t) reasons
+
+-- ---- the line
+
+-- `2 checksum`, and nothing of a reason for which no packet was refused
+abbrev pub reason_parts : TallyValue → Reason → List (List ℕ)
+reason_parts t reason =
+    if refused_for t reason == 0 then []
+    else (decimal (refused_for t reason) ++ codes " " ++ reason_text reason) ∷ []
+
+-- parts with commas between them and brackets around them, as ` (1 cut, 2 checksum)`, and nothing where there is none
+abbrev pub in_brackets : List (List ℕ) → List ℕ
+in_brackets [] = []
+in_brackets (part ∷ parts) =
+    codes " (" ++ part ++ flat_map (λ further. codes ", " ++ further) parts ++ codes ")"
+
+unfoldable pub reasons_text : TallyValue → List ℕ
+reasons_text t = in_brackets (flat_map (reason_parts t) reasons)
+
+-- the frames of a link that is not read
+abbrev pub link_text : UnreadLink → List ℕ
+link_text l = codes ", " ++ decimal l.frames ++ codes " of link " ++ decimal l.link_type
+
+abbrev pub links_text : List UnreadLink → List ℕ
+links_text links = flat_map link_text links
+
+-- a further number and what it counts, and nothing where there is none
+abbrev pub further_text : ℕ → List ℕ → List ℕ
+further_text count what = if count == 0 then [] else codes ", " ++ decimal count ++ what
+
+-- as `5 packets, 2 listed, 1 refused (1 cut), 1 of other protocols, 3 of link 147`
+unfoldable pub summary_text : TallyValue → List ℕ
+summary_text t =
+    decimal t.packets ++ codes " packets, " ++ decimal (listed_in t) ++ codes " listed, " ++ decimal (refused_in t)
+    ++ codes " refused" ++ reasons_text t ++ codes ", " ++ decimal t.other ++ codes " of other protocols"
+    ++ further_text t.passed (codes " of kinds that are not printed") ++ links_text t.links
+    ++ further_text t.beyond (codes " of other links")

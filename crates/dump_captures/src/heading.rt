@@ -1,0 +1,157 @@
+//! The heading of a control packet.
+
+#![tactic(auto, using(listing::proofs::Printing::gained, listing::proofs::Printing::gains_both))]
+
+ghost use Rattle.std.specs.Prelude.{◌≡◌, ◌<◌, ◌≤◌, IfSome, OnOk, Some, length};
+ghost use Rattle.std.specs.Option.{option_map};
+ghost use Rattle.frame_wire.specs.declared.datagram.Addresses.TheVariants.{V4, V6};
+ghost use Rattle.capture.specs.Capture.{packet_of};
+ghost use Rattle.capture.specs.Time.{value_of};
+ghost use Rattle.listing.specs.Output.{Gains};
+ghost use Rattle.dump_captures.specs.Heading.{heading, packet_time, addresses_text, source_port as source_in};
+ghost use Rattle.dump_captures.specs.Heading.{destination_port as destination_in, tag_text, tags_text, hop_by_hop_text};
+ghost use Rattle.dump_captures.specs.Sight.{headers_of};
+
+use crate::sight::Headers;
+use crate::time::Clock;
+use capture::{Record, Time};
+use frame_wire::Addresses;
+use listing::endpoint::{write_v4, write_v6};
+use listing::printer::{Value, line};
+use std::io;
+use std::io::Write;
+use wirebase::{Field, Ipv4Address, Ipv6Address, Octets};
+
+// The bytes of a VLAN tag, and those of them with the VLAN's number.
+const TAG_LEN: usize = 4;
+
+const VLAN: Field = 0..2;
+
+/// Prints the heading of a control packet. Requires that the packet's time, where it has one, is in order.
+pub fn show_heading<W: Write>(
+    output: &mut W,
+    clock: &mut Clock,
+    captured: &Record,
+    octets: &[u8],
+    headers: &Headers<'_>,
+) -> io::Result<()>
+    requires { IfSome captured.now.time (λ time. time.nanoseconds < 1000000000) }
+    ensures { OnOk result (Gains (W.contents output.old) (W.contents output.new)
+        (heading captured.now.number (packet_of captured.now octets.now) (headers_of headers.now))) }
+{
+    captured.number.write_to(output)?;
+    output.write_all(b" ")?;
+    show_time(output, clock, captured.time)?;
+    show_addresses(output, headers.addresses, headers.ports)?;
+    show_tags(output, headers.tags)?;
+    show_hop_by_hop(output, headers.hop_by_hop)?;
+    output.write_all(b" ")?;
+    line(output, headers.kind.name())
+}
+
+// Prints when a packet was captured, where that is told.
+fn show_time<W: Write>(output: &mut W, clock: &mut Clock, time: Option<Time>) -> io::Result<()>
+    requires { IfSome time (λ time. time.nanoseconds < 1000000000) }
+    ensures { OnOk result (Gains (W.contents output.old) (W.contents output.new)
+        (packet_time (option_map value_of time))) }
+{
+    match time {
+        Some(time) => clock.write(output, time.seconds, time.nanoseconds),
+        None => output.write_all(b"-"),
+    }
+}
+
+// Prints from where a packet comes and to where it goes, as far as that is known.
+fn show_addresses<W: Write>(
+    output: &mut W,
+    addresses: Option<Addresses>,
+    ports: Option<(u16, u16)>,
+) -> io::Result<()>
+    ensures { OnOk result (Gains (W.contents output.old) (W.contents output.new)
+        (addresses_text addresses ports)) }
+{
+    match addresses {
+        Some(Addresses::V4(source, destination)) => show_v4(output, source, destination, ports),
+        Some(Addresses::V6(source, destination)) => show_v6(output, source, destination, ports),
+        None => Ok(()),
+    }
+}
+
+fn show_v4<W: Write>(
+    output: &mut W,
+    source: Ipv4Address,
+    destination: Ipv4Address,
+    ports: Option<(u16, u16)>,
+) -> io::Result<()>
+    ensures { OnOk result (Gains (W.contents output.old) (W.contents output.new)
+        (addresses_text (Some (V4 source destination)) ports)) }
+{
+    output.write_all(b" ")?;
+    write_v4(output, source, source_port(ports))?;
+    output.write_all(b" > ")?;
+    write_v4(output, destination, destination_port(ports))
+}
+
+fn show_v6<W: Write>(
+    output: &mut W,
+    source: Ipv6Address,
+    destination: Ipv6Address,
+    ports: Option<(u16, u16)>,
+) -> io::Result<()>
+    ensures { OnOk result (Gains (W.contents output.old) (W.contents output.new)
+        (addresses_text (Some (V6 source destination)) ports)) }
+{
+    output.write_all(b" ")?;
+    write_v6(output, source, source_port(ports))?;
+    output.write_all(b" > ")?;
+    write_v6(output, destination, destination_port(ports))
+}
+
+fn source_port(ports: Option<(u16, u16)>) -> Option<u16>
+    ensures { result ≡ source_in ports }
+{
+    match ports {
+        Some((source, _)) => Some(source),
+        None => None,
+    }
+}
+
+fn destination_port(ports: Option<(u16, u16)>) -> Option<u16>
+    ensures { result ≡ destination_in ports }
+{
+    match ports {
+        Some((_, destination)) => Some(destination),
+        None => None,
+    }
+}
+
+// Prints the number of each VLAN.
+fn show_tags<W: Write>(output: &mut W, tags: &[u8]) -> io::Result<()>
+    ensures { OnOk result (Gains (W.contents output.old) (W.contents output.new) (tags_text tags.now)) }
+{
+    let mut left = tags;
+    while left.len() >= TAG_LEN {
+        let (tag, rest) = left.split_at(TAG_LEN);
+        show_tag(output, tag)?;
+        left = rest;
+    }
+    Ok(())
+}
+
+fn show_tag<W: Write>(output: &mut W, tag: &[u8]) -> io::Result<()>
+    requires { 4 ≤ length tag.now }
+    ensures { OnOk result (Gains (W.contents output.old) (W.contents output.new) (tag_text tag.now)) }
+{
+    output.write_all(b" vlan=")?;
+    (tag.u16_at(VLAN) % 4096).write_to(output)
+}
+
+fn show_hop_by_hop<W: Write>(output: &mut W, options: Option<&[u8]>) -> io::Result<()>
+    ensures { OnOk result (Gains (W.contents output.old) (W.contents output.new)
+        (hop_by_hop_text (option_map (λ octets. octets.now) options.entry))) }
+{
+    match options {
+        Some(_) => output.write_all(b" hbh"),
+        None => Ok(()),
+    }
+}

@@ -1,0 +1,22 @@
+//! The texts of `pcapdump`: what the control packets of captures hold, and what is counted of them.
+#![tactic(auto)]
+
+pub mod arguments;
+mod fault;
+mod heading;
+mod help;
+pub mod kind;
+mod messages;
+pub mod options;
+mod packets;
+mod program;
+pub mod refusal;
+mod sight;
+mod summary;
+mod table;
+pub mod tally;
+pub mod time;
+
+pub use packets::{Report, dump, run_onto};
+pub use fault::Fault;
+pub use program::run_program;

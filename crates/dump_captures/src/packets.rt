@@ -1,0 +1,199 @@
+//! The packets of a capture, in one pass.
+
+ghost use Rattle.std.specs.Prelude.{◌≡◌, ◌<◌, ℕ, List, Option, [], IfOk, IfSome, OnOk};
+ghost use Rattle.capture.specs.Capture.{packet_of};
+ghost use Rattle.std.specs.Io.Buffered.{reader_remaining};
+ghost use Rattle.listing.specs.Output.{Gains, GainsSome};
+ghost use Rattle.dump_captures.specs.Dump.{PacketPrints, CapturePrints, outcome_of};
+ghost use Rattle.dump_captures.specs.Messages.{ListingPrints};
+ghost use Rattle.dump_captures.specs.Sight.{headers_of, IsSight, control};
+ghost use Rattle.dump_captures.specs.Tally.{tally_of, empty};
+ghost use Rattle.dump_captures.specs.declared.kind.Reason.{Reason as AnyReason};
+
+use crate::Fault;
+use crate::heading::show_heading;
+use crate::kind::{Kind, Reason};
+use crate::messages::show_listing;
+use crate::options::Options;
+use crate::sight::{Headers, Sight, look};
+use crate::tally::{Outcome, Tally};
+use crate::time::Clock;
+use capture::{Capture, Ending, Next, Record};
+use listing::page::Page;
+use std::alloc::Global;
+use std::io;
+use std::io::{BufReader, BufWriter, Read, Write};
+
+// The bytes of the buffers of input and output.
+const BUFFER_LEN: usize = 65_536;
+
+/// What a dump of a capture told.
+#[derive(Drop)]
+pub struct Report<W> {
+    /// What ends the capture.
+    pub ending: Ending,
+    /// The counts of its packets.
+    pub tally: Tally,
+    /// The output, with all that was printed written out.
+    pub output: W,
+}
+
+/// Prints the packets of a capture.
+///
+/// What was printed before a fault is written out first, as far as the output takes it.
+pub fn run_onto<R: Read + Drop, W: Write + Drop>(
+    alloc: Global,
+    options: &Options,
+    input: R,
+    output: W,
+) -> Result<Report<W>, Fault>
+    ensures { IfOk result (λ report. IfSome (R.remaining input) (λ bytes.
+        GainsSome (W.contents output) (W.contents report.output) (λ text.
+        CapturePrints options.now bytes empty text (tally_of report.tally) report.ending))) }
+{
+    let Ok(mut output) = BufWriter::with_capacity(alloc, BUFFER_LEN, output) else {
+        return Err(Fault::Memory);
+    };
+    let mut tally = Tally::new();
+    let ending = dump(alloc, options, input, &mut output, &mut tally)?;
+    match output.into_inner() {
+        Ok(output) => Ok(Report {
+            ending,
+            tally,
+            output,
+        }),
+        Err(_) => Err(Fault::Write),
+    }
+}
+
+/// The same over an output that has a buffer, which counts on from what was counted.
+pub fn dump<R: Read + Drop, W: Write>(
+    alloc: Global,
+    options: &Options,
+    input: R,
+    output: &mut W,
+    tally: &mut Tally,
+) -> Result<Ending, Fault>
+    ensures { IfOk result (λ ending. IfSome (R.remaining input) (λ bytes.
+        GainsSome (W.contents output.old) (W.contents output.new) (λ text.
+        CapturePrints options.now bytes (tally_of tally.old) text (tally_of tally.new) ending))) }
+{
+    let Ok(mut input) = BufReader::with_capacity(alloc, BUFFER_LEN, input) else {
+        return Err(Fault::Memory);
+    };
+    let answer = show_packets(alloc, options, &mut input, output, tally);
+    let flushed = output.flush();
+    let ending = answer?;
+    flushed?;
+    Ok(ending)
+}
+
+// Prints the packets, and answers what ends them. What is printed is written out before the input is waited for.
+fn show_packets<R: Read, W: Write>(
+    alloc: Global,
+    options: &Options,
+    input: &mut BufReader<R>,
+    output: &mut W,
+    tally: &mut Tally,
+) -> Result<Ending, Fault>
+    ensures { IfOk result (λ ending. IfSome (reader_remaining R.remaining input.old) (λ bytes.
+        GainsSome (W.contents output.old) (W.contents output.new) (λ text.
+        CapturePrints options.now bytes (tally_of tally.old) text (tally_of tally.new) ending))) }
+{
+    let mut capture = Capture::new(alloc);
+    let mut page = Page::new(alloc);
+    let mut clock = Clock::new();
+    'packets: for _ in 0..u64::MAX {
+        write_out_before_wait(&capture, input, output)?;
+        match capture.next(input)? {
+            Next::Record(record) => {
+                let octets = capture.octets();
+                let outcome = show_packet(options, output, &mut page, &mut clock, &record, octets)?;
+                tally.count(outcome, record.link_type, octets.len() as u64);
+            }
+            Next::Ended(ending) => return Ok(ending),
+        }
+    }
+    Err(Fault::Read)
+}
+
+// Writes out what was printed, where the reading of the next packet has to wait for more of the input.
+fn write_out_before_wait<R: Read, W: Write>(
+    capture: &Capture,
+    input: &BufReader<R>,
+    output: &mut W,
+) -> Result<(), Fault>
+    ensures { OnOk result (Gains (W.contents output.old) (W.contents output.new) []) }
+{
+    if !capture.shows_next(input.buffer()) {
+        output.flush()?;
+    }
+    Ok(())
+}
+
+/// Prints a packet, and answers what became of it. Requires that the record's time is in order.
+pub fn show_packet<W: Write>(
+    options: &Options,
+    output: &mut W,
+    page: &mut Page,
+    clock: &mut Clock,
+    captured: &Record,
+    octets: &[u8],
+) -> Result<Outcome, Fault>
+    requires { IfSome captured.now.time (λ time. time.nanoseconds < 1000000000) }
+    ensures { IfOk result (λ outcome. GainsSome (W.contents output.old) (W.contents output.new) (λ text.
+        PacketPrints options.now captured.now.number (packet_of captured.now octets.now) text outcome)) }
+{
+    match look(captured, octets) {
+        Sight::Unread => Ok(Outcome::Unread),
+        Sight::Other => Ok(Outcome::Other),
+        Sight::Control(headers) => {
+            show_control(options, output, page, clock, captured, octets, &headers)
+        }
+    }
+}
+
+// Prints a control packet that has these headers.
+fn show_control<W: Write>(
+    options: &Options,
+    output: &mut W,
+    page: &mut Page,
+    clock: &mut Clock,
+    captured: &Record,
+    octets: &[u8],
+    headers: &Headers<'_>,
+) -> Result<Outcome, Fault>
+    requires time { IfSome captured.now.time (λ time. time.nanoseconds < 1000000000) }
+    requires sight { IsSight (packet_of captured.now octets.now) (control (headers_of headers.now)) }
+    ensures { IfOk result (λ outcome. GainsSome (W.contents output.old) (W.contents output.new) (λ text.
+        PacketPrints options.now captured.now.number (packet_of captured.now octets.now) text outcome)) }
+{
+    if !options.only.chooses(headers) {
+        return Ok(Outcome::Passed);
+    }
+    if !options.prints {
+        return count_alone(page, headers);
+    }
+    show_heading(output, clock, captured, octets, headers)?;
+    let why = show_listing(output, page, headers)?;
+    Ok(outcome(headers.kind, why))
+}
+
+// Reads a control packet that is only counted.
+fn count_alone(page: &mut Page, headers: &Headers<'_>) -> Result<Outcome, Fault>
+    ensures { IfOk result (λ outcome. (listing : List ℕ) × (why : Option AnyReason)
+        × ListingPrints (headers_of headers.now) listing why × (outcome ≡ outcome_of headers.now.kind why)) }
+{
+    let why = show_listing(&mut io::sink(), page, headers)?;
+    Ok(outcome(headers.kind, why))
+}
+
+// What becomes of a control packet.
+fn outcome(kind: Kind, why: Option<Reason>) -> Outcome
+    ensures { result ≡ outcome_of kind why }
+{
+    match why {
+        Some(reason) => Outcome::Refused(kind, reason),
+        None => Outcome::Listed(kind),
+    }
+}

@@ -1,0 +1,181 @@
+//! Why a control packet is refused.
+
+ghost use Rattle.std.specs.Prelude.{◌≡◌, Some};
+ghost use Rattle.dump_captures.specs.Refusals.{early, frame_reason, datagram_reason, udp_reason, icmp4_reason, igmp_reason};
+ghost use Rattle.dump_captures.specs.Refusals.{icmp6_reason, dhcp_reason, dns_reason};
+ghost use Rattle.dump_captures.specs.Refusals.{refusal_display, reason_of};
+
+use crate::kind::Reason;
+use dhcp_wire::dhcpv4;
+use frame_wire::{link, udp};
+use icmp4_wire::{icmpv4, igmp};
+use icmp6_wire::icmpv6;
+use listing::message::Unread;
+use quote_wire::message::{Icmpv4Refusal, Icmpv6Refusal};
+use quote_wire::{icmpv4_error, icmpv6_error};
+use record_wire::TextRefusal;
+use std::fmt;
+
+/// Why a control packet is refused, as the library tells it that reads such packets.
+#[derive(Debug, PartialEq, Eq, Clone, Copy)]
+pub enum Refusal {
+    /// The frame of the link is refused.
+    Frame(link::Refusal),
+    /// The datagram of IP is.
+    Datagram(frame_wire::Refusal),
+    /// The datagram of UDP is.
+    Udp(udp::Refusal),
+    /// The message of ICMPv4 is.
+    Icmp4(Icmpv4Refusal),
+    /// The message of IGMP is.
+    Igmp(igmp::Refusal),
+    /// The message of ICMPv6 is.
+    Icmp6(Icmpv6Refusal),
+    /// The packet of DHCP is.
+    Dhcp(dhcpv4::Refusal),
+    /// The message of DNS is not listed to its end.
+    Dns(Unread),
+}
+
+impl Refusal {
+    /// The reason under which the packet is counted. What ends too early was cut where the capture kept less of the
+    /// packet than there was.
+    pub fn reason(self, is_cut: bool) -> Reason
+        ensures { result ≡ reason_of is_cut self }
+    {
+        match self {
+            Refusal::Frame(refusal) => frame_reason(is_cut, refusal),
+            Refusal::Datagram(refusal) => datagram_reason(is_cut, refusal),
+            Refusal::Udp(refusal) => udp_reason(refusal),
+            Refusal::Icmp4(refusal) => icmp4_reason(refusal),
+            Refusal::Igmp(refusal) => igmp_reason(refusal),
+            Refusal::Icmp6(refusal) => icmp6_reason(refusal),
+            Refusal::Dhcp(refusal) => dhcp_reason(refusal),
+            Refusal::Dns(unread) => dns_reason(unread),
+        }
+    }
+}
+
+// Of what ends too early.
+fn early(is_cut: bool) -> Reason
+    ensures { result ≡ early is_cut }
+{
+    if is_cut { Reason::Cut } else { Reason::Short }
+}
+
+fn frame_reason(is_cut: bool, refusal: link::Refusal) -> Reason
+    ensures { result ≡ frame_reason is_cut refusal }
+{
+    match refusal {
+        link::Refusal::Short | link::Refusal::Tag | link::Refusal::Protocol => early(is_cut),
+        link::Refusal::SessionVersion(_)
+        | link::Refusal::SessionType(_)
+        | link::Refusal::SessionCode(_) => Reason::Malformed,
+    }
+}
+
+fn datagram_reason(is_cut: bool, refusal: frame_wire::Refusal) -> Reason
+    ensures { result ≡ datagram_reason is_cut refusal }
+{
+    match refusal {
+        frame_wire::Refusal::Short | frame_wire::Refusal::Cut(_) => early(is_cut),
+        frame_wire::Refusal::Fragment(_) => Reason::Fragment,
+        frame_wire::Refusal::Version(_)
+        | frame_wire::Refusal::HeaderLen(_)
+        | frame_wire::Refusal::TotalLen(_)
+        | frame_wire::Refusal::Jumbogram
+        | frame_wire::Refusal::Extension(_) => Reason::Malformed,
+    }
+}
+
+fn udp_reason(refusal: udp::Refusal) -> Reason
+    ensures { result ≡ udp_reason refusal }
+{
+    match refusal {
+        udp::Refusal::Short | udp::Refusal::Length(_) | udp::Refusal::Cut(_) => Reason::Short,
+        udp::Refusal::NoChecksum | udp::Refusal::Checksum => Reason::Checksum,
+        udp::Refusal::Port => Reason::Malformed,
+    }
+}
+
+fn icmp4_reason(refusal: Icmpv4Refusal) -> Reason
+    ensures { result ≡ icmp4_reason refusal }
+{
+    match refusal {
+        Icmpv4Refusal::Error(icmpv4_error::Refusal::Short)
+        | Icmpv4Refusal::Message(icmpv4::Refusal::Short) => Reason::Short,
+        Icmpv4Refusal::Error(icmpv4_error::Refusal::Checksum)
+        | Icmpv4Refusal::Message(icmpv4::Refusal::Checksum) => Reason::Checksum,
+        Icmpv4Refusal::Error(icmpv4_error::Refusal::UnknownType(_))
+        | Icmpv4Refusal::Message(icmpv4::Refusal::UnknownType(_)) => Reason::UnknownType,
+        Icmpv4Refusal::Error(icmpv4_error::Refusal::Quote(_)) => Reason::Quote,
+        Icmpv4Refusal::Message(_) => Reason::Malformed,
+    }
+}
+
+fn igmp_reason(refusal: igmp::Refusal) -> Reason
+    ensures { result ≡ igmp_reason refusal }
+{
+    match refusal {
+        igmp::Refusal::Short => Reason::Short,
+        igmp::Refusal::UnknownType(_) => Reason::UnknownType,
+        igmp::Refusal::Group(_) => Reason::Malformed,
+    }
+}
+
+fn icmp6_reason(refusal: Icmpv6Refusal) -> Reason
+    ensures { result ≡ icmp6_reason refusal }
+{
+    match refusal {
+        Icmpv6Refusal::Error(icmpv6_error::Refusal::Short)
+        | Icmpv6Refusal::Message(icmpv6::Refusal::Short)
+        | Icmpv6Refusal::Message(icmpv6::Refusal::Length) => Reason::Short,
+        Icmpv6Refusal::Error(icmpv6_error::Refusal::Checksum)
+        | Icmpv6Refusal::Message(icmpv6::Refusal::Checksum) => Reason::Checksum,
+        Icmpv6Refusal::Error(icmpv6_error::Refusal::UnknownType(_))
+        | Icmpv6Refusal::Message(icmpv6::Refusal::UnknownType(_)) => Reason::UnknownType,
+        Icmpv6Refusal::Error(icmpv6_error::Refusal::Quote(_)) => Reason::Quote,
+        Icmpv6Refusal::Message(_) => Reason::Malformed,
+    }
+}
+
+fn dhcp_reason(refusal: dhcpv4::Refusal) -> Reason
+    ensures { result ≡ dhcp_reason refusal }
+{
+    match refusal {
+        dhcpv4::Refusal::Short => Reason::Short,
+        _ => Reason::Malformed,
+    }
+}
+
+fn dns_reason(unread: Unread) -> Reason
+    ensures { result ≡ dns_reason unread }
+{
+    match unread {
+        Unread::Header => Reason::Short,
+        Unread::Question(_)
+        | Unread::Record(TextRefusal::Owner(_))
+        | Unread::Record(TextRefusal::DataName(_)) => Reason::Name,
+        Unread::Entry(..) | Unread::Record(TextRefusal::Data(_)) | Unread::Option(_) => {
+            Reason::Malformed
+        }
+    }
+}
+
+/// The reason as a phrase.
+impl fmt::Display for Refusal {
+    ghost output = { λ refusal. Some (refusal_display refusal) };
+
+    fn fmt<W: fmt::Write>(&self, f: &mut fmt::Formatter<W>) -> fmt::Result {
+        match self {
+            Refusal::Frame(refusal) => write!(f, "{refusal}"),
+            Refusal::Datagram(refusal) => write!(f, "{refusal}"),
+            Refusal::Udp(refusal) => write!(f, "{refusal}"),
+            Refusal::Icmp4(refusal) => write!(f, "{refusal}"),
+            Refusal::Igmp(refusal) => write!(f, "{refusal}"),
+            Refusal::Icmp6(refusal) => write!(f, "{refusal}"),
+            Refusal::Dhcp(refusal) => write!(f, "{refusal}"),
+            Refusal::Dns(unread) => write!(f, "{unread}"),
+        }
+    }
+}

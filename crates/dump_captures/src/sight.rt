@@ -1,0 +1,288 @@
+//! What the headers of a packet tell.
+
+ghost use Rattle.std.specs.Prelude.{◌≡◌, None, drop};
+ghost use Rattle.wirebase.specs.Ipv4.{header_len_in};
+ghost use Rattle.capture.specs.Capture.{packet_of};
+ghost use Rattle.frame_wire.specs.Datagram.{value_of as datagram_of};
+ghost use Rattle.frame_wire.specs.Link.{value_of as frame_of};
+ghost use Rattle.dump_captures.specs.Kinds.{kind_of, kind_of_ports};
+ghost use Rattle.dump_captures.specs.Sight.{sight_of, content_of, content_by, datagram_sight, is_cut, untold, told};
+ghost use Rattle.dump_captures.specs.Sight.{told_front, head_of, ports_behind, IsRefused4, IsRefused6, IsFrameSight};
+ghost use Rattle.dump_captures.specs.Sight.{IsSight};
+
+use crate::kind::{Kind, Reason};
+use crate::refusal::Refusal;
+use capture::Record;
+use frame_wire::{Addresses, Captured, Datagram, Frame, Head, Link, Network, udp};
+use listing::ports::ports_of;
+use wirebase::{IpProtocol, Ipv4Packet};
+
+/// What the headers of a packet tell.
+#[derive(Debug, PartialEq, Eq, Clone, Copy)]
+pub enum Sight<'a> {
+    /// The frame is of a link that is not read.
+    Unread,
+    /// The packet is of another protocol.
+    Other,
+    /// It is a control packet.
+    Control(Headers<'a>),
+}
+
+/// What the headers of a control packet tell.
+#[derive(Debug, PartialEq, Eq, Clone, Copy)]
+pub struct Headers<'a> {
+    /// The VLAN tags, four bytes each.
+    pub tags: &'a [u8],
+    /// The addresses of the datagram, where they are known.
+    pub addresses: Option<Addresses>,
+    /// The ports of the source and the destination, where there are any.
+    pub ports: Option<(u16, u16)>,
+    /// The hop-by-hop options, where there are any.
+    pub hop_by_hop: Option<&'a [u8]>,
+    /// The kind.
+    pub kind: Kind,
+    /// What is to be read.
+    pub content: Content<'a>,
+}
+
+/// The payload of a datagram, or why there is none to read.
+#[derive(Debug, PartialEq, Eq, Clone, Copy)]
+pub enum Content<'a> {
+    /// A payload, between two addresses.
+    Whole(Addresses, &'a [u8]),
+    /// None: the packet is counted under this reason, and is refused so.
+    Refused(Reason, Refusal),
+}
+
+/// What the headers of a packet tell, which a capture has these octets of.
+pub fn look<'a>(captured: &Record, octets: &'a [u8]) -> Sight<'a>
+    ensures { IsSight (packet_of captured.now octets.now) (sight_of result) }
+{
+    let Some(link) = Link::of(captured.link_type) else {
+        return Sight::Unread;
+    };
+    match link.frame_or_refusal(octets) {
+        Ok(frame) => look_into(captured, octets, &frame),
+        Err(refusal) => {
+            let refusal = Refusal::Frame(refusal);
+            untold(&[], refusal.reason(is_cut(captured, octets)), refusal)
+        }
+    }
+}
+
+// What the headers tell that a frame holds.
+fn look_into<'a>(captured: &Record, octets: &[u8], frame: &Frame<'a>) -> Sight<'a>
+    ensures { IsFrameSight (packet_of captured.now octets.now) (frame_of frame.now) (sight_of result) }
+{
+    match frame.network {
+        Network::Ipv4 => match Datagram::parse_v4(frame.payload) {
+            Ok(datagram) => whole(frame.tags, &datagram),
+            Err(refusal) => {
+                let refusal = Refusal::Datagram(refusal);
+                let reason = refusal.reason(is_cut(captured, octets));
+                refused_v4(frame.tags, frame.payload, reason, refusal)
+            }
+        },
+        Network::Ipv6 => match Datagram::parse_v6(frame.payload) {
+            Ok(datagram) => whole(frame.tags, &datagram),
+            Err(refusal) => {
+                let refusal = Refusal::Datagram(refusal);
+                let reason = refusal.reason(is_cut(captured, octets));
+                refused_v6(frame.tags, frame.payload, reason, refusal)
+            }
+        },
+        Network::Other(_) => Sight::Other,
+    }
+}
+
+// The kind of a datagram of this protocol, over IPv4 or not; None where it is of another protocol.
+fn kind_of(is_v4: bool, protocol: IpProtocol, ports: Option<(u16, u16)>) -> Option<Kind>
+    ensures { result ≡ kind_of is_v4 protocol ports }
+{
+    match protocol {
+        IpProtocol::Icmp if is_v4 => Some(Kind::Icmp4),
+        IpProtocol::Igmp if is_v4 => Some(Kind::Igmp),
+        IpProtocol::Icmpv6 if !is_v4 => Some(Kind::Icmp6),
+        IpProtocol::Udp => match ports {
+            Some((source, destination)) => kind_by_ports(is_v4, source, destination),
+            None => Some(Kind::Frame),
+        },
+        IpProtocol::HopByHop | IpProtocol::Ipv6Route | IpProtocol::Ipv6Frag | IpProtocol::Ipv6Opts
+            if !is_v4 => { Some(Kind::Frame) }
+        _ => None,
+    }
+}
+
+// The kind of a datagram of UDP between these ports.
+fn kind_by_ports(is_v4: bool, source: u16, destination: u16) -> Option<Kind>
+    ensures { result ≡ kind_of_ports is_v4 (source, destination) }
+{
+    if source == 53 || destination == 53 {
+        Some(Kind::Dns)
+    } else if source == 5353 || destination == 5353 {
+        Some(Kind::Mdns)
+    } else if is_v4 && (source == 67 || destination == 67 || source == 68 || destination == 68) {
+        Some(Kind::Dhcp)
+    } else {
+        None
+    }
+}
+
+// What a whole datagram is.
+fn whole<'a>(tags: &'a [u8], datagram: &Datagram<'a>) -> Sight<'a>
+    ensures { sight_of result ≡ datagram_sight tags.now (datagram_of datagram.now) }
+{
+    let ports = ports_of(datagram.protocol, datagram.payload);
+    let Some(kind) = kind_of(datagram.addresses.is_v4(), datagram.protocol, ports) else {
+        return Sight::Other;
+    };
+    Sight::Control(Headers {
+        tags,
+        addresses: Some(datagram.addresses),
+        ports,
+        hop_by_hop: datagram.hop_by_hop,
+        kind,
+        content: content_by(kind, datagram),
+    })
+}
+
+// What is to be read of a whole datagram of a kind.
+fn content_by<'a>(kind: Kind, datagram: &Datagram<'a>) -> Content<'a>
+    ensures { content_of result ≡ content_by kind datagram.now.addresses datagram.now.payload.now }
+{
+    match kind {
+        Kind::Frame => Content::Refused(Reason::Short, Refusal::Udp(udp::Refusal::Short)),
+        _ => Content::Whole(datagram.addresses, datagram.payload),
+    }
+}
+
+// Whether the capture kept less of a packet than there was.
+fn is_cut(captured: &Record, octets: &[u8]) -> bool
+    ensures { result ≡ is_cut (packet_of captured.now octets.now) }
+{
+    (octets.len() as u64) < captured.original_len as u64
+}
+
+// A packet of which nothing is known but its VLAN tags.
+fn untold(tags: &[u8], reason: Reason, refusal: Refusal) -> Sight<'_>
+    ensures { sight_of result ≡ untold tags.now reason refusal }
+{
+    Sight::Control(Headers {
+        tags,
+        addresses: None,
+        ports: None,
+        hop_by_hop: None,
+        kind: Kind::Frame,
+        content: Content::Refused(reason, refusal),
+    })
+}
+
+// A datagram that is refused, of which this is known.
+fn told<'a>(
+    tags: &'a [u8],
+    addresses: Addresses,
+    protocol: IpProtocol,
+    ports: Option<(u16, u16)>,
+    reason: Reason,
+    refusal: Refusal,
+) -> Sight<'a>
+    ensures { sight_of result ≡ told tags.now addresses protocol ports reason refusal }
+{
+    let Some(kind) = kind_of(addresses.is_v4(), protocol, ports) else {
+        return Sight::Other;
+    };
+    Sight::Control(Headers {
+        tags,
+        addresses: Some(addresses),
+        ports,
+        hop_by_hop: None,
+        kind,
+        content: Content::Refused(reason, refusal),
+    })
+}
+
+// A datagram that is refused, of which the front is there.
+fn told_front<'a>(
+    tags: &'a [u8],
+    front: &Datagram<'_>,
+    reason: Reason,
+    refusal: Refusal,
+) -> Sight<'a>
+    ensures { sight_of result ≡ told_front tags.now (datagram_of front.now) reason refusal }
+{
+    let ports = ports_of(front.protocol, front.payload);
+    told(
+        tags,
+        front.addresses,
+        front.protocol,
+        ports,
+        reason,
+        refusal,
+    )
+}
+
+// What a datagram of IPv4 is that is refused, as far as it is there.
+fn refused_v4<'a>(tags: &'a [u8], octets: &[u8], reason: Reason, refusal: Refusal) -> Sight<'a>
+    ensures { IsRefused4 tags.now octets.now reason refusal (sight_of result) }
+{
+    match Captured::parse_v4(octets) {
+        Ok(front) => told_front(tags, &front.datagram, reason, refusal),
+        Err(other) => match head_of(other) {
+            Some(head) => {
+                let ports = ports_behind(octets, &head);
+                told(tags, head.addresses, head.protocol, ports, reason, refusal)
+            }
+            None => untold(tags, reason, refusal),
+        },
+    }
+}
+
+// The ports behind a header of IPv4; a fragment that is not the first begins with none.
+fn ports_behind(octets: &[u8], head: &Head) -> Option<(u16, u16)>
+    ensures { result ≡ ports_behind octets.now head.now }
+{
+    if head.frag_offset == 0 {
+        ports_of(head.protocol, behind_header(octets))
+    } else {
+        None
+    }
+}
+
+// What stands behind a header of IPv4, by the length that it has.
+fn behind_header(octets: &[u8]) -> &[u8]
+    ensures { result.now ≡ drop (header_len_in octets.now) octets.now }
+{
+    if octets.is_empty() {
+        return octets;
+    }
+    let header_len = Ipv4Packet::new_unchecked(octets).header_len() as usize;
+    octets.get(header_len..).unwrap_or(&[])
+}
+
+// What a datagram of IPv6 is that is refused, as far as it is there.
+fn refused_v6<'a>(tags: &'a [u8], octets: &[u8], reason: Reason, refusal: Refusal) -> Sight<'a>
+    ensures { IsRefused6 tags.now octets.now reason refusal (sight_of result) }
+{
+    match Captured::parse_v6(octets) {
+        Ok(front) => told_front(tags, &front.datagram, reason, refusal),
+        Err(other) => match head_of(other) {
+            Some(head) => told(tags, head.addresses, head.protocol, None, reason, refusal),
+            None => untold(tags, reason, refusal),
+        },
+    }
+}
+
+// What is told of a datagram that has no front.
+fn head_of(refusal: frame_wire::Refusal) -> Option<Head>
+    ensures { result ≡ head_of refusal }
+{
+    match refusal {
+        frame_wire::Refusal::Cut(head) | frame_wire::Refusal::Fragment(head) => Some(head),
+        frame_wire::Refusal::Short
+        | frame_wire::Refusal::Version(_)
+        | frame_wire::Refusal::HeaderLen(_)
+        | frame_wire::Refusal::TotalLen(_)
+        | frame_wire::Refusal::Jumbogram
+        | frame_wire::Refusal::Extension(_) => None,
+    }
+}

@@ -1,0 +1,170 @@
+//! The line that sums up a capture.
+
+#![tactic(auto, using(listing::proofs::Printing::gained, listing::proofs::Printing::gains_both))]
+
+ghost use Rattle.std.specs.Prelude.{◌≡◌, ◌++◌, OnOk, codes, decimal, if◌then◌else◌};
+ghost use Rattle.listing.specs.Output.{Gains};
+ghost use Rattle.dump_captures.specs.Kinds.{reason_text};
+ghost use Rattle.dump_captures.specs.Summary.{listed_in, refused_for, refused_in};
+ghost use Rattle.dump_captures.specs.Summary.{summary_text, reasons_text, link_text, links_text, further_text};
+ghost use Rattle.dump_captures.specs.Tally.{tally_of};
+
+use crate::kind::{REASONS, Reason};
+use crate::tally::{Tally, UnreadLink};
+use listing::printer::Value;
+use std::io;
+use std::io::Write;
+
+// The reasons, in the order of their places.
+const EACH: [Reason; REASONS] = [
+    Reason::Cut,
+    Reason::Fragment,
+    Reason::Short,
+    Reason::Checksum,
+    Reason::UnknownType,
+    Reason::Quote,
+    Reason::Name,
+    Reason::Malformed,
+];
+
+/// Writes the line, without a line's end, as
+/// `5 packets, 2 listed, 1 refused (1 cut), 1 of other protocols, 3 of link 147`.
+pub fn write_summary<W: Write>(output: &mut W, tally: &Tally) -> io::Result<()>
+    ensures { OnOk result (Gains (W.contents output.old) (W.contents output.new)
+        (summary_text (tally_of tally.now))) }
+{
+    tally.packets.write_to(output)?;
+    output.write_all(b" packets, ")?;
+    listed(tally).write_to(output)?;
+    output.write_all(b" listed, ")?;
+    all_refused(tally).write_to(output)?;
+    output.write_all(b" refused")?;
+    write_reasons(output, tally)?;
+    output.write_all(b", ")?;
+    tally.other.write_to(output)?;
+    output.write_all(b" of other protocols")?;
+    write_further(output, tally.passed, " of kinds that are not printed")?;
+    write_links(output, tally.links.as_slice())?;
+    write_further(output, tally.beyond, " of other links")
+}
+
+// How many were listed.
+fn listed(tally: &Tally) -> u64
+    ensures { result ≡ listed_in (tally_of tally.now) }
+{
+    let mut count: u64 = 0;
+    for row in &tally.rows {
+        count = count.saturating_add(row.listed);
+    }
+    count
+}
+
+// How many were refused for a reason.
+fn refused(tally: &Tally, reason: Reason) -> u64
+    ensures { result ≡ refused_for (tally_of tally.now) reason }
+{
+    let mut count: u64 = 0;
+    for row in &tally.rows {
+        count = count.saturating_add(row.refused[reason.place()]);
+    }
+    count
+}
+
+// How many were refused for any.
+fn all_refused(tally: &Tally) -> u64
+    ensures { result ≡ refused_in (tally_of tally.now) }
+{
+    let mut count: u64 = 0;
+    for reason in &EACH {
+        count = count.saturating_add(refused(tally, *reason));
+    }
+    count
+}
+
+// For which reasons packets were refused, in brackets.
+fn write_reasons<W: Write>(output: &mut W, tally: &Tally) -> io::Result<()>
+    ensures { OnOk result (Gains (W.contents output.old) (W.contents output.new)
+        (reasons_text (tally_of tally.now))) }
+{
+    let mut is_first = true;
+    for reason in &EACH {
+        let count = refused(tally, *reason);
+        if count == 0 {
+            continue;
+        }
+        write_reason(output, is_first, count, *reason)?;
+        is_first = false;
+    }
+    if is_first {
+        return Ok(());
+    }
+    output.write_all(b")")
+}
+
+// A reason with its number, behind what stands before the first or a further one.
+fn write_reason<W: Write>(
+    output: &mut W,
+    is_first: bool,
+    count: u64,
+    reason: Reason,
+) -> io::Result<()>
+    ensures { OnOk result (Gains (W.contents output.old) (W.contents output.new)
+        ((if is_first then codes " (" else codes ", ")
+        ++ (decimal count ++ codes " " ++ reason_text reason))) }
+{
+    write_before(output, is_first)?;
+    write_count(output, count, reason)
+}
+
+fn write_before<W: Write>(output: &mut W, is_first: bool) -> io::Result<()>
+    ensures { OnOk result (Gains (W.contents output.old) (W.contents output.new)
+        (if is_first then codes " (" else codes ", ")) }
+{
+    if is_first {
+        return output.write_all(b" (");
+    }
+    output.write_all(b", ")
+}
+
+fn write_count<W: Write>(output: &mut W, count: u64, reason: Reason) -> io::Result<()>
+    ensures { OnOk result (Gains (W.contents output.old) (W.contents output.new)
+        (decimal count ++ codes " " ++ reason_text reason)) }
+{
+    count.write_to(output)?;
+    output.write_all(b" ")?;
+    reason.name().write_to(output)
+}
+
+// How many frames are of each link that is not read.
+fn write_links<W: Write>(output: &mut W, links: &[UnreadLink]) -> io::Result<()>
+    ensures { OnOk result (Gains (W.contents output.old) (W.contents output.new)
+        (links_text links.now)) }
+{
+    for link in links {
+        write_link(output, link)?;
+    }
+    Ok(())
+}
+
+fn write_link<W: Write>(output: &mut W, link: &UnreadLink) -> io::Result<()>
+    ensures { OnOk result (Gains (W.contents output.old) (W.contents output.new)
+        (link_text link.now)) }
+{
+    output.write_all(b", ")?;
+    link.frames.write_to(output)?;
+    output.write_all(b" of link ")?;
+    link.link_type.write_to(output)
+}
+
+// A further number and what it counts, where there is any.
+fn write_further<W: Write>(output: &mut W, count: u64, what: &str) -> io::Result<()>
+    ensures { OnOk result (Gains (W.contents output.old) (W.contents output.new)
+        (further_text count what.now)) }
+{
+    if count == 0 {
+        return Ok(());
+    }
+    output.write_all(b", ")?;
+    count.write_to(output)?;
+    output.write_all(what.as_bytes())
+}

@@ -1,0 +1,70 @@
+//! The table of counts.
+
+#![tactic(auto, using(listing::proofs::Printing::gained, listing::proofs::Printing::gains_both))]
+
+ghost use Rattle.std.specs.Prelude.{◌≡◌, OnOk};
+ghost use Rattle.listing.specs.Output.{Gains};
+ghost use Rattle.dump_captures.specs.Table.{table_text, chosen_text, row_text, with_tabs};
+ghost use Rattle.dump_captures.specs.Tally.{tally_of};
+
+use crate::kind::Kind;
+use crate::options::Only;
+use crate::tally::{Row, Tally};
+use listing::printer::Value;
+use std::io;
+use std::io::Write;
+
+// The names of the columns.
+const HEAD: &[u8] =
+    b"kind\tlisted\tcut\tfragment\tshort\tchecksum\ttype\tquote\tname\tmalformed\toctets\n";
+
+/// Prints the table of counts: a row for each kind of which packets may be chosen.
+pub fn show_table<W: Write>(output: &mut W, only: &Only, tally: &Tally) -> io::Result<()>
+    ensures { OnOk result (Gains (W.contents output.old) (W.contents output.new)
+        (table_text only.now (tally_of tally.now))) }
+{
+    output.write_all(HEAD)?;
+    show_chosen(output, only, tally, Kind::Icmp4)?;
+    show_chosen(output, only, tally, Kind::Igmp)?;
+    show_chosen(output, only, tally, Kind::Icmp6)?;
+    show_chosen(output, only, tally, Kind::Dns)?;
+    show_chosen(output, only, tally, Kind::Mdns)?;
+    show_chosen(output, only, tally, Kind::Dhcp)?;
+    show_chosen(output, only, tally, Kind::Frame)
+}
+
+// Prints the row of a kind, where packets of it may be chosen.
+fn show_chosen<W: Write>(output: &mut W, only: &Only, tally: &Tally, kind: Kind) -> io::Result<()>
+    ensures { OnOk result (Gains (W.contents output.old) (W.contents output.new)
+        (chosen_text only.now tally.now.rows kind)) }
+{
+    if !only.kinds[kind.place()] && !only.hop_by_hop {
+        return Ok(());
+    }
+    show_row(output, kind, &tally.rows[kind.place()])
+}
+
+fn show_row<W: Write>(output: &mut W, kind: Kind, row: &Row) -> io::Result<()>
+    ensures { OnOk result (Gains (W.contents output.old) (W.contents output.new)
+        (row_text kind row.now)) }
+{
+    kind.name().write_to(output)?;
+    output.write_all(b"\t")?;
+    row.listed.write_to(output)?;
+    show_numbers(output, &row.refused)?;
+    output.write_all(b"\t")?;
+    row.octets.write_to(output)?;
+    output.write_all(b"\n")
+}
+
+// Prints numbers, each behind a tab.
+fn show_numbers<W: Write>(output: &mut W, numbers: &[u64]) -> io::Result<()>
+    ensures { OnOk result (Gains (W.contents output.old) (W.contents output.new)
+        (with_tabs numbers.now)) }
+{
+    for number in numbers {
+        output.write_all(b"\t")?;
+        number.write_to(output)?;
+    }
+    Ok(())
+}

@@ -1,0 +1,27 @@
+-- What one look at an input tells of its next line.
+use Rattle.std.specs.Prelude.{◌≡◌, ◌≢◌, ℕ, Bool, List, [], Option, None, Some}
+use Rattle.std.specs.Io.BufRead.{strip_last, take_through, drop_through}
+use Rattle.dump_lines.specs.Listing.{Shape, LinePrints, is_known, line_shape}
+use Rattle.listing.specs.Output.{Gains, GainsSome}
+use Rattle.dump_lines.specs.Shapes.{seen}
+use Rattle.dump_lines.specs.declared.glance.Glance.{Glance}
+use Rattle.dump_lines.specs.declared.glance.Glance.TheVariants.{Line, Part, End}
+
+-- there was a line of these octets, of this shape, and the lines after it are left
+abbrev pub IsFirst : List ℕ → Option (List ℕ) → Shape → Type 0
+IsFirst octets left shape =
+    (octets ≢ [])
+    × (shape ≡ line_shape (strip_last 10 (take_through 10 octets)))
+    × (left ≡ Some (drop_through 10 octets))
+
+-- the first line and what it leaves; all is left, where no more is told than that; or there is no line
+abbrev pub Sees : List ℕ → Option (List ℕ) → Glance → Type 0
+Sees octets left (Line shape) = IsFirst octets left (seen shape)
+Sees octets left Part = left ≡ Some octets
+Sees octets left End = octets ≡ []
+
+-- the first line is taken, and what it prints is gained; or there was none, and nothing is
+abbrev pub ShowsFirst : List ℕ → Option (List ℕ) → Option (List ℕ) → Option (List ℕ) → Option Bool → Type 0
+ShowsFirst octets left before now (Some known) =
+    (shape : Shape) × IsFirst octets left shape × (known ≡ is_known shape) × GainsSome before now (LinePrints shape)
+ShowsFirst octets left before now None = (octets ≡ []) × Gains before now []

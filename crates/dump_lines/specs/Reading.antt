@@ -1,0 +1,59 @@
+-- How a line is read: octets are taken a part at a time, and what is kept of them has the shape that the line has.
+use Rattle.std.specs.Prelude.{◌≡◌, ◌≢◌, ℕ, ◌*◌, ◌≤◌, ◌⊎◌, Bool, true, false, if◌then◌else◌, List, [], ◌∷◌, ◌++◌, All}
+use Rattle.std.specs.Prelude.{OnSome, length, Option, Some}
+use Rattle.std.specs.Io.KnownBytes.{Consumes, IsAtEnd}
+use Rattle.std.specs.Io.BufRead.{strip_last, take_through, drop_through}
+use Rattle.dump_lines.specs.Lines.{words_in}
+use Rattle.dump_lines.specs.Listing.{Shape, bad, line_shape}
+use Rattle.dump_lines.specs.declared.reading.Line.{Line}
+
+-- the shape of a line of which a front is read, and these octets are still to come
+abbrev pub shape_from : Line → List ℕ → Shape
+shape_from line rest = if line.is_bad then bad else line_shape (line.octets.items ++ rest)
+
+-- nothing is read
+pub record IsFresh (line : Line) : Type 0 where
+  pub shape : (rest : List ℕ) → shape_from line rest ≡ line_shape rest
+
+-- octets were read: whatever follows, the shape is what it was
+pub record Takes (old new : Line) (octets : List ℕ) : Type 0 where
+  pub shape : (rest : List ℕ) → shape_from old (octets ++ rest) ≡ shape_from new rest
+
+-- octets behind which a word begins: so many words, whatever follows, and no CR at the end
+pub record IsFront (front : List ℕ) (n : ℕ) : Type 0 where
+  pub words : List (List ℕ)
+  pub count : length words ≡ n
+  pub followed : (rest : List ℕ) → words_in (front ++ rest) ≡ words ++ words_in rest
+  pub no_end : strip_last 13 front ≡ front
+
+-- at most four whole words are kept, each with a space behind it, and a fifth as far as it may be the last
+pub record IsKept (line : Line) : Type 0 where
+  pub front : List ℕ
+  pub word : List ℕ
+  pub split : line.octets.items ≡ front ++ word
+  pub start : line.start ≡ length front
+  pub whole : IsFront front line.words
+  pub free : All (λ octet. octet ≢ 32) word
+  pub few : line.words ≤ 4
+  pub short : length word ≤ 131071
+  pub room : length front ≤ 131072 * line.words
+
+-- where there was a line of these octets, its shape was read, and the lines after it are left; else there was none
+abbrev pub NextLine : List ℕ → Option (List ℕ) → Line → Bool → Type 0
+NextLine octets left line true =
+    (octets ≢ [])
+    × (shape_from line [] ≡ line_shape (strip_last 10 (take_through 10 octets)))
+    × (left ≡ Some (drop_through 10 octets))
+NextLine octets left line false = octets ≡ []
+
+-- a part of a line was taken off what a reader had left: octets of the line, and behind them its LF where it has ended,
+-- or nothing where nothing is left
+pub record TakesPart (old new : Option (List ℕ)) (before after_ : Line) (count : ℕ) (ended : Bool) : Type 0 where
+  pub text : List ℕ
+  pub last : List ℕ
+  pub takes : Takes before after_ text
+  pub free : All (λ octet. octet ≢ 10) text
+  pub consumed : Consumes old new (text ++ last)
+  pub counted : count ≡ length (text ++ last)
+  pub goes_on : ended ≡ false → last ≡ []
+  pub ends : ended ≡ true → (last ≡ 10 ∷ []) ⊎ ((text ++ last ≡ []) × OnSome old (IsAtEnd new))

@@ -1,0 +1,49 @@
+//! What a line prints.
+
+ghost use Rattle.std.specs.Prelude.{◌≡◌, ◌⊎◌, [], OnOk, IfOk, IfErr};
+ghost use Rattle.listing.specs.Output.{GainsSome};
+ghost use Rattle.dump_lines.specs.Listing.{LinePrints, is_known};
+ghost use Rattle.dump_lines.specs.Reading.{shape_from};
+ghost use Rattle.dump_lines.specs.Shapes.{seen};
+
+use crate::Fault;
+use crate::reading::Line;
+use crate::shape::Shape;
+use listing::printer;
+use std::alloc::Global;
+use std::io::Write;
+
+/// Prints what a line holds, and answers whether its shape is known.
+///
+/// It is a command, the words for that, and a packet. A line without a word prints nothing.
+pub fn show_line<W: Write>(
+    alloc: Global,
+    room: &mut Vec<u8>,
+    output: &mut W,
+    line: &Line,
+) -> Result<bool, Fault>
+    ensures known { IfOk result (λ known. known ≡ is_known (shape_from line.now [])) }
+    ensures prints { OnOk result (GainsSome (W.contents output.old) (W.contents output.new)
+        (LinePrints (shape_from line.now []))) }
+    ensures fault { IfErr result (λ fault. (fault ≡ Fault.Memory) ⊎ (fault ≡ Fault.Write)) }
+{
+    show_shape(output, line.shape(alloc, room)?)
+}
+
+/// The same of its shape.
+pub fn show_shape<W: Write>(output: &mut W, shape: Shape<'_>) -> Result<bool, Fault>
+    ensures known { IfOk result (λ known. known ≡ is_known (seen shape.entry)) }
+    ensures prints { OnOk result (GainsSome (W.contents output.old) (W.contents output.new)
+        (LinePrints (seen shape.entry))) }
+    ensures fault { IfErr result (λ fault. fault ≡ Fault.Write) }
+{
+    let (shown, known) = match shape {
+        Shape::Blank => (Ok(()), true),
+        Shape::Packet(command, packet) => (command.show(output, packet), true),
+        Shape::Bad => (printer::line(output, "bad line"), false),
+    };
+    match shown {
+        Ok(()) => Ok(known),
+        Err(_) => Err(Fault::Write),
+    }
+}

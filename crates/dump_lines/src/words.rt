@@ -1,0 +1,134 @@
+//! The words of a line, and the octets that a word spells.
+
+ghost use Rattle.std.specs.Prelude.{◌≡◌, ◌<◌, ◌≤◌, ◌&&◌, [], ◌∷◌, OnOk, IfOk, IfErr, bytes_eq, length, option_map};
+ghost use Rattle.std.specs.Prelude.{vec_len};
+ghost use Rattle.std.specs.List.{list_all};
+ghost use Rattle.hex.specs.Hex.{is_hex_digit};
+ghost use Rattle.dump_lines.specs.Lines.{words_in};
+ghost use Rattle.dump_lines.specs.Words.{address_of, is_length, offset_of, word_of};
+
+use crate::Fault;
+use crate::pairs::{are_digits, decode, decode_front};
+use crate::search::{len_before, spaces_len};
+use std::alloc::Global;
+
+/// The most words of a line: a command, two for that, and a packet.
+pub const MOST_WORDS: usize = 4;
+
+/// The most octets of a word.
+pub const MOST_OCTETS: usize = 131_070;
+
+// The greatest offset in a packet.
+const MOST_OFFSET: usize = 65_535;
+
+// The fewest digits of a packet.
+const FEWEST_DIGITS: usize = 2;
+
+// The digits of an address.
+const ADDRESS_DIGITS: usize = 32;
+
+/// The first word of a text, which has no octet where there is none, and what stands behind it.
+pub fn next_word<'a>(text: &'a [u8]) -> (&'a [u8], &'a [u8])
+    ensures some { 0 < length result.0.now → words_in text.now ≡ result.0.now ∷ words_in result.1.now }
+    ensures none { length result.0.now ≡ 0 → words_in text.now ≡ [] }
+{
+    let rest = &text[spaces_len(text)..];
+    let len = len_before(rest, b' ');
+    rest.split_at(len)
+}
+
+/// Whether a word is this one.
+pub fn is(word: &[u8], name: &str) -> bool
+    ensures { result ≡ bytes_eq word.now name.now }
+{
+    word == name.as_bytes()
+}
+
+/// The octets that a word spells, or None where it spells none. They stand in a room that is kept from word to word and
+/// grows where it is too small.
+///
+/// `-` spells no octets, and an even number, 2 to 131,070, of hexadecimal digits of either case an octet for each two,
+/// the high digit first.
+pub fn read_word<'a>(
+    alloc: Global,
+    room: &'a mut Vec<u8>,
+    text: &[u8],
+) -> Result<Option<&'a [u8]>, Fault>
+    ensures value { IfOk result (λ word. option_map (λ octets. octets.now) word ≡ word_of text.now) }
+    ensures fault { IfErr result (λ fault. fault ≡ Fault.Memory) }
+{
+    if is(text, "-") {
+        return Ok(Some(&[]));
+    }
+    if !are_pairs(text) {
+        return Ok(None);
+    }
+    let count = text.len() / 2;
+    grow(alloc, room, count)?;
+    decode_front(text, room.as_mut_slice());
+    Ok(Some(&room.as_slice()[..count]))
+}
+
+// Makes room for so many octets at the least. What stood there is lost where there was less.
+fn grow(alloc: Global, room: &mut Vec<u8>, count: usize) -> Result<(), Fault>
+    ensures room { OnOk result (count ≤ vec_len room.new) }
+    ensures fault { IfErr result (λ fault. fault ≡ Fault.Memory) }
+{
+    if room.len() >= count {
+        return Ok(());
+    }
+    // What was held is given back first.
+    *room = Vec::new(alloc);
+    let Ok(octets) = vec![in alloc; 0u8; count] else {
+        return Err(Fault::Memory);
+    };
+    *room = octets;
+    Ok(())
+}
+
+// Whether these are digits, and as many as a packet may have.
+fn are_pairs(text: &[u8]) -> bool
+    ensures { result ≡ (is_length (length text.now) && list_all is_hex_digit text.now) }
+{
+    is_even_length(text.len()) && are_digits(text)
+}
+
+fn is_even_length(count: usize) -> bool
+    ensures { result ≡ is_length count }
+{
+    (count % 2 == 0) & (count >= FEWEST_DIGITS) & (count <= MOST_OCTETS)
+}
+
+/// The 16 octets of an address of IPv6, from 32 hexadecimal digits of either case; None where a word is anything
+/// else.
+pub fn read_address(text: &[u8]) -> Option<[u8; 16]>
+    ensures { result ≡ address_of text.now }
+{
+    if text.len() != ADDRESS_DIGITS || !are_digits(text) {
+        return None;
+    }
+    let mut octets = [0; 16];
+    decode(text, &mut octets);
+    Some(octets)
+}
+
+/// An offset in a packet, from decimal digits alone, leading zeros or not; None where a word is anything else, or
+/// the offset greater than any packet is long.
+pub fn read_offset(text: &[u8]) -> Option<usize>
+    ensures { result ≡ offset_of text.now }
+{
+    if text.is_empty() {
+        return None;
+    }
+    let mut offset = 0;
+    for octet in text {
+        if *octet < b'0' || *octet > b'9' {
+            return None;
+        }
+        offset = 10 * offset + usize::from(*octet - b'0');
+        if offset > MOST_OFFSET {
+            return None;
+        }
+    }
+    Some(offset)
+}

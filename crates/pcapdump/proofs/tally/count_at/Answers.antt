@@ -1,9 +1,0 @@
--- The link at the place is changed.
-use Rattle.pcapdump.specs.Tally.{no_link, one_more}
-use Rattle.pcapdump.proofs.Tallies.{changed_at-set}
-use Rattle.pcapdump.proofs.tally.count_at.Goals as goal
-
-pub returns : goal.returns
-returns c =
-    rw c.saturating_add.ensures
-    (changed_at-set c.args.links.now c.args.place (λ l. record l { frames = one_more l.frames }) no_link c.requires)

@@ -1,9 +1,0 @@
--- The date in front, and the time behind it.
-use Rattle.std.proofs.Common.{refl}
-use Rattle.pcapdump.proofs.Times.{joined}
-use Rattle.pcapdump.proofs.time.join.Goals as goal
-
-pub returns : goal.returns
-returns c =
-    rw (c.copy_from_slice.ensures.after, c.copy_from_slice-2.ensures.after)
-    (joined c.args.date.now c.args.time.now _ c.told-date c.told-time refl)

@@ -1,0 +1,6 @@
+mod datagram;
+mod datagram_display;
+mod link;
+mod link_display;
+mod udp;
+mod udp_display;

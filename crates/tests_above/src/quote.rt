@@ -1,0 +1,3 @@
+mod icmpv4_error;
+mod icmpv6_error;
+mod message;

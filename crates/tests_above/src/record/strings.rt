@@ -1,0 +1,31 @@
+//! The strings of TXT data.
+
+use record_wire::strings::TxtStrings;
+use crate::testing::same_of;
+use std::process::Abort;
+
+// Ends the test unless these octets begin with these strings and no more.
+fn check(rt: &impl Abort, octets: &[u8], strings: &[&[u8]]) {
+    let mut left = TxtStrings::new(octets);
+    for &string in strings {
+        same_of(rt, octets, left.next(), Some(string));
+    }
+    for _ in 0..2 {
+        same_of(rt, octets, left.next(), None);
+    }
+}
+
+#[test]
+fn strings_of_txt_data(rt: HostRuntime) {
+    const ROWS: &[(&[u8], &[&[u8]])] = &[
+        (b"\x0bv=spf1 -all", &[b"v=spf1 -all"]),
+        (b"\x01a\x00\x02bc", &[b"a", b"", b"bc"]),
+        (b"\x00", &[b""]),
+        (b"", &[]),
+        (b"\x01a\x02b", &[b"a"]),
+        (b"\xffa", &[]),
+    ];
+    for &(octets, strings) in ROWS {
+        check(&rt, octets, strings);
+    }
+}

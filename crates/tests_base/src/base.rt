@@ -1,0 +1,9 @@
+mod capabilities;
+mod checksum;
+mod duration;
+mod error;
+mod ethernet;
+mod hardware;
+mod ip;
+mod ipv4;
+mod ipv6;

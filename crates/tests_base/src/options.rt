@@ -1,0 +1,5 @@
+mod ipv6ext_header;
+mod ipv6hbh;
+mod ipv6option;
+mod ndiscoption;
+mod plain_reader;

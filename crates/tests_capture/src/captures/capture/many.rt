@@ -1,0 +1,56 @@
+// Sections of many interfaces, and blocks of no packet.
+
+use capture::{Capture, Next};
+use capture::{Ending, Refusal};
+use capture::Order;
+use capture::pcapng::{Interface, parse_packet};
+use crate::testing::same_of;
+
+// A section header of a machine with the highest byte first, and a description of Ethernet.
+const SECTION: &[u8] = &[
+    0x0a, 0x0d, 0x0d, 0x0a, 0, 0, 0, 28, 0x1a, 0x2b, 0x3c, 0x4d, 0, 1, 0, 0, 255, 255, 255, 255,
+    255, 255, 255, 255, 0, 0, 0, 28,
+];
+
+const DESCRIPTION: &[u8] = &[0, 0, 0, 1, 0, 0, 0, 20, 0, 1, 0, 0, 0, 0, 0, 0, 0, 0, 0, 20];
+
+#[test]
+fn a_section_of_more_interfaces_than_are_kept(rt: HostRuntime) {
+    let mut octets = Vec::new(rt.alloc());
+    same_of(&rt, (), octets.extend_from_slice(SECTION).is_ok(), true);
+    for count in 0..65_537u32 {
+        let added = octets.extend_from_slice(DESCRIPTION).is_ok();
+        same_of(&rt, count, added, true);
+        if count >= 65_535 {
+            let mut input = octets.as_slice();
+            let mut capture = Capture::new(rt.alloc());
+            let want = if count == 65_535 {
+                Ending::Whole
+            } else {
+                Ending::TooManyInterfaces
+            };
+            let read = capture.next(&mut input);
+            same_of(&rt, count, read, Ok(Next::Ended(want)));
+        }
+    }
+}
+
+#[test]
+fn blocks_that_hold_no_packet(rt: HostRuntime) {
+    const BLOCK: &[u8] = &[0, 0, 0, 3, 0, 0, 0, 16, 0, 0, 0, 0, 0, 0, 0, 16];
+
+    // A kind, how many bytes of the block, and why it is refused in a section without an interface.
+    const ROWS: &[(u32, usize, Refusal)] = &[
+        (5, 11, Refusal::Short),
+        (5, 12, Refusal::Kind(5)),
+        (3, 15, Refusal::Short),
+        (3, 16, Refusal::Interface(0)),
+        (6, 16, Refusal::Short),
+    ];
+    let interfaces: &[Interface] = &[];
+    for &(kind, len, want) in ROWS {
+        let block = BLOCK.get(..len).unwrap_or(&[]);
+        let read = parse_packet(Order::Big, kind, interfaces, block);
+        same_of(&rt, (kind, len), read, Err(want));
+    }
+}

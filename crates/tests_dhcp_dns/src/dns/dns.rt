@@ -1,0 +1,386 @@
+use dns_wire::dns::{
+    Flags, MULTICAST_PORT, Opcode, Packet, Question, Rcode, Record, RecordData, SERVER_PORT, Type,
+};
+use dns_wire::message::{Front, follow, read_front};
+use crate::testing::{fail, same, same_of};
+use bitflags::Flags as _;
+use std::process::Abort;
+use wirebase::{Ipv4Address, Ipv6Address};
+
+pub(crate) mod damaged;
+mod printing;
+mod refusals;
+mod written;
+
+#[test]
+fn numbers_of_ports(rt: HostRuntime) {
+    same(&rt, [SERVER_PORT, MULTICAST_PORT], [53, 5353]);
+}
+
+#[test]
+fn numbers_of_kinds_of_query(rt: HostRuntime) {
+    const OPCODES: &[(u8, Opcode)] = &[
+        (0, Opcode::Query),
+        (1, Opcode::Status),
+        (2, Opcode::Unknown(2)),
+    ];
+    for &(number, opcode) in OPCODES {
+        same(&rt, Opcode::from(number), opcode);
+        same(&rt, u8::from(opcode), number);
+    }
+}
+
+#[test]
+fn numbers_of_outcomes(rt: HostRuntime) {
+    const OUTCOMES: &[(u8, Rcode)] = &[
+        (0, Rcode::NoError),
+        (1, Rcode::FormErr),
+        (2, Rcode::ServFail),
+        (3, Rcode::NXDomain),
+        (4, Rcode::NotImp),
+        (5, Rcode::Refused),
+        (6, Rcode::YXDomain),
+        (7, Rcode::YXRRSet),
+        (8, Rcode::NXRRSet),
+        (9, Rcode::NotAuth),
+        (10, Rcode::NotZone),
+        (11, Rcode::Unknown(11)),
+    ];
+    for &(number, rcode) in OUTCOMES {
+        same(&rt, Rcode::from(number), rcode);
+        same(&rt, u8::from(rcode), number);
+    }
+    same(&rt, Rcode::NXDomain < Rcode::NotImp, true);
+}
+
+#[test]
+fn numbers_of_types_of_record(rt: HostRuntime) {
+    const TYPES: &[(u16, Type)] = &[
+        (1u16, Type::A),
+        (2, Type::Ns),
+        (5, Type::Cname),
+        (6, Type::Soa),
+        (28, Type::Aaaa),
+        (255, Type::Unknown(255)),
+    ];
+    for &(number, kind) in TYPES {
+        same(&rt, Type::from(number), kind);
+        same(&rt, u16::from(kind), number);
+    }
+    same(&rt, Type::Aaaa < Type::Unknown(0), true);
+}
+
+#[test]
+fn bits_of_flags(rt: HostRuntime) {
+    for (flags, bits) in [
+        (Flags::RESPONSE, 0x8000u16),
+        (Flags::AUTHORITATIVE, 0x0400),
+        (Flags::TRUNCATED, 0x0200),
+        (Flags::RECURSION_DESIRED, 0x0100),
+        (Flags::RECURSION_AVAILABLE, 0x0080),
+        (Flags::AUTHENTIC_DATA, 0x0020),
+        (Flags::CHECK_DISABLED, 0x0010),
+        (Flags::all(), 0x87b0),
+        (Flags::empty(), 0),
+    ] {
+        same(&rt, flags.bits(), bits);
+    }
+}
+
+#[test]
+fn flags_of_bits_with_and_without_a_name(rt: HostRuntime) {
+    same(&rt, Flags::from_bits(0x0040), None);
+    same(&rt, Flags::from_bits_truncate(0xffff), Flags::all());
+    same(&rt, Flags::from_bits_retain(0x0040).bits(), 0x0040);
+}
+
+#[test]
+fn flags_that_are_joined_and_taken_away(rt: HostRuntime) {
+    let both = Flags::RESPONSE | Flags::TRUNCATED;
+    same(&rt, [both.bits(), (!both).bits()], [0x8200, 0x05b0]);
+    same(&rt, both & Flags::RESPONSE, Flags::RESPONSE);
+    same(&rt, both - Flags::RESPONSE, Flags::TRUNCATED);
+    same(&rt, both ^ Flags::RESPONSE, Flags::TRUNCATED);
+}
+
+// A query for a name's address.
+const QUERY: [u8; 28] = [
+    0x51, 0x84, 0x01, 0x20, 0x00, 0x01, 0x00, 0x00, 0x00, 0x00, 0x00, 0x00, 0x06, 0x67, 0x6f, 0x6f,
+    0x67, 0x6c, 0x65, 0x03, 0x63, 0x6f, 0x6d, 0x00, 0x00, 0x01, 0x00, 0x01,
+];
+
+// Reads a header of these flags, this outcome and these numbers of questions and of each kind of record.
+fn check_header(
+    rt: &impl Abort,
+    octets: &[u8],
+    transaction_id: u16,
+    flags: u16,
+    outcome: Rcode,
+    counts: [u16; 4],
+) {
+    let Ok(packet) = Packet::new_checked(octets) else {
+        fail(rt, "too short");
+        return;
+    };
+    same(rt, packet.transaction_id(), transaction_id);
+    same(rt, packet.flags().bits(), flags);
+    same(rt, packet.opcode(), Opcode::Query);
+    same(rt, packet.rcode(), outcome);
+    let read = [
+        packet.question_count(),
+        packet.answer_record_count(),
+        packet.authority_record_count(),
+        packet.additional_record_count(),
+    ];
+    same(rt, read, counts);
+}
+
+#[test]
+fn headers_of_messages(rt: HostRuntime) {
+    let response = [
+        0x51, 0x84, 0x81, 0x80, 0x00, 0x01, 0x00, 0x01, 0x00, 0x00, 0x00, 0x00,
+    ];
+    let none = [
+        0x63, 0xc4, 0x81, 0x83, 0x00, 0x01, 0x00, 0x00, 0x00, 0x01, 0x00, 0x00,
+    ];
+    check_header(&rt, &QUERY, 0x5184, 0x0120, Rcode::NoError, [1, 0, 0, 0]);
+    check_header(&rt, &response, 0x5184, 0x8180, Rcode::NoError, [1, 1, 0, 0]);
+    check_header(&rt, &none, 0x63c4, 0x8180, Rcode::NXDomain, [1, 0, 1, 0]);
+    same(&rt, Packet::new_checked(&none[..11]).is_err(), true);
+}
+
+// Whether a question is read from the octets.
+fn is_question(octets: &[u8]) -> bool {
+    Question::parse(octets).is_ok()
+}
+
+// Reads a question, and this rest behind it.
+fn check_question(rt: &impl Abort, octets: &[u8], question: Question<'_>, rest: &[u8]) {
+    same(rt, Question::parse(octets), Ok((rest, question)));
+}
+
+#[test]
+fn the_question_behind_a_header(rt: HostRuntime) {
+    let packet = Packet::new_unchecked(QUERY.as_slice());
+    let question = Question {
+        name: b"\x06google\x03com\x00",
+        type_: Type::A,
+    };
+    check_question(&rt, packet.payload(), question, &[]);
+}
+
+#[test]
+fn counts_and_a_payload_that_are_written(rt: HostRuntime) {
+    let mut octets = [0xff; 14];
+    let mut packet = Packet::new_unchecked(octets.as_mut_slice());
+    packet.set_question_count(0x0102);
+    packet.set_answer_record_count(0x0304);
+    packet.set_authority_record_count(0x0506);
+    packet.set_additional_record_count(0x0708);
+    packet.payload_mut()[1] = 0x0a;
+    let written = [
+        0xff, 0xff, 0xff, 0xff, 0x01, 0x02, 0x03, 0x04, 0x05, 0x06, 0x07, 0x08, 0xff, 0x0a,
+    ];
+    same(&rt, octets.as_slice(), written.as_slice());
+}
+
+#[test]
+fn a_number_and_an_opcode_that_are_written(rt: HostRuntime) {
+    let mut octets = [0xff; 12];
+    let mut packet = Packet::new_unchecked(octets.as_mut_slice());
+    packet.set_opcode(Opcode::Status);
+    same(&rt, packet.opcode(), Opcode::Status);
+    packet.set_transaction_id(0x1234);
+    let written = [
+        0x12, 0x34, 0x8f, 0xff, 0xff, 0xff, 0xff, 0xff, 0xff, 0xff, 0xff, 0xff,
+    ];
+    same(&rt, octets.as_slice(), written.as_slice());
+}
+
+#[test]
+fn an_opcode_that_leaves_the_flags(rt: HostRuntime) {
+    let mut octets = [0xff; 12];
+    let mut packet = Packet::new_unchecked(octets.as_mut_slice());
+    packet.set_opcode(Opcode::Query);
+    same(&rt, &octets[2..4], [0x87, 0xff].as_slice());
+}
+
+#[test]
+fn flags_that_leave_the_other_bits(rt: HostRuntime) {
+    let mut octets = [0xff; 12];
+    octets[2] = 0x87;
+    let mut packet = Packet::new_unchecked(octets.as_mut_slice());
+    packet.set_flags(Flags::TRUNCATED);
+    same(&rt, &octets[2..4], [0x02, 0x4f].as_slice());
+}
+
+#[test]
+fn questions_and_what_stands_behind_them(rt: HostRuntime) {
+    let whole = [0x01, 0x61, 0x00, 0x00, 0x01, 0x00, 0x01, 0xff];
+    let question = Question {
+        name: &[0x01, 0x61, 0x00],
+        type_: Type::A,
+    };
+    check_question(&rt, &whole, question, &[0xff]);
+    for len in 0..7usize {
+        same_of(&rt, len, is_question(&whole[..len]), false);
+    }
+}
+
+#[test]
+fn a_question_whose_name_is_a_pointer(rt: HostRuntime) {
+    let octets = [0xc0, 0x0c, 0x00, 0x01, 0x00, 0x01, 0xff];
+    let question = Question {
+        name: &[0xc0, 0x0c],
+        type_: Type::A,
+    };
+    check_question(&rt, &octets, question, &[0xff]);
+}
+
+#[test]
+fn questions_of_another_class_and_torn_ones(rt: HostRuntime) {
+    const REFUSED: &[&[u8]] = &[
+        &[0x01, 0x61, 0x00, 0x00, 0x01, 0x00, 0xff],
+        &[0x40],
+        &[0x80, 0x00, 0x00, 0x01, 0x00, 0x01],
+        &[0x03, 0x61],
+        &[0xc0],
+    ];
+    for &refused in REFUSED {
+        same_of(&rt, refused, is_question(refused), false);
+    }
+}
+
+// Whether a record is read from the octets.
+fn is_record(octets: &[u8]) -> bool {
+    Record::parse(octets).is_ok()
+}
+
+// Reads a record that fills the octets.
+fn check_record(rt: &impl Abort, octets: &[u8], name: &[u8], ttl: u32, data: RecordData<'_>) {
+    let read = Record::parse(octets);
+    same(rt, read, Ok(([].as_slice(), Record { name, ttl, data })));
+}
+
+#[test]
+fn records_of_three_types(rt: HostRuntime) {
+    let address = [
+        0xc0, 0x0c, 0x00, 0x01, 0x00, 0x01, 0x00, 0x00, 0x00, 0xca, 0x00, 0x04, 0xac, 0xd9, 0xa8,
+        0xae,
+    ];
+    let host = RecordData::A(Ipv4Address::new(172, 217, 168, 174));
+    check_record(&rt, &address, &[0xc0, 0x0c], 202, host);
+    let alias = [
+        0xc0, 0x0c, 0x00, 0x05, 0x00, 0x01, 0x00, 0x00, 0x05, 0xf3, 0x00, 0x02, 0xc0, 0x10,
+    ];
+    let other_name = RecordData::Cname(&[0xc0, 0x10]);
+    check_record(&rt, &alias, &[0xc0, 0x0c], 1523, other_name);
+    let authority = [
+        0xc0, 0x20, 0x00, 0x06, 0x00, 0x01, 0x00, 0x00, 0x03, 0x83, 0x00, 0x01, 0xaa,
+    ];
+    let zone = RecordData::Other(Type::Soa, &[0xaa]);
+    check_record(&rt, &authority, &[0xc0, 0x20], 899, zone);
+}
+
+#[test]
+fn records_that_are_cut_or_of_another_length(rt: HostRuntime) {
+    let mut address = [
+        0xc0, 0x0c, 0x00, 0x01, 0x00, 0x01, 0x00, 0x00, 0x00, 0xca, 0x00, 0x04, 0xac, 0xd9, 0xa8,
+        0xae,
+    ];
+    for len in 0..16usize {
+        same_of(&rt, len, is_record(&address[..len]), false);
+    }
+    address[11] = 0x03;
+    same(&rt, is_record(&address), false);
+}
+
+// Reads the address of these octets.
+fn check_address(rt: &impl Abort, octets: &[u8; 16]) {
+    let address = RecordData::Aaaa(Ipv6Address::from_octets(*octets));
+    same(rt, RecordData::parse(Type::Aaaa, octets), Ok(address));
+}
+
+#[test]
+fn an_address_of_16_bytes(rt: HostRuntime) {
+    // 2001::1.
+    let octets = [0x20, 0x01, 0, 0, 0, 0, 0, 0, 0, 0, 0, 0, 0, 0, 0, 1];
+    check_address(&rt, &octets);
+    let cut = RecordData::parse(Type::Aaaa, &octets[..15]);
+    same(&rt, cut.is_err(), true);
+}
+
+#[test]
+fn records_that_differ(rt: HostRuntime) {
+    let host = RecordData::A(Ipv4Address::new(172, 217, 168, 174));
+    let record = Record {
+        name: &[0xc0, 0x0c],
+        ttl: 202,
+        data: host,
+    };
+    let others = [
+        Record {
+            name: &[0xc0, 0x0d],
+            ..record
+        },
+        Record { ttl: 203, ..record },
+        Record {
+            data: RecordData::A(Ipv4Address::new(172, 217, 168, 175)),
+            ..record
+        },
+        Record {
+            data: RecordData::Cname(&[172, 217, 168, 174]),
+            ..record
+        },
+        Record {
+            data: RecordData::Other(Type::A, &[172, 217, 168, 174]),
+            ..record
+        },
+    ];
+    for other in &others {
+        same_of(&rt, other, *other == record, false);
+    }
+}
+
+#[test]
+fn views_are_equal_where_their_octets_are(rt: HostRuntime) {
+    let copy = QUERY;
+    let view = Packet::new_unchecked(QUERY.as_slice());
+    same(&rt, view == Packet::new_unchecked(copy.as_slice()), true);
+    same(&rt, view == Packet::new_unchecked(&copy[..27]), false);
+    same(&rt, view == Packet::new_unchecked(&copy[1..]), false);
+    same(&rt, view.into_inner(), QUERY.as_slice());
+}
+
+#[test]
+fn fronts_of_parts_of_names(rt: HostRuntime) {
+    const ROWS: &[(&[u8], Front<'_>)] = &[
+        (b"\x03www\x03com\0", Front::Label(b"www", b"\x03com\0")),
+        (b"\x01a", Front::Label(b"a", b"")),
+        (b"\0\x01a", Front::End),
+        (b"\xc0\x14\0", Front::Pointer(20)),
+        (b"\xff\xff", Front::Pointer(16383)),
+        (b"", Front::Torn),
+        (b"\x02a", Front::Torn),
+        (b"\x40", Front::Torn),
+        (b"\xbf\0", Front::Torn),
+        (b"\xc0", Front::Torn),
+    ];
+    for &(text, front) in ROWS {
+        same_of(&rt, text, read_front(text), front);
+    }
+}
+
+#[test]
+fn pointers_lead_to_open_bytes_alone(rt: HostRuntime) {
+    // Where a pointer into these bytes leads, and what stands there and in front of it.
+    const OPEN: &[u8] = b"abc";
+    const ROWS: &[(usize, Option<(&[u8], &[u8])>)] = &[
+        (0, Some((b"abc", b""))),
+        (2, Some((b"c", b"ab"))),
+        (3, None),
+    ];
+    for &(target, parts) in ROWS {
+        same_of(&rt, target, follow(OPEN, target), parts);
+    }
+}

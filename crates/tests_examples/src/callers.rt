@@ -1,0 +1,7 @@
+mod lease;
+mod listener_version1;
+mod member;
+mod neighbor;
+mod ping;
+mod resolver;
+mod router;

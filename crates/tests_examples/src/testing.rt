@@ -1,0 +1,15 @@
+// What the tests compare by, over one macro of std: the prover goes through the code of a macro again wherever it is
+// used, and through a call of these in a sixth of the time. They take the test's runtime, so they can't be in one
+// library for all tests: the gate refuses a public function that may end the process.
+
+ghost use Rattle.std.specs.Prelude.{◌≡◌, true};
+
+use std::fmt::Debug;
+use std::process::Abort;
+
+// Ends the test where the two differ.
+pub(crate) fn same<T: PartialEq + Debug + Drop>(rt: &impl Abort, left: T, right: T)
+    ensures { T.eq left right ≡ true }
+{
+    assert!(rt; left == right, "{left:?} is not {right:?}");
+}

@@ -1,0 +1,2 @@
+mod icmpv4;
+mod igmp;

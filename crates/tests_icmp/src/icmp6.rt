@@ -1,0 +1,4 @@
+mod icmpv6;
+mod mld;
+mod ndisc;
+mod plain_reader;

@@ -1,0 +1,84 @@
+use super::{TOO_BIG, behind, read};
+use icmp6_wire::icmpv6::Repr;
+use crate::testing::{prints, same, takes_writes};
+use icmp6_wire::{mld, ndisc};
+use std::alloc::Global;
+use std::process::Abort;
+use wirebase::capabilities::Checksum;
+
+// Checks what the error prints that is read from these octets.
+fn check_error(rt: &impl Abort, alloc: Global, octets: &[u8], text: &str) {
+    match read(octets, Checksum::None) {
+        Ok(error) => prints(rt, alloc, &error, text),
+        Err(_) => same(rt, "an error", "refused"),
+    }
+}
+
+#[test]
+fn texts_of_errors(rt: HostRuntime) {
+    let alloc = rt.alloc();
+    check_error(
+        &rt,
+        alloc,
+        &behind(&[0x01, 0x04, 0, 0, 0, 0, 0, 0]),
+        "ICMPv6 destination unreachable (port unreachable)",
+    );
+    check_error(&rt, alloc, &TOO_BIG, "ICMPv6 packet too big mtu=1500");
+    check_error(
+        &rt,
+        alloc,
+        &behind(&[0x03, 0x00, 0, 0, 0, 0, 0, 0]),
+        "ICMPv6 time exceeded (hop limit exceeded in transit)",
+    );
+    check_error(
+        &rt,
+        alloc,
+        &behind(&[0x04, 0x01, 0, 0, 0, 0, 0, 6]),
+        "ICMPv6 parameter problem (unrecognized next header type.) pointer=6",
+    );
+}
+
+#[test]
+fn texts_of_echoes(rt: HostRuntime) {
+    let alloc = rt.alloc();
+    let request = Repr::EchoRequest {
+        ident: 0x1234,
+        seq_no: 1,
+        data: &[0xaa, 0xff],
+    };
+    prints(
+        &rt,
+        alloc,
+        &request,
+        "ICMPv6 echo request id=4660 seq=1 len=2",
+    );
+    let reply = Repr::EchoReply {
+        ident: 0x1234,
+        seq_no: 1,
+        data: &[],
+    };
+    prints(&rt, alloc, &reply, "ICMPv6 echo reply id=4660 seq=1 len=0");
+    takes_writes(&rt, &reply, 6);
+}
+
+#[test]
+fn other_messages_print_as_they_do_alone(rt: HostRuntime) {
+    let alloc = rt.alloc();
+    let solicit = ndisc::Repr::RouterSolicit { lladdr: None };
+    prints(
+        &rt,
+        alloc,
+        &Repr::Ndisc(solicit),
+        "NDISC router solicitation",
+    );
+    let report = mld::Repr::Report {
+        nr_mcast_addr_rcrds: 0,
+        data: &[],
+    };
+    prints(
+        &rt,
+        alloc,
+        &Repr::Mld(report),
+        "MLD report nr_mcast_addr_rcrds=0 data=-",
+    );
+}

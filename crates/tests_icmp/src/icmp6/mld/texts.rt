@@ -1,0 +1,72 @@
+use super::{query, report_of, short_record};
+use icmp6_wire::mld::{AddressRecordRepr, RecordType, Repr};
+use crate::testing::{prints, takes_writes};
+use wirebase::IPV6_LINK_LOCAL_ALL_NODES;
+
+#[test]
+fn texts_of_messages(rt: HostRuntime) {
+    let alloc = rt.alloc();
+    prints(
+        &rt,
+        alloc,
+        &query(),
+        "MLD query max_resp_code=1024 mcast_addr=ff02::1 s_flag=true qrv=2 qqic=18 num_srcs=1 \
+         data=ff020000000000000000000000000002",
+    );
+    prints(
+        &rt,
+        alloc,
+        &report_of(1),
+        "MLD report nr_mcast_addr_rcrds=1 data=04000000ff020000000000000000000000000002",
+    );
+    let empty = Repr::Report {
+        nr_mcast_addr_rcrds: 0,
+        data: &[],
+    };
+    takes_writes(&rt, &empty, 4);
+}
+
+#[test]
+fn a_list_prints_each_record(rt: HostRuntime) {
+    let none = Repr::ReportRecordReprs(&[]);
+    prints(&rt, rt.alloc(), &none, "MLD report nr_mcast_addr_rcrds=0");
+    let leaves = AddressRecordRepr::new(RecordType::ChangeToInclude, IPV6_LINK_LOCAL_ALL_NODES);
+    let records = [leaves, short_record()];
+    prints(
+        &rt,
+        rt.alloc(),
+        &Repr::ReportRecordReprs(&records),
+        "MLD report nr_mcast_addr_rcrds=2 (MLD record record_type=CHANGE_TO_INCLUDE_MODE aux_data_len=0 num_srcs=0 \
+         mcast_addr=ff02::1 payload=-) (MLD record record_type=CHANGE_TO_EXCLUDE_MODE aux_data_len=1 num_srcs=2 \
+         mcast_addr=ff02::2 payload=aabb)",
+    );
+}
+
+#[test]
+fn texts_of_records(rt: HostRuntime) {
+    prints(
+        &rt,
+        rt.alloc(),
+        &short_record(),
+        "MLD record record_type=CHANGE_TO_EXCLUDE_MODE aux_data_len=1 num_srcs=2 mcast_addr=ff02::2 \
+         payload=aabb",
+    );
+}
+
+// The types of records, with their names.
+const NAMES: &[(RecordType, &str)] = &[
+    (RecordType::ModeIsInclude, "MODE_IS_INCLUDE"),
+    (RecordType::ModeIsExclude, "MODE_IS_EXCLUDE"),
+    (RecordType::ChangeToInclude, "CHANGE_TO_INCLUDE_MODE"),
+    (RecordType::ChangeToExclude, "CHANGE_TO_EXCLUDE_MODE"),
+    (RecordType::AllowNewSources, "ALLOW_NEW_SOURCES"),
+    (RecordType::BlockOldSources, "BLOCK_OLD_SOURCES"),
+    (RecordType::Unknown(7), "unknown 7"),
+];
+
+#[test]
+fn texts_of_the_types_of_records(rt: HostRuntime) {
+    for (record_type, name) in NAMES {
+        prints(&rt, rt.alloc(), record_type, name);
+    }
+}

@@ -1,0 +1,28 @@
+//! Texts that are indented.
+
+use listing::page::write_indented;
+use crate::testing::{holds_of, same_of};
+
+const TEXTS: &[(&str, &str)] = &[
+    ("", ""),
+    ("\n", "  \n"),
+    ("refused", "  refused"),
+    ("refused\n", "  refused\n"),
+    ("Redirect\ncode=1\n", "  Redirect\n  code=1\n"),
+    ("a\n\n\nb", "  a\n  \n  \n  b"),
+    (" a\n", "   a\n"),
+    ("a\r\nb\r", "  a\r\n  b\r"),
+];
+
+#[test]
+fn texts_of_some_lines(rt: HostRuntime) {
+    for (text, want) in TEXTS {
+        let mut output = Vec::new(rt.alloc());
+        holds_of(
+            &rt,
+            text,
+            write_indented(&mut output, text.as_bytes()).is_ok(),
+        );
+        same_of(&rt, text, output.as_slice(), want.as_bytes());
+    }
+}
