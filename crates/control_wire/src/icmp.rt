@@ -15,7 +15,7 @@ pub enum Repr<'a> {
 }
 
 impl<'a> From<icmpv4::Repr<'a>> for Repr<'a> {
-    /// The same message.
+    /// Wraps an ICMPv4 message.
     fn from(message: icmpv4::Repr<'a>) -> Repr<'a>
         ensures { result ≡ Repr.Ipv4 message.entry }
     {
@@ -24,7 +24,7 @@ impl<'a> From<icmpv4::Repr<'a>> for Repr<'a> {
 }
 
 impl<'a> From<icmpv6::Repr<'a>> for Repr<'a> {
-    /// The same message.
+    /// Wraps an ICMPv6 message.
     fn from(message: icmpv6::Repr<'a>) -> Repr<'a>
         ensures { result ≡ Repr.Ipv6 message.entry }
     {

@@ -1,6 +1,6 @@
 //! The control-protocol wire layer of smoltcp, proved: each module under its name, the base types, and the aliases of
-//! the modules' items. What a contract says of them stands in the `specs/` of the crates that are passed on here;
-//! `specs/Lib.antt` passes it on too, file by file, so that a user's contracts cite it as `Rattle.control_wire.specs`.
+//! the modules' items. The definitions that its contracts cite are in the `specs/` of the re-exported crates;
+//! `specs/Lib.antt` re-exports them file by file, so that a user's contracts cite them as `Rattle.control_wire.specs`.
 #![tactic(auto)]
 
 pub mod icmp;

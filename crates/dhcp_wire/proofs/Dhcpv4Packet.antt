@@ -1,4 +1,4 @@
--- A packet as it is written: the header, and the options behind it.
+-- A packet as it is written: the header, and the options after it.
 use Rattle.std.proofs.Common.{◌≡◌, ℕ, ◌+◌, ◌-◌, ◌≤◌, ◌↔◌, List, [], ◌∷◌, ◌++◌, length, take, drop, IsOk, OnOk, OnErr}
 use Rattle.std.proofs.Common.{Result, Ok, Err, refl, sym, ap, subst, ◌∙◌, arith, length-append, length-drop}
 use Rattle.std.proofs.lemmas.List.{append_assoc, append-nil, drop-drop, drop_all, take_all}
@@ -28,7 +28,7 @@ put-all s text e =
     ∙ append-nil (s.written ++ take (length s.free) text)
     ∙ ap (λ (l : List ℕ). s.written ++ l) (take_all (length s.free) text (omega (arith, e)))
 
--- what is written and what is free behind the header
+-- what is written and what is free after the header
 header-sheet : (v : Value) (old : List ℕ) (w u : Writer) → 240 ≤ length old → IsBlank w old
     → Puts w u (header_fields v) → (written u ≡ header_text v) × (free_bytes u ≡ drop 240 old)
 unfolding header_text put
@@ -40,7 +40,7 @@ header-sheet v old w u room fresh puts =
       ap (λ (s : Sheet). s.free) whole ∙ ap (λ (n : ℕ). drop n old) (header_len-240 v),
     )
 
--- a front and what was written behind it
+-- a front and what was written after it
 laid : (h old t : List ℕ) (n : ℕ) → length h ≡ n → length t + n ≤ length old
     → h ++ over (drop n old) t ≡ over old (h ++ t)
 laid h old t n e room =
@@ -96,7 +96,7 @@ behind h old rest mine n os (Err x) e room is w =
           ∙ laid h old before n e (omega arith);
     }
 
--- what writing a value leaves where the header was written, and then the options into all that was free behind it
+-- what writing a value leaves where the header was written, and then the options into all that was free after it
 pub laid_behind : (v : Value) (old part mine new : List ℕ) (w u x : Writer) (n : ℕ) (result : Result (Unit {0}) Error)
     → 240 ≤ length old → IsBlank w old → Puts w u (header_fields v) → n ≡ length (free_bytes u)
     → part ≡ take n (free_bytes u) → WritesOptions (options_of v) part result mine → length mine ≡ n

@@ -52,7 +52,7 @@ is_padding n b t small l low =
     same_from_bits_below 8 b 0 (omega arith) (omega arith) (λ i k.
     sym (bit_at_cat_low n 8 b i k) ∙ low i (omega arith) ∙ sym (bit_at-zero i))
 
--- a bit of the octets behind the first
+-- a bit of the octets after the first
 next_bit : (n b i : ℕ) → b < 256 → bit_at n i ≡ bit_at (n * 2 ^ 8 + b) (8 + i)
 next_bit n b i small =
     let place : i ≡ 8 + i - 8 = omega arith in

@@ -151,7 +151,7 @@ said kind says o = if o.kind == kind then says o.body else None
 abbrev pub number_in : ℕ → List ℕ → Option ℕ
 number_in n d = option_map (big_number n) (of_len n d)
 
--- an address of Ethernet behind the number of its kind of hardware (RFC 2132 section 9.14)
+-- an address of Ethernet after the number of its kind of hardware (RFC 2132 section 9.14)
 abbrev pub identifier_in : List ℕ → Option (List ℕ)
 identifier_in d = option_map (drop 1) (of_len 7 d)
 

@@ -41,7 +41,7 @@ flags_display flags = if bit_and flags 0x8000 == 0 then codes "-" else codes "br
 
 -- ---- a packet
 
--- a field behind a space, its name and `=`, where it is there
+-- a field after a space, its name and `=`, where it is there
 abbrev pub named : List ℕ → Option (List ℕ) → List ℕ
 named name None = []
 named name (Some value) = pieces (codes " " ∷ name ∷ codes "=" ∷ value ∷ [])

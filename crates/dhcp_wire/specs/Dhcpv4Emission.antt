@@ -9,7 +9,7 @@ use Rattle.dhcp_wire.specs.Dhcpv4Format.{data_len, fits, texts_before, AllShort}
 use Rattle.dhcp_wire.specs.Dhcpv4Options.{OptionValue, option, option_text}
 use Rattle.dhcp_wire.specs.Dhcpv4Writer.{settled, free}
 
--- What writing options and the end mark leaves where `old` stood.
+-- What writing options and the end mark over `old` leaves.
 pub record WritesOptions (os : List OptionValue) (old : List ℕ) (result : Result (Unit {0}) Error)
     (new : List ℕ) : Type 0
   where

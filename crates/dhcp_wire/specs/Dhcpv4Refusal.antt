@@ -27,7 +27,7 @@ abbrev pub IsFirstOther : ℕ → List OptionValue → Type 0
 IsFirstOther hardware [] = ⊥
 IsFirstOther hardware (o ∷ os) = IsOther hardware o ⊎ (IsOfEthernet o × IsFirstOther hardware os)
 
--- How the options in these bytes end: behind padding and whole options comes the end mark, or the end of the bytes; or
+-- How the options in these bytes end: after padding and whole options comes the end mark, or the end of the bytes; or
 -- else an option of a kind that is cut, before its length or within its data.
 pub data Ends : List ℕ → Option ℕ → Type 0 where
   with_bytes : Ends [] None
@@ -39,7 +39,7 @@ pub data Ends : List ℕ → Option ℕ → Type 0 where
   past_option : {bytes : List ℕ} {cut : Option ℕ} (o : OptionValue) (rest : List ℕ) → IsKind o.kind → Ends rest cut
       → bytes ≡ option_text o ++ rest → Ends bytes cut
 
--- A header is there, and these options behind it: each client identifier of 7 bytes is of Ethernet, and none of the
+-- A header is there, and these options after it: each client identifier of 7 bytes is of Ethernet, and none of the
 -- options is a type of message that has the operation of the packet.
 pub record HasNoType (bytes : List ℕ) (options : List OptionValue) : Type 0 where
   pub header : HasHeader bytes

@@ -75,7 +75,7 @@ no_split text reason h name after s =
     no_begin h.labels text h.rest h.each h.whole (torn-front h.rest reason h.torn) (length name)
     (split_begins text name after s)
 
--- what stands behind the part is one text
+-- what follows the part is one text
 pub split_one : (text name other after behind : List ℕ) → IsSplit text name after → IsSplit text other behind
     → (name ≡ other) × (after ≡ behind)
 split_one text name other after behind h k =
@@ -90,7 +90,7 @@ split_one text name other after behind h k =
 
 -- ---- a whole name
 
--- behind whole labels the name breaks, for this reason
+-- after whole labels the name breaks, for this reason
 pub record BreaksFor (reason : NameRefusal) (text reach : List ℕ) (labels : List (List ℕ)) : Type 0 where
   pub rest : List ℕ
   pub each : AllByRecursion IsLabel labels

@@ -29,7 +29,7 @@ whole_gives targets parts =
     subst (λ labels. Gives (whole_name targets parts) labels) (append-nil (joined parts))
     (all_before 0 0 parts [] (at_end (length (joined parts) + length targets)) refl)
 
--- what comes behind the labels of a window
+-- what comes after the labels of a window
 behind : (i n : ℕ) (labels all : List (List ℕ)) (ahead : List Coming) → Gives (in_window i n labels ++ ahead) all
     → (more : List (List ℕ)) × Gives ahead more
 behind i n [] all ahead g = (all, g)

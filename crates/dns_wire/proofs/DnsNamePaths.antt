@@ -77,7 +77,7 @@ opened C (p ∷ ps) (labels ∷ more) above text message b h =
       open_ = r.open_;
     }
 
--- what is behind the first label where a text breaks
+-- what is after the first label where a text breaks
 break_after : (text reach l : List ℕ) (ls : List (List ℕ)) → Breaks text reach (l ∷ ls)
     → (rest : List ℕ) × (front_of text ≡ whole l rest) × Breaks rest reach ls
 break_after text reach l ls b = (

@@ -1,4 +1,4 @@
--- Bytes are data of a type in one way, and a record is a name and what stands behind it.
+-- Bytes are data of a type in one way, and a record is a name and what follows it.
 use Rattle.std.proofs.Common.{◌≡◌, ◌↔◌, ℕ, List, ◌-◌, length, take, drop, subst, sym, ap, ◌∙◌}
 use Rattle.std.proofs.lemmas.List.{take_rest}
 use Rattle.wirebase.specs.declared.ipv6.address.Ipv6Address.{Ipv6Address}
@@ -36,11 +36,11 @@ pub data_alike : (t u : RecordType) (bytes same : List ℕ) (v : DataValue) → 
 data_alike t u bytes same v e f h =
     subst (λ (d : List ℕ). IsData u d v) f (subst (λ (k : RecordType). IsData k bytes v) e h)
 
--- the bytes behind the fixed fields
+-- the bytes after the fixed fields
 abbrev pub behind : List ℕ → List ℕ
 behind bytes = take (length bytes - 10) (drop 10 bytes)
 
--- the data, and what stands behind it
+-- the data, and what follows it
 pub data_bytes : (bytes : List ℕ) (n m : ℕ) → n ≡ m → take n (drop 10 bytes) ≡ take m (behind bytes)
 data_bytes bytes n m e =
     ap (λ (k : ℕ). take k (drop 10 bytes)) e ∙ ap (λ (b : List ℕ). take m b) (sym (take_rest bytes 10))

@@ -80,8 +80,8 @@ flag_names =
     (codes "qr", 0x8000) ∷ (codes "aa", 0x0400) ∷ (codes "tc", 0x0200) ∷ (codes "rd", 0x0100)
     ∷ (codes "ra", 0x0080) ∷ (codes "ad", 0x0020) ∷ (codes "cd", 0x0010) ∷ []
 
--- The names of the flags that are set, with commas between them; this stands in front of the first, and where none is
--- set there is this text.
+-- The names of the flags that are set, with commas between them; this stands before the first, and where none is set
+-- there is this text.
 abbrev pub names_set : List ℕ → List ℕ → List (List ℕ × ℕ) → ℕ → List ℕ
 names_set front none [] bits = none
 names_set front none (row ∷ rest) bits =

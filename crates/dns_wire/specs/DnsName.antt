@@ -1,9 +1,9 @@
 -- Domain names as they are written in messages (RFC 1035 section 4.1.4): labels, one after another, and then the end
 -- of the name or a pointer to where it goes on. No code is followed here.
 --
--- A part of a name stops with a mark. Where it goes on, the next part is found at the target in the message. A
--- falling path has targets that each lie below the one before, and each part behind the first stands between its
--- target and the target before it: so no byte of the message is in two of these windows, and the path ends.
+-- A part of a name stops with a mark. Where it goes on, the next part is found at the target in the message. A falling
+-- path has targets that each lie below the one before, and each part after the first stands between its target and the
+-- target before it: so no byte of the message is in two of these windows, and the path ends.
 use Rattle.std.specs.Prelude.{◌≡◌, ℕ, ◌+◌, ◌*◌, ◌%◌, ◌<◌, ◌≤◌, ◌⊎◌, List, [], ◌∷◌, ◌++◌, length, drop, map, slice_range}
 use Rattle.std.specs.List.{AllByRecursion, flat_map}
 
@@ -85,7 +85,7 @@ abbrev pub last_window : List ℕ → List ℕ → ℕ → List ℕ → List ℕ
 last_window text message above [] = text
 last_window text message above (p ∷ ps) = last_window (slice_range message p above) message p ps
 
--- where the last of the windows ends: behind it no byte of the message is open to a pointer
+-- where the last of the windows ends: after it no byte of the message is open to a pointer
 abbrev pub open_below : ℕ → List ℕ → ℕ
 open_below above [] = above
 open_below above (p ∷ ps) = open_below p ps

@@ -56,7 +56,7 @@ authority_count_field = field 8 10
 abbrev pub additional_count_field : Field
 additional_count_field = field 10 12
 
--- the header, and what stands after it
+-- the header, and what follows it
 abbrev pub header : Field
 header = field 0 12
 

@@ -12,7 +12,7 @@ shown (Pointer target) = pointer target
 shown End = stop
 shown Torn = torn
 
--- A pointer to this place leads to an open byte: what is left there, and the bytes in front of it, which are open then.
+-- A pointer to this place leads to an open byte: what is left there, and the bytes before it, which are open then.
 pub record LeadsTo (reach : List ℕ) (target : ℕ) (left front : List ℕ) : Type 0 where
   pub inside : target < length reach
   pub left_ : left ≡ drop target reach

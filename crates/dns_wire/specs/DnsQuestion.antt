@@ -16,7 +16,7 @@ use Rattle.dns_wire.specs.declared.dns.tables.Type.{«Type» as RecordType}
 use Rattle.dns_wire.specs.declared.dns.tables.Type.TheVariants as kind
 use Rattle.dns_wire.specs.declared.dns.question.Question.{Question}
 
--- the fields behind the name
+-- the fields after the name
 abbrev pub type_field : Field
 type_field = field 0 2
 

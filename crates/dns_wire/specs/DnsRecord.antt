@@ -24,7 +24,7 @@ use Rattle.dns_wire.specs.declared.dns.record.Record.{Record}
 use Rattle.dns_wire.specs.declared.dns.record.RecordData.{RecordData}
 use Rattle.dns_wire.specs.declared.dns.record.RecordData.TheVariants as record_data
 
--- the fields behind the name and the class
+-- the fields after the name and the class
 abbrev pub ttl_field : Field
 ttl_field = field 4 8
 
@@ -61,8 +61,8 @@ pub record RecordValue : Type 0 where
 abbrev pub value_of : Record → RecordValue
 value_of r = record { name = r.name.now; ttl = r.ttl; holds = data_value r.«data» }
 
--- What stands behind the name of a record: a type, the class of the internet, a time to live, the length of the data
--- and as many bytes of data of the type, and then a rest.
+-- What follows the name of a record: a type, the class of the internet, a time to live, the length of the data and as
+-- many bytes of data of the type, and then a rest.
 pub record IsBehindName (after : List ℕ) (ttl : ℕ) (holds : DataValue) (rest : List ℕ) : Type 0 where
   pub reaches : Reaches length_field after
   pub class : number_of class_field after ≡ internet
@@ -72,7 +72,7 @@ pub record IsBehindName (after : List ℕ) (ttl : ℕ) (holds : DataValue) (rest
       (take (number_of length_field after) (drop 10 after)) holds
   pub rest_ : rest ≡ drop (number_of length_field after) (drop 10 after)
 
--- The grammar: these bytes are a name of one part, and what stands behind the name of this record.
+-- The grammar: these bytes are a name of one part, and what follows the name of this record.
 pub record IsRecord (bytes : List ℕ) (r : RecordValue) (rest : List ℕ) : Type 0 where
   pub after : List ℕ
   pub name_ : IsOnePart r.name

@@ -29,7 +29,7 @@ IsTorn bytes (LabelType n) = (behind : List ℕ) × (bytes ≡ n ∷ behind) × 
 IsTorn bytes PointerCut = (first : ℕ) × (bytes ≡ first ∷ []) × (192 ≤ first)
 IsTorn bytes (Pointer place) = ⊥
 
--- A text begins with no part of a name, for this reason: it stands behind the whole labels at the front.
+-- A text begins with no part of a name, for this reason: it stands after the whole labels at the front.
 pub record PartBreaks (text : List ℕ) (reason : NameRefusal) : Type 0 where
   pub labels : List (List ℕ)
   pub rest : List ℕ
@@ -46,7 +46,7 @@ BreaksHere open_bytes bytes (Pointer place) =
 BreaksHere open_bytes bytes reason = IsTorn bytes reason
 
 -- The name that begins in a text and may go on in a message breaks, for this reason: its longest falling path is not
--- complete, and the reason stands in the last window, behind the whole labels at its front.
+-- complete, and the reason stands in the last window, after the whole labels at its front.
 pub record NameBreaks (text message : List ℕ) (reason : NameRefusal) : Type 0 where
   pub targets : List ℕ
   pub parts : List (List (List ℕ))
@@ -85,7 +85,7 @@ RefusesData t bytes _ = ⊥
 abbrev pub AreData : RecordType → List ℕ → Type 0
 AreData t bytes = (value : DataValue) × IsData t bytes value
 
--- what stands behind the name of a record
+-- what follows the name of a record
 abbrev pub RefusesBehindName : List ℕ → Refusal → Type 0
 RefusesBehindName after (Name reason) = ⊥
 RefusesBehindName after Short = length after < 10

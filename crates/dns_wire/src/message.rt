@@ -1,4 +1,4 @@
-//! The octets behind the view of a message, and the parts of the names in it, for the crates above.
+//! The octets under the view of a message, and the parts of the names in it, for the crates above.
 
 ghost use Rattle.std.specs.Prelude.{◌≡◌};
 ghost use Rattle.dns_wire.specs.DnsPacket.{view_octets};

@@ -33,7 +33,7 @@ IsErrorType t = (t ≡ 3) ⊎ (t ≡ 11)
 
 -- ---- what an error quotes
 
--- a packet that is whole by its own lengths, with 8 bytes or more behind its header
+-- a packet that is whole by its own lengths, with 8 bytes or more after its header
 abbrev pub IsWholeQuote : List ℕ → Type 0
 IsWholeQuote bytes = BeginsWhole bytes × (header_len_in bytes + 8 ≤ length bytes)
 

@@ -102,7 +102,7 @@ of_redirect l r = record { link = grind arith; packet = grind arith }
 
 -- ---- messages
 
--- the type, and what stands behind the checksum
+-- the type, and what follows the checksum
 abbrev pub kind_of : NdiscValue → ℕ
 kind_of (router_solicit l) = 0x85
 kind_of (router_advert hops flags lifetime reachable retrans l m p) = 0x86

@@ -20,7 +20,7 @@ whole_none bytes place rest begins neighbor is e = record {
   place_ = omega (arith, is);
 }
 
--- one more behind them
+-- one more after them
 append_whole : (options block : List ℕ) → AreWhole options → IsBlock block → AreWhole (options ++ block)
 append_whole options block nothing b = one_more block [] b nothing (sym (append-nil block))
 append_whole options block (one_more first rest f w e) b =
@@ -45,7 +45,7 @@ tiled bytes (one_more block rest b w e) none =
     tiled rest w (λ options more. none options (skips block rest b
     (λ v reads. none (v ∷ options) (goes_on block rest v b reads more e)) more e))
 
--- so where the payload has no tiling, something stands behind them
+-- so where the payload has no tiling, something stands after them
 pub some_behind : (bytes : List ℕ) (place : ℕ) (rest : List ℕ) → AreWholeUpTo bytes place rest
     → ((options : List OptionValue) → AreBlocks (payload_in bytes) options → ⊥) → 1 ≤ length rest
 some_behind bytes place [] a none =

@@ -92,7 +92,7 @@ length-text v =
       length-options (options_of v) (are_counted v),
     )
 
--- what is written behind a header
+-- what is written after a header
 pub put_all-header : (v : NdiscValue) (behind : List (List ℕ)) (s : Sheet)
     → put_all s (header_fields v behind) ≡ put_all (put_all s (header_fields v [])) behind
 put_all-header (router_solicit l) behind s = refl

@@ -74,7 +74,7 @@ blocks-unique bytes options others (skips {options = os} b r h k t e) (skips {op
 
 -- ---- a pass over them
 
--- what stands behind a block is blocks, where all is
+-- what follows a block is blocks, where all is
 pub blocks_behind : (bytes block rest : List ℕ) (options : List OptionValue) → IsBlock block → bytes ≡ block ++ rest
     → AreBlocks bytes options → HasBlocks rest
 blocks_behind bytes block rest options b e ends = absurd (some_block block rest b e)
@@ -137,7 +137,7 @@ kind_read bytes m is =
     sym (number-case_in message_number message.Unknown (λ k. refl) messages (byte_of type_field bytes))
     ∙ ap message_number is
 
--- a message, of which this was kept of the blocks behind its header
+-- a message, of which this was kept of the blocks after its header
 pub message_said : {octets bytes : List ℕ} {k : Kept} {v : NdiscValue} → BeginsWhole octets → bytes ≡ payload_in octets
     → (s : Says bytes k) → IsContent octets s.options v → IsMessage octets v
 message_said whole payload s content = record {

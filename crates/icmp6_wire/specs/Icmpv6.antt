@@ -1,6 +1,6 @@
--- ICMPv6 messages (RFC 4443), whose header and echoes are those of ICMP in wirebase. The word behind the checksum is,
--- of an error, zero, the largest packet or the pointer; behind the header stands the IPv6 header that an error speaks
--- of, and the data behind that.
+-- ICMPv6 messages (RFC 4443), whose header and echoes are those of ICMP in wirebase. The word after the checksum is, of
+-- an error, zero, the largest packet or the pointer; after the header stands the IPv6 header that an error is about,
+-- and the data after that.
 use Rattle.std.specs.Prelude.{◌≡◌, ◌≢◌, ℕ, ◌+◌, ◌≤◌, ◌<◌, ◌^◌, min, true, List, [], ◌∷◌, length, drop, take}
 use Rattle.wirebase.specs.declared.capabilities.ChecksumCapabilities.{ChecksumCapabilities}
 use Rattle.wirebase.specs.declared.capabilities.Checksum.TheVariants.{Rx}
@@ -34,7 +34,7 @@ use Rattle.icmp6_wire.specs.declared.icmpv6.tables.TimeExceeded.{TimeExceeded}
 use Rattle.icmp6_wire.specs.declared.icmpv6.tables.TimeExceeded.TheVariants as times
 
 -- A message by its content: an error with its reason, the largest packet, the time or the problem and its place, the
--- header that it speaks of and the data behind it; an echo with its identifier, its sequence number and its data; or a
+-- header that it is about and the data after it; an echo with its identifier, its sequence number and its data; or a
 -- message of multicast listener discovery or of neighbor discovery.
 pub data MessageValue : Type 0 where
   unreachable : DstUnreachable → Ipv6Repr → List ℕ → MessageValue
@@ -58,8 +58,8 @@ value_of (repr.Mld m) = mld (listeners.value_of m)
 
 -- ---- the text
 
--- what an error quotes of the data behind a header, so that with an IPv6 header of its own it is at most the 1,280
--- bytes that every link can carry (RFC 4443 section 2.4)
+-- what an error quotes of the data after a header, so that with an IPv6 header of its own it is at most the 1,280 bytes
+-- that every link can carry (RFC 4443 section 2.4)
 unfoldable pub quoted_data : List ℕ → List ℕ
 quoted_data d = take 1192 d
 
@@ -137,7 +137,7 @@ CanEmit (mld m) bytes = listeners.CanEmit m bytes
 -- ---- the grammar
 
 -- An error of this type: it quotes a whole header, whose version and length are not looked at; the data is all that
--- stands behind it.
+-- follows it.
 pub record IsError (t : ℕ) (bytes : List ℕ) (quoted : Ipv6Repr) (d : List ℕ) : Type 0 where
   pub kind : byte_of type_field bytes ≡ t
   pub quote_ : 48 ≤ length bytes
@@ -225,9 +225,9 @@ format capabilities source destination =
       IsCut = IsCut;
     }
 
--- What writing a message leaves where `old` stood. Where the checksum is computed, that of all the octets is good,
--- however many there are. Where there is just the message's length, its packet is all that is left, and a canonical
--- value is read back from it as its normal form.
+-- What writing a message over `old` leaves. Where the checksum is computed, that of all the octets is good, however
+-- many there are. Where there is just the message's length, its packet is all that is left, and a canonical value is
+-- read back from it as its normal form.
 pub record Emits (capabilities : ChecksumCapabilities) (source destination : Ipv6Address) (v : MessageValue)
     (old new : List ℕ) : Type 0 where
   pub text_ : new ≡ emitted capabilities source destination v old

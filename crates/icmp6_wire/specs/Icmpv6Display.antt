@@ -9,7 +9,7 @@ use Rattle.icmp6_wire.specs.NdiscDisplay as neighbors
 use Rattle.icmp6_wire.specs.declared.icmpv6.refusal.Refusal.{Refusal}
 use Rattle.icmp6_wire.specs.declared.icmpv6.refusal.Refusal.TheVariants as refusal
 
--- a message: an error by its reason and the word behind the checksum, an echo by its numbers and the bytes of its data,
+-- a message: an error by its reason and the word after the checksum, an echo by its numbers and the bytes of its data,
 -- and a message of neighbor discovery or of multicast listener discovery as it prints alone
 abbrev pub repr_display : MessageValue → List ℕ
 repr_display (unreachable reason quoted d) =

@@ -1,4 +1,4 @@
--- The view of an ICMPv6 message (RFC 4443 section 2.1), whose header is that of ICMP in wirebase; what the word behind
+-- The view of an ICMPv6 message (RFC 4443 section 2.1), whose header is that of ICMP in wirebase; what the word after
 -- the checksum is goes by the type.
 use Rattle.std.specs.Prelude.{◌≡◌, ℕ, ◌%◌, ◌^◌, ◌≤◌, Bool, true, false, List, [], ◌∷◌, length, drop}
 use Rattle.std.specs.Borrow.{Bor}
@@ -32,7 +32,7 @@ KeepsLen bytes old new = length (bytes (inner new)) ≡ length (bytes (inner old
 
 -- ---- the fields
 
--- the word behind the checksum: the size of the largest packet (RFC 4443 section 3.2), the place of a problem (section
+-- the word after the checksum: the size of the largest packet (RFC 4443 section 3.2), the place of a problem (section
 -- 3.4), or reserved
 abbrev pub word_field : Field
 word_field = field 4 8
@@ -74,7 +74,7 @@ header_len_of _ = 4
 abbrev pub header_len_in : List ℕ → ℕ
 header_len_in bytes = header_len_of (message_in bytes)
 
--- what stands after the header
+-- what follows the header
 abbrev pub payload_in : List ℕ → List ℕ
 payload_in bytes = drop (header_len_in bytes) bytes
 

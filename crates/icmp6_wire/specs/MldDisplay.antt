@@ -23,7 +23,7 @@ record_type_display record_type.AllowNewSources = codes "ALLOW_NEW_SOURCES"
 record_type_display record_type.BlockOldSources = codes "BLOCK_OLD_SOURCES"
 record_type_display (record_type.Unknown n) = pieces (codes "unknown " ∷ decimal n ∷ [])
 
--- a record: its fields, and the bytes of what stands after them
+-- a record: its fields, and the bytes of what follows them
 unfoldable pub record_display : RecordValue → List ℕ
 record_display (address_record kind words sources group rest) =
     pieces (codes "MLD record record_type=" ∷ record_type_display kind
@@ -32,7 +32,7 @@ record_display (address_record kind words sources group rest) =
     ∷ codes " mcast_addr=" ∷ address_text group
     ∷ codes " payload=" ∷ octets_text rest ∷ [])
 
--- records behind one another, each in parentheses
+-- records after one another, each in parentheses
 abbrev pub records_display : List RecordValue → List ℕ
 records_display rs = flat_map (λ r. codes " (" ++ (record_display r ++ codes ")")) rs
 
@@ -40,7 +40,7 @@ records_display rs = flat_map (λ r. codes " (" ++ (record_display r ++ codes ")
 abbrev truth_text : Bool → List ℕ
 truth_text is = if is then codes "true" else codes "false"
 
--- the fields of a query behind its flag
+-- the fields of a query after its flag
 abbrev pub counts_display : ℕ → ℕ → ℕ → List ℕ → List ℕ
 counts_display qrv qqic sources d =
     pieces (codes " qrv=" ∷ decimal qrv

@@ -19,8 +19,8 @@ use Rattle.icmp6_wire.specs.declared.mld.refusal.RecordRefusal.TheVariants as re
 abbrev pub Answer : Type 0
 Answer = Result (List ℕ) RecordRefusal
 
--- So many records one after another, whatever stands behind them; or those in front of a place where the bytes end
--- before a record does, which is answered by one refusal, with the check that fails first.
+-- So many records one after another, whatever follows them; or those before a place where the bytes end before a record
+-- does, which is answered by one refusal, with the check that fails first.
 pub data AreRecords : ℕ → List ℕ → List Answer → Type 0 where
   ends : {bytes : List ℕ} → AreRecords 0 bytes []
   goes_on : {n : ℕ} {bytes : List ℕ} {answers : List Answer} (front rest : List ℕ)
@@ -56,8 +56,8 @@ records_ahead (suc n) bytes =
 abbrev pub IsBare : RecordValue → Type 0
 IsBare (address_record kind words sources group rest) = (words ≡ 0) × (sources ≡ 0)
 
--- A list of such records is written as just these records. One that counts what stands behind its fields is written
--- without it, so that a reader takes the record behind it for that, or finds the record cut.
+-- A list of such records is written as just these records. One that counts what follows its fields is written without
+-- it, so that a reader takes the record after it for that, or finds the record cut.
 abbrev pub AreGiven : MldValue → List ℕ → Type 0
 AreGiven (records rs) bytes =
     AllByRecursion IsBare rs → AreRecords (length rs) (drop 8 bytes) (map (λ r. Ok (record_text r)) rs)

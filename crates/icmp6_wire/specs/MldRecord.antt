@@ -55,7 +55,7 @@ num_srcs_field = field 2 4
 abbrev pub mcast_addr_field : Field
 mcast_addr_field = field 4 20
 
--- what stands after them
+-- what follows them
 abbrev pub payload_in : List ℕ → List ℕ
 payload_in bytes = drop 20 bytes
 
@@ -64,15 +64,14 @@ payload_in bytes = drop 20 bytes
 abbrev pub record_len_in : List ℕ → ℕ
 record_len_in bytes = 20 + 16 * number_of num_srcs_field bytes + 4 * byte_of aux_data_len_field bytes
 
--- a record by its content: its type, the words of auxiliary data, the number of sources, the group, and what stands
--- after
+-- a record by its content: its type, the words of auxiliary data, the number of sources, the group, and what follows
 pub data RecordValue : Type 0 where
   address_record : RecordType → ℕ → ℕ → Ipv6Address → List ℕ → RecordValue
 
 abbrev pub value_of : AddressRecordRepr → RecordValue
 value_of r = address_record r.record_type r.aux_data_len r.num_srcs r.mcast_addr r.payload.now
 
--- its fields; what stands after them is not written
+-- its fields; what follows them is not written
 abbrev pub record_fields : RecordValue → List (List ℕ)
 record_fields (address_record kind words sources group rest) =
     be8 (record_type_number kind) ∷ be8 words ∷ be16 sources ∷ octets_of group ∷ []
@@ -103,7 +102,7 @@ IsCanonical (address_record kind words sources group rest) =
     IsProper record_type.Unknown record_type_rows kind × (record_type_number kind < 256) × (words < 256)
     × (sources < 2 ^ 16) × IsMulticast group
 
--- the normal form: what stands after the fields is not written
+-- the normal form: what follows the fields is not written
 abbrev pub norm : RecordValue → RecordValue
 norm (address_record kind words sources group rest) = address_record kind words sources group []
 
@@ -127,7 +126,7 @@ format =
       IsCut = IsCut;
     }
 
--- What writing a record leaves where `old` stood.
+-- What writing a record over `old` leaves.
 pub record Emits (v : RecordValue) (old new : List ℕ) : Type 0 where
   pub text_ : new ≡ over old (text v)
   pub exact : length old ≡ 20 → new ≡ text v

@@ -90,7 +90,7 @@ abbrev pub option_lens : List (Option OptionValue) → ℕ
 option_lens [] = 0
 option_lens (o ∷ os) = option_len o + option_lens os
 
--- the fields, with the checksum zero, and the options behind them
+-- the fields, with the checksum zero, and the options after them
 abbrev pub header_fields : NdiscValue → List (List ℕ) → List (List ℕ)
 header_fields (router_solicit l) behind = be8 0x85 ∷ be8 0 ∷ be16 0 ∷ be32 0 ∷ behind
 header_fields (router_advert hops flags lifetime reachable retrans l m p) behind =
@@ -222,8 +222,8 @@ format = record {
   IsCut = λ v. ⊥;
 }
 
--- What writing a message leaves where `old` stood: its text over the front. Where there is just its length, its text is
--- all that is left, and a canonical value is read back from it as its normal form.
+-- What writing a message over `old` leaves: its text over the front. Where there is just its length, its text is all
+-- that is left, and a canonical value is read back from it as its normal form.
 pub record Emits (v : NdiscValue) (old new : List ℕ) : Type 0 where
   pub text_ : new ≡ over old (text v)
   pub exact : length old ≡ text_len v → new ≡ text v

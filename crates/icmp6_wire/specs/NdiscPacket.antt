@@ -1,4 +1,4 @@
--- The fields of neighbor discovery messages behind the checksum (RFC 4861 sections 4.1 to 4.5).
+-- The fields of neighbor discovery messages after the checksum (RFC 4861 sections 4.1 to 4.5).
 --
 -- Of a router advertisement:
 -- +---------------+---------------+-------------------------------+

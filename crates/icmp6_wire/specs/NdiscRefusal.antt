@@ -21,7 +21,7 @@ pub data AreWhole : List ℕ → Type 0 where
   one_more : {bytes : List ℕ} (block rest : List ℕ) → IsBlock block → AreWhole rest → bytes ≡ block ++ rest
       → AreWhole bytes
 
--- The bytes begin with a whole header of a message of neighbor discovery. Behind it stand whole options up to this
+-- The bytes begin with a whole header of a message of neighbor discovery. After it stand whole options up to this
 -- place, counted from the front of the message, and then these bytes.
 pub record AreWholeUpTo (bytes : List ℕ) (place : ℕ) (rest : List ℕ) : Type 0 where
   pub begins : BeginsWhole bytes
@@ -53,7 +53,7 @@ pub record IsTooShort (rest : List ℕ) (kind units : ℕ) : Type 0 where
   pub few : ((kind ≡ 3) × (units < 4)) ⊎ ((kind ≡ 4) × (units < 6))
 
 -- The checks in their order: there are the 8 bytes of every header; the type is one of neighbor discovery; there are
--- the bytes of the header of that type; and behind it stand whole options, of which the first that is none is told by
+-- the bytes of the header of that type; and after it stand whole options, of which the first that is none is told by
 -- its type and its place, counted from the front of the message.
 abbrev pub Refuses : List ℕ → Refusal → Type 0
 Refuses bytes refusal.Short = length bytes < 8

@@ -1,4 +1,4 @@
-//! Neighbor discovery (RFC 4861): what its messages have behind the checksum.
+//! Neighbor discovery (RFC 4861): the fields of its messages after the checksum.
 //!
 //! ```
 //! use control_wire::icmpv6::{Packet, Repr as Icmpv6Repr};
@@ -55,7 +55,7 @@ pub(crate) use reading::{
 pub use refusal::Refusal;
 pub use repr::Repr;
 
-// The fields behind the checksum (RFC 4861 section 4); their picture is in specs/NdiscPacket.antt.
+// The fields after the checksum (RFC 4861 section 4); their picture is in specs/NdiscPacket.antt.
 mod field {
     use wirebase::Field;
 
@@ -106,7 +106,7 @@ impl<T: Octets> Packet<T> {
         Duration::from_secs(self.buffer.u16_at(field::ROUTER_LIFETIME) as u64)
     }
 
-    /// How long a neighbor counts as reachable, in whole milliseconds; 0 where it is not told. Requires at least 12
+    /// How long a neighbor counts as reachable, in whole milliseconds; 0 where it is unspecified. Requires at least 12
     /// bytes.
     pub fn reachable_time(&self) -> Duration
         requires { Reaches reachable_time_field (T.bytes (inner self.now)) }
@@ -115,7 +115,7 @@ impl<T: Octets> Packet<T> {
         Duration::from_millis(self.buffer.u32_at(field::REACHABLE_TIME) as u64)
     }
 
-    /// The time between solicitations, in whole milliseconds; 0 where it is not told. Requires at least 16 bytes.
+    /// The time between solicitations, in whole milliseconds; 0 where it is unspecified. Requires at least 16 bytes.
     pub fn retrans_time(&self) -> Duration
         requires { Reaches retrans_time_field (T.bytes (inner self.now)) }
         ensures { micros_of result ≡ 1000 * number_of retrans_time_field (T.bytes (inner self.now)) }
@@ -123,7 +123,7 @@ impl<T: Octets> Packet<T> {
         Duration::from_millis(self.buffer.u32_at(field::RETRANS_TIME) as u64)
     }
 
-    /// The address that a neighbor message or a redirect speaks of. Requires at least 24 bytes.
+    /// The target address of a neighbor message or a redirect. Requires at least 24 bytes.
     pub fn target_addr(&self) -> Ipv6Address
         requires { Reaches target_addr_field (T.bytes (inner self.now)) }
         ensures { octets_of result ≡ bytes_of target_addr_field (T.bytes (inner self.now)) }
@@ -141,7 +141,7 @@ impl<T: Octets> Packet<T> {
         NeighborFlags::from_bits_truncate(self.buffer.u8_at(field::NEIGHBOR_FLAGS))
     }
 
-    /// The destination that a redirect redirects. Requires at least 40 bytes.
+    /// The destination address of a redirect. Requires at least 40 bytes.
     pub fn dest_addr(&self) -> Ipv6Address
         requires { Reaches dest_addr_field (T.bytes (inner self.now)) }
         ensures { octets_of result ≡ bytes_of dest_addr_field (T.bytes (inner self.now)) }
@@ -156,8 +156,8 @@ impl<'a> Packet<&'a [u8]> {
     ghost use Rattle.opt_wire.specs.NdiscOptionBlocks.{Tile};
     ghost use Rattle.icmp6_wire.specs.Icmpv6Packet.{view_octets, header_len_in, payload_in};
 
-    /// The options of a message of neighbor discovery in turn, those of unknown types too: what its payload is (RFC
-    /// 4861 section 4). Requires the header of the type.
+    /// The options of a message of neighbor discovery in turn, also those of unknown types: its payload (RFC 4861
+    /// section 4). Requires the header of the type.
     ///
     /// ```
     /// use control_wire::icmpv6::Packet;
@@ -199,8 +199,8 @@ impl<T: OctetsMut> Packet<T> {
         self.buffer.set_u8(field::ROUTER_FLAGS, flags.bits());
     }
 
-    /// Writes how long the sender is a default router, in whole seconds; what is past them is left out. Requires at
-    /// least 8 bytes, and 65,535 seconds at most.
+    /// Writes how long the sender is a default router, in whole seconds; a fraction is dropped. Requires at least 8
+    /// bytes, and 65,535 seconds at most.
     pub fn set_router_lifetime(&mut self, value: Duration)
         requires room { Reaches router_lifetime_field (T.bytes (inner self.old)) }
         requires fits { seconds_of value ≤ 65535 }
@@ -212,8 +212,8 @@ impl<T: OctetsMut> Packet<T> {
             .set_u16(field::ROUTER_LIFETIME, value.secs() as u16);
     }
 
-    /// Writes how long a neighbor counts as reachable, in whole milliseconds; what is past them is left out. Requires
-    /// at least 12 bytes, and 4,294,967,295 milliseconds at most.
+    /// Writes how long a neighbor counts as reachable, in whole milliseconds; a fraction is dropped. Requires at least
+    /// 12 bytes, and 4,294,967,295 milliseconds at most.
     pub fn set_reachable_time(&mut self, value: Duration)
         requires room { Reaches reachable_time_field (T.bytes (inner self.old)) }
         requires fits { millis_of value ≤ 4294967295 }
@@ -225,8 +225,8 @@ impl<T: OctetsMut> Packet<T> {
             .set_u32(field::REACHABLE_TIME, value.total_millis() as u32);
     }
 
-    /// Writes the time between solicitations, in whole milliseconds; what is past them is left out. Requires at least
-    /// 16 bytes, and 4,294,967,295 milliseconds at most.
+    /// Writes the time between solicitations, in whole milliseconds; a fraction is dropped. Requires at least 16 bytes,
+    /// and 4,294,967,295 milliseconds at most.
     pub fn set_retrans_time(&mut self, value: Duration)
         requires room { Reaches retrans_time_field (T.bytes (inner self.old)) }
         requires fits { millis_of value ≤ 4294967295 }
@@ -238,7 +238,7 @@ impl<T: OctetsMut> Packet<T> {
             .set_u32(field::RETRANS_TIME, value.total_millis() as u32);
     }
 
-    /// Writes the address that the message speaks of. Requires at least 24 bytes.
+    /// Writes the target address of a neighbor message or a redirect. Requires at least 24 bytes.
     pub fn set_target_addr(&mut self, value: Ipv6Address)
         requires { Reaches target_addr_field (T.bytes (inner self.old)) }
         ensures writes { Sets T.bytes T.put self.old self.new target_addr_field (octets_of value) }
@@ -257,7 +257,7 @@ impl<T: OctetsMut> Packet<T> {
         self.buffer.set_u8(field::NEIGHBOR_FLAGS, flags.bits());
     }
 
-    /// Writes the destination that a redirect redirects. Requires at least 40 bytes.
+    /// Writes the destination address of a redirect. Requires at least 40 bytes.
     pub fn set_dest_addr(&mut self, value: Ipv6Address)
         requires { Reaches dest_addr_field (T.bytes (inner self.old)) }
         ensures writes { Sets T.bytes T.put self.old self.new dest_addr_field (octets_of value) }

@@ -1,4 +1,4 @@
-// What messages of all three protocols are written with.
+// Writers that the messages of all three protocols share.
 
 ghost use Rattle.std.specs.Prelude.{◌≡◌, ◌≤◌, ◌+◌, [], ◌∷◌, length};
 ghost use Rattle.wirebase.specs.ByteWriter.{free, Puts};

@@ -75,7 +75,7 @@ read-full most bytes count rest a some full =
       },
     )
 
--- behind no more than are kept stands none
+-- after no more than are kept stands none
 pub read-broken : (most : ℕ) (bytes : List ℕ) (count : ℕ) (rest : List ℕ) → AreBehind bytes count rest
     → count ≤ most → rest ≢ [] → (option.IsRead rest → ⊥) → IsRead most bytes → ⊥
 read-broken most bytes count rest a l some none_ read =

@@ -58,7 +58,7 @@ begins_by bytes front rest v h e = record { front = front; rest = rest; whole = 
 none_in_nothing : (v : OptionValue) → BeginsWith [] v → ⊥
 none_in_nothing v h = let f = front_of-begins [] v h in cc
 
--- what stands behind the option at the front
+-- what follows the option at the front
 pub behind_first : (bytes rest : List ℕ) (v : OptionValue) → BeginsWith bytes v → rest ≡ drop (text_len v) bytes
     → IsBehind bytes rest
 behind_first bytes rest v h e =

@@ -1,4 +1,4 @@
--- Texts of options are read back as their normal forms, whatever stands behind them.
+-- Texts of options are read back as their normal forms, whatever follows them.
 use Rattle.std.proofs.Common.{◌≡◌, ◌≢◌, ℕ, ◌+◌, ◌-◌, ◌*◌, ◌<◌, ◌≤◌, ◌^◌, List, [], ◌∷◌, ◌++◌, length, take, drop, refl}
 use Rattle.std.proofs.Common.{sym, ap, subst, ◌∙◌, arith, length-append}
 use Rattle.std.proofs.lemmas.List.{append-nil, append_assoc, length-replicate, take_at, drop_at}

@@ -77,7 +77,7 @@ pub record Emits (header : HeaderValue) (old new : List ℕ) : Type 0 where
   pub text_ : new ≡ over old (text header)
   pub exact : length old ≡ 2 → new ≡ text header
 
--- Behind a next header and a length, options of a hop-by-hop header that take as many bytes as the length counts are
+-- After a next header and a length, options of a hop-by-hop header that take as many bytes as the length counts are
 -- read as the payload, and that payload as their normal form, where at most so many options are kept.
 abbrev pub CarriesOptions : ℕ → Type 0
 CarriesOptions most =

@@ -73,8 +73,8 @@ format most = record {
   IsCut = λ options. ⊥;
 }
 
--- What writing options leaves where `old` stood, and where at most so many are kept. Where there is just their length,
--- their text is all that is left, and canonical options are read back as their normal form.
+-- What writing options over `old` leaves, and where at most so many are kept. Where there is just their length, their
+-- text is all that is left, and canonical options are read back as their normal form.
 pub record Emits (most : ℕ) (options : List OptionValue) (old new : List ℕ) : Type 0 where
   pub text_ : new ≡ over old (text options)
   pub exact : length old ≡ text_len options → new ≡ text options

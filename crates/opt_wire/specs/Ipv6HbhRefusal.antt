@@ -12,13 +12,13 @@ use Rattle.opt_wire.specs.declared.ipv6hbh.refusal.Refusal.TheVariants as refusa
 abbrev pub IsRead : ℕ → List ℕ → Type 0
 IsRead most bytes = (options : List OptionValue) × IsHeader most bytes options
 
--- behind so many options, which stand at the front of the bytes one after another, stand these
+-- after so many options, which stand at the front of the bytes one after another, stand these
 pub data AreBehind (bytes : List ℕ) : ℕ → List ℕ → Type 0 where
   none : AreBehind bytes 0 bytes
   one_more : {count : ℕ} {middle rest : List ℕ} → AreBehind bytes count middle → option.IsBehind middle rest
       → AreBehind bytes (suc count) rest
 
--- what is told of other bytes: there are none, or behind so many options, but no more than are kept, stands what is
+-- what is told of other bytes: there are none, or after so many options, but no more than are kept, stands what is
 -- none, and why
 abbrev pub Refuses : ℕ → List ℕ → Refusal → Type 0
 Refuses most bytes refusals.Empty = bytes ≡ []
@@ -30,7 +30,7 @@ refusal_text refusals.Empty = codes "no options"
 refusal_text (refusals.Option index why) =
     pieces (codes "option " ∷ decimal index ∷ codes ": " ∷ option.refusal_text why ∷ [])
 
--- options behind one another, each in parentheses
+-- options after one another, each in parentheses
 abbrev pub options_display : List OptionValue → List ℕ
 options_display options = flat_map (λ v. codes " (" ++ (option_display v ++ codes ")")) options
 

@@ -133,8 +133,8 @@ format = record {
   IsCut = λ v. ⊥;
 }
 
--- What writing an option leaves where `old` stood: its text, and what stood behind it. Where there is just the option's
--- length, its text is all that is left. A canonical value is read back as its normal form, whatever stands behind it.
+-- What writing an option over `old` leaves: its text, and what followed it. Where there is just the option's length,
+-- its text is all that is left. A canonical value is read back as its normal form, whatever follows it.
 pub record Emits (v : OptionValue) (old new : List ℕ) : Type 0 where
   pub text_ : new ≡ over old (text v)
   pub exact : length old ≡ text_len v → new ≡ text v

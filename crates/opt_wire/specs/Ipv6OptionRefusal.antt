@@ -14,7 +14,7 @@ use Rattle.opt_wire.specs.declared.ipv6option.refusal.Refusal.TheVariants.{Empty
 abbrev pub IsRead : List ℕ → Type 0
 IsRead bytes = (value : OptionValue) × BeginsWith bytes value
 
--- behind an option at the front of the bytes stand these
+-- after an option at the front of the bytes stand these
 abbrev pub IsBehind : List ℕ → List ℕ → Type 0
 IsBehind bytes rest = (front : List ℕ) × (value : OptionValue) × (bytes ≡ front ++ rest) × IsOption front value
 

@@ -75,7 +75,7 @@ units_in bytes = byte_of length_field bytes
 abbrev pub block_field : List ℕ → Field
 block_field bytes = field 0 (8 * units_in bytes)
 
--- the data: all behind type and units
+-- the data: all after type and units
 abbrev pub data_field : List ℕ → Field
 data_field bytes = field 2 (8 * units_in bytes)
 

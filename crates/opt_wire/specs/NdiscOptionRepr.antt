@@ -103,7 +103,7 @@ text_len (unknown t n d) = 8 * n
 abbrev pub HasSeconds : Duration → Type 0
 HasSeconds time = seconds_of time ≤ 4294967295
 
--- What is asked of a value that is written: seconds that fit, a redirected header that counts the data behind it as its
+-- What is asked of a value that is written: seconds that fit, a redirected header that counts the data after it as its
 -- payload and as much of it as an option can hold, and data that fills the units that an unknown option counts.
 abbrev pub CanEmit : OptionValue → Type 0
 CanEmit (source address) = Unit {0}
@@ -220,8 +220,8 @@ format = record {
   IsCut = λ v. ⊥;
 }
 
--- What writing an option leaves where `old` stood: its text over the front; where there is just its length, its text
--- alone, and that of a canonical value is read back as its normal form, whatever stands behind.
+-- What writing an option over `old` leaves: its text over the front; where there is just its length, its text alone,
+-- and that of a canonical value is read back as its normal form, whatever follows.
 pub record Emits (v : OptionValue) (old new : List ℕ) : Type 0 where
   pub text_ : new ≡ over old (text v)
   pub exact : length old ≡ text_len v → new ≡ text v

@@ -1,4 +1,4 @@
-//! Bytes as they print: in hexadecimal.
+//! Bytes printed in hexadecimal.
 
 ghost use Rattle.std.specs.Prelude.{Some, flat_map};
 ghost use Rattle.std.specs.Fmt.{WritesOnOk};
@@ -7,7 +7,7 @@ ghost use Rattle.opt_wire.specs.Digits.{octets_text};
 
 use std::fmt;
 
-/// Bytes that print as two hexadecimal digits each, and none at all as `-`.
+/// Bytes that print as two hexadecimal digits each; an empty slice prints as `-`.
 #[derive(Clone, Copy)]
 pub struct Digits<'a>(pub &'a [u8]);
 

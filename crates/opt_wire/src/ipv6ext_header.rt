@@ -49,15 +49,15 @@ pub struct Header<T: Octets> {
 }
 
 impl<T: Octets> Header<T> {
-    /// The view of these octets, whatever they are.
+    /// Makes a view of `buffer`; its length is not checked.
     pub const fn new_unchecked(buffer: T) -> Header<T>
         ensures { inner result ≡ buffer }
     {
         Header { buffer }
     }
 
-    /// The view of these octets, where they are 8 or more and as many as the length counts; refused where they are
-    /// fewer. On refusal the buffer is dropped: to keep a `&mut [u8]`, call `new_unchecked` and then `check_len`.
+    /// Makes a view of `buffer`. Refused where it has fewer than 8 octets, or fewer than the length field counts. On
+    /// refusal the buffer is dropped: to keep a `&mut [u8]`, call `new_unchecked` and then `check_len`.
     pub fn new_checked(buffer: T) -> Result<Header<T>>
         ensures accepts { IsOk result ↔ IsWhole (T.bytes buffer) }
         ensures buffer { IfOk result (λ view. inner view ≡ buffer) }
@@ -67,7 +67,7 @@ impl<T: Octets> Header<T> {
         Ok(header)
     }
 
-    /// Accepts octets that are 8 or more, and as many as the length counts. Then each accessor may be called.
+    /// Accepts 8 octets or more that hold all the bytes that the length field counts. Then each accessor may be called.
     pub fn check_len(&self) -> Result<()>
         ensures accepts { IsOk result ↔ IsWhole (T.bytes (inner self.now)) }
     {
@@ -78,14 +78,14 @@ impl<T: Octets> Header<T> {
         Ok(())
     }
 
-    /// What the view was made from, as it is now.
+    /// Returns the buffer of the view.
     pub fn into_inner(self) -> T
         ensures { result ≡ inner self }
     {
         self.buffer
     }
 
-    /// What follows the header. Requires at least 1 byte.
+    /// The protocol of what follows the header. Requires at least 1 byte.
     pub fn next_header(&self) -> IpProtocol
         requires { Reaches next_header_field (T.bytes (inner self.now)) }
         ensures { result ≡ protocol_of (byte_of next_header_field (T.bytes (inner self.now))) }
@@ -93,7 +93,7 @@ impl<T: Octets> Header<T> {
         IpProtocol::from(self.buffer.u8_at(field::NEXT_HEADER))
     }
 
-    /// The length: eight bytes each, without the first eight. Requires at least 2 bytes.
+    /// The length of the header in units of eight bytes, without the first eight bytes. Requires at least 2 bytes.
     pub fn header_len(&self) -> u8
         requires { Reaches length_field (T.bytes (inner self.now)) }
         ensures { result ≡ byte_of length_field (T.bytes (inner self.now)) }
@@ -124,7 +124,7 @@ impl<'a> Header<&'a [u8]> {
 }
 
 impl<T: OctetsMut> Header<T> {
-    /// Writes what follows the header. Requires at least 1 byte.
+    /// Writes the protocol of what follows the header. Requires at least 1 byte.
     pub fn set_next_header(&mut self, value: IpProtocol)
         requires { Reaches next_header_field (T.bytes (inner self.old)) }
         ensures writes { Sets T.bytes T.put self.old self.new next_header_field
@@ -134,7 +134,7 @@ impl<T: OctetsMut> Header<T> {
         self.buffer.set_u8(field::NEXT_HEADER, value.into());
     }
 
-    /// Writes the length: eight bytes each, without the first eight. Requires at least 2 bytes.
+    /// Writes the length in units of eight bytes, without the first eight bytes. Requires at least 2 bytes.
     pub fn set_header_len(&mut self, value: u8)
         requires { Reaches length_field (T.bytes (inner self.old)) }
         ensures writes { Sets T.bytes T.put self.old self.new length_field (value ∷ []) }
@@ -143,7 +143,7 @@ impl<T: OctetsMut> Header<T> {
         self.buffer.set_u8(field::LENGTH, value);
     }
 
-    /// Lends the payload for writing; the other octets stay. Requires the bytes that the length counts.
+    /// Lends the payload for writing; the other octets are unchanged. Requires the bytes that the length counts.
     pub fn payload_mut(&mut self) -> &mut [u8]
         requires whole { Reaches (payload_field (T.bytes (inner self.old)))
             (T.bytes (inner self.old)) }
@@ -159,7 +159,7 @@ impl<T: OctetsMut> Header<T> {
     }
 }
 
-/// Views are equal where their octets are.
+/// Views are equal where their octets are equal.
 impl<T: Octets> PartialEq for Header<T> {
     ghost use Rattle.std.specs.Prelude.{◌==◌};
     ghost use Rattle.std.proofs.Common.{rules};
@@ -185,19 +185,20 @@ impl<T: Octets> Eq for Header<T> {
     ghost laws = { Prim.search (comparing, rules) };
 }
 
-/// A header.
+/// The value of a header (RFC 8200 sections 4.3 and 4.6).
 #[derive(Debug, PartialEq, Eq, Clone, Copy)]
 pub struct Repr<'a> {
-    /// What follows the header.
+    /// The protocol of what follows the header.
     pub next_header: IpProtocol,
-    /// The length: eight bytes each, without the first eight.
+    /// The length of the header in units of eight bytes, without the first eight bytes.
     pub length: u8,
-    /// The payload: the bytes of the header behind its length.
+    /// The payload: the bytes of the header after its length field.
     pub data: &'a [u8],
 }
 
 impl<'a> Repr<'a> {
-    /// The header at the front of the octets. Refused where they are fewer than 8, or than the length counts.
+    /// The header at the front of the octets. Refused where there are fewer than 8 octets, or fewer than the length
+    /// counts.
     pub fn parse(header: &Header<&'a [u8]>) -> Result<Repr<'a>>
         ensures sound { IfOk result (λ repr. IsHeader (view_octets header.now) (value_of repr)) }
         ensures complete { (value : HeaderValue) → IsHeader (view_octets header.now) value
@@ -219,8 +220,8 @@ impl<'a> Repr<'a> {
         field::PAYLOAD
     }
 
-    /// Writes the next header and the length over the front of the octets; the others, the payload too, stay. Requires
-    /// at least 2 bytes.
+    /// Writes the next header and the length over the first two octets; the others, the payload too, are unchanged.
+    /// Requires at least 2 bytes.
     pub fn emit<T: OctetsMut>(&self, header: &mut Header<T>)
         requires { 2 ≤ length (T.bytes (inner header.old)) }
         ensures place { inner header.new ≡ T.put (inner header.old) (T.bytes (inner header.new)) }
@@ -230,7 +231,7 @@ impl<'a> Repr<'a> {
         self.emit_into(header.buffer.octets_mut());
     }
 
-    /// The same into a slice.
+    /// Like `emit`, but writes into a slice.
     pub fn emit_into(&self, octets: &mut [u8])
         requires { 2 ≤ length octets.old }
         ensures { Emits (value_of self.now) octets.old octets.new }

@@ -1,4 +1,4 @@
-//! Hop-by-hop options headers (RFC 8200 section 4.3), from their options on.
+//! Hop-by-hop options headers (RFC 8200 section 4.3), without their first two bytes.
 //!
 //! ```
 //! use control_wire::ipv6hbh::{Header, Repr};
@@ -32,21 +32,21 @@ mod refusal;
 
 pub use refusal::Refusal;
 
-/// A view of the options of a hop-by-hop header: all that stands after its first two bytes.
+/// A view of the options of a hop-by-hop header: all its bytes after the first two.
 #[derive(Debug, Drop)]
 pub struct Header<T: Octets> {
     buffer: T,
 }
 
 impl<T: Octets> Header<T> {
-    /// The view of these octets, whatever they are.
+    /// Makes a view of `buffer`; its length is not checked.
     pub const fn new_unchecked(buffer: T) -> Header<T>
         ensures { inner result ≡ buffer }
     {
         Header { buffer }
     }
 
-    /// The view of these octets; refused where there are none. On refusal the buffer is dropped: to keep a `&mut [u8]`,
+    /// Makes a view of `buffer`. Refused where it is empty. On refusal the buffer is dropped: to keep a `&mut [u8]`,
     /// call `new_unchecked` and then `check_len`.
     pub fn new_checked(buffer: T) -> Result<Header<T>>
         ensures accepts { IsOk result ↔ (T.bytes buffer ≢ []) }
@@ -57,7 +57,7 @@ impl<T: Octets> Header<T> {
         Ok(header)
     }
 
-    /// Accepts any octets but none at all.
+    /// Accepts one octet or more.
     pub fn check_len(&self) -> Result<()>
         ensures accepts { IsOk result ↔ (T.bytes (inner self.now) ≢ []) }
     {
@@ -67,7 +67,7 @@ impl<T: Octets> Header<T> {
         Ok(())
     }
 
-    /// What the view was made from, as it is now.
+    /// Returns the buffer of the view.
     pub fn into_inner(self) -> T
         ensures { result ≡ inner self }
     {
@@ -76,7 +76,7 @@ impl<T: Octets> Header<T> {
 }
 
 impl<'a> Header<&'a [u8]> {
-    /// The octets of all options, for as long as they live.
+    /// The octets of all options, for as long as the octets live.
     pub fn options(&self) -> &'a [u8]
         ensures { result ≡ inner self.now }
     {
@@ -117,8 +117,8 @@ impl Clone for Repr<'_> {
 }
 
 impl<'a> Repr<'a> {
-    /// The options of a header, the first `IPV6_HBH_MAX_OPTIONS` of them. Refused where there are no octets, and
-    /// where one of these options, or the one after them, can't be read; what follows is not looked at.
+    /// The first `IPV6_HBH_MAX_OPTIONS` options of a header. Refused where there are no octets, and where one of these
+    /// options, or the one after them, can't be read; what follows is not checked.
     pub fn parse(header: &Header<&'a [u8]>) -> Result<Repr<'a>>
         ensures sound { IfOk result (λ repr.
             IsHeader IPV6_HBH_MAX_OPTIONS (view_octets header.now) (value_of repr)) }
@@ -146,7 +146,7 @@ impl<'a> Repr<'a> {
         Ok(Repr { options })
     }
 
-    /// The bytes that the options take, by the lengths that they count.
+    /// The bytes that the options take, by their length fields.
     pub fn buffer_len(&self) -> usize
         ensures value { result ≡ text_len (value_of self.now) }
         ensures exact { HaveData (value_of self.now)
@@ -179,8 +179,8 @@ impl<'a> Repr<'a> {
         self.options.push(ipv6option::Repr::PadN(n));
     }
 
-    /// Writes the options over the front of the octets; the others stay. Requires the bytes that they take, and that
-    /// each holds as much data as it counts.
+    /// Writes the options over the front of the octets; the other octets are unchanged. Requires the bytes that the
+    /// options take, and that each option holds as much data as its length counts.
     pub fn emit<T: OctetsMut>(&self, header: &mut Header<T>)
         requires enough { HaveData (value_of self.now) }
         requires room { text_len (value_of self.now) ≤ length (T.bytes (inner header.old)) }
@@ -191,7 +191,7 @@ impl<'a> Repr<'a> {
         self.emit_into(header.options_mut());
     }
 
-    /// The same into a slice.
+    /// Like `emit`, but writes into a slice.
     #[tactic(auto, using(wirebase::proofs::Chains::chain))]
     pub fn emit_into(&self, octets: &mut [u8])
         requires enough { HaveData (value_of self.now) }
@@ -202,16 +202,16 @@ impl<'a> Repr<'a> {
         put_options(&mut w, self.options.as_slice());
     }
 
-    /// Does nothing. Of two lists of options that a header can hold, equal texts mean equal normal forms, and
-    /// conversely.
+    /// Does nothing; its contract states of two lists of options that a header can hold that equal texts mean equal
+    /// normal forms, and conversely.
     #[tactic(auto, using(crate::proofs::Ipv6HbhFormat::header_same_text))]
     pub fn same_text(a: &Self, b: &Self)
         ensures { SameText (format IPV6_HBH_MAX_OPTIONS) (value_of a.now) (value_of b.now) }
     {}
 }
 
-// Reads the options of a header into a list that has none yet, up to one more than it has room for. They stay where the
-// caller has them, in place of a copy that each turn merges.
+// Reads the options of a header into an empty list, up to one more than it has room for. The list is the caller's, so
+// that it is not copied at each turn.
 #[inline(never)]
 fn read_options<'a>(
     octets: &'a [u8],

@@ -47,7 +47,7 @@ mod field {
 
     pub const LENGTH: Field = 1..2;
 
-    // The data of an option that counts so many bytes of it.
+    // The field of the data of an option, by its length.
     pub const fn data(length: u8) -> Field
         ensures start { result.start ≡ 2 }
         ensures end { result.end ≡ 2 + length }
@@ -63,15 +63,15 @@ pub struct Ipv6Option<T: Octets> {
 }
 
 impl<T: Octets> Ipv6Option<T> {
-    /// The view of these octets, whatever they are.
+    /// Makes a view of `buffer`; its length is not checked.
     pub const fn new_unchecked(buffer: T) -> Ipv6Option<T>
         ensures { inner result ≡ buffer }
     {
         Ipv6Option { buffer }
     }
 
-    /// The view of these octets, where they begin with a whole option; refused where they don't. On refusal the buffer
-    /// is dropped: to keep a `&mut [u8]`, call `new_unchecked` and then `check_len`.
+    /// Makes a view of `buffer`. Refused where it doesn't begin with a whole option. On refusal the buffer is dropped:
+    /// to keep a `&mut [u8]`, call `new_unchecked` and then `check_len`.
     pub fn new_checked(buffer: T) -> Result<Ipv6Option<T>>
         ensures accepts { IsOk result ↔ BeginsWhole (T.bytes buffer) }
         ensures buffer { IfOk result (λ view. inner view ≡ buffer) }
@@ -81,8 +81,8 @@ impl<T: Octets> Ipv6Option<T> {
         Ok(option)
     }
 
-    /// Accepts octets that begin with a Pad1, or with a type, a length and as many bytes of data. Then each
-    /// accessor may be called, but for the length and the data of a Pad1.
+    /// Accepts octets that begin with a Pad1, or with a type, a length and as many bytes of data. Then each accessor
+    /// may be called, except those of the length and the data where the option is a Pad1.
     pub fn check_len(&self) -> Result<()>
         ensures accepts { IsOk result ↔ BeginsWhole (T.bytes (inner self.now)) }
     {
@@ -102,7 +102,7 @@ impl<T: Octets> Ipv6Option<T> {
         Ok(())
     }
 
-    /// What the view was made from, as it is now.
+    /// Returns the buffer of the view.
     pub fn into_inner(self) -> T
         ensures { result ≡ inner self }
     {
@@ -117,7 +117,7 @@ impl<T: Octets> Ipv6Option<T> {
         Type::from(self.buffer.u8_at(field::TYPE))
     }
 
-    /// The bytes of data that the option counts. Requires at least 2 bytes.
+    /// The length field: the number of bytes of data. Requires at least 2 bytes.
     pub fn data_len(&self) -> u8
         requires { Reaches opt_data_len_field (T.bytes (inner self.now)) }
         ensures { result ≡ byte_of opt_data_len_field (T.bytes (inner self.now)) }
@@ -151,7 +151,7 @@ impl<T: OctetsMut> Ipv6Option<T> {
         self.buffer.set_u8(field::TYPE, value.into());
     }
 
-    /// Writes the bytes of data that the option counts. Requires at least 2 bytes.
+    /// Writes the length field: the number of bytes of data. Requires at least 2 bytes.
     pub fn set_data_len(&mut self, value: u8)
         requires { Reaches opt_data_len_field (T.bytes (inner self.old)) }
         ensures writes { Sets T.bytes T.put self.old self.new opt_data_len_field (value ∷ []) }
@@ -160,7 +160,7 @@ impl<T: OctetsMut> Ipv6Option<T> {
         self.buffer.set_u8(field::LENGTH, value);
     }
 
-    /// Lends the data for writing; the other octets stay. Requires the bytes that the option counts.
+    /// Lends the data for writing; the other octets are unchanged. Requires the bytes that the option counts.
     pub fn data_mut(&mut self) -> &mut [u8]
         requires whole { Reaches (option_data_field (T.bytes (inner self.old)))
             (T.bytes (inner self.old)) }
@@ -177,7 +177,7 @@ impl<T: OctetsMut> Ipv6Option<T> {
     }
 }
 
-/// Views are equal where their octets are.
+/// Views are equal where their octets are equal.
 impl<T: Octets> PartialEq for Ipv6Option<T> {
     ghost use Rattle.std.specs.Prelude.{◌==◌};
     ghost use Rattle.std.proofs.Common.{rules};
@@ -203,7 +203,7 @@ impl<T: Octets> Eq for Ipv6Option<T> {
     ghost laws = { Prim.search (comparing, rules) };
 }
 
-/// The option at the front of the octets; of octets that are refused `IPv6 Extension Option (wire::Error)`.
+/// Prints the option at the front of the octets, or `IPv6 Extension Option (wire::Error)` where they are refused.
 impl<T: Octets> fmt::Display for Ipv6Option<T> {
     ghost use Rattle.std.specs.Prelude.{Some};
     ghost use Rattle.wirebase.specs.Display.{Shows};
@@ -239,9 +239,9 @@ pub enum Repr<'a> {
     Unknown {
         /// The type: `Rpl`, or one without a name.
         type_: Type,
-        /// The bytes of data that the option counts.
+        /// The length field: the number of bytes of data.
         length: u8,
-        /// The data; what is past `length` is not written.
+        /// The data; bytes past `length` are not written.
         data: &'a [u8],
     },
 }
@@ -257,8 +257,8 @@ impl Default for Repr<'_> {
 }
 
 impl<'a> Repr<'a> {
-    /// The option at the front of the octets. Refused where none stands there whole, and where a router alert
-    /// doesn't count 2 bytes of data. What padding is filled with is not looked at.
+    /// The option at the front of the octets. Refused where they don't begin with a whole option, and where a router
+    /// alert has other than 2 bytes of data. The contents of padding are not checked.
     #[inline]
     pub fn parse(opt: &Ipv6Option<&'a [u8]>) -> Result<Repr<'a>>
         ensures sound { IfOk result (λ repr. BeginsWith (view_octets opt.now) (value_of repr)) }
@@ -296,7 +296,7 @@ impl<'a> Repr<'a> {
         }
     }
 
-    /// The bytes that the option takes, by the length that it counts.
+    /// The bytes that the option takes, by its length field.
     #[tactic(auto, using(crate::proofs::Ipv6OptionText::texts))]
     pub const fn buffer_len(&self) -> usize
         ensures value { result ≡ text_len (value_of self.now) }
@@ -311,8 +311,8 @@ impl<'a> Repr<'a> {
         }
     }
 
-    /// Writes the option over the front of the octets; the others stay. Requires the bytes that the option takes, and
-    /// that it holds as much data as it counts.
+    /// Writes the option over the front of the octets; the other octets are unchanged. Requires the bytes that the
+    /// option takes, and that it holds as much data as its length counts.
     pub fn emit<T: OctetsMut>(&self, opt: &mut Ipv6Option<T>)
         requires enough { HasData (value_of self.now) }
         requires room { text_len (value_of self.now) ≤ length (T.bytes (inner opt.old)) }
@@ -323,7 +323,7 @@ impl<'a> Repr<'a> {
         self.emit_into(opt.buffer.octets_mut());
     }
 
-    /// The same into a slice.
+    /// Like `emit`, but writes into a slice.
     #[tactic(auto, using(wirebase::proofs::Chains::chain))]
     pub fn emit_into(&self, octets: &mut [u8])
         requires enough { HasData (value_of self.now) }
@@ -334,7 +334,8 @@ impl<'a> Repr<'a> {
         self.put(&mut w);
     }
 
-    /// Does nothing. Of two options that bytes can hold, equal texts mean equal normal forms, and conversely.
+    /// Does nothing; its contract states of two options that bytes can hold that equal texts mean equal normal forms,
+    /// and conversely.
     #[tactic(auto, using(crate::proofs::Ipv6OptionFormat::option_same_text))]
     pub fn same_text(a: &Self, b: &Self)
         ensures { SameText format (value_of a.now) (value_of b.now) }
@@ -395,21 +396,21 @@ impl fmt::Display for Repr<'_> {
     }
 }
 
-// What padding prints.
+// Prints padding.
 fn fmt_pad_n<W: fmt::Write>(f: &mut fmt::Formatter<W>, length: u8) -> fmt::Result
     ensures { WritesOnOk W.write_str_gives f.old result (option_display (pad_n length)) f.new }
 {
     write!(f, "IPv6 Option PadN length={length} ")
 }
 
-// What a router alert prints.
+// Prints a router alert.
 fn fmt_router_alert<W: fmt::Write>(f: &mut fmt::Formatter<W>, alert: RouterAlert) -> fmt::Result
     ensures { WritesOnOk W.write_str_gives f.old result (option_display (router_alert alert)) f.new }
 {
     write!(f, "IPv6 Option RouterAlert value={}", AlertName(alert))
 }
 
-// What an option of any other type prints, whatever its data.
+// Prints an option of any other type, without its data.
 fn fmt_unknown<W: fmt::Write>(f: &mut fmt::Formatter<W>, type_: Type, length: u8) -> fmt::Result
     ensures { WritesOnOk W.write_str_gives f.old result (option_display (unknown type_ length [])) f.new }
 {

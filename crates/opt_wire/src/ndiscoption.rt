@@ -69,7 +69,7 @@ mod field {
 
     pub const MTU: Field = 4..8;
 
-    // The data of an option of so many units.
+    // The field of the data of an option of so many units.
     pub fn data(units: u8) -> Field
         ensures start { result.start ≡ 2 }
         ensures end { result.end ≡ 8 * units }
@@ -77,7 +77,7 @@ mod field {
         2..UNIT * units as usize
     }
 
-    // The redirected packet in an option of so many units.
+    // The field of the redirected packet in an option of so many units.
     pub fn redirected(units: u8) -> Field
         ensures start { result.start ≡ 8 }
         ensures end { result.end ≡ 8 * units }
@@ -85,12 +85,12 @@ mod field {
         REDIRECTED_RESERVED.end..UNIT * units as usize
     }
 
-    // A link-layer address that is read from an option of one unit, and from a longer one.
+    // The field of the link-layer address in an option of one unit, and in a longer one.
     pub const SHORT_ADDR: Field = 2..8;
 
     pub const LONG_ADDR: Field = 2..10;
 
-    // A link-layer address of so many bytes.
+    // The field of a link-layer address of so many bytes.
     pub fn link_layer_addr(len: usize) -> Field
         requires { len ≤ 8 }
         ensures start { result.start ≡ 2 }
@@ -107,16 +107,16 @@ pub struct NdiscOption<T: Octets> {
 }
 
 impl<T: Octets> NdiscOption<T> {
-    /// The view of these octets, whatever they are.
+    /// Makes a view of `buffer`; its length is not checked.
     pub const fn new_unchecked(buffer: T) -> NdiscOption<T>
         ensures { inner result ≡ buffer }
     {
         NdiscOption { buffer }
     }
 
-    /// The view of these octets, where they begin with a whole option of one unit or more; refused where they don't. On
-    /// refusal the buffer is dropped: to keep a `&mut [u8]`, call `new_unchecked` and then `check_len`, which accepts
-    /// an option that counts no units too.
+    /// Makes a view of `buffer`. Refused where it doesn't begin with a whole option of one unit or more. On refusal the
+    /// buffer is dropped: to keep a `&mut [u8]`, call `new_unchecked` and then `check_len`, which accepts an option
+    /// that counts no units too.
     pub fn new_checked(buffer: T) -> Result<NdiscOption<T>>
         ensures accepts { IsOk result ↔ BeginsWithBlock (T.bytes buffer) }
         ensures buffer { IfOk result (λ view. inner view ≡ buffer) }
@@ -129,10 +129,10 @@ impl<T: Octets> NdiscOption<T> {
         Ok(option)
     }
 
-    /// Accepts 8 octets or more that hold all the units that the option counts, which are 4 or more of a prefix and
-    /// 6 or more of a redirected header. Then each accessor of its type may be called, but for the data and the
-    /// link-layer address of an option that counts no units. Such an option is accepted here, and refused by
-    /// `new_checked` and by [`Repr::parse`].
+    /// Accepts 8 octets or more that hold all the units that the option counts: 4 or more of a prefix, 6 or more of a
+    /// redirected header. Then each accessor of its type may be called, except those of the data and the link-layer
+    /// address where the option counts no units. Such an option is accepted here, and refused by `new_checked` and by
+    /// [`Repr::parse`].
     pub fn check_len(&self) -> Result<()>
         ensures accepts { IsOk result ↔ BeginsWhole (T.bytes (inner self.now)) }
     {
@@ -152,7 +152,7 @@ impl<T: Octets> NdiscOption<T> {
         Ok(())
     }
 
-    /// What the view was made from, as it is now.
+    /// Returns the buffer of the view.
     pub fn into_inner(self) -> T
         ensures { result ≡ inner self }
     {
@@ -175,7 +175,7 @@ impl<T: Octets> NdiscOption<T> {
         self.buffer.u8_at(field::LENGTH)
     }
 
-    /// The link-layer address of a source or target: what the option has room for, but no more than 8 bytes. Requires
+    /// The link-layer address of a source or target: the bytes that the option has room for, but at most 8. Requires
     /// those bytes, and that the option counts one unit or more.
     #[tactic(auto, using(wirebase::proofs::Pieces::pieces))]
     pub fn link_layer_addr(&self) -> RawHardwareAddress
@@ -194,7 +194,7 @@ impl<T: Octets> NdiscOption<T> {
         }
     }
 
-    /// The greatest packet of the link, in bytes. Requires at least 8 bytes.
+    /// The MTU of the link, in bytes. Requires at least 8 bytes.
     pub fn mtu(&self) -> u32
         requires { Reaches mtu_field (T.bytes (inner self.now)) }
         ensures { result ≡ number_of mtu_field (T.bytes (inner self.now)) }
@@ -202,7 +202,7 @@ impl<T: Octets> NdiscOption<T> {
         self.buffer.u32_at(field::MTU)
     }
 
-    /// The bits of a prefix that count. Requires at least 3 bytes.
+    /// The length of a prefix, in bits. Requires at least 3 bytes.
     pub fn prefix_len(&self) -> u8
         requires { Reaches prefix_len_field (T.bytes (inner self.now)) }
         ensures { result ≡ byte_of prefix_len_field (T.bytes (inner self.now)) }
@@ -289,7 +289,7 @@ impl<T: OctetsMut> NdiscOption<T> {
             .set_bytes(field::link_layer_addr(addr.len()), addr.as_bytes());
     }
 
-    /// Writes the greatest packet of the link, in bytes. Requires at least 8 bytes.
+    /// Writes the MTU of the link, in bytes. Requires at least 8 bytes.
     pub fn set_mtu(&mut self, value: u32)
         requires { Reaches mtu_field (T.bytes (inner self.old)) }
         ensures writes { Sets T.bytes T.put self.old self.new mtu_field (big_bytes 4 value) }
@@ -298,7 +298,7 @@ impl<T: OctetsMut> NdiscOption<T> {
         self.buffer.set_u32(field::MTU, value);
     }
 
-    /// Writes the bits of a prefix that count. Requires at least 3 bytes.
+    /// Writes the length of a prefix, in bits. Requires at least 3 bytes.
     pub fn set_prefix_len(&mut self, value: u8)
         requires { Reaches prefix_len_field (T.bytes (inner self.old)) }
         ensures writes { Sets T.bytes T.put self.old self.new prefix_len_field (value ∷ []) }
@@ -317,8 +317,8 @@ impl<T: OctetsMut> NdiscOption<T> {
         self.buffer.set_u8(field::PREFIX_FLAGS, flags.bits());
     }
 
-    /// Writes how long a prefix is on the link, in whole seconds; what is past them is left out. Requires at least 8
-    /// bytes, and 4,294,967,295 seconds at most.
+    /// Writes how long a prefix is on the link, in whole seconds; a fraction is dropped. Requires at least 8 bytes, and
+    /// 4,294,967,295 seconds at most.
     pub fn set_valid_lifetime(&mut self, time: Duration)
         requires room { Reaches valid_lifetime_field (T.bytes (inner self.old)) }
         requires fits { seconds_of time ≤ 4294967295 }
@@ -330,8 +330,8 @@ impl<T: OctetsMut> NdiscOption<T> {
             .set_u32(field::VALID_LIFETIME, time.secs() as u32);
     }
 
-    /// Writes how long addresses made of a prefix are preferred, in whole seconds; what is past them is left out.
-    /// Requires at least 12 bytes, and 4,294,967,295 seconds at most.
+    /// Writes how long addresses made of a prefix are preferred, in whole seconds; a fraction is dropped. Requires at
+    /// least 12 bytes, and 4,294,967,295 seconds at most.
     pub fn set_preferred_lifetime(&mut self, time: Duration)
         requires room { Reaches preferred_lifetime_field (T.bytes (inner self.old)) }
         requires fits { seconds_of time ≤ 4294967295 }
@@ -343,7 +343,7 @@ impl<T: OctetsMut> NdiscOption<T> {
             .set_u32(field::PREFERRED_LIFETIME, time.secs() as u32);
     }
 
-    /// Writes zeros into what is reserved in a prefix. Requires at least 16 bytes.
+    /// Writes zeros into the reserved bytes of a prefix. Requires at least 16 bytes.
     pub fn clear_prefix_reserved(&mut self)
         requires { Reaches prefix_reserved_field (T.bytes (inner self.old)) }
         ensures writes { Sets T.bytes T.put self.old self.new prefix_reserved_field
@@ -362,7 +362,7 @@ impl<T: OctetsMut> NdiscOption<T> {
         self.buffer.set_bytes(field::PREFIX, &addr.octets());
     }
 
-    /// Writes zeros into what is reserved before a redirected header. Requires at least 8 bytes.
+    /// Writes zeros into the reserved bytes of a redirected header. Requires at least 8 bytes.
     pub fn clear_redirected_reserved(&mut self)
         requires { Reaches redirected_reserved_field (T.bytes (inner self.old)) }
         ensures writes { Sets T.bytes T.put self.old self.new redirected_reserved_field
@@ -372,7 +372,8 @@ impl<T: OctetsMut> NdiscOption<T> {
         self.buffer.set_bytes(field::REDIRECTED_RESERVED, &[0; 6]);
     }
 
-    /// Lends the data for writing; the other octets stay. Requires the units that the option counts, one or more.
+    /// Lends the data for writing; the other octets are unchanged. Requires the units that the option counts, one or
+    /// more.
     pub fn data_mut(&mut self) -> &mut [u8]
         requires some { 1 ≤ units_in (T.bytes (inner self.old)) }
         requires whole { Reaches (data_field (T.bytes (inner self.old)))
@@ -389,7 +390,7 @@ impl<T: OctetsMut> NdiscOption<T> {
     }
 }
 
-/// Views are equal where their octets are.
+/// Views are equal where their octets are equal.
 impl<T: Octets> PartialEq for NdiscOption<T> {
     ghost use Rattle.std.specs.Prelude.{◌==◌, IsTrue};
     ghost use Rattle.std.proofs.Common.{rules};
@@ -415,7 +416,7 @@ impl<T: Octets> Eq for NdiscOption<T> {
     ghost laws = { Prim.search (comparing, rules) };
 }
 
-/// The option at the front of the octets; of octets that are refused `NDISC Option (wire::Error)`.
+/// Prints the option at the front of the octets, or `NDISC Option (wire::Error)` where they are refused.
 impl<T: Octets> fmt::Display for NdiscOption<T> {
     ghost use Rattle.std.specs.Prelude.{None};
     ghost use Rattle.std.specs.Fmt.{WritesOnOk};

@@ -1,5 +1,5 @@
-//! Options of neighbor discovery written from their fields (RFC 4861 section 4.6), and the header of a packet that is
-//! quoted, for the crates above: a message that has an option need not make a value of it.
+//! Writers for options of neighbor discovery from their fields (RFC 4861 section 4.6), and for the header of a quoted
+//! packet, for the crates above: a message that has an option need not make a value of it.
 
 ghost use Rattle.std.specs.Prelude.{◌≡◌, ◌+◌, ◌*◌, ◌<◌, ◌≤◌, ◌^◌, [], ◌∷◌, length};
 ghost use Rattle.wirebase.specs.ByteWriter.{free, Puts, fields};
@@ -13,7 +13,7 @@ use crate::ndiscoption::{PrefixInformation, RedirectedHeader, Type};
 use bitflags::Flags as _;
 use wirebase::{ByteWriter, IPV6_HEADER_LEN, Ipv6Repr, RawHardwareAddress};
 
-/// The bytes of a unit, by which an option counts its length.
+/// The bytes of a unit: the length field of an option counts units.
 pub const UNIT: usize = 8;
 
 /// The bytes of the option of an MTU.
@@ -22,7 +22,7 @@ pub const MTU_LEN: usize = UNIT;
 /// The bytes of the option of a prefix.
 pub const PREFIX_LEN: usize = 4 * UNIT;
 
-// The bytes of type and length, and those of an option that stand in front of the payload of a redirected packet.
+// The bytes of the type and length fields, and the bytes of a redirected header before the payload of the packet.
 const HEADER_LEN: usize = 2;
 
 const REDIRECTED_HEADER_LEN: usize = UNIT + IPV6_HEADER_LEN;
@@ -34,7 +34,7 @@ pub fn link_layer_addr_len(addr: &RawHardwareAddress) -> usize
     UNIT * units_of(HEADER_LEN + addr.len())
 }
 
-/// The bytes of the option of a redirected packet: whole units. Requires that a `usize` holds their number.
+/// The bytes of the option of a redirected packet: whole units. Requires that their number fits a `usize`.
 pub fn redirected_len(redirected: &RedirectedHeader<'_>) -> usize
     requires { 8 * units (48 + length redirected.now.«data».now) < 2 ^ 64 }
     ensures { result ≡ 8 * units (48 + length redirected.now.«data».now) }
@@ -42,7 +42,7 @@ pub fn redirected_len(redirected: &RedirectedHeader<'_>) -> usize
     UNIT * units_of(REDIRECTED_HEADER_LEN + redirected.data.len())
 }
 
-// The units that so many bytes take.
+// The number of units that so many bytes take.
 fn units_of(count: usize) -> usize
     ensures { result ≡ units count }
 {
@@ -58,7 +58,7 @@ pub fn put_link_layer_addr(w: &mut ByteWriter<'_>, kind: Type, addr: &RawHardwar
     ensures room { length (free w.old)
         ≡ 8 * units (2 + length (raw_bytes addr.now)) + length (free w.new) }
 {
-    // Those of Ethernet and of IEEE 802.15.4 are written at once.
+    // Addresses of Ethernet and of IEEE 802.15.4 take one write.
     match *addr.as_bytes() {
         [a, b, c, d, e, f] => w.put_bytes(&[kind.into(), 1, a, b, c, d, e, f]),
         [a, b, c, d, e, f, g, h] => {
@@ -68,7 +68,7 @@ pub fn put_link_layer_addr(w: &mut ByteWriter<'_>, kind: Type, addr: &RawHardwar
     }
 }
 
-// Writes the same with zeros up to whole units. It stands apart, so that the common case needs few registers.
+// Writes the option with zeros up to whole units. A function of its own, so that the common case needs few registers.
 #[inline(never)]
 #[tactic(auto, using(crate::proofs::FieldsAtOnce::at_once))]
 fn put_padded(w: &mut ByteWriter<'_>, kind: Type, addr: &RawHardwareAddress)
@@ -93,7 +93,7 @@ pub fn put_prefix(w: &mut ByteWriter<'_>, info: &PrefixInformation)
     ensures puts { Puts w.old w.new (fields (prefix_fields info.now) ∷ []) }
     ensures room { length (free w.old) ≡ 32 + length (free w.new) }
 {
-    // What stands in front of the prefix is written at once, since each write looks for room.
+    // The bytes before the prefix are one write, since each write checks for room.
     let kind = Type::PrefixInformation.into();
     let [a, b, c, d] = (info.valid_lifetime.secs() as u32).to_be_bytes();
     let [e, f, g, h] = (info.preferred_lifetime.secs() as u32).to_be_bytes();

@@ -1,4 +1,4 @@
--- Addresses of any hardware, which hold eight bytes, zeros behind the address: they are equal exactly where their
+-- Addresses of any hardware, which hold eight bytes, zeros after the address: they are equal exactly where their
 -- addresses are.
 use Rattle.std.proofs.Common.{◌≡◌, ℕ, ◌-◌, ◌≤◌, ◌&&◌, Bool, true, eqb, List, [], ◌∷◌, ◌++◌, length, take, drop}
 use Rattle.std.proofs.Common.{replicate, IsTrue, sym, ap, subst, ◌∙◌, arith, length-take-le}

@@ -204,7 +204,7 @@ impl fmt::Display for HexColons<'_> {
     }
 }
 
-// Prints each byte as two digits, behind a colon.
+// Prints each byte as two digits, after a colon.
 fn fmt_behind_colons<W: fmt::Write>(f: &mut fmt::Formatter<W>, bytes: &[u8]) -> fmt::Result
     ensures { WritesOnOk W.write_str_gives f.old result
         (flat_map (λ next. codes ":" ++ hex_byte next) bytes.now) f.new }

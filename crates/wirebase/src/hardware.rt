@@ -1,4 +1,4 @@
-//! The kinds of hardware that a protocol of one hardware type or another speaks of.
+//! Kinds of hardware, by their assigned numbers.
 
 ghost use Rattle.std.specs.Prelude.{◌≡◌, Some};
 ghost use Rattle.wirebase.specs.Hardware.{hardware_number, hardware_rows, hardware_of, hardware_display};

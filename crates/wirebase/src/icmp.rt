@@ -1,4 +1,4 @@
-//! What messages of ICMP for IPv4 (RFC 792), of ICMP for IPv6 (RFC 4443) and of IGMP (RFC 2236) share.
+//! Parts of messages that ICMP for IPv4 (RFC 792), ICMP for IPv6 (RFC 4443) and IGMP (RFC 2236) share.
 
 ghost use Rattle.std.specs.Prelude.{◌≡◌, ◌+◌, ◌≤◌, ◌∷◌, [], length};
 ghost use Rattle.wirebase.specs.ByteWriter.{free, be8, be16, Puts};
@@ -6,7 +6,7 @@ ghost use Rattle.wirebase.specs.Icmp.{echo_fields};
 
 use crate::byte_writer::ByteWriter;
 
-/// Writes the eight bytes that a message begins with: its type, its code, a checksum of zero, and the four bytes behind
+/// Writes the eight bytes that a message begins with: its type, its code, a checksum of zero, and the four bytes after
 /// them. Requires that eight are free.
 // In one write, since the checksum reads these bytes as one word: a processor waits where a word that it reads was
 // written in pieces just before.

@@ -57,15 +57,15 @@ pub struct Ipv6Packet<T: Octets> {
 }
 
 impl<T: Octets> Ipv6Packet<T> {
-    /// The view of these octets, whatever they are.
+    /// Makes a view of `buffer`; its length is not checked.
     pub fn new_unchecked(buffer: T) -> Ipv6Packet<T>
         ensures { inner result ≡ buffer }
     {
         Ipv6Packet { buffer }
     }
 
-    /// The view of these octets, where they begin with a whole packet; refused where they don't. On refusal the buffer
-    /// is dropped: to keep a `&mut [u8]`, call `new_unchecked` and then `check_len`.
+    /// Makes a view of `buffer`. Refused where it doesn't begin with a whole packet. On refusal the buffer is dropped:
+    /// to keep a `&mut [u8]`, call `new_unchecked` and then `check_len`.
     pub fn new_checked(buffer: T) -> Result<Ipv6Packet<T>>
         ensures accepts { IsOk result ↔ BeginsWhole (T.bytes buffer) }
         ensures buffer { IfOk result (λ view. inner view ≡ buffer) }
@@ -75,8 +75,8 @@ impl<T: Octets> Ipv6Packet<T> {
         Ok(packet)
     }
 
-    /// Accepts octets that hold the header, 40 bytes, and the whole payload by the length in it. Then each accessor
-    /// may be called. The version is not looked at.
+    /// Accepts octets that hold the header, 40 bytes, and the whole payload by the length in it. Then each accessor may
+    /// be called. The version is not checked.
     pub fn check_len(&self) -> Result<()>
         ensures accepts { IsOk result ↔ BeginsWhole (T.bytes (inner self.now)) }
     {
@@ -87,7 +87,7 @@ impl<T: Octets> Ipv6Packet<T> {
         Ok(())
     }
 
-    /// What the view was made from, as it is now.
+    /// Returns the buffer of the view.
     pub fn into_inner(self) -> T
         ensures { result ≡ inner self }
     {
@@ -171,7 +171,7 @@ impl<'a> Ipv6Packet<&'a [u8]> {
 }
 
 impl<T: OctetsMut> Ipv6Packet<T> {
-    /// Lends the payload for writing; all else stays. Requires the header and the bytes that it counts.
+    /// Lends the payload for writing; the other octets are unchanged. Requires the header and the bytes that it counts.
     pub fn payload_mut(&mut self) -> &mut [u8]
         requires { BeginsWhole (T.bytes (inner self.old)) }
         ensures* lends { sem 𝓛 (Lends (the_row T.row) (Array byte 0) self.entry result
@@ -186,7 +186,7 @@ impl<T: OctetsMut> Ipv6Packet<T> {
     }
 }
 
-/// Views are equal where their octets are.
+/// Views are equal where their octets are equal.
 impl<T: Octets> PartialEq for Ipv6Packet<T> {
     ghost use Rattle.std.specs.Prelude.{◌==◌};
     ghost use Rattle.std.proofs.Common.{rules};
@@ -249,7 +249,7 @@ impl Ipv6Repr {
         })
     }
 
-    /// Why [`Ipv6Repr::parse`] refuses these octets, by the check that fails first; None where it reads them.
+    /// Why [`Ipv6Repr::parse`] refuses these octets, by the first check that fails; None where it reads them.
     pub fn refusal(packet: &Ipv6Packet<&[u8]>) -> Option<Ipv6Refusal>
         ensures told { IfSome result (Refuses (view_octets packet.now)) }
         ensures exact { IsNone result ↔ IsRead (view_octets packet.now) }
@@ -274,8 +274,8 @@ impl Ipv6Repr {
         IPV6_HEADER_LEN
     }
 
-    /// Writes the header over the front of the octets; the others stay. It is a header of version 6 with no traffic
-    /// class and no flow label. Requires at least 40 bytes, and a payload of at most 65,535 bytes.
+    /// Writes the header over the front of the octets; the other octets are unchanged. It is a header of version 6 with
+    /// no traffic class and no flow label. Requires at least 40 bytes, and a payload of at most 65,535 bytes.
     pub fn emit<T: OctetsMut>(&self, packet: &mut Ipv6Packet<T>)
         requires room { Reaches dst_addr_field (T.bytes (inner packet.old)) }
         requires count { self.now.payload_len ≤ 65535 }
@@ -285,7 +285,7 @@ impl Ipv6Repr {
         self.emit_into(packet.buffer.octets_mut());
     }
 
-    /// The same into a slice.
+    /// Like `emit`, but writes into a slice.
     #[tactic(auto, using(crate::proofs::Ipv6Header::header_writes))]
     pub fn emit_into(&self, octets: &mut [u8])
         requires room { Reaches dst_addr_field octets.old }

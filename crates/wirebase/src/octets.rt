@@ -13,7 +13,7 @@ use std::ops::Range;
 /// A field of a layout: its octets, from the first up to the one after the last.
 pub type Field = Range<usize>;
 
-/// Does nothing: each octet is a byte.
+/// Does nothing; its contract states that each octet is a byte.
 pub fn are_bytes(octets: &[u8])
     ensures { IsBytes octets.now }
 {}
@@ -23,12 +23,12 @@ pub trait Octets: Drop {
     /// The octets that it holds.
     ghost bytes: { Self → List ℕ };
 
-    /// The slice that is referred to.
+    /// The slice itself.
     fn octets(&self) -> &[u8]
         ensures { result.now ≡ bytes self.now };
 
-    /// The octets from one place up to another. Requires that the places are in order and that the octets reach the
-    /// second.
+    /// The octets from one place up to another. Requires that `from` is at most `to`, and `to` at most the number of
+    /// octets.
     #[tactic(auto, unfolding(crate::specs::Bytes::part))]
     final fn range(&self, from: usize, to: usize) -> &[u8]
         requires order { from ≤ to }
@@ -39,7 +39,7 @@ pub trait Octets: Drop {
         &self.octets()[from..to]
     }
 
-    /// The octets of a field. Requires that they are there.
+    /// The octets of a field. Requires that the field is within the octets.
     final fn field(&self, field: Field) -> &[u8]
         requires order { field.start ≤ field.end }
         requires room { field.end ≤ length (bytes self.now) }
@@ -49,7 +49,7 @@ pub trait Octets: Drop {
         self.range(field.start, field.end)
     }
 
-    /// The octet in a field of one. Requires that it is there.
+    /// The octet in a field of one. Requires that the field is within the octets.
     #[tactic(auto, using(crate::proofs::Pieces::pieces))]
     final fn u8_at(&self, field: Field) -> u8
         requires one { field.end ≡ field.start + 1 }
@@ -59,7 +59,7 @@ pub trait Octets: Drop {
         self.range(field.start, field.end)[0]
     }
 
-    /// The number in a field of two octets, the higher first. Requires that they are there.
+    /// The number in a field of two octets, the higher first. Requires that the field is within the octets.
     final fn u16_at(&self, field: Field) -> u16
         requires two { field.end ≡ field.start + 2 }
         requires room { field.end ≤ length (bytes self.now) }
@@ -68,7 +68,7 @@ pub trait Octets: Drop {
         BigEndian::read_u16(self.range(field.start, field.end))
     }
 
-    /// The number in a field of four octets, the highest first. Requires that they are there.
+    /// The number in a field of four octets, the highest first. Requires that the field is within the octets.
     final fn u32_at(&self, field: Field) -> u32
         requires four { field.end ≡ field.start + 4 }
         requires room { field.end ≤ length (bytes self.now) }
@@ -80,11 +80,11 @@ pub trait Octets: Drop {
 
 /// What holds octets that may be written: `&mut [u8]` alone.
 pub trait OctetsMut: Octets {
-    /// The same place with other octets.
+    /// The holder with its octets replaced.
     ghost put: { Self → List ℕ → Self };
 
-    /// Lends the octets from one place up to another for writing; the others stay. Requires that the places are in
-    /// order and that the octets reach the second.
+    /// Lends the octets from one place up to another for writing; the other octets are unchanged. Requires that `from`
+    /// is at most `to`, and `to` at most the number of octets.
     fn range_mut(&mut self, from: usize, to: usize) -> &mut [u8]
         requires order { from ≤ to }
         requires room { to ≤ length (Self.bytes self.old) }
@@ -93,7 +93,8 @@ pub trait OctetsMut: Octets {
         ensures value { result.now ≡ part (Self.bytes self.old) from to }
         ensures len { length result.now ≡ to - from };
 
-    /// Lends the octets of a field for writing; the others stay. Requires that they are there.
+    /// Lends the octets of a field for writing; the other octets are unchanged. Requires that the field is within the
+    /// octets.
     final fn field_mut(&mut self, field: Field) -> &mut [u8]
         requires order { field.start ≤ field.end }
         requires room { field.end ≤ length (Self.bytes self.old) }
@@ -117,7 +118,7 @@ pub trait OctetsMut: Octets {
         self.range_mut(0, len)
     }
 
-    /// Writes an octet into a field of one. Requires that it is there.
+    /// Writes an octet into a field of one. Requires that the field is within the octets.
     #[tactic(auto, using(crate::proofs::Pieces::pieces))]
     final fn set_u8(&mut self, field: Field, value: u8)
         requires one { field.end ≡ field.start + 1 }
@@ -129,7 +130,7 @@ pub trait OctetsMut: Octets {
         self.range_mut(field.start, field.end)[0] = value;
     }
 
-    /// Writes a number into a field of two octets, the higher first. Requires that they are there.
+    /// Writes a number into a field of two octets, the higher first. Requires that the field is within the octets.
     #[tactic(auto, using(crate::proofs::Pieces::pieces))]
     final fn set_u16(&mut self, field: Field, value: u16)
         requires two { field.end ≡ field.start + 2 }
@@ -141,7 +142,7 @@ pub trait OctetsMut: Octets {
         BigEndian::write_u16(self.range_mut(field.start, field.end), value);
     }
 
-    /// Writes a number into a field of four octets, the highest first. Requires that they are there.
+    /// Writes a number into a field of four octets, the highest first. Requires that the field is within the octets.
     #[tactic(auto, using(crate::proofs::Pieces::pieces))]
     final fn set_u32(&mut self, field: Field, value: u32)
         requires four { field.end ≡ field.start + 4 }
@@ -153,7 +154,7 @@ pub trait OctetsMut: Octets {
         BigEndian::write_u32(self.range_mut(field.start, field.end), value);
     }
 
-    /// Writes octets into a field of as many. Requires that they are there.
+    /// Writes octets into a field of as many. Requires that the field is within the octets.
     #[tactic(auto, using(crate::proofs::Pieces::pieces))]
     final fn set_bytes(&mut self, field: Field, value: &[u8])
         requires order { field.start ≤ field.end }

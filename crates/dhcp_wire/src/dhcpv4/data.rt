@@ -1,4 +1,4 @@
-//! The data of options, as the fields of a value give them (RFC 2132).
+//! The data of options, written from the fields of a value (RFC 2132).
 #![tactic(auto, using(crate::proofs::Dhcpv4Data::lengths))]
 
 ghost use Rattle.std.specs.Prelude.{◌≡◌, ◌≤◌, ◌+◌, ◌∷◌, [], List, ℕ, length, flat_map};
@@ -9,7 +9,7 @@ use super::tables::MessageType;
 use arrayvec::ArrayVec;
 use wirebase::{ByteWriter, EthernetAddress, Ipv4Address};
 
-// What the data of an option are made from.
+// A value that is written as the data of an option.
 pub(super) trait Data: Drop {
     ghost bytes: { Self → List ℕ };
 
@@ -94,7 +94,7 @@ impl Data for Ipv4Address {
     }
 }
 
-// The type of the hardware, Ethernet, and the address there.
+// The hardware type of Ethernet, and the address.
 impl Data for EthernetAddress {
     ghost use Rattle.std.specs.Prelude.{◌∷◌};
     ghost use Rattle.wirebase.specs.Ethernet.{octets_of};

@@ -1,4 +1,4 @@
-//! Values as they are written.
+//! Writes values.
 
 ghost use Rattle.std.specs.Prelude.{◌≡◌, ◌≤◌, ◌+◌, ◌∷◌, [], Ok, length, map, take, drop};
 ghost use Rattle.std.specs.Option.{option_map};
@@ -27,7 +27,7 @@ use super::repr::{ETHERNET_LEN, MAGIC_NUMBER, Repr};
 use wirebase::{ByteWriter, EthernetAddress, Ipv4Address, OctetsMut, Result};
 
 impl Repr<'_> {
-    /// The bytes that the packet takes: header, options and end mark. Requires that a `usize` holds their number.
+    /// The bytes that the packet takes: header, options and end mark. Requires that their number fits a `usize`.
     #[tactic(auto, using(crate::proofs::Dhcpv4Lengths::lengths))]
     pub fn buffer_len(&self) -> usize
         requires { text_len (value_of self.now) ≤ usize.MAX }
@@ -41,10 +41,10 @@ impl Repr<'_> {
         len
     }
 
-    /// Writes the packet over the front of the octets; the others stay. Requires at least 240 bytes. Refused where the
-    /// request list, or the data of an additional option, has more than 255 bytes, and where there is no room for all
-    /// options and the end mark; then the header and the options before the first that is refused are written, and no
-    /// end mark.
+    /// Writes the packet over the front of the octets; the other octets are unchanged. Requires at least 240 bytes.
+    /// Refused where the request list, or the data of an additional option, has more than 255 bytes, and where there is
+    /// no room for all options and the end mark; then the header and the options before the first that is refused are
+    /// written, and no end mark.
     pub fn emit<T: OctetsMut>(&self, packet: &mut Packet<T>) -> Result<()>
         requires { Reaches magic_field (T.bytes (inner packet.old)) }
         ensures place { inner packet.new ≡ T.put (inner packet.old) (T.bytes (inner packet.new)) }
@@ -54,7 +54,7 @@ impl Repr<'_> {
         self.emit_into(packet.buffer.octets_mut())
     }
 
-    /// The same into a slice.
+    /// Like `emit`, but writes into a slice.
     pub fn emit_into(&self, octets: &mut [u8]) -> Result<()>
         requires { Reaches magic_field octets.old }
         ensures { Emits (value_of self.now) octets.old result octets.new }
@@ -65,8 +65,8 @@ impl Repr<'_> {
         self.write_options(w.part(room))
     }
 
-    /// Does nothing. Of two values that a packet can hold, equal texts mean equal normal forms, and conversely unless
-    /// one has additional options.
+    /// Does nothing; its contract states of two values that a packet can hold that equal texts mean equal normal forms,
+    /// and conversely unless one has additional options.
     pub fn same_text(a: &Self, b: &Self)
         ensures { SameText format (value_of a.now) (value_of b.now) }
     {}
@@ -101,7 +101,7 @@ impl Repr<'_> {
         self.put_header_addresses(w);
     }
 
-    // Writes the numbers in front of the addresses of the fixed part.
+    // Writes the numbers before the addresses of the fixed part.
     fn put_numbers(&self, w: &mut ByteWriter<'_>)
         requires { 240 ≤ length (free_bytes w.old) }
         ensures puts { Puts w.old w.new (take 7 (header_fields (value_of self.now))) }
@@ -117,7 +117,7 @@ impl Repr<'_> {
         w.put_u16(flags);
     }
 
-    // Writes the addresses of the fixed part, and what stands behind them.
+    // Writes the addresses of the fixed part, and the fields after them.
     fn put_header_addresses(&self, w: &mut ByteWriter<'_>)
         requires { 228 ≤ length (free_bytes w.old) }
         ensures puts { Puts w.old w.new (drop 7 (header_fields (value_of self.now))) }
@@ -203,7 +203,7 @@ fn put_octets(w: &mut ByteWriter<'_>, address: Ipv4Address)
     w.put_bytes(&address.octets());
 }
 
-// The bytes of an option with these data, where they are there.
+// The bytes of an option with this data, or 0 where there is none.
 fn option_len<D: Data>(field: Option<D>) -> usize
     ensures { result ≡ data_len (option_map D.bytes field) }
 {

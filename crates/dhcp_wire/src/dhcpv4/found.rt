@@ -1,4 +1,4 @@
-//! What the options of a packet say, in one pass.
+//! Collects the options of a packet, in one pass.
 
 ghost use Rattle.std.specs.Prelude.{◌≡◌, ◌≤◌, ◌↔◌, [], ◌∷◌, Some, None, length, flat_map, slice_index, IsTrue, IfOk};
 ghost use Rattle.std.specs.Prelude.{OnOk, OnErr};
@@ -29,8 +29,8 @@ use arrayvec::ArrayVec;
 use byteorder::{BigEndian, ByteOrder};
 use wirebase::{Error, EthernetAddress, Ipv4Address, Result};
 
-// What the options of a packet said so far: each field of the value as the last option of its kind and length, and the
-// type of the message, where one gives it.
+// The options seen so far: each field of the value is the last option of its kind and length, and the type of the
+// message is there where an option gives it.
 #[derive(Drop)]
 pub(super) struct Found<'a> {
     pub(super) message_type: Option<MessageType>,
@@ -38,8 +38,8 @@ pub(super) struct Found<'a> {
 }
 
 impl<'a> Found<'a> {
-    // Notes what the options of a packet say, of which none was noted. Refused where one is a client identifier of
-    // another hardware.
+    // Notes all options of a packet, where none was noted before. Refused where one is a client identifier of another
+    // hardware.
     pub(super) fn note_all(&mut self, packet: &Packet<&'a [u8]>) -> Result<()>
         requires room { Reaches magic_field (inner packet.now).now }
         requires fresh { kept_of self.old ≡ nothing }
@@ -61,7 +61,8 @@ impl<'a> Found<'a> {
         Ok(())
     }
 
-    // One more option, of a packet with this operation. It is no part of the loop, and the value stays in its place.
+    // Notes one more option, of a packet with this operation. Never inlined into the loop; by `&mut self`, so that the
+    // value is not copied.
     #[inline(never)]
     fn note(&mut self, kind: u8, body: &'a [u8], op: u8)
         ensures kept { kept_of self.new ≡ keep op (kept_of self.old) (option kind body.now) }
@@ -85,7 +86,7 @@ impl<'a> Found<'a> {
     }
 }
 
-// What an option says takes the place of what one before it said.
+// Sets a field to what an option says, where it says something.
 fn set<T: Copy>(field: &mut Option<T>, said: Option<T>)
     ensures { field.new ≡ option_or said field.old }
 {
@@ -94,13 +95,12 @@ fn set<T: Copy>(field: &mut Option<T>, said: Option<T>)
     }
 }
 
-// The length of a client identifier that is an address of Ethernet, and the number of that hardware, which stands
-// first.
+// The length of a client identifier that is an address of Ethernet, and the number of that hardware, its first byte.
 pub(super) const IDENTIFIER_LEN: usize = 7;
 
 pub(super) const ETHERNET: u8 = 1;
 
-// Whether this is no client identifier of another hardware.
+// Whether the option is not a client identifier of another hardware.
 fn is_of_ethernet(option: DhcpOption<'_>) -> bool
     ensures { IsTrue result ↔ IsOfEthernet (value_of_option option.entry) }
 {
@@ -108,7 +108,7 @@ fn is_of_ethernet(option: DhcpOption<'_>) -> bool
     option.kind != OPT_CLIENT_ID || data.len() != IDENTIFIER_LEN || data[0] == ETHERNET
 }
 
-// The type of a message whose operation is this one; none of other data.
+// The type of a message whose operation is this one; None for other data.
 fn message_type(data: &[u8], op: u8) -> Option<MessageType>
     ensures { result ≡ type_in op data.now }
 {
@@ -120,7 +120,7 @@ fn message_type(data: &[u8], op: u8) -> Option<MessageType>
     if own == op { Some(message_type) } else { None }
 }
 
-// An address of four octets; none of other data.
+// An address of four octets; None for other data.
 fn address(data: &[u8]) -> Option<Ipv4Address>
     ensures { option_map octets_of result ≡ of_len 4 data.now }
 {
@@ -130,7 +130,7 @@ fn address(data: &[u8]) -> Option<Ipv4Address>
     Some(Ipv4Address::from_octets(data.try_into().unwrap()))
 }
 
-// An address of Ethernet behind the number of its hardware; none of other data.
+// An address of Ethernet after the number of its hardware; None for other data.
 fn identifier(data: &[u8]) -> Option<EthernetAddress>
     ensures { option_map ethernet_octets (option_map ethernet_of result) ≡ identifier_in data.now }
 {
@@ -140,7 +140,7 @@ fn identifier(data: &[u8]) -> Option<EthernetAddress>
     Some(EthernetAddress::from_bytes(&data[1..]))
 }
 
-// A number of two bytes; none of other data.
+// A number of two bytes; None for other data.
 fn size(data: &[u8]) -> Option<u16>
     ensures { result ≡ number_in 2 data.now }
 {
@@ -150,7 +150,7 @@ fn size(data: &[u8]) -> Option<u16>
     Some(BigEndian::read_u16(data))
 }
 
-// A number of four bytes; none of other data.
+// A number of four bytes; None for other data.
 fn seconds(data: &[u8]) -> Option<u32>
     ensures { result ≡ number_in 4 data.now }
 {

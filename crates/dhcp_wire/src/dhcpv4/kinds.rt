@@ -1,7 +1,7 @@
 //! The kinds of option (RFC 2132), one byte each. Padding and the end mark are bytes by themselves; every other kind is
 //! followed by the number of bytes of its data, and the data.
 
-// RFC 2132 section 3: what RFC 1497 had.
+// RFC 2132 section 3: the options of RFC 1497.
 
 /// Padding: this byte alone (RFC 2132 section 3.1).
 pub const OPT_PAD: u8 = 0;
@@ -142,7 +142,7 @@ pub const OPT_NIS_SERVERS: u8 = 41;
 /// NTP servers: 4 bytes each (RFC 2132 section 8.3).
 pub const OPT_NTP_SERVERS: u8 = 42;
 
-/// What a vendor says to its clients: 1 byte or more (RFC 2132 section 8.4).
+/// Information that a vendor defines: 1 byte or more (RFC 2132 section 8.4).
 pub const OPT_VENDOR_SPECIFIC_INFO: u8 = 43;
 
 /// NetBIOS name servers: 4 bytes each (RFC 2132 section 8.5).

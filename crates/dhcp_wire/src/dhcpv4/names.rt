@@ -54,7 +54,7 @@ fn text_in(octets: &[u8]) -> Result<&str>
     }
 }
 
-// How many bytes stand before the first zero; refused where there is none.
+// The number of bytes before the first zero; refused where there is no zero.
 fn before_zero(octets: &[u8]) -> Result<usize>
     ensures zero { IfOk result (λ count. slice_index octets.now count ≡ 0) }
     ensures inside { IfOk result (λ count. count < length octets.now) }

@@ -14,8 +14,8 @@ use super::printing::Kinds;
 use super::value::{OptionAddresses, OptionValue, first_address};
 use std::fmt;
 
-/// The name of the kind and the data by its format, as `lease-time=3600`; a kind that has no name here prints its
-/// number, as `option-224=01:02`.
+/// Prints the name of the kind and the data by its format, as `lease-time=3600`; a kind that has no name here prints
+/// its number, as `option-224=01:02`.
 impl fmt::Display for DhcpOption<'_> {
     ghost output = { λ option. Some (option_display (value_of_option option)) };
 
@@ -29,9 +29,10 @@ impl fmt::Display for DhcpOption<'_> {
     }
 }
 
-/// Addresses and numbers with commas between them, a type of message by its name, a text in quotation marks, and other
-/// data as two hexadecimal digits a byte, with colons between them. In a text a quotation mark and a backslash stand
-/// behind a backslash, and a byte that is no visible character of ASCII and no space is printed as `\x` and two digits.
+/// Prints addresses and numbers with commas between them, a type of message by its name, a text in quotation marks, and
+/// other data as two hexadecimal digits a byte, with colons between them. In a text, a quotation mark and a backslash
+/// are printed after a backslash, and a byte that is neither a visible character of ASCII nor a space is printed as
+/// `\x` and two digits.
 impl fmt::Display for OptionValue<'_> {
     ghost output = { λ value. Some (content_display (content_of value)) };
 
@@ -66,7 +67,7 @@ impl fmt::Display for Addresses<'_> {
     }
 }
 
-// Prints each address behind a comma.
+// Prints each address after a comma.
 fn fmt_more_addresses<W: fmt::Write>(f: &mut fmt::Formatter<W>, octets: &[u8]) -> fmt::Result
     ensures { WritesOnOk W.write_str_gives f.old result
         (flat_map (λ next. codes "," ++ address_text next) (addresses_in octets.now)) f.new }
@@ -148,7 +149,7 @@ impl fmt::Display for HexColons<'_> {
     }
 }
 
-// Prints each byte as two digits, behind a colon.
+// Prints each byte as two digits, after a colon.
 fn fmt_behind_colons<W: fmt::Write>(f: &mut fmt::Formatter<W>, octets: &[u8]) -> fmt::Result
     ensures { WritesOnOk W.write_str_gives f.old result
         (flat_map (λ next. codes ":" ++ hex_byte next) octets.now) f.new }

@@ -35,10 +35,10 @@ pub struct DhcpOption<'a> {
     pub data: &'a [u8],
 }
 
-/// The options of a packet in turn. Padding is skipped; the end mark and an option that is cut off end them for good.
+/// The options of a packet in turn. Padding is skipped; the end mark, and an option that is cut off, are the end.
 #[derive(Debug, Clone, Drop)]
 pub struct OptionsIter<'a> {
-    // The octets after the options that were given.
+    // The octets after the options that were given already.
     rest: &'a [u8],
 }
 
@@ -86,7 +86,7 @@ impl<'a> Iterator for OptionsIter<'a> {
     }
 }
 
-// The octets from the first on that is no padding. Most options have none before them.
+// The octets from the first one on that isn't padding. Most options have no padding before them.
 #[inline]
 fn after_padding(octets: &[u8]) -> &[u8]
     ensures same { list_of result.now ≡ list_of octets.now }
@@ -98,8 +98,8 @@ fn after_padding(octets: &[u8]) -> &[u8]
     past_words(octets)
 }
 
-// The same, eight octets at a time: the lowest bit that is set in a word of them is in the first that is no padding. It
-// stands apart, so that a loop over options stays small.
+// `after_padding`, eight octets at a time: the lowest set bit of the little-endian word is in the first octet that
+// isn't padding. Never inlined, to keep the option loop small.
 #[inline(never)]
 fn past_words(octets: &[u8]) -> &[u8]
     ensures same { list_of result.now ≡ list_of octets.now }
@@ -117,7 +117,7 @@ fn past_words(octets: &[u8]) -> &[u8]
     past_octets(rest)
 }
 
-// The same, octet by octet.
+// `after_padding`, octet by octet.
 fn past_octets(octets: &[u8]) -> &[u8]
     ensures same { list_of result.now ≡ list_of octets.now }
     ensures none { HasNoPadding result.now }
@@ -169,7 +169,7 @@ impl<'a> DhcpOptionWriter<'a> {
     }
 
     /// Writes an option: its kind, the number of bytes of its data, and the data. Refused where the data has more than
-    /// 255 bytes, and where fewer bytes are free than that takes; then nothing changes.
+    /// 255 bytes, and where fewer bytes are free than the option takes; then nothing changes.
     pub fn emit(&mut self, option: DhcpOption<'_>) -> Result<()>
         ensures accepts { IsOk result
             ↔ Fits (length (free self.old)) (value_of_option option.entry) }
@@ -201,7 +201,7 @@ impl<'a> DhcpOptionWriter<'a> {
         Ok(())
     }
 
-    // Writes an option of this kind with the data that a field of a value gives, where it is there.
+    // Writes an option of this kind whose data is a field of a value, where the field is there.
     pub(super) fn put<D: Data>(&mut self, kind: u8, field: Option<D>) -> Result<()>
         ensures step { progress self.new result
             ≡ step_slot (progress self.old (Ok tt)) (slot kind (option_map D.bytes field)) }
@@ -213,7 +213,7 @@ impl<'a> DhcpOptionWriter<'a> {
         }
     }
 
-    // Writes an option of this kind with these data, or refuses it, as `emit`.
+    // Writes an option of this kind with this data; refused as by `emit`.
     fn emit_data<D: Data>(&mut self, kind: u8, body: D) -> Result<()>
         ensures accepts { IsOk result
             ↔ Fits (length (free self.old)) (option kind (D.bytes body)) }

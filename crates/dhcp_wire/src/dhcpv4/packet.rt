@@ -66,7 +66,7 @@ pub struct Packet<T: Octets> {
     pub(super) buffer: T,
 }
 
-/// Views are equal exactly when their octets are.
+/// Views are equal exactly when their octets are equal.
 impl<T: Octets> PartialEq for Packet<T> {
     ghost use Rattle.std.specs.Prelude.{◌==◌};
     ghost use Rattle.std.proofs.Common.{rules};
@@ -93,15 +93,15 @@ impl<T: Octets> Eq for Packet<T> {
 }
 
 impl<T: Octets> Packet<T> {
-    /// The view of these octets, whatever they are.
+    /// Makes a view of `buffer`; its length is not checked.
     pub const fn new_unchecked(buffer: T) -> Packet<T>
         ensures { inner result ≡ buffer }
     {
         Packet { buffer }
     }
 
-    /// The view of these octets, where they are 240 or more; refused where they are fewer. On refusal the buffer is
-    /// dropped: to keep a `&mut [u8]`, call `new_unchecked` and then `check_len`.
+    /// Makes a view of `buffer`. Refused where it has fewer than 240 octets. On refusal the buffer is dropped: to keep
+    /// a `&mut [u8]`, call `new_unchecked` and then `check_len`.
     pub fn new_checked(buffer: T) -> Result<Packet<T>>
         ensures accepts { IsOk result ↔ Reaches magic_field (T.bytes buffer) }
         ensures buffer { IfOk result (λ view. inner view ≡ buffer) }
@@ -121,7 +121,7 @@ impl<T: Octets> Packet<T> {
         Ok(())
     }
 
-    /// What the view was made from, as it is now.
+    /// Returns the buffer of the view.
     pub fn into_inner(self) -> T
         ensures { result ≡ inner self }
     {
@@ -224,7 +224,7 @@ impl<T: Octets> Packet<T> {
         ipv4_address(self.buffer.field(field::GIADDR))
     }
 
-    /// The flags that have a name; the other bits are not looked at. Requires at least 12 bytes.
+    /// The flags that have a name; the other bits are ignored. Requires at least 12 bytes.
     #[tactic(auto, unfolding(bitflags::specs::Sets::known_from))]
     pub fn flags(&self) -> Flags
         requires { Reaches flags_field (T.bytes (inner self.now)) }

@@ -1,4 +1,4 @@
-//! Packets as texts.
+//! Prints packets.
 
 ghost use Rattle.std.specs.Prelude.{◌++◌, Some, codes, decimal, flat_map};
 ghost use Rattle.std.specs.Option.{option_map};
@@ -14,8 +14,8 @@ use super::repr::Repr;
 use std::fmt;
 use wirebase::{EthernetAddress, Ipv4Address};
 
-/// The type of the message, and each field by its name, as `DHCPv4 DISCOVER xid=1 secs=0 ..`; an option that is not
-/// there is left out.
+/// Prints the type of the message, and each field by its name, as `DHCPv4 DISCOVER xid=1 secs=0 ..`; an option that is
+/// absent is left out.
 impl fmt::Display for Repr<'_> {
     ghost output = { λ repr. Some (repr_display (value_of repr)) };
 
@@ -27,7 +27,7 @@ impl fmt::Display for Repr<'_> {
 }
 
 impl Repr<'_> {
-    // What the fixed part prints, and the addresses that options give.
+    // Prints the fixed part, and the addresses given by options.
     fn fmt_fixed<W: fmt::Write>(&self, f: &mut fmt::Formatter<W>) -> fmt::Result
         ensures { WritesOnOk W.write_str_gives f.old result (fixed_display (value_of self.now)) f.new }
     {
@@ -36,7 +36,7 @@ impl Repr<'_> {
         self.fmt_networks(f)
     }
 
-    // What the type of the message prints, the numbers of the fixed part, and the client's hardware address.
+    // Prints the type of the message, the numbers of the fixed part, and the client's hardware address.
     fn fmt_exchange<W: fmt::Write>(&self, f: &mut fmt::Formatter<W>) -> fmt::Result
         ensures { WritesOnOk W.write_str_gives f.old result (exchange_display (value_of self.now)) f.new }
     {
@@ -47,7 +47,7 @@ impl Repr<'_> {
         )
     }
 
-    // What the addresses of client and server print.
+    // Prints the addresses of client and server.
     fn fmt_hosts<W: fmt::Write>(&self, f: &mut fmt::Formatter<W>) -> fmt::Result
         ensures { WritesOnOk W.write_str_gives f.old result (hosts_display (value_of self.now)) f.new }
     {
@@ -58,7 +58,7 @@ impl Repr<'_> {
         )
     }
 
-    // What the addresses print that options give, and the rest of the fixed part.
+    // Prints the addresses given by options, and the rest of the fixed part.
     fn fmt_networks<W: fmt::Write>(&self, f: &mut fmt::Formatter<W>) -> fmt::Result
         ensures { WritesOnOk W.write_str_gives f.old result (networks_display (value_of self.now)) f.new }
     {
@@ -75,7 +75,7 @@ impl Repr<'_> {
         )
     }
 
-    // What the lists print.
+    // Prints the lists.
     fn fmt_lists<W: fmt::Write>(&self, f: &mut fmt::Formatter<W>) -> fmt::Result
         ensures { WritesOnOk W.write_str_gives f.old result (lists_display (value_of self.now)) f.new }
     {
@@ -83,7 +83,7 @@ impl Repr<'_> {
         self.fmt_servers(f)
     }
 
-    // What the list of requested options prints.
+    // Prints the list of requested options.
     fn fmt_requests<W: fmt::Write>(&self, f: &mut fmt::Formatter<W>) -> fmt::Result
         ensures { WritesOnOk W.write_str_gives f.old result (requests_display (value_of self.now)) f.new }
     {
@@ -93,7 +93,7 @@ impl Repr<'_> {
         }
     }
 
-    // What the list of servers prints.
+    // Prints the list of servers.
     fn fmt_servers<W: fmt::Write>(&self, f: &mut fmt::Formatter<W>) -> fmt::Result
         ensures { WritesOnOk W.write_str_gives f.old result (servers_display (value_of self.now)) f.new }
     {
@@ -103,7 +103,7 @@ impl Repr<'_> {
         }
     }
 
-    // What the numbers print that options give, and how many additional options there are.
+    // Prints the numbers given by options, and the number of additional options.
     fn fmt_numbers<W: fmt::Write>(&self, f: &mut fmt::Formatter<W>) -> fmt::Result
         ensures { WritesOnOk W.write_str_gives f.old result (numbers_display (value_of self.now)) f.new }
     {
@@ -111,7 +111,7 @@ impl Repr<'_> {
         fmt_count(f, self.additional_options.len())
     }
 
-    // What the numbers print that options give.
+    // Prints the numbers given by options.
     fn fmt_times<W: fmt::Write>(&self, f: &mut fmt::Formatter<W>) -> fmt::Result
         ensures { WritesOnOk W.write_str_gives f.old result (times_display (value_of self.now)) f.new }
     {
@@ -130,7 +130,7 @@ impl Repr<'_> {
     }
 }
 
-// What so many additional options print.
+// Prints the number of additional options.
 fn fmt_count<W: fmt::Write>(f: &mut fmt::Formatter<W>, count: usize) -> fmt::Result
     ensures { WritesOnOk W.write_str_gives f.old result (count_display count) f.new }
 {
@@ -140,7 +140,7 @@ fn fmt_count<W: fmt::Write>(f: &mut fmt::Formatter<W>, count: usize) -> fmt::Res
     write!(f, " additional_options={count}")
 }
 
-// A field behind a space, its name and `=`, where it is there: an address of IPv4.
+// An optional field that is printed after a space, its name and `=`: an address of IPv4.
 #[derive(Clone, Copy)]
 struct NamedIpv4<'a>(&'a str, Option<Ipv4Address>);
 
@@ -155,7 +155,7 @@ impl fmt::Display for NamedIpv4<'_> {
     }
 }
 
-// The same of an address of Ethernet.
+// An optional field that is printed after a space, its name and `=`: an address of Ethernet.
 #[derive(Clone, Copy)]
 struct NamedEthernet<'a>(&'a str, Option<EthernetAddress>);
 
@@ -173,7 +173,7 @@ impl fmt::Display for NamedEthernet<'_> {
     }
 }
 
-// The same of a number.
+// An optional field that is printed after a space, its name and `=`: a number.
 #[derive(Clone, Copy)]
 struct NamedNumber<'a>(&'a str, Option<u32>);
 
@@ -204,7 +204,7 @@ impl fmt::Display for Kinds<'_> {
     }
 }
 
-// Prints each kind behind a comma.
+// Prints each kind after a comma.
 fn fmt_more_kinds<W: fmt::Write>(f: &mut fmt::Formatter<W>, kinds: &[u8]) -> fmt::Result
     ensures { WritesOnOk W.write_str_gives f.old result
         (flat_map (λ next. codes "," ++ decimal next) kinds.now) f.new }
@@ -231,7 +231,7 @@ impl fmt::Display for Addresses<'_> {
     }
 }
 
-// Prints each address behind a comma.
+// Prints each address after a comma.
 fn fmt_more_addresses<W: fmt::Write>(
     f: &mut fmt::Formatter<W>,
     addresses: &[Ipv4Address],

@@ -20,24 +20,23 @@ use super::tables::{MessageType, OpCode};
 use std::fmt;
 use wirebase::Octets;
 
-/// Why octets are no packet that [`Repr::parse`] reads: the check that fails first.
+/// Why [`Repr::parse`] refuses octets as packet: the first check that fails.
 #[derive(Debug, PartialEq, Eq, Clone, Copy)]
 pub enum Refusal {
     /// Fewer than 240 bytes.
     Short,
-    /// The type of hardware, by its number, is not that of Ethernet, 1 (RFC 2131 section 2).
+    /// The hardware type is this number, not that of Ethernet, 1 (RFC 2131 section 2).
     HardwareType(u8),
-    /// A hardware address has so many bytes, and not the 6 of Ethernet (RFC 2131 section 2).
+    /// The length of a hardware address is this number of bytes, not the 6 of Ethernet (RFC 2131 section 2).
     HardwareLen(u8),
-    /// The magic cookie of DHCP does not stand before the options (RFC 2131 section 3).
+    /// The number before the options is not the magic cookie of DHCP (RFC 2131 section 3).
     MagicCookie,
-    /// The first client identifier of 7 bytes that is not of Ethernet is of this type of hardware (RFC 2132 section
-    /// 9.14).
+    /// The first client identifier of 7 bytes that is not of Ethernet has this hardware type (RFC 2132 section 9.14).
     ClientIdentifier(u8),
-    /// No type of message has the operation of the packet, and the last one does not go with this operation (RFC 2131
-    /// section 3).
+    /// No type of message fits the operation of the packet: the last one is this, and does not fit this operation (RFC
+    /// 2131 section 3).
     Operation(MessageType, OpCode),
-    /// No type of message has the operation of the packet, and the last one has so many bytes, and not 1 (RFC 2132
+    /// No type of message fits the operation of the packet, and the last one has this number of bytes, not 1 (RFC 2132
     /// section 9.6).
     MessageTypeLen(usize),
     /// There is no type of message, and the options end within an option of this kind (RFC 2132 section 2).
@@ -72,7 +71,7 @@ impl fmt::Display for Refusal {
 }
 
 impl<'a> Repr<'a> {
-    /// Why [`Repr::parse`] refuses this packet, by the check that fails first; None where it reads it.
+    /// Why [`Repr::parse`] refuses this packet, by the first check that fails; None where it reads it.
     pub fn refusal(packet: &Packet<&'a [u8]>) -> Option<Refusal>
         ensures told { IfSome result (λ refusal. Refuses (inner packet.now).now refusal) }
         ensures exact { IsNone result ↔ IsRead (inner packet.now).now }
@@ -93,8 +92,8 @@ impl<'a> Repr<'a> {
         Some(type_refusal(packet))
     }
 
-    /// What a packet says, as [`Repr::parse`] reads it, or else why it refuses it, as [`Repr::refusal`] tells it: the
-    /// check that fails first.
+    /// The value of a packet, as [`Repr::parse`] reads it, or why it is refused, as [`Repr::refusal`] answers: the
+    /// first check that fails.
     pub fn parse_or_refusal(packet: &Packet<&'a [u8]>) -> std::result::Result<Repr<'a>, Refusal>
         ensures sound { IfOk result (λ repr. IsPacket (inner packet.now).now (value_of repr)) }
         ensures complete { (value : Value) → IsPacket (inner packet.now).now value
@@ -108,7 +107,7 @@ impl<'a> Repr<'a> {
     }
 }
 
-// Why a packet has no header that is read.
+// Why the header of a packet is refused.
 fn header_refusal(packet: &Packet<&[u8]>) -> Option<Refusal>
     ensures told { IfSome result (λ refusal. Refuses (inner packet.now).now refusal) }
     ensures exact { IsNone result ↔ HasHeader (inner packet.now).now }
@@ -130,7 +129,7 @@ fn header_refusal(packet: &Packet<&[u8]>) -> Option<Refusal>
     None
 }
 
-// Which client identifier refuses a packet.
+// Why a packet is refused for a client identifier.
 fn identifier_refusal(packet: &Packet<&[u8]>) -> Option<Refusal>
     requires { HasHeader (inner packet.now).now }
     ensures told { IfSome result (λ refusal. Refuses (inner packet.now).now refusal) }
@@ -156,7 +155,7 @@ fn other_hardware(option: DhcpOption<'_>) -> Option<u8>
     None
 }
 
-// Why a packet has no type of message that has its operation.
+// Why a packet has no type of message that fits its operation.
 fn type_refusal(packet: &Packet<&[u8]>) -> Refusal
     requires { HasNoType (inner packet.now).now (list_of (options_in (inner packet.now).now)) }
     ensures { Refuses (inner packet.now).now result }

@@ -1,4 +1,4 @@
-//! What a packet says.
+//! The value of a packet.
 
 ghost use Rattle.std.specs.Prelude.{◌≡◌, ◌≤◌, ◌↔◌, ⊤, length, IsOk, IfOk, IsOkAnd, None};
 ghost use Rattle.std.specs.Option.{option_map};
@@ -19,15 +19,18 @@ use bitflags::Flags as _;
 use std::alloc::AllocError;
 use wirebase::{Error, EthernetAddress, Hardware, Ipv4Address, Result, are_bytes};
 
-/// What a packet says (RFC 2131 section 2), with the options that a client or a server asks for (RFC 2132).
+/// The value of a packet (RFC 2131 section 2), with the options that a client or a server asks for (RFC 2132). A field
+/// that comes from an option is that of the last option of its kind whose data has the length given at the field;
+/// options of another length are ignored, and the field is None where there is no other. [`Packet::options`] gives
+/// every option with its data, also data that a field has no room for.
 ///
 /// Where a field comes from an option, it is that of the last option of its kind whose data have the length that the
 /// field names; options of another length are passed over, and the field is None where there is no other.
 /// [`Packet::options`] gives every option with its data, and so what a field has no room for.
 #[derive(Debug, PartialEq, Eq, Drop)]
 pub struct Repr<'a> {
-    /// The type of the message, option 53, of 1 byte. The operation of the packet goes with it: a type that belongs to
-    /// the other operation is passed over.
+    /// The type of the message, option 53, of 1 byte. It fits the operation of the packet: a type that belongs to the
+    /// other operation is ignored.
     pub message_type: MessageType,
     /// The number that the client chose for this exchange.
     pub transaction_id: u32,
@@ -51,8 +54,8 @@ pub struct Repr<'a> {
     pub broadcast: bool,
     /// The address that the client asks for, option 50, of 4 bytes.
     pub requested_ip: Option<Ipv4Address>,
-    /// By what the server knows the client, option 61: an address of Ethernet behind the number of that hardware, 1, in
-    /// 7 bytes. An identifier of another length, as a DUID, gives None; one of 7 bytes with another number refuses the
+    /// The identifier of the client, option 61: the hardware type of Ethernet, 1, and an address, in 7 bytes. An
+    /// identifier of another length, such as a DUID, gives None; one of 7 bytes with another hardware type refuses the
     /// packet.
     pub client_identifier: Option<EthernetAddress>,
     /// The server that the message is from or for, option 54, of 4 bytes.
@@ -60,8 +63,8 @@ pub struct Repr<'a> {
     /// The kinds of option that the client asks for, option 55, of any length when it is read, and of at most 255 where
     /// it is to be written.
     pub parameter_request_list: Option<&'a [u8]>,
-    /// The DNS servers, option 6, of any length: the first 5 whole addresses, so that the sixth and later ones are left
-    /// out, and so are fewer than 4 bytes at the end. An option of fewer than 4 bytes gives an empty list.
+    /// The DNS servers, option 6, of any length: the first 5 whole addresses. The sixth and later ones are dropped, and
+    /// so are fewer than 4 bytes at the end. An option of fewer than 4 bytes gives an empty list.
     pub dns_servers: Option<ArrayVec<Ipv4Address, MAX_DNS_SERVER_COUNT>>,
     /// The greatest packet that the client takes, in bytes, option 57, of 2 bytes.
     pub max_size: Option<u16>,
@@ -94,7 +97,7 @@ impl Clone for Repr<'_> {
     }
 }
 
-// A copy of the servers, told by an equation: the clone of a whole value is proved with it in less time.
+// Copies the servers. Its contract is an equation, with which the clone of a whole value is proved in less time.
 fn cloned(
     servers: &Option<ArrayVec<Ipv4Address, MAX_DNS_SERVER_COUNT>>,
 ) -> std::result::Result<Option<ArrayVec<Ipv4Address, MAX_DNS_SERVER_COUNT>>, AllocError>
@@ -105,9 +108,9 @@ fn cloned(
 }
 
 impl<'a> Repr<'a> {
-    /// What a packet says. Refused where the octets are fewer than 240; where the hardware is not Ethernet, or the
+    /// The value of a packet. Refused where the octets are fewer than 240; where the hardware is not Ethernet, or the
     /// cookie not that of DHCP; where a client identifier of 7 bytes is of another hardware; and where no option gives
-    /// a type of message that has the operation of the packet. Every field that an option gives is that of the last
+    /// a type of message that fits the operation of the packet. Every field that an option gives is that of the last
     /// option of its kind and length; other options are not read.
     pub fn parse(packet: &Packet<&'a [u8]>) -> Result<Repr<'a>>
         ensures sound { IfOk result (λ repr. IsPacket (inner packet.now).now (value_of repr)) }
@@ -131,7 +134,7 @@ impl<'a> Repr<'a> {
         Ok(repr)
     }
 
-    // The value of a packet of which no option was read; its type of message is none that a packet has.
+    // The value of a packet before its options are read; its type of message is one that no packet has.
     pub(super) fn of(packet: &Packet<&'a [u8]>) -> Repr<'a>
         requires { HasHeader (inner packet.now).now }
         ensures header { IsMadeOf (inner packet.now).now result.message_type nothing (value_of result) }

@@ -7,7 +7,7 @@ ghost use Rattle.dhcp_wire.specs.Dhcpv4OptionTable.{name_of, format_of};
 
 use super::options::DhcpOption;
 
-// What the data of an option are.
+// The format of the data of an option.
 #[derive(Clone, Copy)]
 pub(super) enum Format {
     // An address of four bytes.
@@ -26,13 +26,13 @@ pub(super) enum Format {
     Text,
     // Kinds of option, of one byte each.
     Kinds,
-    // Something else, or of a kind that has no name here.
+    // Other data, or the data of a kind that has no name here.
     Octets,
 }
 
 impl DhcpOption<'_> {
-    /// The name of the kind in words of the RFC that defines it, in lower case with hyphens, as `lease-time` for what
-    /// IANA's registry calls Address Time. None where it has no name here, and for padding and the end mark.
+    /// The name of the kind in words of the RFC that defines it, in lower case with hyphens, as `lease-time` for the
+    /// one that IANA's registry calls Address Time. None where it has no name here, and for padding and the end mark.
     pub fn name(&self) -> Option<&'static str>
         ensures { option_map (λ name. name.now) result ≡ name_of self.now.kind }
     {
@@ -53,7 +53,7 @@ pub(super) fn format_of(kind: u8) -> Format
     }
 }
 
-// The name and the format of a kind: of those that RFC 1497 had, and of the IP layer of a host.
+// The name and the format of a kind: those of RFC 1497, and those of the IP layer of a host.
 #[tactic(auto, unfolding(crate::specs::Dhcpv4OptionTable::entry_of))]
 fn entry_of(kind: u8) -> Option<(&'static str, Format)>
     ensures { option_map (λ entry. (entry.0.now, entry.1)) result ≡ entry_of kind }
@@ -88,7 +88,7 @@ fn entry_of(kind: u8) -> Option<(&'static str, Format)>
     }
 }
 
-// The same of interfaces, links, TCP and services.
+// The name and the format of a kind: those of interfaces, links, TCP and services.
 #[tactic(auto, unfolding(crate::specs::Dhcpv4OptionTable::interface_entry))]
 fn interface_entry(kind: u8) -> Option<(&'static str, Format)>
     ensures { option_map (λ entry. (entry.0.now, entry.1)) result ≡ interface_entry kind }
@@ -122,7 +122,7 @@ fn interface_entry(kind: u8) -> Option<(&'static str, Format)>
     }
 }
 
-// The same of DHCP and later services.
+// The name and the format of a kind: those of DHCP and later services.
 #[tactic(auto, unfolding(crate::specs::Dhcpv4OptionTable::dhcp_entry))]
 fn dhcp_entry(kind: u8) -> Option<(&'static str, Format)>
     ensures { option_map (λ entry. (entry.0.now, entry.1)) result ≡ dhcp_entry kind }
@@ -157,7 +157,7 @@ fn dhcp_entry(kind: u8) -> Option<(&'static str, Format)>
     }
 }
 
-// The same of kinds that later documents define.
+// The name and the format of a kind that a later document defines.
 #[tactic(auto, unfolding(crate::specs::Dhcpv4OptionTable::later_entry))]
 fn later_entry(kind: u8) -> Option<(&'static str, Format)>
     ensures { option_map (λ entry. (entry.0.now, entry.1)) result ≡ later_entry kind }

@@ -12,7 +12,7 @@ use bitflags::{Flag, Flags as _};
 use std::fmt;
 use std::ops::{BitAnd, BitOr, BitXor, Not, Sub};
 
-/// What a packet is, one byte (RFC 2131 section 2).
+/// The operation of a packet, one byte (RFC 2131 section 2).
 #[derive(Debug, PartialEq, Eq, PartialOrd, Ord, Clone, Copy)]
 pub enum OpCode {
     /// From a client.
@@ -193,7 +193,7 @@ impl Flags {
     }];
 }
 
-/// `broadcast` where the answer is to be sent to everyone, and else `-`. Bits that have no name are not told.
+/// `broadcast` where the answer is to be sent to everyone, and else `-`. Bits that have no name are not printed.
 impl fmt::Display for Flags {
     ghost output = { λ flags. Some (flags_display flags.0) };
 

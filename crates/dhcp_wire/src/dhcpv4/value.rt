@@ -25,7 +25,7 @@ pub enum OptionValue<'a> {
     Seconds(u32),
     /// A number of 2 bytes.
     Number(u16),
-    /// A number of 1 byte; where it is a truth, 0 is false and 1 is true.
+    /// A number of 1 byte; where it is a boolean, 0 is false and 1 is true.
     Byte(u8),
     /// The type of the message: 1 byte.
     MessageType(MessageType),
@@ -117,7 +117,7 @@ fn message_type(body: &[u8]) -> OptionValue<'_>
     OptionValue::MessageType(MessageType::from(body[0]))
 }
 
-/// The addresses in the data of an option in turn. Fewer than four bytes at their end are none.
+/// The addresses in the data of an option in turn. Fewer than four bytes at the end are ignored.
 ///
 /// ```
 /// use control_wire::Ipv4Address;
@@ -130,7 +130,7 @@ fn message_type(body: &[u8]) -> OptionValue<'_>
 /// ```
 #[derive(Debug, Clone, Drop)]
 pub struct OptionAddresses<'a> {
-    // The octets behind the addresses that were given.
+    // The octets after the addresses that were given already.
     left: &'a [u8],
 }
 
@@ -173,7 +173,7 @@ impl Iterator for OptionAddresses<'_> {
     }
 }
 
-// The first address, and what stands behind it. None where there are fewer than four octets.
+// The first address, and what follows it. None where there are fewer than four octets.
 pub(super) fn first_address(octets: &[u8]) -> Option<(Ipv4Address, &[u8])>
     ensures some { IfSome result (λ split. addresses_in octets.now ≡ split.0 ∷ addresses_in split.1.now) }
     ensures shorter { IfSome result (λ split. length split.1.now < length octets.now) }
@@ -186,7 +186,7 @@ pub(super) fn first_address(octets: &[u8]) -> Option<(Ipv4Address, &[u8])>
     Some((address, past_address(octets)))
 }
 
-// What stands behind the first address.
+// What follows the first address.
 #[tactic(auto, using(std::proofs::lemmas::List::take_all))]
 fn past_address(octets: &[u8]) -> &[u8]
     requires { 4 ≤ length octets.now }

@@ -1,4 +1,4 @@
-//! What messages and their parts print, by the names of IANA's registry of DNS parameters.
+//! Prints messages and their parts, by the names of IANA's registry of DNS parameters.
 
 ghost use Rattle.std.specs.Prelude.{◌≡◌, [], ◌∷◌, Some, None, codes, map};
 ghost use Rattle.std.specs.Fmt.{WritesOnOk};
@@ -128,7 +128,8 @@ impl fmt::Display for Rcode {
     }
 }
 
-/// The question, as `DNS question name_len=12 type=A`. Its name is told by the bytes that it takes where it stands.
+/// Prints the question, as `DNS question name_len=12 type=A`, where `name_len` is the number of bytes that its name
+/// takes in the message.
 impl fmt::Display for Question<'_> {
     ghost output = { λ it. Some (question_display (question_value it)) };
 
@@ -139,7 +140,8 @@ impl fmt::Display for Question<'_> {
     }
 }
 
-/// The type of the record, and its address or the bytes that its data take, as `A addr=192.0.2.1` or `SOA len=38`.
+/// Prints the type of the record, and its address or the bytes that its data take, as `A addr=192.0.2.1` or `SOA
+/// len=38`.
 impl fmt::Display for RecordData<'_> {
     ghost output = { λ it. Some (data_display (data_value it)) };
 
@@ -159,8 +161,8 @@ impl fmt::Display for RecordData<'_> {
     }
 }
 
-/// The record, as `DNS record name_len=2 ttl=202 A addr=192.0.2.1`. Its name is told by the bytes that it takes where
-/// it stands, and its time to live is in seconds.
+/// Prints the record, as `DNS record name_len=2 ttl=202 A addr=192.0.2.1`, where `name_len` is the number of bytes that
+/// its name takes in the message, and `ttl` is in seconds.
 impl fmt::Display for Record<'_> {
     ghost output = { λ it. Some (record_display (record_value it)) };
 
@@ -173,7 +175,7 @@ impl fmt::Display for Record<'_> {
 }
 
 /// The names of the flags that are set, with commas between them, as `rd,ad`; `-` where none is set. Bits that have no
-/// name are not told.
+/// name are not printed.
 impl fmt::Display for Flags {
     ghost output = { λ flags. Some (flags_display (flag_bits flags)) };
 
@@ -203,7 +205,7 @@ fn fmt_flags<W: fmt::Write>(
         (map (λ row. (row.0.now, row.1)) names.now) bits) f.new }
 {
     let mut front = "";
-    // What is printed where no more are set.
+    // Printed at the end, where no flag is set.
     let mut none = "-";
     let mut left = names;
     while let [(name, bit), rest @ ..] = left {
@@ -217,8 +219,8 @@ fn fmt_flags<W: fmt::Write>(
     f.write_str(none)
 }
 
-/// The query, as `DNS query id=4660 opcode=QUERY flags=rd name_len=12 type=A`. The name of its question is told by the
-/// bytes that it takes.
+/// Prints the query, as `DNS query id=4660 opcode=QUERY flags=rd name_len=12 type=A`, where `name_len` is the number of
+/// bytes that the name of its question takes.
 impl fmt::Display for Repr<'_> {
     ghost output = { λ it. Some (query_display (query_value it)) };
 
@@ -238,9 +240,9 @@ impl fmt::Display for Repr<'_> {
     }
 }
 
-/// The header of the message (RFC 1035 section 4.1.1), as `DNS id=4660 opcode=QUERY flags=rd rcode=NOERROR questions=1
-/// answers=0 authorities=0 additionals=0`; of fewer than 12 octets `DNS (wire::Error)`. Questions and records are told
-/// by their counts alone.
+/// Prints the header of the message (RFC 1035 section 4.1.1), as `DNS id=4660 opcode=QUERY flags=rd rcode=NOERROR
+/// questions=1 answers=0 authorities=0 additionals=0`, or `DNS (wire::Error)` where there are fewer than 12 octets. Of
+/// questions and records only the numbers are printed.
 impl<T: Octets> fmt::Display for Packet<T> {
     ghost output = { λ view. Some (view_display (T.bytes (inner view))) };
 
@@ -253,7 +255,7 @@ impl<T: Octets> fmt::Display for Packet<T> {
     }
 }
 
-// What is printed of a header.
+// The header, to be printed.
 #[derive(Drop)]
 struct Header {
     id: u16,
@@ -281,7 +283,7 @@ impl fmt::Display for Header {
     }
 }
 
-// How many questions and records a header tells.
+// The numbers of questions and records in a header, to be printed.
 #[derive(Drop)]
 struct Counts {
     questions: u16,

@@ -83,7 +83,7 @@ impl<'a> NameIter<'a> {
     }
 }
 
-/// A copy goes on from where the walk stands.
+/// The copy continues at the place that the walk has reached.
 impl Clone for NameIter<'_> {
     ghost use Rattle.std.specs.Prelude.{⊤};
 

@@ -1,4 +1,4 @@
-//! One part of a name (RFC 1035 section 4.1.4): what stands at the front of it, and where it stops.
+//! One part of a name (RFC 1035 section 4.1.4): what it begins with, and where it stops.
 
 ghost use Rattle.std.specs.Prelude.{◌≡◌, ◌≤◌, ℕ, List, length, IfOk, IsOkAnd, Ok, IfSome, None};
 ghost use Rattle.dns_wire.specs.DnsNameAhead.{front_of};
@@ -6,16 +6,16 @@ ghost use Rattle.dns_wire.specs.DnsPart.{shown, LeadsTo, IsSplit, BeginsWithPart
 
 use wirebase::{Error, Result};
 
-/// What stands at the front of a part of a name (RFC 1035 section 4.1.4).
+/// What a part of a name begins with (RFC 1035 section 4.1.4).
 #[derive(Debug, PartialEq, Eq, Clone, Copy)]
 pub enum Front<'a> {
-    /// The bytes of a label, and the text behind it.
+    /// The bytes of a label, and the text after it.
     Label(&'a [u8], &'a [u8]),
     /// The place of the message where the name goes on.
     Pointer(usize),
     /// The end of the name.
     End,
-    /// Nothing whole.
+    /// No whole label or mark.
     Torn,
 }
 
@@ -25,7 +25,7 @@ pub(crate) const LABEL_END: u8 = 0x40;
 // The first byte of a pointer is this or above, and its other six bits are the higher ones of the place.
 pub(crate) const POINTER: u8 = 0xc0;
 
-/// Reads what stands at the front of a text (RFC 1035 section 4.1.4).
+/// Reads what a text begins with (RFC 1035 section 4.1.4).
 #[inline]
 pub fn read_front(text: &[u8]) -> Front<'_>
     ensures { shown result ≡ front_of text.now }
@@ -43,8 +43,8 @@ pub fn read_front(text: &[u8]) -> Front<'_>
     }
 }
 
-/// Where a pointer leads (RFC 1035 section 4.1.4): the open bytes from there on, and those in front of it, which alone
-/// are open then. None where it leads to no open byte.
+/// Where a pointer leads (RFC 1035 section 4.1.4): the open bytes from there on, and those before it, the only ones
+/// that are open from then on. None where it leads to no open byte.
 #[inline]
 pub fn follow(reach: &[u8], target: usize) -> Option<(&[u8], &[u8])>
     ensures some { IfSome result (λ part. LeadsTo reach.now target part.0.now part.1.now) }
@@ -57,7 +57,7 @@ pub fn follow(reach: &[u8], target: usize) -> Option<(&[u8], &[u8])>
     Some((left, reach))
 }
 
-/// The part of a name at the front of a text, and what stands behind it. Refused where the text begins with none.
+/// The part of a name at the front of a text, and what follows it. Refused where the text begins with none.
 pub fn split_name(text: &[u8]) -> Result<(&[u8], &[u8])>
     ensures sound { IfOk result (λ split. IsSplit text.now split.0.now split.1.now) }
     ensures complete { (name rest : List ℕ) → IsSplit text.now name rest

@@ -11,7 +11,7 @@ use crate::dns::part::split_name;
 use crate::dns::tables::Type;
 use wirebase::{ByteWriter, Error, Octets, Result, are_bytes};
 
-// What stands behind the name of a question.
+// The fields after the name of a question.
 mod field {
     use wirebase::Field;
 
@@ -35,8 +35,8 @@ pub struct Question<'a> {
 }
 
 impl<'a> Question<'a> {
-    /// What stands behind the question at the front of the octets, and the question. Refused where they do not begin
-    /// with a name of one part, a type and the class of the internet.
+    /// The octets after the question at the front, and the question. Refused where the octets do not begin with a name
+    /// of one part, a type and the class of the internet.
     pub fn parse(buffer: &'a [u8]) -> Result<(&'a [u8], Question<'a>)>
         ensures sound { IfOk result (λ read. IsQuestion buffer.now (value_of read.1) read.0.now) }
         ensures complete { (value : QuestionValue) (rest : List ℕ)
@@ -76,7 +76,8 @@ impl<'a> Question<'a> {
         self.name.len() + field::END
     }
 
-    /// Writes the question over the front of the octets; the others stay. Requires as many octets as it takes.
+    /// Writes the question over the front of the octets; the other octets are unchanged. Requires as many octets as it
+    /// takes.
     pub fn emit(&self, packet: &mut [u8])
         requires { text_len (value_of self.now) ≤ length packet.old }
         ensures { Emits (value_of self.now) packet.old packet.new }
@@ -103,7 +104,8 @@ impl<'a> Question<'a> {
         put_pair(w, self.type_.into(), CLASS_IN);
     }
 
-    /// Does nothing. Of two questions that a packet can hold, equal texts mean equal questions, and conversely.
+    /// Does nothing; its contract states of two questions that a packet can hold that equal texts mean equal questions,
+    /// and conversely.
     pub fn same_text(a: &Self, b: &Self)
         ensures { SameText format (value_of a.now) (value_of b.now) }
     {}

@@ -1,4 +1,4 @@
-//! Why octets are no question, no record, no data or no whole name: the check that fails first.
+//! Why octets are refused as a question, a record, data or a whole name: the first check that fails.
 
 ghost use Rattle.std.specs.Prelude.{◌≡◌, ◌↔◌, Some, IfSome, IsNone, IfOk, IfErr};
 ghost use Rattle.dns_wire.specs.DnsNameAhead.{front_of, torn};
@@ -15,7 +15,7 @@ use crate::dns::question::CLASS_IN;
 use std::fmt;
 use wirebase::Octets;
 
-// What stands behind the name of a question or of a record.
+// The fields after the name of a question or of a record.
 mod field {
     use wirebase::Field;
 
@@ -33,32 +33,32 @@ mod field {
 /// Why a name breaks (RFC 1035 section 4.1.4).
 #[derive(Debug, PartialEq, Eq, Clone, Copy)]
 pub enum NameRefusal {
-    /// The bytes end where a label, byte 0 or a pointer is to stand.
+    /// The bytes end where a label, byte 0 or a pointer has to begin.
     NoEnd,
-    /// A label of fewer bytes than its length says. Behind a pointer the bytes end where the pointer before it led to,
+    /// A label of fewer bytes than its length says. After a pointer the bytes end where the pointer before it led to,
     /// since no byte of the message is read twice.
     LabelCut,
     /// A byte of 64 to 191, which is neither the length of a label nor the first byte of a pointer.
     LabelType(u8),
     /// The first byte of a pointer, and no second.
     PointerCut,
-    /// A pointer to this place of the message, which is not in front of the place that the pointer before it led to, as
-    /// in a loop; or, of the first pointer, is not in the message.
+    /// A pointer to this place of the message, which is not before the place that the pointer before it led to, as in a
+    /// loop; or, of the first pointer, is not in the message.
     Pointer(usize),
 }
 
-/// Why octets are no [`Question`], no [`Record`] or no [`RecordData`].
+/// Why octets are refused as a [`Question`], a [`Record`] or [`RecordData`].
 #[derive(Debug, PartialEq, Eq, Clone, Copy)]
 pub enum Refusal {
     /// They begin with no part of a name. This is never [`NameRefusal::Pointer`], for no pointer is followed.
     Name(NameRefusal),
-    /// Fewer bytes stand behind the name than the fixed fields take, 4 of a question and 10 of a record.
+    /// Fewer bytes follow the name than the fixed fields take, 4 of a question and 10 of a record.
     Short,
     /// A class that is not that of the internet, by its number.
     Class(u16),
     /// Fewer bytes of data than the record's length says.
     Length,
-    /// The data of a record of type A that are not 4 bytes, or of type AAAA that are not 16: how many they are.
+    /// The data of a record of type A are not 4 bytes, or of type AAAA not 16: this number of bytes.
     AddressLength(usize),
 }
 
@@ -106,7 +106,7 @@ impl<T: Octets> Packet<T> {
 }
 
 impl Question<'_> {
-    /// Why [`Question::parse`] refuses these octets, by the check that fails first; None where it reads them. A
+    /// Why [`Question::parse`] refuses these octets, by the first check that fails; None where it reads them. A
     /// question has no data, so this is [`Refusal::Name`], [`Refusal::Short`] or [`Refusal::Class`].
     pub fn refusal(buffer: &[u8]) -> Option<Refusal>
         ensures told { IfSome result (RefusesQuestion buffer.now) }
@@ -128,7 +128,7 @@ impl Question<'_> {
 }
 
 impl Record<'_> {
-    /// Why [`Record::parse`] refuses these octets, by the check that fails first; None where it reads them.
+    /// Why [`Record::parse`] refuses these octets, by the first check that fails; None where it reads them.
     pub fn refusal(buffer: &[u8]) -> Option<Refusal>
         ensures told { IfSome result (RefusesRecord buffer.now) }
         ensures exact { IsNone result ↔ BeginsWithRecord buffer.now }
@@ -140,7 +140,7 @@ impl Record<'_> {
     }
 }
 
-// Why these octets, which begin behind the name of a record, do not go on as one.
+// Why these octets, which follow the name of a record, are not the rest of one.
 fn why_not_behind_name(octets: &[u8]) -> Option<Refusal>
     ensures told { IfSome result (RefusesBehindName octets.now) }
     ensures exact { IsNone result ↔ GoesOnBehindName octets.now }
@@ -178,7 +178,7 @@ impl RecordData<'_> {
     }
 }
 
-// The part of a name at the front of a text, and what stands behind it; or why there is none.
+// The part of a name at the front of a text, and what follows it; or why there is none.
 fn split_or_why(text: &[u8]) -> Result<(&[u8], &[u8]), NameRefusal>
     ensures sound { IfOk result (λ split. IsSplit text.now split.0.now split.1.now) }
     ensures told { IfErr result (PartBreaks text.now) }
@@ -203,7 +203,7 @@ fn part_len_or_why(text: &[u8]) -> Result<usize, NameRefusal>
     }
 }
 
-// Why the name that begins in a text and may go on in a message breaks.
+// Why the name that begins in a text, and may go on in a message, breaks.
 fn why_broken(message: &[u8], text: &[u8]) -> Option<NameRefusal>
     ensures told { IfSome result (NameBreaks text.now message.now) }
     ensures exact { IsNone result ↔ HasName text.now message.now }
@@ -227,7 +227,7 @@ fn why_broken(message: &[u8], text: &[u8]) -> Option<NameRefusal>
     }
 }
 
-// Why nothing whole stands at the front of a text.
+// Why a text begins with no whole label or mark.
 fn why_torn(text: &[u8]) -> NameRefusal
     requires { front_of text.now ≡ torn }
     ensures { IsTorn text.now result }

@@ -23,7 +23,7 @@ pub struct Repr<'a> {
     pub opcode: Opcode,
     /// The flags of the header.
     pub flags: Flags,
-    /// What is asked.
+    /// The question.
     pub question: Question<'a>,
 }
 
@@ -37,8 +37,8 @@ impl<'a> Repr<'a> {
         HEADER_LEN + self.question.buffer_len()
     }
 
-    /// Writes the query over the front of the octets; the others stay. Requires as many octets as it takes, flags that
-    /// have a name, and a kind of query below 16.
+    /// Writes the query over the front of the octets; the other octets are unchanged. Requires as many octets as it
+    /// takes, flags that have a name, and a kind of query below 16.
     pub fn emit<T: OctetsMut>(&self, packet: &mut Packet<T>)
         requires { CanEmit (value_of self.now) (T.bytes (inner packet.old)) }
         ensures place { inner packet.new ≡ T.put (inner packet.old) (T.bytes (inner packet.new)) }
@@ -48,7 +48,7 @@ impl<'a> Repr<'a> {
         self.emit_into(packet.buffer.octets_mut());
     }
 
-    /// The same into a slice.
+    /// Like `emit`, but writes into a slice.
     pub fn emit_into(&self, octets: &mut [u8])
         requires { CanEmit (value_of self.now) octets.old }
         ensures { Emits (value_of self.now) octets.old octets.new }
@@ -56,7 +56,8 @@ impl<'a> Repr<'a> {
         self.write(octets);
     }
 
-    /// Does nothing. Of two queries that a packet can hold, equal texts mean equal queries, and conversely.
+    /// Does nothing; its contract states of two queries that a packet can hold that equal texts mean equal queries, and
+    /// conversely.
     pub fn same_text(a: &Self, b: &Self)
         ensures { SameText format (value_of a.now) (value_of b.now) }
     {}

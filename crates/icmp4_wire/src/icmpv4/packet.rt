@@ -30,15 +30,15 @@ pub struct Packet<T: Octets> {
 }
 
 impl<T: Octets> Packet<T> {
-    /// The view of these octets, whatever they are.
+    /// Makes a view of `buffer`; its length is not checked.
     pub const fn new_unchecked(buffer: T) -> Packet<T>
         ensures { inner result ≡ buffer }
     {
         Packet { buffer }
     }
 
-    /// The view of these octets, where they are 8 or more; refused where they are fewer. On refusal the buffer is
-    /// dropped: to keep a `&mut [u8]`, call `new_unchecked` and then `check_len`.
+    /// Makes a view of `buffer`. Refused where it has fewer than 8 octets. On refusal the buffer is dropped: to keep a
+    /// `&mut [u8]`, call `new_unchecked` and then `check_len`.
     pub fn new_checked(buffer: T) -> Result<Packet<T>>
         ensures accepts { IsOk result ↔ Reaches header (T.bytes buffer) }
         ensures buffer { IfOk result (λ view. inner view ≡ buffer) }
@@ -58,7 +58,7 @@ impl<T: Octets> Packet<T> {
         Ok(())
     }
 
-    /// What the view was made from, as it is now.
+    /// Returns the buffer of the view.
     pub fn into_inner(self) -> T
         ensures { result ≡ inner self }
     {
@@ -120,7 +120,7 @@ impl<T: Octets> Packet<T> {
         field::HEADER_END
     }
 
-    /// Whether the octets, as many as they are, carry their checksum (RFC 1071).
+    /// Whether all the octets together carry their checksum (RFC 1071).
     pub fn verify_checksum(&self) -> bool
         ensures { IsTrue result ↔ IsGood (T.bytes (inner self.now)) 0 }
     {
@@ -129,7 +129,7 @@ impl<T: Octets> Packet<T> {
 }
 
 impl<'a> Packet<&'a [u8]> {
-    /// What stands after the header, for as long as the octets live. Requires at least 8 bytes.
+    /// What follows the header, for as long as the octets live. Requires at least 8 bytes.
     pub fn data(&self) -> &'a [u8]
         requires { Reaches header (inner self.now).now }
         ensures { result.now ≡ data_in (inner self.now).now }
@@ -196,7 +196,7 @@ impl<T: OctetsMut> Packet<T> {
         checksum::fill(self.buffer.octets_mut(), field::CHECKSUM, 0);
     }
 
-    /// Lends what stands after the header for writing; the header stays. Requires at least 8 bytes.
+    /// Lends what follows the header for writing; the header is unchanged. Requires at least 8 bytes.
     #[tactic(auto, using(wirebase::proofs::Pieces::pieces))]
     pub fn data_mut(&mut self) -> &mut [u8]
         requires { Reaches header (T.bytes (inner self.old)) }
@@ -211,7 +211,7 @@ impl<T: OctetsMut> Packet<T> {
     }
 }
 
-/// Views are equal where their octets are.
+/// Views are equal where their octets are equal.
 impl<T: Octets> PartialEq for Packet<T> {
     ghost use Rattle.std.specs.Prelude.{◌==◌};
     ghost use Rattle.std.proofs.Common.{rules};
@@ -237,8 +237,8 @@ impl<T: Octets> Eq for Packet<T> {
     ghost laws = { Prim.search (comparing, rules) };
 }
 
-/// The message in the octets, its checksum verified; of octets that are refused `ICMPv4 (wire::Error)`, and behind that
-/// their type and their code by name, where they have both.
+/// Prints the message in the octets, its checksum verified; where they are refused, `ICMPv4 (wire::Error)`, and after
+/// that their type and their code by name, where they have both.
 impl<T: Octets> fmt::Display for Packet<T> {
     fn fmt<W: fmt::Write>(&self, f: &mut fmt::Formatter<W>) -> fmt::Result
         ensures { Shows (IsMessage (all_of Both) (T.bytes (inner self.now))) repr_display
@@ -254,7 +254,7 @@ impl<T: Octets> fmt::Display for Packet<T> {
 }
 
 impl Packet<&[u8]> {
-    // What is printed of octets that are refused.
+    // Prints octets that are refused.
     fn fmt_unread<W: fmt::Write>(&self, f: &mut fmt::Formatter<W>) -> fmt::Result
         ensures { WritesOnOk W.write_str_gives f.old result
             (refused_display (view_octets self.now)) f.new }

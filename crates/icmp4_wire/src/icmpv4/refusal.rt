@@ -1,4 +1,4 @@
-//! Why octets are no message (RFC 792).
+//! Why octets are refused as a message (RFC 792).
 
 ghost use Rattle.std.specs.Prelude.{◌≡◌, ◌↔◌, IfOk, IfErr, IsOkAnd, IfSome, IsNone, Some};
 ghost use Rattle.icmp4_wire.specs.Icmpv4.{view_octets, MessageValue, value_of, IsMessage};
@@ -13,7 +13,7 @@ use wirebase::{ChecksumCapabilities, Ipv4Packet};
 // The bytes of an IPv4 header without options.
 const IPV4_HEADER_LEN: usize = 20;
 
-/// Why octets are no message that [`Repr::parse`] reads: the check that fails first.
+/// Why [`Repr::parse`] refuses octets as message: the first check that fails.
 #[derive(Debug, PartialEq, Eq, Clone, Copy)]
 pub enum Refusal {
     /// Fewer than 8 bytes.
@@ -27,17 +27,17 @@ pub enum Refusal {
     UnknownCode(u8),
     /// An error that does not quote a whole IPv4 header: fewer than 20 bytes, or fewer than the header's own length.
     QuotedHeader,
-    /// An error whose quoted header is longer than the total length that stands in it.
+    /// An error whose quoted header is longer than its own total length.
     QuotedLength,
     /// An error that quotes fewer bytes than the total length in the quoted header, as routers may. The errors of the
     /// crate `quote_wire` read those.
     QuoteCut,
-    /// An error that quotes fewer than 8 bytes behind the header (RFC 792).
+    /// An error that quotes fewer than 8 bytes after the header (RFC 792).
     QuotedData,
 }
 
 impl<'a> Repr<'a> {
-    /// The message in the octets, or why [`Repr::parse`] refuses them, by the check that fails first.
+    /// The message in the octets, or why [`Repr::parse`] refuses them, by the first check that fails.
     ///
     /// ```
     /// use control_wire::ChecksumCapabilities;
@@ -67,7 +67,7 @@ impl<'a> Repr<'a> {
         }
     }
 
-    /// Why [`Repr::parse`] refuses these octets, by the check that fails first; None exactly where it reads them.
+    /// Why [`Repr::parse`] refuses these octets, by the first check that fails; None exactly where it reads them.
     pub fn refusal(packet: &Packet<&[u8]>, checksum_caps: &ChecksumCapabilities) -> Option<Refusal>
         ensures told { IfSome result (Refuses checksum_caps.now (view_octets packet.now)) }
         ensures exact { IsNone result ↔ IsRead checksum_caps.now (view_octets packet.now) }
@@ -76,7 +76,7 @@ impl<'a> Repr<'a> {
     }
 }
 
-// The check that fails first in octets that are not read.
+// The first check that fails in octets that are not read.
 fn why(packet: &Packet<&[u8]>, checksum_caps: &ChecksumCapabilities) -> Refusal
     requires { IsRead checksum_caps.now (view_octets packet.now) → ⊥ }
     ensures { Refuses checksum_caps.now (view_octets packet.now) result }
@@ -94,7 +94,7 @@ fn why(packet: &Packet<&[u8]>, checksum_caps: &ChecksumCapabilities) -> Refusal
     }
 }
 
-// The check that fails first in what an error quotes.
+// The first check that fails in what an error quotes.
 fn why_no_quote(octets: &[u8]) -> Refusal
     requires { IsWholeQuote octets.now → ⊥ }
     ensures { RefusesQuote octets.now result }

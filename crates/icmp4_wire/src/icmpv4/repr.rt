@@ -23,10 +23,10 @@ use wirebase::{
     checksum, icmp,
 };
 
-// The bytes of a header as an error quotes it, which has no options.
+// The bytes of a quoted header without options.
 const QUOTED_HEADER_LEN: usize = 20;
 
-// The bytes that stand at least behind the header that an error quotes.
+// The least number of bytes that an error quotes after the header.
 const MIN_QUOTED_DATA: usize = 8;
 
 /// A message (RFC 792).
@@ -67,29 +67,29 @@ pub enum Repr<'a> {
     DstUnreachable {
         /// Why, by the code.
         reason: DstUnreachable,
-        /// The header of the packet that the error speaks of.
+        /// The header of the packet that the error is about.
         header: Ipv4Repr,
-        /// What stands behind the quoted header.
+        /// What follows the quoted header.
         data: &'a [u8],
     },
     /// An error: a time of the quoted packet was exceeded.
     TimeExceeded {
         /// Why, by the code.
         reason: TimeExceeded,
-        /// The header of the packet that the error speaks of.
+        /// The header of the packet that the error is about.
         header: Ipv4Repr,
-        /// What stands behind the quoted header.
+        /// What follows the quoted header.
         data: &'a [u8],
     },
 }
 
 impl<'a> Repr<'a> {
-    /// The message in the octets. Refused where they are fewer than 8, where their checksum is to be verified and
-    /// isn't good, and where it is none of these messages; an echo has code 0, and an error quotes a packet that is
-    /// whole by its own lengths, with 8 bytes or more behind its header. All that stands behind that header is the
-    /// data, and its bytes are the `payload_len`.
-    // Always inlined, so that a caller matches on the fields where they were read: a value that is handed back is
-    // written and copied. A responder, which drops errors, has no code that reads them then.
+    /// The message in the octets. Refused where they are fewer than 8, where their checksum is to be verified and isn't
+    /// good, and where they are none of these messages: an echo has code 0, and an error quotes a packet that is whole
+    /// by its own lengths, with 8 bytes or more after its header. The data is all that follows that header, and
+    /// `payload_len` is its length.
+    // Always inlined, so that a caller matches on the fields where they were read: a returned value is written and
+    // copied. A responder that drops errors then has no code that reads them.
     #[inline(always)]
     pub fn parse(
         packet: &Packet<&'a [u8]>,
@@ -149,7 +149,7 @@ impl<'a> Repr<'a> {
         }
     }
 
-    /// The bytes that the message takes. Requires that a `usize` holds their number.
+    /// The bytes that the message takes. Requires that their number fits a `usize`.
     #[tactic(auto, using(crate::proofs::Icmpv4Texts::texts))]
     pub const fn buffer_len(&self) -> usize
         requires { text_len (value_of self.now) < 2 ^ 64 }
@@ -182,8 +182,8 @@ impl<'a> Repr<'a> {
         self.emit_into(packet.buffer.octets_mut(), checksum_caps);
     }
 
-    /// The same into a slice. Give it exactly `buffer_len()` bytes: in a longer one the checksum covers what follows
-    /// the message, in a shorter one an echo is cut.
+    /// Like `emit`, but writes into a slice. Give exactly `buffer_len()` bytes: in a longer one the checksum covers
+    /// what follows the message, in a shorter one an echo is cut.
     pub fn emit_into(&self, octets: &mut [u8], checksum_caps: &ChecksumCapabilities)
         requires { CanEmit (value_of self.now) octets.old }
         ensures { Emits checksum_caps.now (value_of self.now) octets.old octets.new }
@@ -192,8 +192,8 @@ impl<'a> Repr<'a> {
         seal(octets, checksum_caps);
     }
 
-    /// Does nothing. Of two messages that a packet can hold, equal texts mean equal normal forms, and conversely where
-    /// neither is an error whose quoted `payload_len` is below its data's length.
+    /// Does nothing; its contract states of two messages that a packet can hold that equal texts mean equal normal
+    /// forms, and conversely where neither is an error whose quoted `payload_len` is below its data's length.
     pub fn same_text(a: &Self, b: &Self, checksum_caps: &ChecksumCapabilities)
         ensures { SameText (format checksum_caps.now) (value_of a.now) (value_of b.now) }
     {}
@@ -208,7 +208,7 @@ impl<'a> Repr<'a> {
         self.put(&mut w, checksum_caps);
     }
 
-    // The same with this writer.
+    // Writes the message with this writer, with the checksum zero.
     fn put(&self, w: &mut ByteWriter<'_>, checksum_caps: &ChecksumCapabilities)
         requires { CanEmit (value_of self.now) (free w.old) }
         ensures { Puts w.old w.new (message_fields checksum_caps.now (value_of self.now)) }
@@ -251,7 +251,7 @@ impl<'a> Repr<'a> {
     }
 }
 
-/// The message: an echo by its numbers and the bytes of its data, an error by its reason.
+/// Prints the message: an echo by its numbers and the length of its data, an error by its reason.
 impl fmt::Display for Repr<'_> {
     ghost output = { λ repr. Some (repr_display (value_of repr)) };
 
@@ -281,7 +281,7 @@ impl fmt::Display for Repr<'_> {
     }
 }
 
-// The header that an error quotes, and all that stands behind it (RFC 792).
+// The header that an error quotes, and all that follows it (RFC 792).
 fn read_quote(octets: &[u8]) -> Result<(Ipv4Repr, &[u8])>
     ensures sound { IfOk result (λ quote_. IsQuote octets.now quote_.0 quote_.1.now) }
     ensures complete { (quoted : Ipv4Repr) (behind : List ℕ) → IsQuote octets.now quoted behind

@@ -1,4 +1,4 @@
-//! What is printed of octets that are refused: their type and their code, by the names of their cases.
+//! Prints octets that are refused: their type and their code, by the names of their cases.
 
 ghost use Rattle.std.specs.Prelude.{[], ◌∷◌, Some, codes, decimal};
 ghost use Rattle.std.specs.Fmt.{WritesOnOk};
@@ -109,7 +109,7 @@ impl fmt::Display for TimeExceededName {
     }
 }
 
-// What a number without a name prints.
+// Prints a number without a name.
 fn fmt_unknown<W: fmt::Write>(f: &mut fmt::Formatter<W>, number: u8) -> fmt::Result
     ensures { WritesOnOk W.write_str_gives f.old result
         (pieces (codes "Unknown(" ∷ decimal number ∷ codes ")" ∷ [])) f.new }

@@ -9,10 +9,10 @@ use wirebase::Duration;
 // The bit of a code that has an exponent and a mantissa: a code without it is a number of tenths of a second.
 const FLOATING: u8 = 0x80;
 
-// The tenths of a second that the last code, 0xff, stands for.
+// The tenths of a second of the last code, 0xff.
 const LONGEST: u64 = 31_744;
 
-// The time that a code stands for (RFC 3376 section 4.1.1).
+// The time of a code (RFC 3376 section 4.1.1).
 #[tactic(auto, using(crate::proofs::IgmpCode::reading))]
 #[inline]
 pub(super) fn duration_of_code(code: u8) -> Duration
@@ -29,7 +29,7 @@ pub(super) fn duration_of_code(code: u8) -> Duration
     Duration::from_millis(100 * tenths)
 }
 
-// The code of the longest time that is within this one (RFC 3376 section 4.1.1).
+// The code of the longest time that does not exceed this one (RFC 3376 section 4.1.1).
 #[inline]
 pub(super) fn code_of_duration(duration: Duration) -> u8
     ensures value { result ≡ code_of duration }

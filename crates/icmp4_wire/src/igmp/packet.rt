@@ -24,15 +24,15 @@ pub struct Packet<T: Octets> {
 }
 
 impl<T: Octets> Packet<T> {
-    /// The view of these octets, whatever they are.
+    /// Makes a view of `buffer`; its length is not checked.
     pub const fn new_unchecked(buffer: T) -> Packet<T>
         ensures { inner result ≡ buffer }
     {
         Packet { buffer }
     }
 
-    /// The view of these octets, where they are 8 or more; refused where they are fewer. On refusal the buffer is
-    /// dropped: to keep a `&mut [u8]`, call `new_unchecked` and then `check_len`.
+    /// Makes a view of `buffer`. Refused where it has fewer than 8 octets. On refusal the buffer is dropped: to keep a
+    /// `&mut [u8]`, call `new_unchecked` and then `check_len`.
     pub fn new_checked(buffer: T) -> Result<Packet<T>>
         ensures accepts { IsOk result ↔ Reaches group_field (T.bytes buffer) }
         ensures buffer { IfOk result (λ view. inner view ≡ buffer) }
@@ -52,7 +52,7 @@ impl<T: Octets> Packet<T> {
         Ok(())
     }
 
-    /// What the view was made from, as it is now.
+    /// Returns the buffer of the view.
     pub fn into_inner(self) -> T
         ensures { result ≡ inner self }
     {
@@ -67,7 +67,7 @@ impl<T: Octets> Packet<T> {
         Message::from(self.buffer.u8_at(field::TYPE))
     }
 
-    /// The code of the longest time to answer a query in (RFC 3376 section 4.1.1). Requires at least 2 bytes.
+    /// The code of the maximum response time of a query (RFC 3376 section 4.1.1). Requires at least 2 bytes.
     pub fn max_resp_code(&self) -> u8
         requires { Reaches code_field (T.bytes (inner self.now)) }
         ensures { result ≡ byte_of code_field (T.bytes (inner self.now)) }
@@ -83,7 +83,7 @@ impl<T: Octets> Packet<T> {
         self.buffer.u16_at(field::CHECKSUM)
     }
 
-    /// The group that the message speaks of. Requires at least 8 bytes.
+    /// The group of the message. Requires at least 8 bytes.
     pub fn group_addr(&self) -> Ipv4Address
         requires { Reaches group_field (T.bytes (inner self.now)) }
         ensures { octets_of result ≡ bytes_of group_field (T.bytes (inner self.now)) }
@@ -110,7 +110,7 @@ impl<T: OctetsMut> Packet<T> {
         self.buffer.set_u8(field::TYPE, value.into());
     }
 
-    /// Writes the code of the longest time to answer a query in (RFC 3376 section 4.1.1). Requires at least 2 bytes.
+    /// Writes the code of the maximum response time of a query (RFC 3376 section 4.1.1). Requires at least 2 bytes.
     pub fn set_max_resp_code(&mut self, value: u8)
         requires { Reaches code_field (T.bytes (inner self.old)) }
         ensures writes { Sets T.bytes T.put self.old self.new code_field (value ∷ []) }
@@ -128,7 +128,7 @@ impl<T: OctetsMut> Packet<T> {
         self.buffer.set_u16(field::CHECKSUM, value);
     }
 
-    /// Writes the group that the message speaks of. Requires at least 8 bytes.
+    /// Writes the group of the message. Requires at least 8 bytes.
     pub fn set_group_address(&mut self, value: Ipv4Address)
         requires { Reaches group_field (T.bytes (inner self.old)) }
         ensures writes { Sets T.bytes T.put self.old self.new group_field (octets_of value) }
@@ -149,7 +149,7 @@ impl<T: OctetsMut> Packet<T> {
     }
 }
 
-/// The message at the front of the octets; of octets that are refused `IGMP (wire::Error)`.
+/// Prints the message at the front of the octets, or `IGMP (wire::Error)` where they are refused.
 impl<T: Octets> fmt::Display for Packet<T> {
     fn fmt<W: fmt::Write>(&self, f: &mut fmt::Formatter<W>) -> fmt::Result
         ensures { Shows (IsMessage (T.bytes (inner self.now))) repr_display

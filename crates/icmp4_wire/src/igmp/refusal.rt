@@ -1,4 +1,4 @@
-//! Why octets are no message (RFC 2236 section 2).
+//! Why octets are refused as a message (RFC 2236 section 2).
 
 ghost use Rattle.std.specs.Prelude.{◌≡◌, ◌↔◌, IfOk, IfErr, IfSome, IsNone, Some};
 ghost use Rattle.icmp4_wire.specs.Igmp.{view_octets, IsMessage};
@@ -10,7 +10,7 @@ use super::tables::Message;
 use std::fmt;
 use wirebase::Ipv4Address;
 
-/// Why octets are no message that [`Repr::parse`] reads: the check that fails first.
+/// Why [`Repr::parse`] refuses octets as message: the first check that fails.
 #[derive(Debug, PartialEq, Eq, Clone, Copy)]
 pub enum Refusal {
     /// Fewer than 8 bytes.
@@ -27,7 +27,7 @@ impl Repr {
     ghost use Rattle.std.specs.Prelude.{Ok};
     ghost use Rattle.icmp4_wire.specs.declared.igmp.repr.Repr.{Repr};
 
-    /// The message at the front of the octets, or why [`Repr::parse`] refuses them, by the check that fails first.
+    /// The message at the front of the octets, or why [`Repr::parse`] refuses them, by the first check that fails.
     ///
     /// ```
     /// use control_wire::igmp::{Packet, Refusal, Repr};
@@ -51,7 +51,7 @@ impl Repr {
         }
     }
 
-    /// Why [`Repr::parse`] refuses these octets, by the check that fails first; None exactly where it reads them.
+    /// Why [`Repr::parse`] refuses these octets, by the first check that fails; None exactly where it reads them.
     pub fn refusal(packet: &Packet<&[u8]>) -> Option<Refusal>
         ensures told { IfSome result (Refuses (view_octets packet.now)) }
         ensures exact { IsNone result ↔ IsRead (view_octets packet.now) }
@@ -60,7 +60,7 @@ impl Repr {
     }
 }
 
-// The check that fails first in octets that are not read.
+// The first check that fails in octets that are not read.
 fn why(packet: &Packet<&[u8]>) -> Refusal
     requires { IsRead (view_octets packet.now) → ⊥ }
     ensures { Refuses (view_octets packet.now) result }

@@ -17,7 +17,7 @@ use wirebase::{
     ByteWriter, Duration, Error, Ipv4Address, OctetsMut, Result, are_bytes, checksum, icmp,
 };
 
-/// The version of the protocol that a query or a report speaks.
+/// The version of the protocol of a query or a report.
 #[derive(Debug, PartialEq, Eq, Clone, Copy)]
 pub enum IgmpVersion {
     /// RFC 1112 appendix I.
@@ -42,15 +42,15 @@ pub enum IgmpVersion {
 /// ```
 #[derive(Debug, PartialEq, Eq, Clone, Copy)]
 pub enum Repr {
-    /// A router asks which groups have members, or whether this one has. A query of version 3 begins with the same 8
-    /// bytes, and has 12 or more (RFC 3376 section 7.1): it is read as one of version 2, or of version 1 where its code
-    /// is 0, and what stands behind these bytes is left out. The length of the octets tells it.
+    /// A router asks which groups have members, or whether this one has. A query of version 3 begins with these 8 bytes
+    /// too, and has 12 or more (RFC 3376 section 7.1): it is read as one of version 2, or of version 1 where its code
+    /// is 0, and the bytes that follow are ignored. Only the number of octets tells it apart.
     MembershipQuery {
-        /// The longest time to answer in.
+        /// The maximum response time.
         max_resp_time: Duration,
         /// The group, or 0.0.0.0 for all.
         group_addr: Ipv4Address,
-        /// The version of the query, by its code alone: 1 where that is 0, and else 2.
+        /// The version of the query, by its code alone: 1 where the code is 0, and otherwise 2.
         version: IgmpVersion,
     },
     /// A host is a member of a group.
@@ -72,8 +72,8 @@ impl Repr {
     ghost use Rattle.icmp4_wire.specs.declared.igmp.repr.Repr.{Repr};
 
     /// The message at the front of the octets. Refused where they are fewer than 8, where the type has no name, and
-    /// where the group is neither 0.0.0.0 nor multicast. The checksum is not verified; the code of a report
-    /// or of a leave message is not looked at.
+    /// where the group is neither 0.0.0.0 nor multicast. The checksum is not verified; the code of a report or of a
+    /// leave message is not checked.
     #[inline]
     pub fn parse(packet: &Packet<&[u8]>) -> Result<Repr>
         ensures sound { IfOk result (IsMessage (view_octets packet.now)) }
@@ -93,8 +93,8 @@ impl Repr {
             → result ≡ Ok repr }
     {
         packet.check_len()?;
-        // In front of the match, so that each value is made once it is known to be good: in the other order a host
-        // that reads queries pays for a copy.
+        // Before the match, so that each value is made once it is known to be good: in the other order a host that
+        // reads queries pays for a copy.
         let group_addr = packet.group_addr();
         let allowed = is_group(group_addr);
         if !allowed {
@@ -124,8 +124,9 @@ impl Repr {
         field::GROUP_ADDRESS.end
     }
 
-    /// Writes the message over the front of the octets, with the checksum of all of them; the others stay. Requires at
-    /// least 8 bytes. Give exactly 8: in a longer buffer the checksum covers what follows the message.
+    /// Writes the message over the front of the octets, with the checksum of all of them; the other octets are
+    /// unchanged. Requires at least 8 bytes. Give exactly 8: in a longer buffer the checksum covers what follows the
+    /// message.
     pub fn emit<T: OctetsMut>(&self, packet: &mut Packet<T>)
         requires { Reaches group_field (T.bytes (inner packet.old)) }
         ensures place { inner packet.new ≡ T.put (inner packet.old) (T.bytes (inner packet.new)) }
@@ -134,7 +135,8 @@ impl Repr {
         self.emit_into(packet.buffer.octets_mut());
     }
 
-    /// The same into a slice. Give it exactly 8 bytes: in a longer one the checksum covers what follows the message.
+    /// Like `emit`, but writes into a slice. Give exactly 8 bytes: in a longer one the checksum covers what follows the
+    /// message.
     #[tactic(auto, using(wirebase::proofs::Chains::chain))]
     pub fn emit_into(&self, octets: &mut [u8])
         requires { Reaches group_field octets.old }
@@ -144,7 +146,8 @@ impl Repr {
         checksum::fill(octets, field::CHECKSUM, 0);
     }
 
-    /// Does nothing. Of two messages that a packet can hold, equal texts mean equal normal forms, and conversely.
+    /// Does nothing; its contract states of two messages that a packet can hold that equal texts mean equal normal
+    /// forms, and conversely.
     #[tactic(auto, using(crate::proofs::IgmpFormat::formats))]
     pub fn same_text(a: &Self, b: &Self)
         ensures { SameText format a.now b.now }
@@ -239,7 +242,7 @@ fn put_message(w: &mut ByteWriter<'_>, message: Message, code: u8, group: Ipv4Ad
     icmp::put_header(w, message.into(), code, group.octets());
 }
 
-// Whether a message may speak of this group: of none, 0.0.0.0, or of a multicast address.
+// Whether a message may have this group: 0.0.0.0, for none, or a multicast address.
 #[inline]
 pub(super) fn is_group(address: Ipv4Address) -> bool
     ensures { IsTrue result ↔ IsGroup address }

@@ -1,4 +1,4 @@
-//! What messages print, each in one line.
+//! Messages printed, each in one line.
 
 ghost use Rattle.std.specs.Prelude.{Some};
 ghost use Rattle.icmp6_wire.specs.Icmpv6.{value_of};
@@ -7,8 +7,8 @@ ghost use Rattle.icmp6_wire.specs.Icmpv6Display.{repr_display};
 use super::repr::Repr;
 use std::fmt;
 
-/// An error with its reason and the word behind its checksum, an echo with its numbers and the bytes of its data, as
-/// `ICMPv6 echo request id=18 seq=1 len=56`, and a message of another protocol as it prints alone.
+/// Prints an error with its reason and the word after its checksum, an echo with its numbers and the length of its
+/// data, as `ICMPv6 echo request id=18 seq=1 len=56`, and a message of another protocol as that protocol's value.
 impl fmt::Display for Repr<'_> {
     ghost output = { λ repr. Some (repr_display (value_of repr)) };
 

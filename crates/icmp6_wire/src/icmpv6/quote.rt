@@ -1,5 +1,4 @@
-//! What an error quotes: a packet that was sent, from its header on, as much of it as the error may carry (RFC 4443
-//! section 2.4).
+//! The packet that an error quotes, from its header on, as much of it as the error may carry (RFC 4443 section 2.4).
 
 ghost use Rattle.std.specs.Prelude.{◌≡◌, ◌≤◌, min, length, drop};
 ghost use Rattle.wirebase.specs.Bytes.{over};
@@ -38,7 +37,7 @@ pub(super) fn write_error(
     put_error(&mut ByteWriter::new(octets), kind, code, word, quoted, data);
 }
 
-// The same through a writer.
+// Writes an error of this type with a writer.
 #[tactic(auto, using(wirebase::proofs::Ipv6Header::header_texts), unfolding(wirebase::specs::ByteWriter::be32))]
 fn put_error(
     w: &mut ByteWriter<'_>,
@@ -58,7 +57,7 @@ fn put_error(
     w.put_bytes(quotable(data));
 }
 
-// The data that an error may quote.
+// The part of the data that an error may quote.
 #[tactic(auto, using(crate::proofs::Icmpv6Texts::cuts))]
 fn quotable(data: &[u8]) -> &[u8]
     ensures value { result.now ≡ quoted_data «data».now }
@@ -67,7 +66,7 @@ fn quotable(data: &[u8]) -> &[u8]
     &data[..data.len().min(MAX_QUOTED_DATA)]
 }
 
-// The header that an error quotes, and all that stands behind it (RFC 4443 section 3).
+// The header that an error quotes, and all that follows it (RFC 4443 section 3).
 pub(super) fn read_quote(octets: &[u8]) -> (Ipv6Repr, &[u8])
     requires { 40 ≤ length octets.now }
     ensures header { IsHeader octets.now result.0 }

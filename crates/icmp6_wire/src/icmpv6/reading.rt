@@ -15,7 +15,7 @@ use super::repr::Repr;
 use super::tables::Message;
 use wirebase::{Error, IPV6_HEADER_LEN, Result};
 
-// The error in octets of such a type, of a packet that is too big of code 0.
+// The error in octets of such a type, where a packet that is too big has code 0.
 #[inline(always)]
 pub(super) fn read_error<'a>(packet: &Packet<&'a [u8]>, kind: Message) -> Result<Repr<'a>>
     requires whole { BeginsWhole (view_octets packet.now) }
@@ -84,7 +84,7 @@ pub(super) fn read_echo_request<'a>(packet: &Packet<&'a [u8]>) -> Repr<'a>
     }
 }
 
-// The same of an echo reply.
+// The echo reply in octets of that type and of code 0.
 #[inline(always)]
 pub(super) fn read_echo_reply<'a>(packet: &Packet<&'a [u8]>) -> Repr<'a>
     requires some { 8 ≤ length (view_octets packet.now) }
@@ -99,7 +99,7 @@ pub(super) fn read_echo_reply<'a>(packet: &Packet<&'a [u8]>) -> Repr<'a>
     }
 }
 
-// What stands behind the header of an error or an echo, which has 8 bytes.
+// What follows the header of an error or an echo, which has 8 bytes.
 #[inline(always)]
 fn behind_header<'a>(packet: &Packet<&'a [u8]>) -> &'a [u8]
     requires { 8 ≤ length (view_octets packet.now) }

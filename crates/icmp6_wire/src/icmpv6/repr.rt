@@ -56,27 +56,27 @@ pub enum Repr<'a> {
     DstUnreachable {
         /// Why, by the code.
         reason: DstUnreachable,
-        /// The header of the packet that the error speaks of.
+        /// The header of the packet that the error is about.
         header: Ipv6Repr,
-        /// What stands behind the quoted header.
+        /// What follows the quoted header.
         data: &'a [u8],
     },
     /// An error: the quoted packet is longer than the next link can carry.
     PktTooBig {
-        /// The bytes of the largest packet that it can.
+        /// The bytes of the largest packet that the link can carry.
         mtu: u32,
-        /// The header of the packet that the error speaks of.
+        /// The header of the packet that the error is about.
         header: Ipv6Repr,
-        /// What stands behind the quoted header.
+        /// What follows the quoted header.
         data: &'a [u8],
     },
     /// An error: a time of the quoted packet was exceeded.
     TimeExceeded {
         /// Why, by the code.
         reason: TimeExceeded,
-        /// The header of the packet that the error speaks of.
+        /// The header of the packet that the error is about.
         header: Ipv6Repr,
-        /// What stands behind the quoted header.
+        /// What follows the quoted header.
         data: &'a [u8],
     },
     /// An error: a field of the quoted packet makes no sense.
@@ -85,9 +85,9 @@ pub enum Repr<'a> {
         reason: ParamProblem,
         /// The place of the field, counted from the quoted packet's first byte.
         pointer: u32,
-        /// The header of the packet that the error speaks of.
+        /// The header of the packet that the error is about.
         header: Ipv6Repr,
-        /// What stands behind the quoted header.
+        /// What follows the quoted header.
         data: &'a [u8],
     },
     /// An echo request.
@@ -115,12 +115,12 @@ pub enum Repr<'a> {
 }
 
 impl<'a> Repr<'a> {
-    /// The message in the octets, which goes from `src_addr` to `dst_addr`. Refused where they don't begin with the
-    /// header of a type that is read here, where their checksum is to be verified and isn't good, and where the message
-    /// is none of these. Of all but three errors the code is 0: those of an unreachable destination, an exceeded time
-    /// and a parameter problem. An error quotes a whole header, whose version and payload length are not looked at, and
-    /// all that stands behind that header is the data. A message of neighbor discovery is read by `ndisc::Repr::parse`,
-    /// a query and a report by `mld::Repr::parse`.
+    /// The message in the octets, from `src_addr` to `dst_addr`. Refused where they don't begin with the header of a
+    /// type that is read here, where their checksum is to be verified and isn't good, and where they are none of these
+    /// messages. The code is 0 in all but three errors: an unreachable destination, an exceeded time and a parameter
+    /// problem. An error quotes a whole header, whose version and payload length are not checked, and its data is all
+    /// that follows that header. A message of neighbor discovery is read by `ndisc::Repr::parse`, a query and a report
+    /// by `mld::Repr::parse`.
     #[inline]
     pub fn parse(
         src_addr: &Ipv6Address,
@@ -138,11 +138,12 @@ impl<'a> Repr<'a> {
             (λ repr. Rewrites (format checksum_caps.now src_addr.now dst_addr.now) (value_of repr)) }
     {
         are_bytes(packet.buffer);
-        // In front of all else, so that octets which are too few cost next to nothing.
+        // Checked first, so that too few octets cost next to nothing.
         if packet.buffer.len() < field::HEADER_END {
             return Err(Error);
         }
-        // Echoes apart, since they are the most: the function for the others has their places to clear.
+        // Echoes are read apart, since they are the most frequent: the function for the others clears room for their
+        // values.
         let kind = packet.buffer[field::TYPE.start];
         if kind == ECHO_REQUEST || kind == ECHO_REPLY {
             return Repr::read_echo(src_addr, dst_addr, packet, checksum_caps);
@@ -178,8 +179,8 @@ impl<'a> Repr<'a> {
         Ok(read_echo_reply(packet))
     }
 
-    // The message in the octets, of another type than an echo. It takes the octets, not their view, which in Rust is of
-    // any type that lends octets: so it is no part of `parse`, which is inlined where echoes are read.
+    // The message in the octets, of a type other than an echo. It takes the octets and not the view, whose type is
+    // generic in Rust, so that it is not compiled into `parse`, which is inlined where echoes are read.
     fn read(
         src_addr: &Ipv6Address,
         dst_addr: &Ipv6Address,
@@ -205,9 +206,9 @@ impl<'a> Repr<'a> {
         if packet.msg_code() != 0 {
             return Err(Error);
         }
-        // Each arm returns, and what it returns is made by calls that have one way out: the value is then written once,
-        // where the caller has room for it. The parsers of both protocols have these arms again, since a value that one
-        // function made for both would be copied.
+        // Each arm returns the result of a call that has one way out, so that the value is written once, in the
+        // caller's slot. The parsers of both protocols repeat these arms, since a value that one function made for both
+        // would be copied.
         if !kind.is_ndisc() {
             match kind {
                 Message::MldQuery => return Ok(Repr::Mld(read_query(packet))),
@@ -227,8 +228,8 @@ impl<'a> Repr<'a> {
         }
     }
 
-    /// The bytes that the message takes, of an error at most 1,240; of a report by its records those before them, 8.
-    /// Requires that a `usize` holds their number.
+    /// The bytes that the message takes, at most 1,240 of an error; of a report given by its records the 8 bytes before
+    /// them. Requires that their number fits a `usize`.
     pub fn buffer_len(&self) -> usize
         requires { told_len (value_of self.now) < 2 ^ 64 }
         ensures value { result ≡ told_len (value_of self.now) }
@@ -240,8 +241,7 @@ impl<'a> Repr<'a> {
         }
     }
 
-    /// The bytes that the packet of the message has, of an error at most 1,240. Requires that a `usize` holds their
-    /// number.
+    /// The bytes of the packet of the message, at most 1,240 of an error. Requires that their number fits a `usize`.
     #[tactic(auto, using(crate::proofs::Icmpv6Texts::texts))]
     pub fn packet_len(&self) -> usize
         requires { text_len (value_of self.now) < 2 ^ 64 }
@@ -289,8 +289,8 @@ impl<'a> Repr<'a> {
         );
     }
 
-    /// The same into a slice. Give it exactly `packet_len()` bytes: in a longer one the checksum covers what follows
-    /// the message, in a shorter one an echo is cut.
+    /// Like `emit`, but writes into a slice. Give exactly `packet_len()` bytes: in a longer one the checksum covers
+    /// what follows the message, in a shorter one an echo is cut.
     pub fn emit_into(
         &self,
         src_addr: &Ipv6Address,
@@ -306,7 +306,8 @@ impl<'a> Repr<'a> {
         seal(octets, src_addr, dst_addr, checksum_caps);
     }
 
-    /// Does nothing. Of two messages that a packet can hold, equal texts mean equal normal forms, and conversely.
+    /// Does nothing; its contract states of two messages that a packet can hold that equal texts mean equal normal
+    /// forms, and conversely.
     #[tactic(auto, using(crate::proofs::Icmpv6Format::icmpv6_same_text))]
     pub fn same_text(
         a: &Self,

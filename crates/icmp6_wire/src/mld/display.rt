@@ -1,4 +1,4 @@
-//! What messages and records print, each in one line, octets in hexadecimal.
+//! Messages and records printed, each in one line, octets in hexadecimal.
 
 ghost use Rattle.std.specs.Prelude.{Some};
 ghost use Rattle.std.specs.Fmt.{WritesOnOk};
@@ -10,8 +10,8 @@ use super::{AddressRecordRepr, Repr};
 use opt_wire::digits::Digits;
 use std::fmt;
 
-/// The message with its fields, as `MLD report nr_mcast_addr_rcrds=0 data=-`. In place of data a list has each record
-/// in parentheses.
+/// Prints the message with its fields, as `MLD report nr_mcast_addr_rcrds=0 data=-`. A report given by its records has
+/// each record in parentheses in place of `data`.
 impl fmt::Display for Repr<'_> {
     ghost output = { λ repr. Some (repr_display (value_of repr)) };
 
@@ -57,7 +57,7 @@ impl fmt::Display for Repr<'_> {
     }
 }
 
-// The fields of a query behind its flag.
+// The fields of a query after its flag.
 #[derive(Clone, Copy)]
 struct Counts<'a> {
     qrv: u8,
@@ -81,7 +81,7 @@ impl fmt::Display for Counts<'_> {
     }
 }
 
-// What records print, each in parentheses behind a space.
+// Prints each record in parentheses after a space.
 fn fmt_records<W: fmt::Write>(
     f: &mut fmt::Formatter<W>,
     records: &[AddressRecordRepr<'_>],
@@ -94,8 +94,8 @@ fn fmt_records<W: fmt::Write>(
     Ok(())
 }
 
-/// The record with its fields, as
-/// `MLD record record_type=MODE_IS_EXCLUDE aux_data_len=0 num_srcs=0 mcast_addr=ff02::2 payload=-`.
+/// Prints the record with its fields, as `MLD record record_type=MODE_IS_EXCLUDE aux_data_len=0 num_srcs=0
+/// mcast_addr=ff02::2 payload=-`.
 impl fmt::Display for AddressRecordRepr<'_> {
     ghost output = { λ repr. Some (record_display (record_value repr)) };
 

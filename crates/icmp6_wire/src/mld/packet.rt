@@ -16,11 +16,11 @@ use wirebase::{Duration, Ipv6Address, Octets, OctetsMut};
 // The bit of a code that has an exponent and a mantissa: a code without it is a number of milliseconds.
 const FLOATING: u16 = 0x8000;
 
-// The bit of the flag S; the robustness variable is what stands below it.
+// The bit of the flag S; the bits below it are the robustness variable.
 const S_FLAG: u8 = 0x08;
 
 impl<T: Octets> Packet<T> {
-    /// The code of the longest time to answer a query in (RFC 3810 section 5.1.3). Requires at least 6 bytes.
+    /// The code of the maximum response time of a query (RFC 3810 section 5.1.3). Requires at least 6 bytes.
     pub fn max_resp_code(&self) -> u16
         requires { Reaches max_resp_code_field (T.bytes (inner self.now)) }
         ensures { result ≡ number_of max_resp_code_field (T.bytes (inner self.now)) }
@@ -28,7 +28,7 @@ impl<T: Octets> Packet<T> {
         self.buffer.u16_at(field::MAX_RESP_CODE)
     }
 
-    /// The longest time to answer a query in, by its code (RFC 3810 section 5.1.3): whole milliseconds, at most
+    /// The maximum response time of a query, by its code (RFC 3810 section 5.1.3): whole milliseconds, at most
     /// 8,387.584 seconds. Requires at least 6 bytes.
     #[tactic(auto, using(crate::proofs::MldTimes::times))]
     pub fn max_resp_time(&self) -> Duration
@@ -101,7 +101,7 @@ impl<T: Octets> Packet<T> {
 }
 
 impl<T: OctetsMut> Packet<T> {
-    /// Writes the code of the longest time to answer a query in. Requires at least 6 bytes.
+    /// Writes the code of the maximum response time of a query. Requires at least 6 bytes.
     pub fn set_max_resp_code(&mut self, value: u16)
         requires { Reaches max_resp_code_field (T.bytes (inner self.old)) }
         ensures writes { Sets T.bytes T.put self.old self.new max_resp_code_field

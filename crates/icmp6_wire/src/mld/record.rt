@@ -26,15 +26,15 @@ pub struct AddressRecord<T: Octets> {
 }
 
 impl<T: Octets> AddressRecord<T> {
-    /// The view of these octets, whatever they are.
+    /// Makes a view of `buffer`; its length is not checked.
     pub const fn new_unchecked(buffer: T) -> AddressRecord<T>
         ensures { inner result ≡ buffer }
     {
         AddressRecord { buffer }
     }
 
-    /// The view of these octets, where they are 20 or more; refused where they are fewer. On refusal the buffer is
-    /// dropped: to keep a `&mut [u8]`, call `new_unchecked` and then `check_len`.
+    /// Makes a view of `buffer`. Refused where it has fewer than 20 octets. On refusal the buffer is dropped: to keep a
+    /// `&mut [u8]`, call `new_unchecked` and then `check_len`.
     pub fn new_checked(buffer: T) -> Result<AddressRecord<T>>
         ensures accepts { IsOk result ↔ Reaches mcast_addr_field (T.bytes buffer) }
         ensures buffer { IfOk result (λ view. inner view ≡ buffer) }
@@ -54,7 +54,7 @@ impl<T: Octets> AddressRecord<T> {
         Ok(())
     }
 
-    /// What the view was made from, as it is now.
+    /// Returns the buffer of the view.
     pub fn into_inner(self) -> T
         ensures { result ≡ inner self }
     {
@@ -100,8 +100,8 @@ impl<T: Octets> AddressRecord<T> {
 }
 
 impl<'a> AddressRecord<&'a [u8]> {
-    /// What stands after the fields, sources and auxiliary data, for as long as the octets live. Requires at least 20
-    /// bytes.
+    /// The octets after the fields, which are sources and auxiliary data, for as long as the octets live. Requires at
+    /// least 20 bytes.
     pub fn payload(&self) -> &'a [u8]
         requires { Reaches mcast_addr_field (view_octets self.now) }
         ensures { result.now ≡ payload_in (view_octets self.now) }
@@ -150,7 +150,7 @@ impl<T: OctetsMut> AddressRecord<T> {
             .set_bytes(field::RECORD_MCAST_ADDR, &value.octets());
     }
 
-    /// Lends what stands after the fields for writing; the fields stay. Requires at least 20 bytes.
+    /// Lends the octets after the fields for writing; the fields are unchanged. Requires at least 20 bytes.
     #[tactic(auto, using(wirebase::proofs::Pieces::pieces))]
     pub fn payload_mut(&mut self) -> &mut [u8]
         requires { Reaches mcast_addr_field (T.bytes (inner self.old)) }
@@ -165,7 +165,7 @@ impl<T: OctetsMut> AddressRecord<T> {
     }
 }
 
-/// Views are equal where their octets are.
+/// Views are equal where their octets are equal.
 impl<T: Octets> PartialEq for AddressRecord<T> {
     ghost use Rattle.std.specs.Prelude.{◌==◌};
     ghost use Rattle.std.proofs.Common.{rules};
@@ -194,7 +194,7 @@ impl<T: Octets> Eq for AddressRecord<T> {
 /// A record of a report (RFC 3810 section 5.2).
 #[derive(Debug, PartialEq, Eq, Clone, Copy)]
 pub struct AddressRecordRepr<'a> {
-    /// What the record says of the group.
+    /// What the record says about the group.
     pub record_type: RecordType,
     /// The words of 4 bytes that the auxiliary data has.
     pub aux_data_len: u8,
@@ -202,8 +202,8 @@ pub struct AddressRecordRepr<'a> {
     pub num_srcs: u16,
     /// The group.
     pub mcast_addr: Ipv6Address,
-    /// What stands after the fields: sources, which [`AddressRecordRepr::sources`] gives in turn, and auxiliary data.
-    /// It is not written.
+    /// The octets after the fields: sources, which [`AddressRecordRepr::sources`] gives in turn, and auxiliary data.
+    /// They are not written.
     pub payload: &'a [u8],
 }
 
@@ -222,13 +222,13 @@ impl<'a> AddressRecordRepr<'a> {
     }
 
     /// The record at the front of the octets; refused where they are fewer than 20. The counts are not compared with
-    /// what stands after them.
+    /// the octets after the fields.
     pub fn parse(view: &AddressRecord<&'a [u8]>) -> Result<AddressRecordRepr<'a>>
         ensures sound { IfOk result (λ repr. IsRecord (view_octets view.now) (value_of repr)) }
         ensures complete { (value : RecordValue) → IsRecord (view_octets view.now) value
             → IsOkAnd result (λ repr. value_of repr ≡ value) }
 
-        // Of a multicast address.
+        // For a multicast address.
         ensures rewrites { IfOk result (λ repr. IsMulticast (group_of (value_of repr))
             → Rewrites format (value_of repr)) }
     {
@@ -261,15 +261,15 @@ impl<'a> AddressRecordRepr<'a> {
         }
     }
 
-    /// The bytes that the record takes, without what stands after its fields: 20.
+    /// The bytes that the record takes, without its payload: 20.
     pub fn buffer_len(&self) -> usize
         ensures { result ≡ 20 }
     {
         field::RECORD_MCAST_ADDR.end
     }
 
-    /// Writes the record over the front of the octets, without what stands after its fields; the others stay. Requires
-    /// at least 20 bytes, and a multicast address.
+    /// Writes the record over the front of the octets, without its payload; the other octets are unchanged. Requires at
+    /// least 20 bytes, and a multicast address.
     pub fn emit<T: OctetsMut>(&self, view: &mut AddressRecord<T>)
         requires room { Reaches mcast_addr_field (T.bytes (inner view.old)) }
         requires group { IsMulticast self.now.mcast_addr }
@@ -280,7 +280,7 @@ impl<'a> AddressRecordRepr<'a> {
         self.emit_into(view.buffer.octets_mut());
     }
 
-    /// The same into a slice.
+    /// Like `emit`, but writes into a slice.
     pub fn emit_into(&self, octets: &mut [u8])
         requires room { Reaches mcast_addr_field octets.old }
         requires group { IsMulticast self.now.mcast_addr }
@@ -289,14 +289,14 @@ impl<'a> AddressRecordRepr<'a> {
         self.write(octets);
     }
 
-    /// Does nothing. Of two records that a packet can hold, equal texts mean equal normal forms, and conversely.
+    /// Does nothing; its contract states of two records that a packet can hold that equal texts mean equal normal
+    /// forms, and conversely.
     #[tactic(auto, using(crate::proofs::MldRecords::record_same_text))]
     pub fn same_text(a: &Self, b: &Self)
         ensures { SameText format (value_of a.now) (value_of b.now) }
     {}
 
-    // Writes the fields, for the report around the record too, of whose code it becomes a part where the two are
-    // compiled apart.
+    // Writes the fields. Inlined, also into the report around the record where the two are in different codegen units.
     #[inline]
     #[tactic(auto, using(wirebase::proofs::Chains::chain, opt_wire::proofs::FieldsAtOnce::at_once))]
     pub(super) fn write(&self, octets: &mut [u8])

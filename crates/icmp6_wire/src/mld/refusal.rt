@@ -1,4 +1,4 @@
-//! Why octets are no message and no record: the check that fails first.
+//! Why octets are refused as a message or as a record: the first check that fails.
 
 ghost use Rattle.std.specs.Prelude.{◌≡◌, ◌↔◌, true, IfSome, IsNone, Some};
 ghost use Rattle.icmp6_wire.specs.Icmpv6Packet.{view_octets, message_in, BeginsWhole};
@@ -11,7 +11,7 @@ use super::{AddressRecord, AddressRecordRepr, Repr};
 use crate::icmpv6::{Packet, field};
 use std::fmt;
 
-/// Why octets are no message that [`Repr::parse`] reads: the check that fails first.
+/// Why [`Repr::parse`] refuses octets as message: the first check that fails.
 #[derive(Debug, PartialEq, Eq, Clone, Copy)]
 pub enum Refusal {
     /// Fewer than 8 bytes.
@@ -34,14 +34,14 @@ impl fmt::Display for Refusal {
     }
 }
 
-/// Why octets are no record that [`AddressRecordRepr::parse`] reads or that [`Records`](super::Records) gives: the
-/// check that fails first.
+/// Why [`AddressRecordRepr::parse`] refuses octets, or why [`Records`](super::Records) gives no record: the first check
+/// that fails.
 #[derive(Debug, PartialEq, Eq, Clone, Copy)]
 pub enum RecordRefusal {
     /// Fewer than 20 bytes.
     Short,
-    /// Fewer bytes than the sources and the auxiliary data that the record counts take. [`Records`](super::Records)
-    /// alone tells it: `parse` does not compare the counts with what stands after them.
+    /// Fewer bytes than the sources and the auxiliary data that the record counts. Only [`Records`](super::Records)
+    /// gives this reason: `parse` does not compare the counts with the octets after the fields.
     Cut,
 }
 
@@ -59,7 +59,7 @@ impl fmt::Display for RecordRefusal {
 }
 
 impl Repr<'_> {
-    /// Why [`Repr::parse`] refuses these octets, by the check that fails first; None where it reads them.
+    /// Why [`Repr::parse`] refuses these octets, by the first check that fails; None where it reads them.
     pub fn refusal(packet: &Packet<&[u8]>) -> Option<Refusal>
         ensures told { IfSome result (λ refusal. Refuses (view_octets packet.now) refusal) }
         ensures exact { IsNone result ↔ IsRead (view_octets packet.now) }
@@ -71,7 +71,7 @@ impl Repr<'_> {
     }
 }
 
-// Why octets are no message, which don't begin with a whole header of either type.
+// Why octets that don't begin with a whole header of either type are refused.
 fn why(octets: &[u8]) -> Refusal
     requires { BeginsWhole octets.now → is_mld (message_in octets.now) ≡ true → ⊥ }
     ensures { Refuses octets.now result }

@@ -48,7 +48,7 @@ use wirebase::{ByteWriter, Error, Ipv6Address, OctetsMut, Result, are_bytes, icm
 pub enum Repr<'a> {
     /// A router asks which groups have listeners, or whether this one has.
     Query {
-        /// The code of the longest time to answer in, which `icmpv6::Packet::max_resp_time` gives.
+        /// The code of the maximum response time, which `icmpv6::Packet::max_resp_time` gives.
         max_resp_code: u16,
         /// The group, or `::` for all.
         mcast_addr: Ipv6Address,
@@ -60,20 +60,20 @@ pub enum Repr<'a> {
         qqic: u8,
         /// The number of sources.
         num_srcs: u16,
-        /// The sources, which [`Sources::new`](super::Sources::new) gives in turn, and what stands behind them.
+        /// The sources, which [`Sources::new`](super::Sources::new) gives in turn, and what follows them.
         data: &'a [u8],
     },
     /// A host reports what it listens to.
     Report {
         /// The number of records.
         nr_mcast_addr_rcrds: u16,
-        /// The records, which [`Records`](super::Records) gives in turn, and what stands behind them.
+        /// The records, which [`Records`](super::Records) gives in turn, and what follows them.
         data: &'a [u8],
     },
-    /// A report to be written, by its records, of which the fields alone are written. So [`Records`](super::Records)
-    /// gives back those that count neither sources nor auxiliary data, with an empty payload; for one that counts some
-    /// it takes the record behind it, or finds it cut. A report of records with sources is written as `Report`, whose
-    /// data has them.
+    /// A report to be written from its records, of which only the fields are written. So [`Records`](super::Records)
+    /// gives back those that count neither sources nor auxiliary data, with an empty payload; for a record that counts
+    /// some, it takes the next record as these, or finds the record cut. A report of records with sources is written as
+    /// `Report`, whose data holds them.
     ReportRecordReprs(&'a [AddressRecordRepr<'a>]),
 }
 
@@ -106,8 +106,8 @@ impl<'a> Repr<'a> {
         }
     }
 
-    /// The bytes that the message takes; of a list of records those before it, 8. Requires that a `usize` holds their
-    /// number.
+    /// The bytes that the message takes; of a list of records the 8 bytes before them. Requires that their number fits
+    /// a `usize`.
     pub const fn buffer_len(&self) -> usize
         requires { told_len (value_of self.now) < 2 ^ 64 }
         ensures { result ≡ told_len (value_of self.now) }
@@ -118,8 +118,7 @@ impl<'a> Repr<'a> {
         }
     }
 
-    /// The bytes that the packet of the message has, a list of records counted. Requires that a `usize` holds their
-    /// number.
+    /// The bytes of the packet of the message, with a list of records. Requires that their number fits a `usize`.
     #[tactic(auto, using(crate::proofs::MldTexts::counts))]
     pub const fn packet_len(&self) -> usize
         requires { text_len (value_of self.now) < 2 ^ 64 }
@@ -135,9 +134,9 @@ impl<'a> Repr<'a> {
         }
     }
 
-    /// Writes the message over the front of the octets, with the checksum zero; the others stay. Requires exactly
-    /// `packet_len()` bytes, of a list of records at least as many; a robustness variable below 8; and at most 65,535
-    /// records, each of a group. What records count behind their fields is not written.
+    /// Writes the message over the front of the octets, with the checksum zero; the other octets are unchanged.
+    /// Requires exactly `packet_len()` bytes, of a list of records at least as many; a robustness variable below 8; and
+    /// at most 65,535 records, each of a group. The payloads of records are not written.
     pub fn emit<T: OctetsMut>(&self, packet: &mut Packet<T>)
         requires { CanEmit (value_of self.now) (T.bytes (inner packet.old)) }
         ensures place { inner packet.new ≡ T.put (inner packet.old) (T.bytes (inner packet.new)) }
@@ -148,7 +147,7 @@ impl<'a> Repr<'a> {
         self.emit_into(packet.buffer.octets_mut());
     }
 
-    /// The same into a slice. Give it exactly `packet_len()` bytes.
+    /// Like `emit`, but writes into a slice. Give exactly `packet_len()` bytes.
     pub fn emit_into(&self, octets: &mut [u8])
         requires { CanEmit (value_of self.now) octets.old }
         ensures emits { Emits (value_of self.now) octets.old octets.new }
@@ -157,7 +156,8 @@ impl<'a> Repr<'a> {
         self.write(octets);
     }
 
-    /// Does nothing. Of two messages that a packet can hold, equal texts mean equal normal forms, and conversely.
+    /// Does nothing; its contract states of two messages that a packet can hold that equal texts mean equal normal
+    /// forms, and conversely.
     #[tactic(auto, using(crate::proofs::MldFormat::mld_same_text))]
     pub fn same_text(a: &Self, b: &Self)
         ensures { SameText format (value_of a.now) (value_of b.now) }
@@ -173,7 +173,7 @@ impl<'a> Repr<'a> {
         self.put(&mut w);
     }
 
-    // The same with this writer.
+    // Writes the message with this writer.
     fn put(&self, w: &mut ByteWriter<'_>)
         requires { CanEmit (value_of self.now) (free w.old) }
         ensures { Puts w.old w.new (message_fields (value_of self.now)) }

@@ -13,8 +13,8 @@ use opt_wire::ndiscoption::{PrefixInformation, RedirectedHeader};
 use std::fmt;
 use wirebase::{Duration, RawHardwareAddress};
 
-/// The message with its fields and the options that are there, flags by their names and octets in hexadecimal, as
-/// `NDISC neighbor solicitation target_addr=fe80::2 lladdr=52:54:00:12:34:56`.
+/// Prints the message with its fields and the options that are there, flags by their names and octets in hexadecimal,
+/// as `NDISC neighbor solicitation target_addr=fe80::2 lladdr=52:54:00:12:34:56`.
 impl fmt::Display for Repr<'_> {
     ghost output = { λ repr. Some (repr_display (value_of repr)) };
 
@@ -126,7 +126,7 @@ impl fmt::Display for RouterOptions {
     }
 }
 
-// Fields that are there or not, with their names in front: nothing where they are not.
+// Optional fields, each printed after its name; nothing is printed of one that is absent.
 
 #[derive(Clone, Copy)]
 struct LinkAddress(Option<RawHardwareAddress>);

@@ -59,7 +59,7 @@ impl bitflags::Flags for RouterFlags {
     }
 }
 
-/// The names of the flags that are set, as `managed,other`; `-` where none is. Bits without a name are not told.
+/// The names of the flags that are set, as `managed,other`; `-` where none is. Bits without a name are not printed.
 impl fmt::Display for RouterFlags {
     ghost output = { λ flags. Some (router_flags_text (router_bits flags)) };
 
@@ -183,7 +183,8 @@ impl bitflags::Flags for NeighborFlags {
     }
 }
 
-/// The names of the flags that are set, as `solicited,override`; `-` where none is. Bits without a name are not told.
+/// The names of the flags that are set, as `solicited,override`; `-` where none is. Bits without a name are not
+/// printed.
 impl fmt::Display for NeighborFlags {
     ghost output = { λ flags. Some (neighbor_flags_text (neighbor_bits flags)) };
 

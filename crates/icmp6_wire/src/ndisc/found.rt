@@ -1,4 +1,4 @@
-//! What the options of a message say, in one pass.
+//! Collects the options of a message, in one pass.
 
 ghost use Rattle.std.specs.Prelude.{◌≡◌, ◌++◌, List, ℕ, IsOk, IfOk, IsErr};
 ghost use Rattle.opt_wire.specs.NdiscOption.{BeginsWithBlock};
@@ -11,7 +11,7 @@ use opt_wire::ndiscoption::{NdiscOption, PrefixInformation, RedirectedHeader};
 use opt_wire::writing::UNIT;
 use wirebase::{Error, RawHardwareAddress, Result};
 
-// What the options said so far, each field as the last option of its kind.
+// The options seen so far: each field is the last option of its kind.
 #[derive(Clone, Copy)]
 pub(crate) struct Found<'a> {
     pub(super) source: Option<RawHardwareAddress>,
@@ -22,8 +22,8 @@ pub(crate) struct Found<'a> {
 }
 
 impl<'a> Found<'a> {
-    // Notes all options of a payload, where none was seen before. Refused where it isn't blocks one after another. What
-    // they say stays where the caller has it, and is not handed from call to call.
+    // Notes all options of a payload, where none was noted before. Refused where it isn't blocks one after another. By
+    // `&mut self`, so that the value is not copied at each call.
     #[inline(never)]
     pub(crate) fn note_all(&mut self, payload: &'a [u8]) -> Result<()>
         requires { kept_of self.old ≡ nothing }
@@ -40,7 +40,7 @@ impl<'a> Found<'a> {
         Ok(())
     }
 
-    // No option was seen.
+    // The value before any option is noted.
     pub(crate) fn nothing() -> Found<'a>
         ensures { kept_of result ≡ nothing }
     {
@@ -53,7 +53,7 @@ impl<'a> Found<'a> {
         }
     }
 
-    // The option in one more block, if there is one.
+    // Notes the option in one more block, if there is one.
     fn note_block(&mut self, block: &'a [u8])
         ensures { Notes block.now (kept_of self.old) (kept_of self.new) }
     {
@@ -63,7 +63,7 @@ impl<'a> Found<'a> {
         }
     }
 
-    // One more option.
+    // Notes one more option.
     fn note(&mut self, option: &ndiscoption::Repr<'a>)
         ensures { kept_of self.new ≡ keep (kept_of self.old) (value_of option.now) }
     {
@@ -78,7 +78,7 @@ impl<'a> Found<'a> {
     }
 }
 
-// The block at the front, and what stands behind it. Refused where the octets don't begin with a block.
+// The block at the front, and what follows it. Refused where the octets don't begin with a block.
 pub(super) fn split_block(octets: &[u8]) -> Result<(&[u8], &[u8])>
     ensures sound { IfOk result (λ parts. IsBlock parts.0.now
         × (octets.now ≡ parts.0.now ++ parts.1.now)) }

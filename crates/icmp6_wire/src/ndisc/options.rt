@@ -1,4 +1,4 @@
-//! The options of a message that is written, each there or not.
+//! Writes the options of a message, each of which may be absent.
 #![tactic(auto, using(crate::proofs::NdiscTexts::nothing))]
 
 ghost use Rattle.std.specs.Prelude.{◌≡◌, ◌+◌, ◌*◌, ◌<◌, ◌≤◌, ◌^◌, [], ◌∷◌, length};

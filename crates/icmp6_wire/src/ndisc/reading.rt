@@ -1,4 +1,4 @@
-//! Messages made from the octets of a packet and what its options say, by their types.
+//! Makes messages from the octets of a packet and its options, by their types.
 
 ghost use Rattle.std.specs.Prelude.{◌≡◌};
 ghost use Rattle.icmp6_wire.specs.Icmpv6Packet.{view_octets, message_in, payload_in, BeginsWhole};
@@ -11,7 +11,7 @@ use super::found::Found;
 use super::repr::Repr;
 use crate::icmpv6::Packet;
 
-// The router solicitation in octets of that type, whose options say this.
+// The router solicitation in octets of that type, with these options.
 #[inline(always)]
 pub(crate) fn router_solicit<'a>(packet: &Packet<&'a [u8]>, found: &Found<'a>) -> Repr<'a>
     requires whole { BeginsWhole (view_octets packet.now) }
@@ -24,7 +24,7 @@ pub(crate) fn router_solicit<'a>(packet: &Packet<&'a [u8]>, found: &Found<'a>) -
     }
 }
 
-// The same of a router advertisement.
+// The router advertisement in octets of that type, with these options.
 #[inline(always)]
 pub(crate) fn router_advert<'a>(packet: &Packet<&'a [u8]>, found: &Found<'a>) -> Repr<'a>
     requires whole { BeginsWhole (view_octets packet.now) }
@@ -44,7 +44,7 @@ pub(crate) fn router_advert<'a>(packet: &Packet<&'a [u8]>, found: &Found<'a>) ->
     }
 }
 
-// The same of a neighbor solicitation.
+// The neighbor solicitation in octets of that type, with these options.
 #[inline(always)]
 pub(crate) fn neighbor_solicit<'a>(packet: &Packet<&'a [u8]>, found: &Found<'a>) -> Repr<'a>
     requires whole { BeginsWhole (view_octets packet.now) }
@@ -58,7 +58,7 @@ pub(crate) fn neighbor_solicit<'a>(packet: &Packet<&'a [u8]>, found: &Found<'a>)
     }
 }
 
-// The same of a neighbor advertisement.
+// The neighbor advertisement in octets of that type, with these options.
 #[inline(always)]
 pub(crate) fn neighbor_advert<'a>(packet: &Packet<&'a [u8]>, found: &Found<'a>) -> Repr<'a>
     requires whole { BeginsWhole (view_octets packet.now) }
@@ -73,7 +73,7 @@ pub(crate) fn neighbor_advert<'a>(packet: &Packet<&'a [u8]>, found: &Found<'a>) 
     }
 }
 
-// The same of a redirect.
+// The redirect in octets of that type, with these options.
 #[inline(always)]
 pub(crate) fn redirect<'a>(packet: &Packet<&'a [u8]>, found: &Found<'a>) -> Repr<'a>
     requires whole { BeginsWhole (view_octets packet.now) }

@@ -1,4 +1,4 @@
-//! Why octets are no message: the check that fails first.
+//! Why octets are no message: the first check that fails.
 
 ghost use Rattle.std.specs.Prelude.{◌≡◌, ◌↔◌, ◌≤◌, true, List, ℕ, length, IfSome, IsNone, Some};
 ghost use Rattle.opt_wire.specs.NdiscOption.{BeginsWithBlock};
@@ -15,13 +15,13 @@ use crate::icmpv6::{Packet, field};
 use opt_wire::writing::UNIT;
 use std::fmt;
 
-/// Why octets are no message that [`Repr::parse`] reads: the check that fails first. A place is counted in bytes from
-/// the front of the message, and the length of an option in units of 8 bytes (RFC 4861 section 4.6).
+/// Why [`Repr::parse`] refuses octets as message: the first check that fails. A place is counted in bytes from the
+/// front of the message, and the length of an option in units of 8 bytes (RFC 4861 section 4.6).
 #[derive(Debug, PartialEq, Eq, Clone, Copy)]
 pub enum Refusal {
     /// Fewer than 8 bytes.
     Short,
-    /// The type, by its number, is none of neighbor discovery.
+    /// The type, by its number, is not one of neighbor discovery.
     UnknownType(u8),
     /// Fewer bytes than the header of the type has.
     Length,
@@ -75,7 +75,7 @@ impl fmt::Display for Refusal {
 }
 
 impl Repr<'_> {
-    /// Why [`Repr::parse`] refuses these octets, by the check that fails first; None where it reads them.
+    /// Why [`Repr::parse`] refuses these octets, by the first check that fails; None where it reads them.
     pub fn refusal(packet: &Packet<&[u8]>) -> Option<Refusal>
         ensures told { IfSome result (λ refusal. Refuses (view_octets packet.now) refusal) }
         ensures exact { IsNone result ↔ IsRead (view_octets packet.now) }
@@ -87,7 +87,7 @@ impl Repr<'_> {
     }
 }
 
-// Why octets are no message, which don't begin with a whole header of neighbor discovery with whole options behind it.
+// Why octets that don't begin with a whole header of neighbor discovery, followed by whole options, are refused.
 fn why(octets: &[u8]) -> Refusal
     requires { BeginsWhole octets.now → is_ndisc (message_in octets.now) ≡ true
         → (options : List OptionValue) → AreBlocks (payload_in octets.now) options → ⊥ }
@@ -107,7 +107,7 @@ fn why(octets: &[u8]) -> Refusal
     why_option(octets, header_len)
 }
 
-// The first of the options behind a header of so many bytes that is none.
+// Why the first option that is not whole, after a header of so many bytes, is refused.
 fn why_option(octets: &[u8], header_len: usize) -> Refusal
     requires begins { BeginsWhole octets.now }
     requires neighbor { is_ndisc (message_in octets.now) ≡ true }
@@ -124,7 +124,7 @@ fn why_option(octets: &[u8], header_len: usize) -> Refusal
     fault(rest, place)
 }
 
-// What is wrong with the option at the front of these octets, which stand at this place of a message.
+// What is wrong with the option at the front of `rest`, which begins at `place` in the message.
 fn fault(rest: &[u8], place: usize) -> Refusal
     requires some { 1 ≤ length rest.now }
     requires none { BeginsWithBlock rest.now → ⊥ }

@@ -34,7 +34,7 @@ use wirebase::{
     icmp,
 };
 
-/// A message (RFC 4861 section 4). Its options are there or not; of several of one kind the last is read.
+/// A message (RFC 4861 section 4). Each option may be absent; of several of one kind the last is read.
 ///
 /// ```
 /// use control_wire::icmpv6::Packet;
@@ -68,20 +68,20 @@ pub enum Repr<'a> {
         flags: RouterFlags,
         /// How long the sender is a default router, sent in whole seconds.
         router_lifetime: Duration,
-        /// How long a neighbor counts as reachable, sent in whole milliseconds; 0 where it is not told.
+        /// How long a neighbor counts as reachable, sent in whole milliseconds; 0 where it is unspecified.
         reachable_time: Duration,
-        /// The time between solicitations, sent in whole milliseconds; 0 where it is not told.
+        /// The time between solicitations, sent in whole milliseconds; 0 where it is unspecified.
         retrans_time: Duration,
         /// The link-layer address of the sender.
         lladdr: Option<RawHardwareAddress>,
-        /// The greatest packet of the link, in bytes.
+        /// The MTU of the link, in bytes.
         mtu: Option<u32>,
-        /// A prefix of the link, of an option: the last one.
+        /// A prefix of the link: the last such option.
         prefix_info: Option<PrefixInformation>,
     },
     /// A host asks for the link-layer address of the neighbor that has an address.
     NeighborSolicit {
-        /// The address that is looked for.
+        /// The address whose link-layer address is asked for.
         target_addr: Ipv6Address,
         /// The link-layer address of the sender.
         lladdr: Option<RawHardwareAddress>,
@@ -90,7 +90,7 @@ pub enum Repr<'a> {
     NeighborAdvert {
         /// The flags.
         flags: NeighborFlags,
-        /// The address that is told of.
+        /// The address whose link-layer address is given.
         target_addr: Ipv6Address,
         /// The link-layer address of the target.
         lladdr: Option<RawHardwareAddress>,
@@ -109,9 +109,9 @@ pub enum Repr<'a> {
 }
 
 impl<'a> Repr<'a> {
-    /// The message in the octets. Refused where they don't begin with the header of their type, where that is none of
-    /// neighbor discovery, and where what follows isn't whole options one after another. An option that can't be read
-    /// is left out, and so are flags without a name; neither code nor checksum is looked at.
+    /// The message in the octets. Refused where they don't begin with the header of their type, where that type is none
+    /// of neighbor discovery, and where what follows isn't whole options one after another. An option that can't be
+    /// read is dropped, and so are flags without a name; code and checksum are not checked.
     pub fn parse(packet: &Packet<&'a [u8]>) -> Result<Repr<'a>>
         ensures sound { IfOk result (λ repr. IsMessage (view_octets packet.now) (value_of repr)) }
         ensures complete { (value : NdiscValue) → IsMessage (view_octets packet.now) value
@@ -135,7 +135,7 @@ impl<'a> Repr<'a> {
         let kind = packet.checked_type()?;
         let mut found = Found::nothing();
         found.note_all(packet.behind(kind))?;
-        // A return in each arm: the value is then written once, where the caller has room for it.
+        // Each arm returns, so that the value is written once, in the caller's slot.
         match kind {
             Message::RouterSolicit => {
                 return Ok(router_solicit(packet, &found));
@@ -158,7 +158,8 @@ impl<'a> Repr<'a> {
         }
     }
 
-    /// The bytes that the message takes: whole units behind its header. Requires that a `usize` holds their number.
+    /// The bytes that the message takes: its header, and whole units of options. Requires that their number fits a
+    /// `usize`.
     #[tactic(auto, using(crate::proofs::NdiscTexts::texts))]
     pub fn buffer_len(&self) -> usize
         requires { text_len (value_of self.now) < 2 ^ 64 }
@@ -204,10 +205,10 @@ impl<'a> Repr<'a> {
         }
     }
 
-    /// Writes the message over the front of the octets, with the checksum zero; the others stay. Times are cut to their
-    /// whole units. Requires the bytes that the message takes; a lifetime of at most 65,535 seconds, and times of at
-    /// most 4,294,967,295 milliseconds; of a prefix lifetimes of at most 4,294,967,295 seconds; and of a redirected
-    /// packet that it counts its data as its payload, at most 1,992 bytes.
+    /// Writes the message over the front of the octets, with the checksum zero; the other octets are unchanged. Times
+    /// are rounded down to their whole units. Requires the bytes that the message takes; a lifetime of at most 65,535
+    /// seconds, and times of at most 4,294,967,295 milliseconds; of a prefix lifetimes of at most 4,294,967,295
+    /// seconds; and of a redirected packet that it counts its data as its payload, at most 1,992 bytes.
     pub fn emit<T: OctetsMut>(&self, packet: &mut Packet<T>)
         requires sound { CanEmit (value_of self.now) }
         requires room { text_len (value_of self.now) ≤ length (T.bytes (inner packet.old)) }
@@ -218,7 +219,7 @@ impl<'a> Repr<'a> {
         self.emit_into(packet.buffer.octets_mut());
     }
 
-    /// The same into a slice.
+    /// Like `emit`, but writes into a slice.
     #[tactic(auto, using(wirebase::proofs::Chains::chain))]
     pub fn emit_into(&self, octets: &mut [u8])
         requires sound { CanEmit (value_of self.now) }
@@ -229,7 +230,8 @@ impl<'a> Repr<'a> {
         self.put(&mut w);
     }
 
-    /// Does nothing. Of two messages that a packet can hold, equal texts mean equal normal forms, and conversely.
+    /// Does nothing; its contract states of two messages that a packet can hold that equal texts mean equal normal
+    /// forms, and conversely.
     #[tactic(auto, using(crate::proofs::NdiscFormat::ndisc_same_text))]
     pub fn same_text(a: &Self, b: &Self)
         ensures { SameText format (value_of a.now) (value_of b.now) }

@@ -1,4 +1,4 @@
-//! Why octets are no header, check by check.
+//! Why octets are refused as a header.
 
 ghost use Rattle.std.specs.Prelude.{◌↔◌, IfSome, IsNone, Some};
 ghost use Rattle.opt_wire.specs.Ipv6ExtHeader.{view_octets, value_of};
@@ -7,17 +7,17 @@ ghost use Rattle.opt_wire.specs.Ipv6ExtHeaderRefusal.{IsRead, Refuses, refusal_t
 use super::{Header, Repr, end_of, field};
 use std::fmt;
 
-/// Why octets are no header that [`Repr::parse`] reads (RFC 8200 section 4.3): the check that fails first.
+/// Why [`Repr::parse`] refuses octets as header (RFC 8200 section 4.3): the first check that fails.
 #[derive(Debug, PartialEq, Eq, Clone, Copy)]
 pub enum Refusal {
     /// Fewer than 8 bytes.
     Short,
-    /// Fewer bytes than the length counts, which is this many with the first 8.
+    /// Fewer bytes than the length counts, which is this number of bytes, with the first 8.
     Cut(usize),
 }
 
 impl<'a> Repr<'a> {
-    /// Why [`Repr::parse`] refuses these octets, by the check that fails first; None exactly where it reads them.
+    /// Why [`Repr::parse`] refuses these octets, by the first check that fails; None exactly where it reads them.
     pub fn refusal(header: &Header<&'a [u8]>) -> Option<Refusal>
         ensures told { IfSome result (λ refusal. Refuses (view_octets header.now) refusal) }
         ensures exact { IsNone result ↔ IsRead (view_octets header.now) }

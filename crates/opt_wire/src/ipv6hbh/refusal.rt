@@ -1,4 +1,4 @@
-//! Why octets are no options of a hop-by-hop header, check by check (RFC 8200 section 4.3).
+//! Why octets are refused as options of a hop-by-hop header (RFC 8200 section 4.3).
 
 ghost use Rattle.std.specs.Prelude.{◌≢◌, ◌↔◌, [], map, IfSome, IsNone, Some};
 ghost use Rattle.std.specs.Fmt.{WritesOnOk};
@@ -12,22 +12,22 @@ use crate::ipv6option::refusal::behind_first;
 use std::fmt;
 use wirebase::IPV6_HBH_MAX_OPTIONS;
 
-/// Why octets are no options that [`Repr::parse`] reads: the check that fails first.
+/// Why [`Repr::parse`] refuses octets: the first check that fails.
 #[derive(Debug, PartialEq, Eq, Clone, Copy)]
 pub enum Refusal {
     /// No bytes.
     Empty,
-    /// An option that is not read, among those that a header keeps and the one after them.
+    /// An option that is refused, among those that a header keeps and the one after them.
     Option {
-        /// How many options stand before it.
+        /// The number of options before it.
         index: usize,
-        /// Why it is not read.
+        /// Why it is refused.
         refusal: ipv6option::Refusal,
     },
 }
 
 impl<'a> Repr<'a> {
-    /// Why [`Repr::parse`] refuses these octets, by the check that fails first; None exactly where it reads them.
+    /// Why [`Repr::parse`] refuses these octets, by the first check that fails; None exactly where it reads them.
     pub fn refusal(header: &Header<&'a [u8]>) -> Option<Refusal>
         ensures told { IfSome result (λ refusal.
             Refuses IPV6_HBH_MAX_OPTIONS (view_octets header.now) refusal) }
@@ -41,7 +41,7 @@ impl<'a> Repr<'a> {
     }
 }
 
-// The first option that is not read, among those that a header keeps and the one after them.
+// The first option that is refused, among those that a header keeps and the one after them.
 fn first_bad(octets: &[u8]) -> Option<Refusal>
     requires some { octets.now ≢ [] }
     ensures told { IfSome result (λ refusal. Refuses IPV6_HBH_MAX_OPTIONS octets.now refusal) }
@@ -60,7 +60,8 @@ fn first_bad(octets: &[u8]) -> Option<Refusal>
     None
 }
 
-/// A short phrase, as `option 0: a length of 3 is not allowed for RouterAlert`, of the first option.
+/// A short phrase with the number of options before the refused one, as `option 0: a length of 3 is not allowed for
+/// RouterAlert`.
 impl fmt::Display for Refusal {
     ghost output = { λ refusal. Some (refusal_text refusal) };
 
@@ -72,7 +73,7 @@ impl fmt::Display for Refusal {
     }
 }
 
-/// How many options there are, and each in parentheses.
+/// The number of options, and each option in parentheses.
 impl fmt::Display for Repr<'_> {
     ghost output = { λ repr. Some (header_display (value_of repr)) };
 
@@ -84,7 +85,7 @@ impl fmt::Display for Repr<'_> {
     }
 }
 
-// What options print, each in parentheses behind a space.
+// Prints each option in parentheses after a space.
 fn fmt_options<W: fmt::Write>(
     f: &mut fmt::Formatter<W>,
     options: &[ipv6option::Repr<'_>],

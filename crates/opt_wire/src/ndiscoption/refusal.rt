@@ -1,4 +1,4 @@
-//! Why octets begin with no option of neighbor discovery, check by check (RFC 4861 section 4.6).
+//! Why octets are refused as an option of neighbor discovery (RFC 4861 section 4.6).
 
 ghost use Rattle.std.specs.Prelude.{◌≡◌, ◌↔◌, IfSome, IsNone, Some};
 ghost use Rattle.wirebase.specs.Bytes.{byte_of};
@@ -10,27 +10,27 @@ use crate::writing::UNIT;
 use std::fmt;
 use wirebase::{IPV6_HEADER_LEN, Ipv6Packet};
 
-/// Why octets begin with no option that [`Repr::parse`] reads: the check that fails first.
+/// Why octets begin with no option that [`Repr::parse`] reads: the first check that fails.
 #[derive(Debug, PartialEq, Eq, Clone, Copy)]
 pub enum Refusal {
     /// Fewer than 8 bytes.
     Short,
     /// A length of 0, whatever the type.
     Zero,
-    /// Fewer bytes than the length counts, which is this many.
+    /// Fewer bytes than the length counts, which is this number of bytes.
     Cut(usize),
     /// A length, in units of 8 bytes, that the type does not allow: a prefix of other than 4 units, a redirected header
     /// of fewer than 6, or an MTU of other than 1.
     Length(Type, u8),
-    /// A redirected packet of fewer bytes than it counts, which is this many with its header.
+    /// A redirected packet of fewer bytes than its header counts, which is this number of bytes, with the header.
     PacketCut(usize),
-    /// A redirected packet of this version, and not of 6.
+    /// A redirected packet of this version, not 6.
     PacketVersion(u8),
 }
 
 impl<'a> Repr<'a> {
-    /// Why [`Repr::parse`] refuses these octets, by the check that fails first; None exactly where it reads them. A
-    /// length of 0 is told before a length that the type does not allow.
+    /// Why [`Repr::parse`] refuses these octets, by the first check that fails; None exactly where it reads them. A
+    /// length of 0 is checked before a length that the type does not allow.
     pub fn refusal(opt: &NdiscOption<&'a [u8]>) -> Option<Refusal>
         ensures told { IfSome result (λ refusal. Refuses (view_octets opt.now) refusal) }
         ensures exact { IsNone result ↔ IsRead (view_octets opt.now) }
@@ -65,7 +65,7 @@ pub(super) fn why_none(opt: &NdiscOption<&[u8]>) -> Refusal
     }
 }
 
-// Why a redirected header is none.
+// Why the octets are refused as a redirected header.
 fn why_not_redirected(opt: &NdiscOption<&[u8]>) -> Refusal
     requires units { HasUnits (view_octets opt.now) }
     requires kind { byte_of type_field (view_octets opt.now) ≡ 4 }

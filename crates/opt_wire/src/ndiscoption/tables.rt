@@ -20,9 +20,9 @@ pub enum Type {
     TargetLinkLayerAddr,
     /// A prefix of addresses on the link.
     PrefixInformation,
-    /// The packet that a redirect speaks of.
+    /// The packet that a redirect is about.
     RedirectedHeader,
-    /// The greatest packet of the link.
+    /// The MTU of the link.
     Mtu,
     /// Any other type, by its number.
     Unknown(u8),
@@ -72,7 +72,7 @@ impl From<Type> for u8 {
     }
 }
 
-/// What the option has, or the number of an unknown type.
+/// The name of the type, or the number of an unknown type.
 impl fmt::Display for Type {
     ghost output = { λ kind. Some (type_text kind) };
 
@@ -138,7 +138,7 @@ impl bitflags::Flags for PrefixInfoFlags {
     }
 }
 
-/// The names of the flags that are set, as `on_link,addrconf`; `-` where none is. Bits without a name are not told.
+/// The names of the flags that are set, as `on_link,addrconf`; `-` where none is. Bits without a name are not printed.
 impl fmt::Display for PrefixInfoFlags {
     ghost output = { λ flags. Some (flags_text (flag_bits flags)) };
 

@@ -1,18 +1,18 @@
-//! Why octets are no packet of IPv6.
+//! Why octets are refused as a packet of IPv6.
 
 ghost use Rattle.std.specs.Prelude.{Some};
 ghost use Rattle.wirebase.specs.Ipv6.{refusal_display};
 
 use std::fmt;
 
-/// Why octets are no packet that [`Ipv6Repr::parse`](crate::Ipv6Repr::parse) reads: the check that fails first.
+/// Why [`Ipv6Repr::parse`](crate::Ipv6Repr::parse) refuses octets: the first check that fails.
 #[derive(Debug, PartialEq, Eq, Clone, Copy)]
 pub enum Ipv6Refusal {
     /// Fewer than the 40 bytes of the header.
     Short,
     /// The octets end before the payload does, by the length in the header.
     Cut,
-    /// Another version than 6.
+    /// A version other than 6.
     Version(u8),
 }
 

@@ -1,4 +1,4 @@
--- Identifier and sequence number are written as the four bytes behind the checksum.
+-- Identifier and sequence number are written as the four bytes after the checksum.
 use Rattle.std.proofs.Common.{rules, ◌≡◌, ℕ, List, [], ◌∷◌, slice_index, refl, sym, ap, ◌∙◌}
 use Rattle.byteorder.specs.Endian.{big_bytes}
 use Rattle.wirebase.specs.ByteWriter.{Puts, sheet, put, fields, be8, be16}

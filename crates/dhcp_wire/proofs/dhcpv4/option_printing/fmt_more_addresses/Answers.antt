@@ -1,4 +1,4 @@
--- Each turn writes one address behind a comma.
+-- Each turn writes one address after a comma.
 use Rattle.std.proofs.Common.{ℕ, List, ◌++◌, codes, flat_map, IsOk, sym, ap, ◌∙◌, append_assoc, rules}
 use Rattle.std.proofs.Output.{has_written_append}
 use Rattle.wirebase.specs.Ipv4.{address_text}
