@@ -1,5 +1,5 @@
--- Lemmas that a caller takes: the labels that a walk gives, the greatest number of two bytes, and that addresses of the
--- same octets are the same.
+-- Lemmas for callers: the labels that a walk gives, the greatest number of two bytes, and that addresses with equal
+-- octets are equal.
 pub use Rattle.dns_wire.proofs.DnsNameLabels
 pub use Rattle.wirebase.proofs.ByteParts
 pub use Rattle.wirebase.proofs.HardwareAddresses

@@ -1,4 +1,4 @@
--- What a contract over these modules cites: the definitions of each crate, file by file, and the types of the modules
+-- What contracts over these modules cite: the definitions of each crate, file by file, and the types of the modules
 -- with their cases, where a definition has to name them.
 
 pub use Rattle.wirebase.specs.Answers

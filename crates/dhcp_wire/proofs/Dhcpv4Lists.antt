@@ -118,7 +118,7 @@ within (suc most) (kind ∷ rest) l =
 pub list-options : (bytes : List ℕ) → Options bytes (list_of bytes)
 list-options bytes = within (length bytes) bytes (omega arith)
 
--- ---- the list by what stands at the front
+-- ---- the list by what the bytes begin with
 
 list-is : (bytes : List ℕ) (options : List OptionValue) → Options bytes options → list_of bytes ≡ options
 list-is bytes options a = options-unique bytes options (list_of bytes) a (list-options bytes)
@@ -170,7 +170,7 @@ list-option kind n rest h other room =
     (record { no_padding = not_padding kind (n ∷ rest) h; no_end = other }) (list-options (drop n rest))
     (ap (λ (l : List ℕ). kind ∷ l) whole))
 
--- ---- the same of bytes by their places
+-- ---- the list of bytes by their places
 
 pub front-cut : (bytes rest : List ℕ) → 2 ≤ length bytes → rest ≡ drop 2 bytes → HasNoPadding bytes
     → (slice_index bytes 0 ≡ 255) ⊎ (length rest < slice_index bytes 1) → list_of bytes ≡ []

@@ -1,4 +1,4 @@
--- The addresses that stand in bytes.
+-- The addresses in bytes.
 use Rattle.std.proofs.Common.{◌≡◌, ℕ, ◌≤◌, ◌<◌, List, [], ◌∷◌, length, drop, Some, refl, ap, arith}
 use Rattle.std.specs.Iterator.{MakesProgress, at_most}
 use Rattle.wirebase.specs.declared.ipv4.Ipv4Address.{Ipv4Address}

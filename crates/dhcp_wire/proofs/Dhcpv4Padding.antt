@@ -65,7 +65,7 @@ next_lowest n b t small l h =
       λ i k. next_bit n b i small ∙ h.1 (8 + i) (omega arith),
     )
 
--- octets of which so many are padding as stand below the lowest 1 of their number
+-- octets, of which as many are padding as there are below the lowest 1 of their number
 some_padding : (k : ℕ) (bytes : List ℕ) (t : ℕ) → k ≤ length bytes → IsBytes bytes
     → IsLowest (little_number k bytes) t → Begins bytes (drop (t / 8) bytes)
 some_padding zero bytes t l are h = let none : bit_at 0 t ≡ 0 = bit_at-zero t in absurd (omega (arith, none, h.0))

@@ -1,4 +1,4 @@
--- How options end, by what stands at the front of them.
+-- How options end, by what the bytes begin with.
 use Rattle.std.proofs.Common.{◌≡◌, ◌≢◌, ℕ, ◌≤◌, ◌<◌, List, [], ◌∷◌, ◌++◌, length, take, drop, Option, None, Some}
 use Rattle.std.proofs.Common.{refl, sym, ap, subst, ◌∙◌, arith, ◌↔◌, IsNone, IsSome}
 use Rattle.std.specs.Prelude.{Result, Ok, Err, OnOk, OnErr, is_err, is_some, true, false}
@@ -61,7 +61,7 @@ pub when-none : {A : Type 0} (o : Option A) → is_some o ≡ false → o ≡ No
 when-none None e = refl
 when-none (Some x) e = cc
 
--- a reason is told of what is not read
+-- what is not read has a reason
 pub told_some : {A P : Type 0} (reason : Option A) → (IsNone reason ↔ P) → (P → ⊥) → IsSome reason
 told_some (Some x) exact refused = refl
 told_some None exact refused = absurd (refused (exact.0 refl))

@@ -1,4 +1,4 @@
--- What a DHCP packet says: its value, its text, and the grammar that reads it (RFC 2131, RFC 2132).
+-- The content of a DHCP packet: its value, its text, and the grammar that reads it (RFC 2131, RFC 2132).
 use Rattle.std.specs.Prelude.{◌≡◌, ℕ, zero, suc, ◌==◌, ◌&&◌, Bool}
 use Rattle.std.specs.Prelude.{true, false, List, [], ◌∷◌, ◌++◌, length, drop, map, flat_map, replicate}
 use Rattle.std.specs.Prelude.{slice_index, if◌then◌else◌, Option, None, Some}

@@ -1,4 +1,4 @@
--- What packets of DHCP and their parts print.
+-- The printed texts of packets of DHCP and their parts.
 use Rattle.std.specs.Prelude.{ℕ, Bool, true, false, List, [], ◌∷◌, ◌++◌, codes, decimal, length, flat_map}
 use Rattle.std.specs.Prelude.{Option, None, Some, ◌==◌, if◌then◌else◌}
 use Rattle.std.specs.Int.RustNames.{bit_and}

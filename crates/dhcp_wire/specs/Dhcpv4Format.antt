@@ -124,7 +124,7 @@ format = record {
 }
 
 -- What writing a value over `old` leaves. It succeeds exactly where no data is too long and there is room; then the
--- value's text stands at the front, and is all that is left where there was just room for it. Else no end mark is
+-- value's text is at the front, and is all that is left where there was just room for it. Otherwise no end mark is
 -- written. A canonical value is read back as its normal form, whatever follows the packet.
 pub record Emits (v : Value) (old : List ℕ) (result : Result (Unit {0}) Error) (new : List ℕ) : Type 0 where
   pub accepts : IsOk result ↔ CanEmit (length old) v

@@ -1,4 +1,4 @@
--- What options print.
+-- The printed texts of options.
 use Rattle.std.specs.Prelude.{ℕ, ◌==◌, ◌||◌, ◌&&◌, nat_le, if◌then◌else◌, List, [], ◌∷◌, ◌++◌, flat_map}
 use Rattle.std.specs.Prelude.{Option, None, Some, codes, decimal}
 use Rattle.wirebase.specs.Display.{pieces}
@@ -10,8 +10,8 @@ use Rattle.dhcp_wire.specs.Dhcpv4OptionTable.{name_of, format_of}
 use Rattle.dhcp_wire.specs.Dhcpv4OptionValue.{Content, address, addresses, seconds, number, byte, message, text, kinds}
 use Rattle.dhcp_wire.specs.Dhcpv4OptionValue.{octets, content_in, addresses_in}
 
--- A byte of a text: quotation marks and backslashes stand after a backslash, other visible characters of ASCII and
--- spaces for themselves, and every other byte after a backslash and an x, as two hexadecimal digits.
+-- A byte of a text: quotation marks and backslashes are printed after a backslash, other visible characters of ASCII
+-- and spaces as they are, and every other byte as a backslash, an x and two hexadecimal digits.
 abbrev pub character : ℕ → List ℕ
 character n =
     if (n == 34) || (n == 92) then 92 ∷ n ∷ []

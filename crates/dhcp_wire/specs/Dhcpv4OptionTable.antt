@@ -9,7 +9,7 @@ use Rattle.dhcp_wire.specs.declared.dhcpv4.table.Format.TheVariants as format
 abbrev pub Rows : Type 0
 Rows = List ((List ℕ × Format) × ℕ)
 
--- RFC 2132 sections 3 and 4: what RFC 1497 had, and the IP layer of a host
+-- RFC 2132 sections 3 and 4: the options of RFC 1497, and the IP layer of a host
 abbrev pub host_rows : Rows
 host_rows =
     ((codes "subnet-mask", format.Address), 1) ∷ ((codes "time-offset", format.Octets), 2)

@@ -41,7 +41,7 @@ inner view = view.buffer
 abbrev pub with_inner : {T : Type 0} → Packet T → T → Packet T
 with_inner view buffer = record view { buffer = buffer }
 
--- a field of the view is w, and all its other octets stay
+-- a field of the view is w, and all its other octets are unchanged
 abbrev pub Sets : {T : Type 0} → (T → List ℕ) → (T → List ℕ → T) → Packet T → Packet T → Field → List ℕ → Type 0
 Sets bytes set old new f w = Writes bytes set (inner old) (inner new) f w
 
@@ -108,7 +108,7 @@ abbrev pub HasNoZero : List ℕ → Type 0
 HasNoZero [] = Unit {0}
 HasNoZero (byte ∷ rest) = (byte ≢ 0) × HasNoZero rest
 
--- A text that a field of fixed size holds: its bytes stand before the first zero, there are some, and they are UTF-8.
+-- A text that a field of fixed size holds: the bytes before the first zero. There are some, and they are UTF-8.
 pub record IsTextIn (bytes text : List ℕ) : Type 0 where
   pub rest : List ℕ
   pub whole : bytes ≡ text ++ 0 ∷ rest

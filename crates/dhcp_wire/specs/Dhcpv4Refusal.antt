@@ -1,4 +1,4 @@
--- Why octets are no packet that is read: the check that fails first, and what each reason prints.
+-- Why octets are not a packet that is read: the first check that fails, and the printed text of each reason.
 use Rattle.std.specs.Prelude.{◌≡◌, ◌≢◌, ℕ, ◌<◌, ◌⊎◌, List, [], ◌∷◌, ◌++◌, length, slice_index, Option, None, Some}
 use Rattle.std.specs.Prelude.{codes, decimal}
 use Rattle.std.specs.Option.{option_map}
@@ -76,7 +76,7 @@ Refuses bytes refusal.NoMessageType =
     (options : List OptionValue) × HasNoType bytes options × (last_type options ≡ None)
     × Ends (options_in bytes) None
 
--- what each prints
+-- the printed text of each
 abbrev pub refusal_display : Refusal → List ℕ
 refusal_display refusal.Short = codes "fewer than 240 bytes"
 refusal_display (refusal.HardwareType n) =

@@ -19,7 +19,7 @@ use Rattle.dns_wire.proofs.DnsNamePaths.{no_break}
 use Rattle.dns_wire.proofs.DnsNameTheorem.{whole_open, open_whole, route_complete}
 use Rattle.dns_wire.proofs.DnsPartLen.{label_fewer, torn_none, split_begins, begins_one}
 
--- ---- nothing whole stands where a reason says so
+-- ---- nothing whole begins where a reason says so
 
 pub torn-front : (bytes : List ℕ) (reason : NameRefusal) → IsTorn bytes reason → front_of bytes ≡ torn
 torn-front bytes NoEnd h = rw h refl
@@ -176,7 +176,7 @@ breaks_far text reach p e far =
     breaks_at text reach (Pointer p)
     (at.first ∷ at.second ∷ [], at.rest, at.is, (at.first, at.second, refl, at.high, at.low), far)
 
--- a route to a break is a broken path, and the reason stands where it ends
+-- a route to a break is a broken path, and the reason holds where it ends
 pub route_breaks : (text message : List ℕ) (reason : NameRefusal) → Some_route (BreaksFor reason) text message
     → NameBreaks text message reason
 route_breaks text message reason (targets, parts, r) =

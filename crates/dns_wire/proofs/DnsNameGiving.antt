@@ -1,4 +1,4 @@
--- What a call of `next` owes where the answers to come are known.
+-- What a call of `next` has to answer where the answers to come are known.
 use Rattle.std.proofs.Common.{◌≡◌, ℕ, ◌<◌, false, List, [], ◌∷◌, Option, Some, None, Result, Ok, Err, Bor, refl, ap}
 use Rattle.std.proofs.Common.{◌∙◌, arith, slice_get}
 use Rattle.std.specs.Iterator.{MakesProgress, at_most}
@@ -6,7 +6,7 @@ use Rattle.wirebase.specs.declared.error.Error.{Error}
 use Rattle.dns_wire.specs.DnsNameWalk.{Coming, Walk, at_end, answer_of, is_ending, after_first, GivesFirst}
 use Rattle.dns_wire.specs.DnsNameWalk.{items_in}
 
--- A call that gives an item: it stood first, and the rest follows.
+-- A call that gives an item: it was the first answer to come, and the rest follows.
 pub gives_item : (old : Walk) (result : Option (Result (Bor (List ℕ)) Error)) (n : ℕ) (ahead : List Coming)
     → old.ahead ≡ record { answer = answer_of result; steps = n } ∷ ahead → is_ending (answer_of result) ≡ false
     → GivesFirst old result (record { steps = n; ahead = ahead })
@@ -15,7 +15,7 @@ gives_item old result n ahead e i = record {
   rest = rw (e, i) refl;
 }
 
--- A call that gives the end: it was all that stood there, and stays.
+-- A call that gives the end: it was the only answer to come, and remains.
 pub gives_end : (old : Walk) (n : ℕ) (ahead : List Coming) → old.ahead ≡ at_end n → ahead ≡ at_end n
     → GivesFirst old None (record { steps = n; ahead = ahead })
 gives_end old n ahead e stays = record {
@@ -23,7 +23,7 @@ gives_end old n ahead e stays = record {
   rest = rw (e, stays) refl;
 }
 
--- An item is given where it stood first, so fewer are left.
+-- An item is given where it was the first answer to come, so fewer are left.
 not_ending : (x : Result (Bor (List ℕ)) Error) → is_ending (answer_of (Some x)) ≡ false
 not_ending (Ok bytes) = refl
 not_ending (Err e) = refl

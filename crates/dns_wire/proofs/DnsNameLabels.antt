@@ -93,7 +93,7 @@ gives_name text message ahead either complete broken labels g =
 
 -- ---- one call of `next`
 
--- a call gives what stands first
+-- a call gives the first answer to come
 record Stands (old new : List Coming) (first : Coming) : Type 0 where
   pub rest : List Coming
   pub is : old ≡ first ∷ rest
@@ -110,7 +110,7 @@ stands (c ∷ cs) new first e after =
       after = after ∙ ap (λ c. if is_ending c.answer then c ∷ cs else cs) same;
     }
 
--- the same of the answer of a call
+-- the answer of a call is the first answer to come
 stands_after : (old new : Walk) (result : Option (Result (Bor (List ℕ)) Error)) → GivesFirst old result new
     → Stands old.ahead new.ahead (record { answer = answer_of result; steps = new.steps })
 stands_after old new result gives =

@@ -12,7 +12,7 @@ use Rattle.dns_wire.proofs.DnsNameTurns.{parts_length, stop-front, ahead_label, 
 use Rattle.dns_wire.proofs.DnsNameTurns.{ahead_torn}
 use Rattle.dns_wire.proofs.DnsNameParts.{mark_front, label_front, part_cons}
 
--- After whole labels stands nothing whole, or a pointer out of the open bytes.
+-- Whole labels are followed by nothing whole, or by a pointer out of the open bytes.
 pub record Breaks (text reach : List ℕ) (labels : List (List ℕ)) : Type 0 where
   pub rest : List ℕ
   pub each : AllByRecursion IsLabel labels

@@ -1,4 +1,4 @@
--- What stands at the front of a text, and one turn of the answers to come.
+-- What a text begins with, and one turn of the answers to come.
 use Rattle.std.proofs.Common.{◌≡◌, ℕ, ◌+◌, ◌*◌, ◌%◌, ◌<◌, ◌≤◌, Bool, true, false, cond, ltb, eqb, List, [], ◌∷◌, ◌++◌}
 use Rattle.std.proofs.Common.{length, take, drop, refl, sym, ap, ◌∙◌, ◌⊎◌, inl, inr, zero, suc, arith}
 use Rattle.std.proofs.lemmas.Bool.{ltb-true, ltb-false, lt-ltb, le-ltb, eqb-true, eqb-false, ne_eqb, cases_lt}
@@ -183,7 +183,7 @@ ahead_turn n text reach =
     ∙ same_turn (front_of text) n text reach (answers (length text + length reach)) (ahead_of) refl
     (λ m t r l. answers_enough (length text + length reach) (length t + length r) m t r (omega arith) (omega arith))
 
--- what is to come, by what stands at the front
+-- what is to come, by what the text begins with
 pub ahead_label : (n : ℕ) (text reach b r : List ℕ) (old : List Coming) → whole b r ≡ front_of text
     → ahead_of n text reach ≡ old → old ≡ record { answer = label b; steps = n + 1 }
     ∷ ahead_of (n + 1) r reach
@@ -214,6 +214,6 @@ pub ahead_torn : (n : ℕ) (text reach : List ℕ) (old : List Coming) → torn 
 ahead_torn n text reach old e h =
     sym h ∙ (ahead_turn n text reach ∙ ap (λ f. by_front f n reach (ahead_of)) (sym e))
 
--- nothing comes but the end where the end of a name stands
+-- nothing comes but the end where the text begins with the end of a name
 pub ahead_ended : (n : ℕ) (reach : List ℕ) → ahead_of n (0 ∷ []) reach ≡ at_end n
 ahead_ended n reach = ahead_turn n (0 ∷ []) reach

@@ -23,7 +23,7 @@ no_torn : (st : Stop) → front_at st ≡ torn → ⊥
 no_torn ends e = cc
 no_torn (goes_on p) e = cc
 
--- ---- behind a label
+-- ---- after a label
 
 pub label_more : (text bytes rest : List ℕ) → whole bytes rest ≡ front_of text → (k : ℕ) → BeginsWithPart rest k
     → BeginsWithPart text ((1 + length bytes) + k)

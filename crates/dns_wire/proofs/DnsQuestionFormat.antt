@@ -47,7 +47,7 @@ type_back : (n : ℕ) (behind : List ℕ) → n < 2 ^ 16 → n ≡ number_of typ
 unfolding part
 type_back n behind small = omega arith
 
--- a question that stands before a rest
+-- a question that is followed by a rest
 pub question_reads : (q : QuestionValue) (bytes rest : List ℕ) → IsCanonical q → bytes ≡ text q ++ rest
     → IsQuestion bytes q rest
 unfolding part

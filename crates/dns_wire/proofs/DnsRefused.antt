@@ -1,4 +1,4 @@
--- Questions and records, and what is told of other octets.
+-- Questions and records, and why other octets are refused.
 use Rattle.std.proofs.Common.{◌≡◌, ℕ, List, [], ◌∷◌, length, drop, refl, sym, subst, arith}
 use Rattle.wirebase.specs.Bytes.{Reaches, number_of}
 use Rattle.dns_wire.specs.declared.dns.refusal.Refusal.{Refusal}

@@ -80,8 +80,8 @@ flag_names =
     (codes "qr", 0x8000) ∷ (codes "aa", 0x0400) ∷ (codes "tc", 0x0200) ∷ (codes "rd", 0x0100)
     ∷ (codes "ra", 0x0080) ∷ (codes "ad", 0x0020) ∷ (codes "cd", 0x0010) ∷ []
 
--- The names of the flags that are set, with commas between them; this stands before the first, and where none is set
--- there is this text.
+-- The names of the flags that are set, with commas between them: the given text comes before the first, and is all that
+-- is printed where none is set.
 abbrev pub names_set : List ℕ → List ℕ → List (List ℕ × ℕ) → ℕ → List ℕ
 names_set front none [] bits = none
 names_set front none (row ∷ rest) bits =
@@ -92,7 +92,7 @@ names_set front none (row ∷ rest) bits =
 abbrev pub flags_display : ℕ → List ℕ
 flags_display bits = names_set [] (codes "-") flag_names bits
 
--- ---- messages; a name is told by the bytes that it takes where it stands, and data by its length
+-- ---- messages; a name is printed as the number of bytes that it takes in the message, and data as its length
 
 abbrev pub question_fields_display : QuestionValue → List ℕ
 question_fields_display question =
@@ -122,7 +122,7 @@ query_display query =
 
 -- ---- headers
 
--- how many questions and records a header tells
+-- the numbers of questions and records in a header
 pub record CountsValue : Type 0 where
   pub questions : ℕ
   pub answers : ℕ
@@ -137,7 +137,7 @@ pub record HeaderValue : Type 0 where
   pub outcome : Rcode
   pub counts : CountsValue
 
--- the content of what the library prints
+-- the content of the printed text of the library
 abbrev pub counts_value : Counts → CountsValue
 counts_value counts = record {
   questions = counts.questions;

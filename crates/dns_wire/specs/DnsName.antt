@@ -2,7 +2,7 @@
 -- of the name or a pointer to where it goes on. No code is followed here.
 --
 -- A part of a name stops with a mark. Where it goes on, the next part is found at the target in the message. A falling
--- path has targets that each lie below the one before, and each part after the first stands between its target and the
+-- path has targets that each lie below the one before, and each part after the first lies between its target and the
 -- target before it: so no byte of the message is in two of these windows, and the path ends.
 use Rattle.std.specs.Prelude.{◌≡◌, ℕ, ◌+◌, ◌*◌, ◌%◌, ◌<◌, ◌≤◌, ◌⊎◌, List, [], ◌∷◌, ◌++◌, length, drop, map, slice_range}
 use Rattle.std.specs.List.{AllByRecursion, flat_map}
@@ -44,7 +44,7 @@ pub record IsOnePart (text : List ℕ) : Type 0 where
   pub stops : IsMark mark stop
   pub whole : text ≡ flat_map written labels ++ mark
 
--- whole labels stand at the front of a text
+-- a text begins with whole labels
 pub record IsFront (text : List ℕ) (labels : List (List ℕ)) : Type 0 where
   pub rest : List ℕ
   pub each : AllByRecursion IsLabel labels

@@ -1,10 +1,9 @@
--- The answers of a name walk, as they are computed: what the model of the iterator is. `DnsNameWalk` says what they
--- are.
+-- The answers of a name walk as they are computed: the model of the iterator. `DnsNameWalk` states what they are.
 use Rattle.std.specs.Prelude.{ℕ, ◌+◌, ◌*◌, ◌%◌, ◌==◌, nat_lt, if◌then◌else◌, List, [], ◌∷◌, length}
 use Rattle.std.specs.Prelude.{take, drop, suc, zero}
 use Rattle.dns_wire.specs.DnsNameWalk.{Coming, label, at_end, at_fault}
 
--- what stands at the front of a text
+-- what a text begins with
 pub data Front : Type 0 where
   whole : List ℕ → List ℕ → Front
   pointer : ℕ → Front
@@ -24,7 +23,7 @@ front_of (x ∷ xs) =
     else if nat_lt x 192 then torn
     else pointer_at x xs
 
--- The answers where this stands at the front and these bytes of the message are open: go gives them after one step
+-- The answers where the text begins with this and these bytes of the message are open: go gives them after one step
 -- more.
 abbrev pub by_front : Front → ℕ → List ℕ → (ℕ → List ℕ → List ℕ → List Coming) → List Coming
 by_front (whole bytes rest) n reach go = record { answer = label bytes; steps = n + 1 } ∷ go (n + 1) rest reach

@@ -64,7 +64,7 @@ Gives (c ∷ cs) (bytes ∷ more) = (c.answer ≡ label bytes) × Gives cs more
 
 -- ---- what it gives
 
--- The labels of window i, where n labels stand before them: after the n-th label, in window i, there were n + i steps.
+-- The labels of window i, where n labels come before them: after the n-th label, in window i, there were n + i steps.
 abbrev pub in_window : ℕ → ℕ → List (List ℕ) → List Coming
 in_window i n [] = []
 in_window i n (bytes ∷ more) = record { answer = label bytes; steps = (n + 1) + i } ∷ in_window i (n + 1) more

@@ -29,7 +29,7 @@ with_inner view buffer = record view { buffer = buffer }
 abbrev pub view_octets : Packet (Bor (List ℕ)) → List ℕ
 view_octets view = (inner view).now
 
--- a field of the view is w, and all its other octets stay
+-- a field of the view is w, and all its other octets are unchanged
 abbrev pub Sets : {T : Type 0} → (T → List ℕ) → (T → List ℕ → T) → Packet T → Packet T → Field → List ℕ → Type 0
 Sets bytes set old new f w = Writes bytes set (inner old) (inner new) f w
 
@@ -73,7 +73,7 @@ opcode_in word = word / 2048 % 16
 abbrev pub rcode_in : ℕ → ℕ
 rcode_in word = word % 16
 
--- the word with other flags, or with another kind of query; all other bits stay
+-- the word with other flags, or with another kind of query; all other bits are unchanged
 abbrev pub with_flags : ℕ → ℕ → ℕ
 with_flags word bits = bit_or (without 16 word known_bits) bits
 

@@ -5,7 +5,7 @@ use Rattle.dns_wire.specs.declared.dns.part.Front.{Front as FrontOf}
 use Rattle.dns_wire.specs.declared.dns.part.Front.TheVariants.{Label, Pointer, End, Torn}
 use Rattle.dns_wire.specs.DnsNameAhead.{Front, whole, pointer, stop, torn}
 
--- what stands at the front of a text, without where it lies in memory
+-- what a text begins with, without its place in memory
 abbrev pub shown : FrontOf → Front
 shown (Label bytes rest) = whole bytes.now rest.now
 shown (Pointer target) = pointer target

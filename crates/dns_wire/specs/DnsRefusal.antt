@@ -1,5 +1,5 @@
--- Why octets are no question, no record, no data or no whole name: the check that fails first. A reason is told
--- exactly where the grammar has no value, and the reasons exclude one another.
+-- Why octets are not a question, a record, data or a whole name: the first check that fails. There is a reason exactly
+-- where the grammar has no value, and the reasons exclude one another.
 use Rattle.std.specs.Prelude.{◌≡◌, ◌≢◌, ℕ, ◌<◌, ◌≤◌, ◌⊎◌, List, [], ◌∷◌, ◌++◌, length, take, drop, codes, decimal}
 use Rattle.std.specs.List.{AllByRecursion, flat_map}
 use Rattle.wirebase.specs.Bytes.{Reaches, number_of}
@@ -19,8 +19,8 @@ use Rattle.dns_wire.specs.declared.dns.refusal.Refusal.TheVariants.{Name, Short,
 
 -- ---- names (RFC 1035 section 4.1.4)
 
--- At the front of these bytes stands neither a whole label nor a whole mark, for this reason. A whole pointer is a
--- mark, wherever it leads.
+-- These bytes begin neither with a whole label nor with a whole mark, for this reason. A whole pointer is a mark,
+-- wherever it leads.
 abbrev pub IsTorn : List ℕ → NameRefusal → Type 0
 IsTorn bytes NoEnd = bytes ≡ []
 IsTorn bytes LabelCut =
@@ -29,7 +29,7 @@ IsTorn bytes (LabelType n) = (behind : List ℕ) × (bytes ≡ n ∷ behind) × 
 IsTorn bytes PointerCut = (first : ℕ) × (bytes ≡ first ∷ []) × (192 ≤ first)
 IsTorn bytes (Pointer place) = ⊥
 
--- A text begins with no part of a name, for this reason: it stands after the whole labels at the front.
+-- A text begins with no part of a name, for this reason, which holds of the bytes after the whole labels at the front.
 pub record PartBreaks (text : List ℕ) (reason : NameRefusal) : Type 0 where
   pub labels : List (List ℕ)
   pub rest : List ℕ
@@ -37,8 +37,8 @@ pub record PartBreaks (text : List ℕ) (reason : NameRefusal) : Type 0 where
   pub whole : text ≡ flat_map written labels ++ rest
   pub torn : IsTorn rest reason
 
--- Here a name breaks, for this reason, where so many bytes of the message are open: a pointer leads to none of them,
--- or nothing whole stands here.
+-- Here a name breaks, for this reason, where so many bytes of the message are open: a pointer leads to none of them, or
+-- nothing whole begins here.
 abbrev pub BreaksHere : ℕ → List ℕ → NameRefusal → Type 0
 BreaksHere open_bytes bytes (Pointer place) =
     (mark : List ℕ) × (behind : List ℕ) × (bytes ≡ mark ++ behind) × IsMark mark (goes_on place)
@@ -46,7 +46,7 @@ BreaksHere open_bytes bytes (Pointer place) =
 BreaksHere open_bytes bytes reason = IsTorn bytes reason
 
 -- The name that begins in a text and may go on in a message breaks, for this reason: its longest falling path is not
--- complete, and the reason stands in the last window, after the whole labels at its front.
+-- complete, and the reason holds in the last window, after the whole labels at its front.
 pub record NameBreaks (text message : List ℕ) (reason : NameRefusal) : Type 0 where
   pub targets : List ℕ
   pub parts : List (List (List ℕ))

@@ -29,7 +29,7 @@ value_of repr = record {
   asks = question.value_of repr.question;
 }
 
--- the word of flags: the kind of query stands above the lowest eleven bits
+-- the word of flags: the kind of query is above the lowest eleven bits
 abbrev pub flags_word : ℕ → Opcode → ℕ
 flags_word flags kind = flags + 2048 * opcode_number kind
 
@@ -47,14 +47,14 @@ text query = fields (query_fields query)
 abbrev pub text_len : QueryValue → ℕ
 text_len query = 12 + question.text_len query.asks
 
--- what a value has to be that is written: its flags have a name, and the kind of query fits four bits
+-- the requirements on a value that is written: its flags have a name, and the kind of query fits four bits
 pub record CanEmit (query : QueryValue) (old : List ℕ) : Type 0 where
   pub known : IsKnown query.flags
   pub four_bits : opcode_number query.kind < 16
   pub room : text_len query ≤ length old
 
--- The grammar: a header of one question and no record, and then the question alone. The outcome and the bit that has
--- no name are not looked at.
+-- The grammar: a header of one question and no record, and then the question alone. The outcome and the bit that has no
+-- name are not checked.
 pub record IsQuery (bytes : List ℕ) (query : QueryValue) : Type 0 where
   pub whole : Reaches header bytes
   pub id : query.transaction_id ≡ number_of id_field bytes
@@ -87,8 +87,8 @@ format = record {
   IsCut = λ query. ⊥;
 }
 
--- What writing leaves where `old` stood: the text of the query over the front. Where there is just the text's length,
--- it is all that is left.
+-- What writing over `old` leaves: the text of the query over the front. Where there is just the text's length, it is
+-- all that is left.
 pub record Emits (query : QueryValue) (old new : List ℕ) : Type 0 where
   pub text_ : new ≡ over old (text query)
   pub exact : length old ≡ text_len query → new ≡ text query

@@ -1,5 +1,5 @@
--- Octets that are no message of ICMPv4: an echo that is not read has another code than 0, and an error that is not read
--- has no whole quote, for octets that pass all checks are a message.
+-- Octets that are not a message of ICMPv4: an echo that is not read has a code other than 0, and an error that is not
+-- read has no whole quote, for octets that pass all checks are a message.
 use Rattle.std.proofs.Common.{◌≡◌, ◌≢◌, inl, inr, ℕ, ◌≤◌, List, ◌∷◌, [], length, take, drop, refl, arith}
 use Rattle.std.proofs.lemmas.List.{length-drop}
 use Rattle.wirebase.specs.declared.capabilities.ChecksumCapabilities.{ChecksumCapabilities}

@@ -1,4 +1,4 @@
--- Octets that are no message of IGMP: those of a type that is read have a group that no message may be about.
+-- Octets that are not a message of IGMP: those of a type that is read have a group that no message may have.
 use Rattle.std.proofs.Common.{◌≡◌, inl, inr, ℕ, List, refl}
 use Rattle.wirebase.specs.Bytes.{byte_of}
 use Rattle.wirebase.specs.declared.ipv4.Ipv4Address.{Ipv4Address}

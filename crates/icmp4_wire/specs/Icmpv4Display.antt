@@ -1,4 +1,4 @@
--- What messages of ICMPv4 and their parts print.
+-- The printed texts of messages of ICMPv4 and their parts.
 use Rattle.std.specs.Prelude.{ℕ, List, [], ◌∷◌, codes, decimal, length, nat_lt, if◌then◌else◌}
 use Rattle.wirebase.specs.Bytes.{byte_of}
 use Rattle.wirebase.specs.Display.{pieces}

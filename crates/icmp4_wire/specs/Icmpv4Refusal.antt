@@ -1,4 +1,4 @@
--- Why octets are no message of ICMPv4 (RFC 792): the check that fails first, where each row says that all the checks
+-- Why octets are not a message of ICMPv4 (RFC 792): the first check that fails, where each row says that all the checks
 -- before its own hold.
 use Rattle.std.specs.Prelude.{◌≡◌, ◌≢◌, ℕ, ◌+◌, ◌≤◌, ◌<◌, ◌⊎◌, true, List, [], ◌∷◌, length, codes, decimal}
 use Rattle.wirebase.specs.declared.capabilities.ChecksumCapabilities.{ChecksumCapabilities}
@@ -70,7 +70,7 @@ Refuses capabilities bytes QuotedLength = RefusesError capabilities bytes Quoted
 Refuses capabilities bytes QuoteCut = RefusesError capabilities bytes QuoteCut
 Refuses capabilities bytes QuotedData = RefusesError capabilities bytes QuotedData
 
--- what a reason prints
+-- the printed text of a reason
 abbrev pub refusal_display : Refusal → List ℕ
 refusal_display Short = codes "fewer than 8 bytes"
 refusal_display refusal.Checksum = codes "the checksum does not hold"

@@ -1,4 +1,4 @@
--- What messages of IGMP and their parts print.
+-- The printed texts of messages of IGMP and their parts.
 use Rattle.std.specs.Prelude.{ℕ, List, [], ◌∷◌, codes, decimal}
 use Rattle.wirebase.specs.Display.{pieces}
 use Rattle.wirebase.specs.Duration.{duration_text}

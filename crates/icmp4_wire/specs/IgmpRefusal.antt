@@ -1,5 +1,5 @@
--- Why octets are no message of IGMP (RFC 2236 section 2): the check that fails first, where each row says that all the
--- checks before its own hold.
+-- Why octets are not a message of IGMP (RFC 2236 section 2): the first check that fails, where each row says that all
+-- the checks before its own hold.
 use Rattle.std.specs.Prelude.{◌≡◌, ℕ, ◌<◌, ◌⊎◌, List, [], ◌∷◌, length, codes, decimal}
 use Rattle.wirebase.specs.Bytes.{Reaches, byte_of, bytes_of}
 use Rattle.wirebase.specs.Display.{pieces}
@@ -28,7 +28,7 @@ Refuses bytes (UnknownType t) = Reaches group_field bytes × (t ≡ byte_of type
 Refuses bytes (Group group) =
     HasGroup bytes group × IsMessageType (byte_of type_field bytes) × (IsGroup group → ⊥)
 
--- what a reason prints
+-- the printed text of a reason
 abbrev pub refusal_display : Refusal → List ℕ
 refusal_display Short = codes "fewer than 8 bytes"
 refusal_display (UnknownType t) = pieces (codes "type " ∷ decimal t ∷ codes " is not read" ∷ [])

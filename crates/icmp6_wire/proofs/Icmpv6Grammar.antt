@@ -1,4 +1,4 @@
--- The grammar of ICMPv6 messages: the bytes are one message at the most, by the type that stands in front.
+-- The grammar of ICMPv6 messages: the bytes are one message at the most, by the type at their front.
 use Rattle.std.proofs.Common.{◌≡◌, ℕ, ◌≤◌, true, List, length, refl, sym, ap, ◌∙◌, arith}
 use Rattle.wirebase.specs.declared.capabilities.ChecksumCapabilities.{ChecksumCapabilities}
 use Rattle.wirebase.specs.declared.ipv6.address.Ipv6Address.{Ipv6Address}
@@ -18,8 +18,8 @@ use Rattle.icmp6_wire.specs.Ndisc.{redirect}
 use Rattle.icmp6_wire.proofs.MldTexts.{message-one}
 use Rattle.icmp6_wire.proofs.NdiscFormat.{message-one as neighbor-one}
 
--- Which kind of message a type stands for, and which a value is; a query and a report for listeners are one kind, and
--- so are the messages of neighbor discovery.
+-- The kind of message of a type, and that of a value; a query and a report for listeners are one kind, and so are the
+-- messages of neighbor discovery.
 abbrev kind_of : Message → ℕ
 kind_of message.DstUnreachable = 1
 kind_of message.PktTooBig = 2

@@ -1,4 +1,4 @@
--- A list of records that count nothing after their fields is written as just these records.
+-- A list of records that count nothing after their fields is written as exactly these records.
 use Rattle.std.proofs.Common.{◌≡◌, ◌≤◌, List, ℕ, [], ◌∷◌, ◌++◌, length, map, Ok, refl, sym, ◌∙◌, arith}
 use Rattle.std.proofs.lemmas.List.{append_assoc}
 use Rattle.std.specs.List.{AllByRecursion}

@@ -96,7 +96,7 @@ records_of zero bytes = ends
 records_of (suc n) bytes =
     records_step n bytes (λ rest. records_of n rest) (nat_le (record_len_in bytes) (length bytes)) refl
 
--- a record that stands at the front has the bytes that are counted there
+-- a record at the front of the bytes has as many bytes as are counted there
 whole_front : (bytes front rest : List ℕ) → length front ≡ record_len_in front → bytes ≡ front ++ rest
     → length front ≡ record_len_in bytes
 whole_front bytes front rest l e =

@@ -129,7 +129,7 @@ record_format = record {
 pub record_same_text : (a b : RecordValue) → SameText format a b
 record_same_text a b = same_text format record_format tt a b
 
--- what a parser owes of a record, where its address is multicast: it is canonical whatever stands after its fields
+-- what a parser promises of a record, where its address is multicast: it is canonical, whatever follows its fields
 pub record_rewrites : (bytes : List ℕ) (v : RecordValue) → IsBytes bytes → IsRecord bytes v → IsMulticast (group_of v)
     → Rewrites format v
 record_rewrites bytes v are is group =

@@ -1,4 +1,4 @@
--- What shifts and masks make of the code of the longest time to answer a query in.
+-- What shifts and masks make of the code of the maximum response time of a query.
 use Rattle.std.proofs.Common.{◌≡◌, ℕ, ◌+◌, ◌*◌, ◌/◌, ◌%◌, ◌^◌, ◌<◌, ◌≤◌, true, false, nat_lt, bit_and, bit_or, lit<}
 use Rattle.std.proofs.Common.{refl, arith}
 use Rattle.std.proofs.lemmas.Nat.{and_mask, or_shifted, mul-le}

@@ -45,7 +45,7 @@ tiled bytes (one_more block rest b w e) none =
     tiled rest w (λ options more. none options (skips block rest b
     (λ v reads. none (v ∷ options) (goes_on block rest v b reads more e)) more e))
 
--- so where the payload has no tiling, something stands after them
+-- so where the payload has no tiling, some bytes follow them
 pub some_behind : (bytes : List ℕ) (place : ℕ) (rest : List ℕ) → AreWholeUpTo bytes place rest
     → ((options : List OptionValue) → AreBlocks (payload_in bytes) options → ⊥) → 1 ≤ length rest
 some_behind bytes place [] a none =

@@ -1,4 +1,4 @@
--- The tiling of a payload by blocks: what stands at its front, and that there is one only.
+-- The tiling of a payload by blocks: what it begins with, and that there is one only.
 use Rattle.std.proofs.Common.{◌≡◌, ℕ, ◌*◌, List, [], ◌∷◌, ◌++◌, length, take, drop, refl}
 use Rattle.std.proofs.Common.{sym, ap, subst, ◌∙◌, arith, length-append}
 use Rattle.std.specs.Prelude.{Option, None}

@@ -1,5 +1,5 @@
--- ICMPv6 messages (RFC 4443), whose header and echoes are those of ICMP in wirebase. The word after the checksum is, of
--- an error, zero, the largest packet or the pointer; after the header stands the IPv6 header that an error is about,
+-- ICMPv6 messages (RFC 4443), whose header and echoes are those of ICMP in wirebase. The word after the checksum of an
+-- error is zero, the largest packet or the pointer; the header is followed by the IPv6 header that the error is about,
 -- and the data after that.
 use Rattle.std.specs.Prelude.{◌≡◌, ◌≢◌, ℕ, ◌+◌, ◌≤◌, ◌<◌, ◌^◌, min, true, List, [], ◌∷◌, length, drop, take}
 use Rattle.wirebase.specs.declared.capabilities.ChecksumCapabilities.{ChecksumCapabilities}
@@ -118,9 +118,9 @@ packet_text capabilities source destination v = seal capabilities source destina
 abbrev pub emitted : ChecksumCapabilities → Ipv6Address → Ipv6Address → MessageValue → List ℕ → List ℕ
 emitted capabilities source destination v old = seal capabilities source destination (over old (text v))
 
--- What is asked of a message and of the octets that it is written into: of an echo that its header has room, of an
--- error that all of it has, and that the quoted header can tell its payload's length; of a message of multicast
--- listener discovery or of neighbor discovery what it asks alone.
+-- The requirements on a message and on the octets that it is written into: for an echo there is room for its header;
+-- for an error there is room for all of it, and the quoted header can count its payload; for a message of multicast
+-- listener discovery or of neighbor discovery, its own requirements.
 abbrev pub CanEmitError : Ipv6Repr → List ℕ → List ℕ → Type 0
 CanEmitError quoted d bytes = (error_len d ≤ length bytes) × (quoted.payload_len ≤ 65535)
 
@@ -136,7 +136,7 @@ CanEmit (mld m) bytes = listeners.CanEmit m bytes
 
 -- ---- the grammar
 
--- An error of this type: it quotes a whole header, whose version and length are not looked at; the data is all that
+-- An error of this type: it quotes a whole header, whose version and length are not checked; the data is all that
 -- follows it.
 pub record IsError (t : ℕ) (bytes : List ℕ) (quoted : Ipv6Repr) (d : List ℕ) : Type 0 where
   pub kind : byte_of type_field bytes ≡ t

@@ -1,4 +1,4 @@
--- What ICMPv6 messages print.
+-- The printed texts of ICMPv6 messages.
 use Rattle.std.specs.Prelude.{ℕ, List, [], ◌∷◌, codes, decimal, length}
 use Rattle.wirebase.specs.Display.{pieces}
 use Rattle.icmp6_wire.specs.Icmpv6.{MessageValue, unreachable, too_big, time_exceeded, param_problem, echo_request}

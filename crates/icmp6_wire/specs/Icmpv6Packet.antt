@@ -22,7 +22,7 @@ with_inner view buffer = record view { buffer = buffer }
 abbrev pub view_octets : Packet (Bor (List ℕ)) → List ℕ
 view_octets view = (inner view).now
 
--- a field of the view is w, and all its other octets stay
+-- a field of the view is w, and all its other octets are unchanged
 abbrev pub Sets : {T : Type 0} → (T → List ℕ) → (T → List ℕ → T) → Packet T → Packet T → Field → List ℕ → Type 0
 Sets bytes set old new f w = Writes bytes set (inner old) (inner new) f w
 

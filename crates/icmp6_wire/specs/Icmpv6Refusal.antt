@@ -1,4 +1,4 @@
--- Why bytes are no ICMPv6 message: the check that fails first.
+-- Why bytes are not an ICMPv6 message: the first check that fails.
 use Rattle.std.specs.Prelude.{◌≡◌, ◌≢◌, ℕ, ◌≤◌, ◌<◌, ◌⊎◌, true, false, List, length}
 use Rattle.wirebase.specs.declared.capabilities.ChecksumCapabilities.{ChecksumCapabilities}
 use Rattle.wirebase.specs.declared.ipv6.address.Ipv6Address.{Ipv6Address}
@@ -18,7 +18,7 @@ abbrev pub IsRead : ChecksumCapabilities → Ipv6Address → Ipv6Address → Lis
 IsRead capabilities source destination bytes =
     (value : MessageValue) × IsMessage capabilities source destination bytes value
 
--- the same, whatever their checksum, of bytes that begin with the header of their type
+-- bytes that begin with the header of their type are some message, whatever their checksum
 abbrev pub HasContent : List ℕ → Type 0
 HasContent bytes = (value : MessageValue) × IsContent bytes value
 
@@ -28,8 +28,8 @@ pub record Passes (capabilities : ChecksumCapabilities) (source destination : Ip
   pub whole : BeginsWhole bytes
   pub good : is_verified capabilities.icmpv6 ≡ true → IsGood bytes (message_sum source destination (length bytes))
 
--- What is refused of such bytes. An error quotes fewer bytes than a header has; or the code is not 0, in an error of a
--- packet that is too big, or in no error (RFC 4443 section 2.1).
+-- Why such bytes are refused: an error quotes fewer bytes than a header has; or the code is not 0, in an error of a
+-- packet that is too big, or in a message that is no error (RFC 4443 section 2.1).
 pub record IsCutError (bytes : List ℕ) : Type 0 where
   pub error : byte_of type_field bytes < 128
   pub cut : length bytes < 48

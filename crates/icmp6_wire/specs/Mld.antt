@@ -76,9 +76,9 @@ told_len v = text_len v
 abbrev pub AreGroups : List RecordValue → Type 0
 AreGroups rs = AllByRecursion (λ r. IsMulticast (group_of r)) rs
 
--- What is asked of a message and of the octets that it is written into: they are just its length, and of a list of
--- records its length or more; a query's robustness variable has three bits; records are of groups, and their number has
--- two bytes.
+-- The requirements on a message and on the octets that it is written into: the octets are exactly its length, or for a
+-- list of records its length or more; a query's robustness variable has three bits; records are of groups, and their
+-- number fits two bytes.
 abbrev pub CanEmit : MldValue → List ℕ → Type 0
 CanEmit (query code group flag qrv qqic sources d) bytes = (length bytes ≡ 28 + length d) × (qrv < 8)
 CanEmit (report count d) bytes = length bytes ≡ 8 + length d

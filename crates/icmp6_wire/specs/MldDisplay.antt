@@ -1,4 +1,4 @@
--- What messages of multicast listener discovery and their parts print.
+-- The printed texts of messages of multicast listener discovery and their parts.
 use Rattle.std.specs.Prelude.{ℕ, Bool, List, [], ◌∷◌, ◌++◌, codes, decimal, flat_map, length}
 use Rattle.std.specs.Prelude.{if◌then◌else◌}
 use Rattle.wirebase.specs.Display.{pieces}

@@ -20,7 +20,7 @@ abbrev pub Answer : Type 0
 Answer = Result (List ℕ) RecordRefusal
 
 -- So many records one after another, whatever follows them; or those before a place where the bytes end before a record
--- does, which is answered by one refusal, with the check that fails first.
+-- does, which is answered by one refusal, with the first check that fails.
 pub data AreRecords : ℕ → List ℕ → List Answer → Type 0 where
   ends : {bytes : List ℕ} → AreRecords 0 bytes []
   goes_on : {n : ℕ} {bytes : List ℕ} {answers : List Answer} (front rest : List ℕ)
@@ -56,8 +56,8 @@ records_ahead (suc n) bytes =
 abbrev pub IsBare : RecordValue → Type 0
 IsBare (address_record kind words sources group rest) = (words ≡ 0) × (sources ≡ 0)
 
--- A list of such records is written as just these records. One that counts what follows its fields is written without
--- it, so that a reader takes the record after it for that, or finds the record cut.
+-- A list of such records is written as exactly these records. A record that counts bytes after its fields is written
+-- without them, so that a reader takes the record after it for these bytes, or finds the record cut.
 abbrev pub AreGiven : MldValue → List ℕ → Type 0
 AreGiven (records rs) bytes =
     AllByRecursion IsBare rs → AreRecords (length rs) (drop 8 bytes) (map (λ r. Ok (record_text r)) rs)

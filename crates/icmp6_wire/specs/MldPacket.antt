@@ -30,9 +30,9 @@ use Rattle.icmp6_wire.specs.Icmpv6Packet.{sqrv_field}
 abbrev pub max_resp_code_field : Field
 max_resp_code_field = field 4 6
 
--- the milliseconds that a maximum response code below 65,536 stands for: below 32,768 as many as the code counts; from
--- there on its last twelve bits, with a one before them, are the mantissa of such a count, and its three bits above
--- those, plus 3, are the exponent (RFC 3810 section 5.1.3)
+-- the milliseconds of a maximum response code below 65,536: below 32,768 as many as the code counts; from there on its
+-- last twelve bits, with a one before them, are the mantissa of such a count, and its three bits above those, plus 3,
+-- are the exponent (RFC 3810 section 5.1.3)
 unfoldable pub resp_millis : ℕ → ℕ
 resp_millis code = if nat_lt code 32768 then code else (4096 + code % 4096) * 2 ^ (code / 4096 % 8 + 3)
 

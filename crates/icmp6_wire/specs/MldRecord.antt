@@ -33,7 +33,7 @@ with_inner view buffer = record view { buffer = buffer }
 abbrev pub view_octets : AddressRecord (Bor (List ℕ)) → List ℕ
 view_octets view = (inner view).now
 
--- a field of the view is w, and all its other octets stay
+-- a field of the view is w, and all its other octets are unchanged
 abbrev pub Sets : {T : Type 0} → (T → List ℕ) → (T → List ℕ → T) → AddressRecord T → AddressRecord T → Field → List ℕ
     → Type 0
 Sets bytes set old new f w = Writes bytes set (inner old) (inner new) f w
@@ -106,7 +106,7 @@ IsCanonical (address_record kind words sources group rest) =
 abbrev pub norm : RecordValue → RecordValue
 norm (address_record kind words sources group rest) = address_record kind words sources group []
 
--- something stands after the fields
+-- there are bytes after the fields
 abbrev pub IsCut : RecordValue → Type 0
 IsCut (address_record kind words sources group rest) = 0 < length rest
 

@@ -1,4 +1,4 @@
--- Why bytes are no message of multicast listener discovery, and no record of a report: the check that fails first.
+-- Why bytes are not a message of multicast listener discovery, or not a record of a report: the first check that fails.
 use Rattle.std.specs.Prelude.{◌≡◌, ℕ, ◌≤◌, ◌<◌, true, false, List, length}
 use Rattle.wirebase.specs.Bytes.{byte_of}
 use Rattle.wirebase.specs.Icmp.{type_field}

@@ -137,7 +137,7 @@ HaveTimes (router_advert hops flags lifetime reachable retrans l m p) =
     (seconds_of lifetime ≤ 65535) × (millis_of reachable ≤ 4294967295) × (millis_of retrans ≤ 4294967295)
 HaveTimes v = Unit {0}
 
--- what is asked of a value that is written: times that fit, and options that can be written
+-- the requirements on a value that is written: times that fit, and options that can be written
 abbrev pub CanEmit : NdiscValue → Type 0
 CanEmit v = HaveTimes v × Each option.CanEmit (options_of v)
 
@@ -172,8 +172,8 @@ IsContent bytes options (redirect t d l r) =
     × (l ≡ last_of target_in options)
     × (r ≡ last_of redirected_in options)
 
--- The grammar: the header of the type is there, what follows it is blocks, and the message is this one. Neither code
--- nor checksum is looked at.
+-- The grammar: the header of the type is there, what follows it is blocks, and the message is this one. Code and
+-- checksum are not checked.
 pub record IsMessage (bytes : List ℕ) (v : NdiscValue) : Type 0 where
   pub options : List OptionValue
   pub whole : BeginsWhole bytes

@@ -1,4 +1,4 @@
--- What messages of neighbor discovery print.
+-- The printed texts of messages of neighbor discovery.
 use Rattle.std.specs.Prelude.{ℕ, List, [], ◌∷◌, codes, decimal, Option, None, Some}
 use Rattle.wirebase.specs.Display.{pieces}
 use Rattle.wirebase.specs.Duration.{duration_text}
@@ -16,7 +16,7 @@ use Rattle.icmp6_wire.specs.NdiscTables.{router_bits, neighbor_bits, router_flag
 use Rattle.icmp6_wire.specs.declared.ndisc.refusal.Refusal.{Refusal}
 use Rattle.icmp6_wire.specs.declared.ndisc.refusal.Refusal.TheVariants as refusal
 
--- what a field prints that is there or not: nothing where it is not
+-- the printed text of an optional field: nothing where it is absent
 unfoldable pub lladdr_display : Option (List ℕ) → List ℕ
 lladdr_display None = []
 lladdr_display (Some address) = pieces (codes " lladdr=" ∷ hex_colons address ∷ [])

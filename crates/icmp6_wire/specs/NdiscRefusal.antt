@@ -1,4 +1,4 @@
--- Why bytes are no message of neighbor discovery: the check that fails first.
+-- Why bytes are not a message of neighbor discovery: the first check that fails.
 use Rattle.std.specs.Prelude.{◌≡◌, ℕ, ◌+◌, ◌*◌, ◌≤◌, ◌<◌, ◌⊎◌, true, false, List, [], ◌++◌, length}
 use Rattle.wirebase.specs.Bytes.{byte_of}
 use Rattle.wirebase.specs.Icmp.{type_field}
@@ -21,8 +21,8 @@ pub data AreWhole : List ℕ → Type 0 where
   one_more : {bytes : List ℕ} (block rest : List ℕ) → IsBlock block → AreWhole rest → bytes ≡ block ++ rest
       → AreWhole bytes
 
--- The bytes begin with a whole header of a message of neighbor discovery. After it stand whole options up to this
--- place, counted from the front of the message, and then these bytes.
+-- The bytes begin with a whole header of a message of neighbor discovery. Whole options follow it up to this place,
+-- counted from the front of the message, and then these bytes.
 pub record AreWholeUpTo (bytes : List ℕ) (place : ℕ) (rest : List ℕ) : Type 0 where
   pub begins : BeginsWhole bytes
   pub neighbor : is_ndisc (message_in bytes) ≡ true
@@ -53,8 +53,8 @@ pub record IsTooShort (rest : List ℕ) (kind units : ℕ) : Type 0 where
   pub few : ((kind ≡ 3) × (units < 4)) ⊎ ((kind ≡ 4) × (units < 6))
 
 -- The checks in their order: there are the 8 bytes of every header; the type is one of neighbor discovery; there are
--- the bytes of the header of that type; and after it stand whole options, of which the first that is none is told by
--- its type and its place, counted from the front of the message.
+-- the bytes of the header of that type; and whole options follow it. The first that is not whole is given by its type
+-- and its place, counted from the front of the message.
 abbrev pub Refuses : List ℕ → Refusal → Type 0
 Refuses bytes refusal.Short = length bytes < 8
 Refuses bytes (refusal.UnknownType t) =

@@ -25,7 +25,8 @@ router_flags_text bits =
     else if bit_and bits 0x40 == 0 then codes "managed"
     else codes "managed,other"
 
--- the same of a neighbor advertisement, of one that does not come from a router and of one that does
+-- the printed text of the flags of a neighbor advertisement, of one that does not come from a router and of one that
+-- does
 abbrev pub of_no_router : ℕ → List ℕ
 of_no_router bits =
     if bit_and bits 0x40 == 0 then if bit_and bits 0x20 == 0 then codes "-" else codes "override"

@@ -1,4 +1,4 @@
--- Fields that are written at once have the bytes of these fields, one after another.
+-- Fields that are written in one call have the bytes of these fields, one after another.
 use Rattle.std.proofs.Common.{◌≡◌, ℕ, zero, suc, ◌+◌, List, [], ◌∷◌, ◌++◌, length, drop, refl, sym, ap, ◌∙◌, arith}
 use Rattle.std.proofs.Common.{slice_index}
 use Rattle.std.proofs.lemmas.List.{drop_more, drop_all}
@@ -6,7 +6,7 @@ use Rattle.std.specs.Int.{w16, w32, to_be_bytes}
 use Rattle.wirebase.specs.ByteWriter.{Sheet, Writer, sheet, put, put_all, Puts, be8, be16, be32, fields}
 use Rattle.wirebase.proofs.Chains.{put-append, put-fields}
 
--- ---- a number behind other bytes
+-- ---- a number after other bytes
 
 pub put-two : (s : Sheet) (m n : ℕ) → put (put s (be8 m)) (be8 n) ≡ put s (m ∷ n ∷ [])
 unfolding be8

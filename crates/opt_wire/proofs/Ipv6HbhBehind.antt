@@ -11,7 +11,7 @@ use Rattle.opt_wire.proofs.Ipv6OptionTiles.{rest_after, tile_of, answers_of-noth
 use Rattle.opt_wire.proofs.Ipv6OptionTiles.{answers_of-broken}
 use Rattle.opt_wire.proofs.Ipv6HbhGrammar.{all, header-end, header-refused}
 
--- the answers where an option stands at the front
+-- the answers where the bytes begin with an option
 one_answer : (bytes rest : List ℕ) (b : option.IsBehind bytes rest) → answers_of bytes ≡ Ok b.1 ∷ answers_of rest
 one_answer bytes rest b =
     let is : BeginsWith bytes b.1 = record { front = b.0; rest = rest; whole = b.2; option = b.3 } in
@@ -42,13 +42,13 @@ before bytes count rest none = ([], refl, tile_of bytes)
 before bytes count rest (one_more {count = n} {middle = middle} a b) =
     before_next bytes n middle rest (before bytes n middle a) b
 
--- one more stands before the next place
+-- there is one more option before the next place
 pub next_place : (bytes : List ℕ) (count : ℕ) (middle rest : List ℕ) → AreBehind bytes count middle
     → option.IsBehind middle rest → AreBehind bytes (count + 1) rest
 next_place bytes count middle rest a b =
     subst (λ (n : ℕ). AreBehind bytes n rest) (sym (add-one count)) (one_more a b)
 
--- up to the end all are options
+-- all bytes up to the end are options
 pub read-end : (most : ℕ) (bytes : List ℕ) (count : ℕ) (rest : List ℕ) → AreBehind bytes count rest → bytes ≢ []
     → length rest ≡ 0 → count ≤ most → IsRead most bytes
 read-end most bytes count [] a some e l =
@@ -75,7 +75,7 @@ read-full most bytes count rest a some full =
       },
     )
 
--- after no more than are kept stands none
+-- after at most as many options as are kept, the bytes begin with no option
 pub read-broken : (most : ℕ) (bytes : List ℕ) (count : ℕ) (rest : List ℕ) → AreBehind bytes count rest
     → count ≤ most → rest ≢ [] → (option.IsRead rest → ⊥) → IsRead most bytes → ⊥
 read-broken most bytes count rest a l some none_ read =

@@ -56,7 +56,7 @@ canonical-norm most options c = record {
   each = canonical_options options c.each;
 }
 
--- ---- what was read: each of the options that are kept stands in the tiling, and there is one at least
+-- ---- what was read: each of the options that are kept is in the tiling, and there is one at least
 
 each_read : (P : OptionValue → Type 0) → ((w : List ℕ) (v : OptionValue) → IsBytes w → option.IsOption w v → P v)
     → (n : ℕ) (bytes : List ℕ) (answers : List Answer) (read : List OptionValue) → IsBytes bytes → Tile bytes answers

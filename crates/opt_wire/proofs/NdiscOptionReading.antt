@@ -258,7 +258,7 @@ option_read (redirected h d) rest c = rw (redirected_text h d) (redirected_read 
 option_read (mtu n) rest c = rw (mtu_text n) (mtu_read n rest c)
 option_read (unknown t n d) rest c = rw (unknown_text t n d) (unknown_read t n d rest c.0 c.2 c.4)
 
--- the same where the text was written over the front of something
+-- where the text was written over the front of other bytes
 pub option_over : (old : List ℕ) (v : OptionValue) → length (text v) ≤ length old → IsCanonical v
     → BeginsWith (over old (text v)) (norm v)
 option_over old v room c = rw (over-fits old (text v) room) (option_read v (drop (length (text v)) old) c)

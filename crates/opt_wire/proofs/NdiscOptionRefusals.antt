@@ -1,4 +1,4 @@
--- What stands in bytes that begin with units enough, and what is none of it.
+-- Bytes that begin with enough units: what is read in them, and what is no option.
 use Rattle.std.proofs.Common.{◌≡◌, ◌≢◌, ℕ, ◌+◌, ◌*◌, ◌<◌, ◌≤◌, Bool, true, false, eqb, List, length, ◌⊎◌, inl, inr}
 use Rattle.std.proofs.Common.{refl, sym, ap, subst, ◌∙◌, arith}
 use Rattle.std.proofs.lemmas.Bool.{eqb-true, eqb-false}
@@ -31,7 +31,7 @@ pub number-type : (bytes : List ℕ) (k : Kind.Type) → type_of (byte_of type_f
 number-type bytes k is =
     sym (number-case_in type_number kind.Unknown (λ n. refl) types (byte_of type_field bytes)) ∙ ap type_number is
 
--- units enough are a block
+-- enough units are a block
 pub block : (bytes : List ℕ) → HasUnits bytes → (byte_of type_field bytes ≡ 3 → 4 ≤ units_in bytes)
     → (byte_of type_field bytes ≡ 4 → 6 ≤ units_in bytes) → BeginsWithBlock bytes
 block bytes u p r =
@@ -173,7 +173,7 @@ unnamed-read bytes t u is one two three four five = (
   },
 )
 
--- units enough that are not read, and no redirected packet, do not fit their type
+-- enough units that are not read, and are no redirected packet, do not fit their type
 pub misfit : (bytes : List ℕ) → HasUnits bytes → (IsRead bytes → ⊥)
     → (byte_of type_field bytes ≡ 4 → units_in bytes < 6) → Misfits bytes
 misfit bytes u none few =

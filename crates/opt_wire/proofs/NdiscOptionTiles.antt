@@ -22,7 +22,7 @@ use Rattle.opt_wire.specs.declared.ndiscoption.tables.Type as Kind
 use Rattle.opt_wire.specs.declared.ndiscoption.tables.Type.TheVariants as kind
 use Rattle.opt_wire.proofs.NdiscOptionRefusals.{tested, block, packet-block, misfit}
 
--- ---- whether a block stands at the front
+-- ---- whether the bytes begin with a block
 
 record Both (a b : Bool) : Type 0 where
   one : a ≡ true
@@ -69,7 +69,7 @@ begins-block bytes b =
       le-leb (8 * n) (length bytes) (omega (arith, b.whole.counted)),
     ) refl
 
--- ---- why none does
+-- ---- why they don't
 
 -- a redirected packet that is no block has too few units
 few_units : (bytes : List ℕ) → HasUnits bytes → (BeginsWithBlock bytes → ⊥) → byte_of type_field bytes ≡ 4
@@ -101,7 +101,7 @@ told_by bytes none true true true f s w =
     } in
     (units, refl, misfit bytes units (λ read. none read.1.block) (few_units bytes units none))
 
--- the reason that is computed is told of the bytes
+-- the reason that is computed holds of the bytes
 pub reason-told : (bytes : List ℕ) → (BeginsWithBlock bytes → ⊥) → Refuses bytes (reason_of bytes)
 reason-told bytes none = told_by bytes none _ _ _ refl refl refl
 
@@ -113,7 +113,7 @@ misfit_type bytes kind.RedirectedHeader n m = ap type_of m.0
 misfit_type bytes kind.Mtu n m = ap type_of m.0
 misfit_type bytes (kind.Unknown t) n m = absurd m
 
--- and no other is
+-- and no other does
 reason-one : (bytes : List ℕ) (refusal : Refusal) → (BeginsWithBlock bytes → ⊥) → Refuses bytes refusal
     → reason_of bytes ≡ refusal
 reason-one bytes Short none h = rw (lt-leb 8 (length bytes) h) refl

@@ -24,7 +24,7 @@ with_inner view buffer = record view { buffer = buffer }
 abbrev pub view_octets : Header (Bor (List ℕ)) → List ℕ
 view_octets view = (inner view).now
 
--- a field of the view is w, and all its other octets stay
+-- a field of the view is w, and all its other octets are unchanged
 abbrev pub Sets : {T : Type 0} → (T → List ℕ) → (T → List ℕ → T) → Header T → Header T → Field → List ℕ → Type 0
 Sets bytes set old new f w = Writes bytes set (inner old) (inner new) f w
 
@@ -32,7 +32,7 @@ Sets bytes set old new f w = Writes bytes set (inner old) (inner new) f w
 abbrev pub KeepsLen : {T : Type 0} → (T → List ℕ) → Header T → Header T → Type 0
 KeepsLen bytes old new = length (bytes (inner new)) ≡ length (bytes (inner old))
 
--- the fields; the length counts eight bytes each, without the first eight
+-- the fields; the length counts units of eight bytes, without the first eight bytes
 abbrev pub next_header_field : Field
 next_header_field = field 0 1
 
@@ -72,7 +72,7 @@ header_fields header = be8 (protocol_number header.next_header) ∷ be8 header.c
 abbrev pub text : HeaderValue → List ℕ
 text header = fields (header_fields header)
 
--- What writing leaves where `old` stood.
+-- What writing over `old` leaves.
 pub record Emits (header : HeaderValue) (old new : List ℕ) : Type 0 where
   pub text_ : new ≡ over old (text header)
   pub exact : length old ≡ 2 → new ≡ text header

@@ -1,4 +1,4 @@
--- Why bytes are no header, and what a header and that reason print.
+-- Why bytes are not a header, and the printed texts of a header and of that reason.
 use Rattle.std.specs.Prelude.{◌≡◌, ℕ, ◌≤◌, ◌<◌, List, [], ◌∷◌, length, codes, decimal}
 use Rattle.wirebase.specs.Display.{pieces}
 use Rattle.wirebase.specs.Ip.{protocol_number}
@@ -10,7 +10,7 @@ use Rattle.opt_wire.specs.declared.ipv6ext_header.refusal.Refusal.TheVariants.{S
 abbrev pub IsRead : List ℕ → Type 0
 IsRead bytes = (header : HeaderValue) × IsHeader bytes header
 
--- what is told of other bytes: they are fewer than the first eight, or end before the payload does
+-- why other bytes are refused: they are fewer than the first eight, or end before the payload does
 abbrev pub Refuses : List ℕ → Refusal → Type 0
 Refuses bytes Short = length bytes < 8
 Refuses bytes (Cut n) = (8 ≤ length bytes) × (length bytes < n) × (n ≡ header_end bytes)

@@ -1,4 +1,4 @@
--- A hop-by-hop header, from its options on (RFC 8200 section 4.3).
+-- A hop-by-hop header without its first two bytes (RFC 8200 section 4.3).
 use Rattle.std.specs.Prelude.{◌≡◌, ◌≢◌, ℕ, ◌+◌, ◌≤◌, List, [], length, map, take, sum_by, Ok}
 use Rattle.std.specs.Borrow.{Bor}
 use Rattle.std.specs.List.{AllByRecursion}
@@ -40,8 +40,8 @@ text_len options = sum_by option.text_len options
 abbrev pub HaveData : List OptionValue → Type 0
 HaveData options = AllByRecursion option.HasData options
 
--- The grammar where at most so many options are kept: there are bytes, and the options of their tiling are read up
--- to one more than are kept; so no refusal stands among these.
+-- The grammar where at most so many options are kept: there are bytes, and the options of their tiling are read up to
+-- one more than are kept; so there is no refusal among these.
 pub record IsHeader (most : ℕ) (bytes : List ℕ) (options : List OptionValue) : Type 0 where
   pub answers : List Answer
   pub read : List OptionValue
@@ -73,8 +73,8 @@ format most = record {
   IsCut = λ options. ⊥;
 }
 
--- What writing options over `old` leaves, and where at most so many are kept. Where there is just their length, their
--- text is all that is left, and canonical options are read back as their normal form.
+-- What writing options over `old` leaves, where at most so many are kept. Where there is just their length, their text
+-- is all that is left, and canonical options are read back as their normal form.
 pub record Emits (most : ℕ) (options : List OptionValue) (old new : List ℕ) : Type 0 where
   pub text_ : new ≡ over old (text options)
   pub exact : length old ≡ text_len options → new ≡ text options

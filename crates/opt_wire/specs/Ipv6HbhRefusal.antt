@@ -1,4 +1,4 @@
--- Why bytes are no options of a hop-by-hop header, and what such a header and that reason print.
+-- Why bytes are not the options of a hop-by-hop header, and the printed texts of such a header and of that reason.
 use Rattle.std.specs.Prelude.{◌≡◌, ◌≢◌, ℕ, suc, ◌≤◌, List, [], ◌∷◌, ◌++◌, length, flat_map, codes, decimal}
 use Rattle.wirebase.specs.Display.{pieces}
 use Rattle.opt_wire.specs.Ipv6Option.{OptionValue}
@@ -12,14 +12,14 @@ use Rattle.opt_wire.specs.declared.ipv6hbh.refusal.Refusal.TheVariants as refusa
 abbrev pub IsRead : ℕ → List ℕ → Type 0
 IsRead most bytes = (options : List OptionValue) × IsHeader most bytes options
 
--- after so many options, which stand at the front of the bytes one after another, stand these
+-- the bytes begin with so many options one after another, and these bytes follow
 pub data AreBehind (bytes : List ℕ) : ℕ → List ℕ → Type 0 where
   none : AreBehind bytes 0 bytes
   one_more : {count : ℕ} {middle rest : List ℕ} → AreBehind bytes count middle → option.IsBehind middle rest
       → AreBehind bytes (suc count) rest
 
--- what is told of other bytes: there are none, or after so many options, but no more than are kept, stands what is
--- none, and why
+-- why other bytes are refused: there are none; or after so many options, at most as many as are kept, the bytes begin
+-- with no option, for this reason
 abbrev pub Refuses : ℕ → List ℕ → Refusal → Type 0
 Refuses most bytes refusals.Empty = bytes ≡ []
 Refuses most bytes (refusals.Option index why) =

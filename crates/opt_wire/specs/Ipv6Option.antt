@@ -32,7 +32,7 @@ with_inner view buffer = record view { buffer = buffer }
 abbrev pub view_octets : Ipv6Option (Bor (List ℕ)) → List ℕ
 view_octets view = (inner view).now
 
--- a field of the view is w, and all its other octets stay
+-- a field of the view is w, and all its other octets are unchanged
 abbrev pub Sets : {T : Type 0} → (T → List ℕ) → (T → List ℕ → T) → Ipv6Option T → Ipv6Option T → Field → List ℕ → Type 0
 Sets bytes set old new f w = Writes bytes set (inner old) (inner new) f w
 
@@ -91,7 +91,7 @@ HasData (unknown k n d) = n ≤ length d
 HasData _ = Unit {0}
 
 -- The grammar (RFC 8200 section 4.2, RFC 2711 section 2.1): these bytes are one option of this value: a type, the
--- number of bytes of its data, and that data; a Pad1 is its type alone. What padding is filled with is not looked at.
+-- number of bytes of its data, and that data; a Pad1 is its type alone. The contents of padding are not checked.
 abbrev pub IsOption : List ℕ → OptionValue → Type 0
 IsOption w pad1 = w ≡ 0 ∷ []
 IsOption w (pad_n n) = (padding : List ℕ) × (w ≡ 1 ∷ n ∷ padding) × (length padding ≡ n)
@@ -100,7 +100,7 @@ IsOption w (router_alert a) =
 IsOption w (unknown k n d) =
     (t : ℕ) × (w ≡ t ∷ n ∷ d) × (length d ≡ n) × (k ≡ type_of t) × (t ≢ 0) × (t ≢ 1) × (t ≢ 5)
 
--- an option stands at the front of the bytes
+-- the bytes begin with an option
 pub record BeginsWith (bytes : List ℕ) (v : OptionValue) : Type 0 where
   pub front : List ℕ
   pub rest : List ℕ

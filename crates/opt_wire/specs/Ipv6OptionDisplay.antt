@@ -1,4 +1,4 @@
--- What options and their parts print.
+-- The printed texts of options and their parts.
 use Rattle.std.specs.Prelude.{ℕ, List, [], ◌∷◌, Option, None, Some, codes, decimal}
 use Rattle.wirebase.specs.Display.{pieces}
 use Rattle.opt_wire.specs.declared.ipv6option.tables.Type as Kind
@@ -18,14 +18,14 @@ type_display kind.RouterAlert = codes "RouterAlert"
 type_display kind.Rpl = codes "RPL"
 type_display (kind.Unknown n) = decimal n
 
--- what a router alert tells of
+-- the value of a router alert
 abbrev pub alert_text : RouterAlert → List ℕ
 alert_text alert.MulticastListenerDiscovery = codes "multicast listener discovery"
 alert_text alert.Rsvp = codes "RSVP"
 alert_text alert.ActiveNetworks = codes "active networks"
 alert_text (alert.Unknown n) = decimal n
 
--- the same as it stands in an option, by its name
+-- the value of a router alert as it is printed in an option, by its name
 abbrev pub alert_display : RouterAlert → List ℕ
 alert_display alert.MulticastListenerDiscovery = codes "MulticastListenerDiscovery"
 alert_display alert.Rsvp = codes "Rsvp"

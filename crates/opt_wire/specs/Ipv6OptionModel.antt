@@ -1,4 +1,4 @@
--- The answers of an iterator over options as they are computed, which its model needs. They are those of the tiling.
+-- The answers of an iterator over options as they are computed, for its model. They are those of the tiling.
 use Rattle.std.specs.Prelude.{ℕ, zero, suc, Bool, true, false, ◌==◌, nat_lt, if◌then◌else◌, List, [], ◌∷◌, length, take}
 use Rattle.std.specs.Prelude.{drop, Option, None, Some, Ok, Err}
 use Rattle.byteorder.specs.Endian.{big_number}
@@ -6,7 +6,7 @@ use Rattle.opt_wire.specs.Ipv6OptionTables.{type_of, alert_of}
 use Rattle.opt_wire.specs.Ipv6Option.{OptionValue, pad1, pad_n, router_alert, unknown, text_len}
 use Rattle.opt_wire.specs.Ipv6OptionAnswers.{Answer}
 
--- the option at the front of the bytes, where one stands there: of a router alert, of a type that is not 0, of bytes
+-- the option at the front of the bytes, where they begin with one: of a router alert, of a type that is not 0, of bytes
 -- after a type, and of all bytes
 abbrev pub alert_at : ℕ → List ℕ → Option OptionValue
 alert_at n d = if n == 2 then Some (router_alert (alert_of (big_number 2 d))) else None

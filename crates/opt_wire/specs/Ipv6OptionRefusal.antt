@@ -1,4 +1,4 @@
--- Why bytes begin with no option (RFC 8200 section 4.2, RFC 2711 section 2.1), and what that reason prints.
+-- Why bytes begin with no option (RFC 8200 section 4.2, RFC 2711 section 2.1), and the printed text of that reason.
 use Rattle.std.specs.Prelude.{◌≡◌, ◌≢◌, ℕ, ◌+◌, ◌≤◌, ◌<◌, List, [], ◌∷◌, ◌++◌, length, codes, decimal}
 use Rattle.wirebase.specs.Bytes.{byte_of}
 use Rattle.wirebase.specs.Display.{pieces}
@@ -14,7 +14,7 @@ use Rattle.opt_wire.specs.declared.ipv6option.refusal.Refusal.TheVariants.{Empty
 abbrev pub IsRead : List ℕ → Type 0
 IsRead bytes = (value : OptionValue) × BeginsWith bytes value
 
--- after an option at the front of the bytes stand these
+-- the bytes begin with an option, and these bytes follow it
 abbrev pub IsBehind : List ℕ → List ℕ → Type 0
 IsBehind bytes rest = (front : List ℕ) × (value : OptionValue) × (bytes ≡ front ++ rest) × IsOption front value
 
@@ -27,7 +27,7 @@ abbrev pub IsMisfit : List ℕ → Kind.Type → ℕ → Type 0
 IsMisfit bytes kind.RouterAlert n = (byte_of option_type_field bytes ≡ 5) × (n ≢ 2)
 IsMisfit bytes _ n = ⊥
 
--- what is told of other bytes: there are none, the length is left out, the data is cut, or its length does not fit the
+-- why other bytes are refused: there are none, the length is left out, the data is cut, or its length does not fit the
 -- type
 abbrev pub Refuses : List ℕ → Refusal → Type 0
 Refuses bytes Empty = bytes ≡ []

@@ -51,7 +51,7 @@ with_inner view buffer = record view { buffer = buffer }
 abbrev pub view_octets : NdiscOption (Bor (List ℕ)) → List ℕ
 view_octets view = (inner view).now
 
--- a field of the view is w, and all its other octets stay
+-- a field of the view is w, and all its other octets are unchanged
 abbrev pub Sets : {T : Type 0} → (T → List ℕ) → (T → List ℕ → T) → NdiscOption T → NdiscOption T → Field → List ℕ
     → Type 0
 Sets bytes set old new f w = Writes bytes set (inner old) (inner new) f w
@@ -121,7 +121,7 @@ pub record BeginsWhole (bytes : List ℕ) : Type 0 where
   pub prefix_ : byte_of type_field bytes ≡ 3 → 4 ≤ units_in bytes
   pub redirected : byte_of type_field bytes ≡ 4 → 6 ≤ units_in bytes
 
--- a block stands at the front of the bytes: it counts one unit or more (RFC 4861 section 4.6)
+-- the bytes begin with a block, which counts one unit or more (RFC 4861 section 4.6)
 pub record BeginsWithBlock (bytes : List ℕ) : Type 0 where
   pub whole : BeginsWhole bytes
   pub some : 1 ≤ units_in bytes

@@ -14,8 +14,8 @@ use Rattle.opt_wire.specs.declared.ndiscoption.repr.Repr.{Repr}
 abbrev pub Answer : Type 0
 Answer = Result (List ℕ) Refusal
 
--- Blocks one after another up to the end of the bytes, or up to a place where none stands, which is answered by one
--- refusal: by the reason why the bytes from there on begin with no option.
+-- Blocks one after another up to the end of the bytes, or up to a place where none begins, which is answered by one
+-- refusal: the reason why the bytes from there on begin with no option.
 pub data Tile : List ℕ → List Answer → Type 0 where
   ends : Tile [] []
   goes_on : {bytes : List ℕ} {answers : List Answer} (block rest : List ℕ)
@@ -28,8 +28,8 @@ pub data Tile : List ℕ → List Answer → Type 0 where
 abbrev pub IsUnread : List ℕ → Type 0
 IsUnread block = (value : OptionValue) → BeginsWith block value → ⊥
 
--- A call of `next` takes off the first answer, and gives what is read in that block, or why no option is read in it or
--- no block stands there; where no answer is left it gives None, and none is left still.
+-- A call of `next` takes off the first answer, and gives what is read in that block, or why no option is read in it, or
+-- why no block follows; where no answer is left it gives None, and none is left still.
 abbrev pub GivesOption : List Answer → Option (Result Repr Refusal) → List Answer → Type 0
 GivesOption old None new = (old ≡ []) × (new ≡ [])
 GivesOption old (Some (Ok repr)) new = (block : List ℕ) × BeginsWith block (value_of repr) × (old ≡ Ok block ∷ new)
@@ -43,7 +43,7 @@ GivesOption old (Some (Err refusal)) new =
 abbrev pub least_units : ℕ → ℕ
 least_units t = if t == 3 then 4 else if t == 4 then 6 else 1
 
--- whether a block stands at the front of the bytes
+-- whether the bytes begin with a block
 abbrev pub begins_with_block : List ℕ → Bool
 begins_with_block bytes =
     nat_le 8 (length bytes) && (nat_le (least_units (byte_of type_field bytes)) (units_in bytes)

@@ -1,4 +1,4 @@
--- Why bytes begin with no option of neighbor discovery (RFC 4861 section 4.6), and what that reason prints.
+-- Why bytes begin with no option of neighbor discovery (RFC 4861 section 4.6), and the printed text of that reason.
 use Rattle.std.specs.Prelude.{◌≡◌, ◌≢◌, ℕ, ◌+◌, ◌*◌, ◌≤◌, ◌<◌, List, [], ◌∷◌, length, codes, decimal}
 use Rattle.wirebase.specs.Bytes.{byte_of, bytes_of}
 use Rattle.wirebase.specs.Display.{pieces}
@@ -38,7 +38,7 @@ pub record HasPacket (bytes : List ℕ) : Type 0 where
 abbrev pub packet_in : List ℕ → List ℕ
 packet_in bytes = bytes_of (redirected_field bytes) bytes
 
--- what is told of other bytes: they are fewer than 8, count no units, end before the units do, count units that the
+-- why other bytes are refused: they are fewer than 8, count no units, end before the units do, count units that the
 -- type does not have, or redirect a packet that is cut or of another version
 abbrev pub Refuses : List ℕ → Refusal → Type 0
 Refuses bytes Short = length bytes < 8

@@ -43,7 +43,7 @@ value_of (repr.RedirectedHeader r) = redirected r.header r.«data».now
 value_of (repr.Mtu n) = mtu n
 value_of (repr.Unknown t n d) = unknown t n d.now
 
--- the prefix may be used to make addresses of (RFC 4862 section 5.5.3, a to c)
+-- hosts may make addresses of the prefix (RFC 4862 section 5.5.3, a to c)
 pub record IsValidPrefix (p : PrefixInformation) : Type 0 where
   pub autonomous : HasAddrconf p.flags
   pub global : IsLinkLocal p.prefix → ⊥
@@ -103,8 +103,8 @@ text_len (unknown t n d) = 8 * n
 abbrev pub HasSeconds : Duration → Type 0
 HasSeconds time = seconds_of time ≤ 4294967295
 
--- What is asked of a value that is written: seconds that fit, a redirected header that counts the data after it as its
--- payload and as much of it as an option can hold, and data that fills the units that an unknown option counts.
+-- The requirements on a value that is written: seconds that fit, a redirected header that counts the data after it as
+-- its payload and as much of it as an option can hold, and data that fills the units that an unknown option counts.
 abbrev pub CanEmit : OptionValue → Type 0
 CanEmit (source address) = Unit {0}
 CanEmit (target address) = Unit {0}
@@ -130,7 +130,7 @@ pub record IsPrefix (bytes : List ℕ) (p : PrefixInformation) : Type 0 where
   pub preferred : micros_of p.preferred_lifetime ≡ 1000000 * number_of preferred_lifetime_field bytes
   pub octets : octets_of p.prefix ≡ bytes_of prefix_field bytes
 
--- a redirected packet: from byte 8 on stands an IPv6 packet that is whole
+-- a redirected packet: the bytes from byte 8 on begin with an IPv6 packet that is whole
 pub record IsRedirected (bytes : List ℕ) (h : Ipv6Repr) (d : List ℕ) : Type 0 where
   pub kind : byte_of type_field bytes ≡ 4
   pub packet : IsPacket (bytes_of (redirected_field bytes) bytes) h
@@ -228,7 +228,7 @@ pub record Emits (v : OptionValue) (old new : List ℕ) : Type 0 where
   pub reads_back : IsCanonical v → BeginsWith new (norm v)
   pub round_trips : RoundTrips format v
 
--- ---- what an option prints
+-- ---- the printed text of an option
 
 -- a prefix and a redirected packet, by all that they hold, a payload in hexadecimal
 abbrev pub prefix_display : PrefixInformation → List ℕ

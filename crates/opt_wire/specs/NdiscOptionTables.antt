@@ -25,7 +25,7 @@ type_rows = rows_of type_number types
 abbrev pub type_of : ℕ → Kind.Type
 type_of n = case_in kind.Unknown type_rows n
 
--- what a type prints
+-- the printed text of a type
 abbrev pub type_text : Kind.Type → List ℕ
 type_text kind.SourceLinkLayerAddr = codes "source link-layer address"
 type_text kind.TargetLinkLayerAddr = codes "target link-layer address"
@@ -58,6 +58,6 @@ known bits = bit_and bits known_bits
 abbrev pub IsKnown : ℕ → Type 0
 IsKnown bits = known bits ≡ bits
 
--- the prefix may be used to make addresses of
+-- hosts may make addresses of the prefix
 abbrev pub HasAddrconf : PrefixInfoFlags → Type 0
 HasAddrconf flags = bit_and flags.0 0x40 ≡ 0x40

@@ -202,7 +202,7 @@ impl<'a> Repr<'a> {
         put_options(&mut w, self.options.as_slice());
     }
 
-    /// Does nothing; its contract states of two lists of options that a header can hold that equal texts mean equal
+    /// Does nothing; its contract states, of two lists of options that a header can hold, that equal texts mean equal
     /// normal forms, and conversely.
     #[tactic(auto, using(crate::proofs::Ipv6HbhFormat::header_same_text))]
     pub fn same_text(a: &Self, b: &Self)

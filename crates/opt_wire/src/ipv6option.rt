@@ -334,7 +334,7 @@ impl<'a> Repr<'a> {
         self.put(&mut w);
     }
 
-    /// Does nothing; its contract states of two options that bytes can hold that equal texts mean equal normal forms,
+    /// Does nothing; its contract states, of two options that bytes can hold, that equal texts mean equal normal forms,
     /// and conversely.
     #[tactic(auto, using(crate::proofs::Ipv6OptionFormat::option_same_text))]
     pub fn same_text(a: &Self, b: &Self)

@@ -59,7 +59,7 @@ pointwise_same : (bytes : List ℕ) → pointwise eqb bytes bytes ≡ true
 pointwise_same [] = grind arith
 pointwise_same (x ∷ bytes) = let h = pointwise_same bytes in grind (arith, common_steps)
 
--- addresses whose fields are the same have the same bytes
+-- addresses with equal fields have equal bytes
 fronts : (x y : RawHardwareAddress) → x.len ≡ y.len → pointwise eqb x.bytes y.bytes ≡ true → raw_bytes x ≡ raw_bytes y
 fronts x y len same =
     ap (λ (n : ℕ). take n x.bytes) len ∙ ap (λ (l : List ℕ). take y.len l) (same_text x.bytes y.bytes (sym same))

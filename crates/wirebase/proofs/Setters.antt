@@ -1,4 +1,4 @@
--- What a setter leaves is as long as what stood there.
+-- A setter leaves the number of bytes unchanged.
 use Rattle.std.proofs.Common.{◌≡◌, ℕ, ◌-◌, ◌≤◌, List, length, ap, ◌∙◌}
 use Rattle.wirebase.specs.Bytes.{splice}
 use Rattle.wirebase.proofs.Pieces.{length-splice}

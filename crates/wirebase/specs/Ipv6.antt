@@ -61,25 +61,25 @@ src_addr_field = field 8 24
 abbrev pub dst_addr_field : Field
 dst_addr_field = field 24 40
 
--- the version, which stands in the upper half of its byte
+-- the version, which is the upper half of its byte
 abbrev pub version_in : List ℕ → ℕ
 version_in bytes = byte_of version_field bytes / 16
 
--- the bytes of the payload, and where they stand
+-- the bytes of the payload, and their place
 abbrev pub payload_len_in : List ℕ → ℕ
 payload_len_in bytes = number_of payload_len_field bytes
 
 abbrev pub payload_field : List ℕ → Field
 payload_field bytes = field 40 (40 + payload_len_in bytes)
 
--- the bytes begin with a packet that its own length calls whole; the version is not looked at
+-- the bytes begin with a packet that its own length calls whole; the version is not checked
 pub record BeginsWhole (bytes : List ℕ) : Type 0 where
   pub fixed : Reaches dst_addr_field bytes
   pub total : Reaches (payload_field bytes) bytes
 
 -- ---- the header
 
--- the bytes begin with a header of these fields; neither the version is looked at nor whether the payload is there
+-- the bytes begin with a header of these fields; neither the version is checked nor whether the payload is there
 pub record IsHeader (bytes : List ℕ) (r : Ipv6Repr) : Type 0 where
   pub payload : r.payload_len ≡ payload_len_in bytes
   pub protocol : r.next_header ≡ protocol_of (byte_of next_header_field bytes)
@@ -97,7 +97,7 @@ pub record IsPacket (bytes : List ℕ) (r : Ipv6Repr) : Type 0 where
 abbrev pub IsRead : List ℕ → Type 0
 IsRead bytes = BeginsWhole bytes × (version_in bytes ≡ 6)
 
--- why other bytes are none: the check that fails first
+-- why other bytes are not a packet: the first check that fails
 abbrev pub Refuses : List ℕ → Ipv6Refusal → Type 0
 Refuses bytes Short = length bytes < 40
 Refuses bytes Cut = (40 ≤ length bytes) × (length bytes < 40 + payload_len_in bytes)
@@ -119,7 +119,7 @@ header_fields r =
 unfoldable pub header_text : Ipv6Repr → List ℕ
 header_text r = fields (header_fields r)
 
--- what a header prints
+-- the printed text of a header
 abbrev pub header_display : Ipv6Repr → List ℕ
 header_display r =
     codes "IPv6 src=" ++ address_text r.src_addr ++ codes " dst=" ++ address_text r.dst_addr

@@ -65,8 +65,8 @@ impl Repr<'_> {
         self.write_options(w.part(room))
     }
 
-    /// Does nothing; its contract states of two values that a packet can hold that equal texts mean equal normal forms,
-    /// and conversely unless one has additional options.
+    /// Does nothing; its contract states, of two values that a packet can hold, that equal texts mean equal normal
+    /// forms, and conversely unless one has additional options.
     pub fn same_text(a: &Self, b: &Self)
         ensures { SameText format (value_of a.now) (value_of b.now) }
     {}

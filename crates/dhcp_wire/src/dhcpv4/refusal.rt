@@ -20,7 +20,7 @@ use super::tables::{MessageType, OpCode};
 use std::fmt;
 use wirebase::Octets;
 
-/// Why [`Repr::parse`] refuses octets as packet: the first check that fails.
+/// Why [`Repr::parse`] refuses octets as a packet: the first check that fails.
 #[derive(Debug, PartialEq, Eq, Clone, Copy)]
 pub enum Refusal {
     /// Fewer than 240 bytes.

@@ -104,8 +104,8 @@ impl<'a> Question<'a> {
         put_pair(w, self.type_.into(), CLASS_IN);
     }
 
-    /// Does nothing; its contract states of two questions that a packet can hold that equal texts mean equal questions,
-    /// and conversely.
+    /// Does nothing; its contract states, of two questions that a packet can hold, that equal texts mean equal
+    /// questions, and conversely.
     pub fn same_text(a: &Self, b: &Self)
         ensures { SameText format (value_of a.now) (value_of b.now) }
     {}

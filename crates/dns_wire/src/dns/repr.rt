@@ -56,8 +56,8 @@ impl<'a> Repr<'a> {
         self.write(octets);
     }
 
-    /// Does nothing; its contract states of two queries that a packet can hold that equal texts mean equal queries, and
-    /// conversely.
+    /// Does nothing; its contract states, of two queries that a packet can hold, that equal texts mean equal queries,
+    /// and conversely.
     pub fn same_text(a: &Self, b: &Self)
         ensures { SameText format (value_of a.now) (value_of b.now) }
     {}

@@ -13,7 +13,7 @@ use wirebase::{ChecksumCapabilities, Ipv4Packet};
 // The bytes of an IPv4 header without options.
 const IPV4_HEADER_LEN: usize = 20;
 
-/// Why [`Repr::parse`] refuses octets as message: the first check that fails.
+/// Why [`Repr::parse`] refuses octets as a message: the first check that fails.
 #[derive(Debug, PartialEq, Eq, Clone, Copy)]
 pub enum Refusal {
     /// Fewer than 8 bytes.

@@ -192,7 +192,7 @@ impl<'a> Repr<'a> {
         seal(octets, checksum_caps);
     }
 
-    /// Does nothing; its contract states of two messages that a packet can hold that equal texts mean equal normal
+    /// Does nothing; its contract states, of two messages that a packet can hold, that equal texts mean equal normal
     /// forms, and conversely where neither is an error whose quoted `payload_len` is below its data's length.
     pub fn same_text(a: &Self, b: &Self, checksum_caps: &ChecksumCapabilities)
         ensures { SameText (format checksum_caps.now) (value_of a.now) (value_of b.now) }

@@ -10,7 +10,7 @@ use super::tables::Message;
 use std::fmt;
 use wirebase::Ipv4Address;
 
-/// Why [`Repr::parse`] refuses octets as message: the first check that fails.
+/// Why [`Repr::parse`] refuses octets as a message: the first check that fails.
 #[derive(Debug, PartialEq, Eq, Clone, Copy)]
 pub enum Refusal {
     /// Fewer than 8 bytes.

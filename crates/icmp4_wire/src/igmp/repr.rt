@@ -146,7 +146,7 @@ impl Repr {
         checksum::fill(octets, field::CHECKSUM, 0);
     }
 
-    /// Does nothing; its contract states of two messages that a packet can hold that equal texts mean equal normal
+    /// Does nothing; its contract states, of two messages that a packet can hold, that equal texts mean equal normal
     /// forms, and conversely.
     #[tactic(auto, using(crate::proofs::IgmpFormat::formats))]
     pub fn same_text(a: &Self, b: &Self)

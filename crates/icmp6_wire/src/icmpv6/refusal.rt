@@ -21,7 +21,7 @@ use crate::ndisc;
 use std::fmt;
 use wirebase::{ChecksumCapabilities, IPV6_HEADER_LEN, Ipv6Address};
 
-/// Why [`Repr::parse`] refuses octets as message: the first check that fails.
+/// Why [`Repr::parse`] refuses octets as a message: the first check that fails.
 #[derive(Debug, PartialEq, Eq, Clone, Copy)]
 pub enum Refusal {
     /// Fewer than 8 bytes.

@@ -306,7 +306,7 @@ impl<'a> Repr<'a> {
         seal(octets, src_addr, dst_addr, checksum_caps);
     }
 
-    /// Does nothing; its contract states of two messages that a packet can hold that equal texts mean equal normal
+    /// Does nothing; its contract states, of two messages that a packet can hold, that equal texts mean equal normal
     /// forms, and conversely.
     #[tactic(auto, using(crate::proofs::Icmpv6Format::icmpv6_same_text))]
     pub fn same_text(

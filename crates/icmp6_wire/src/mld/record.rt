@@ -289,7 +289,7 @@ impl<'a> AddressRecordRepr<'a> {
         self.write(octets);
     }
 
-    /// Does nothing; its contract states of two records that a packet can hold that equal texts mean equal normal
+    /// Does nothing; its contract states, of two records that a packet can hold, that equal texts mean equal normal
     /// forms, and conversely.
     #[tactic(auto, using(crate::proofs::MldRecords::record_same_text))]
     pub fn same_text(a: &Self, b: &Self)

@@ -11,7 +11,7 @@ use super::{AddressRecord, AddressRecordRepr, Repr};
 use crate::icmpv6::{Packet, field};
 use std::fmt;
 
-/// Why [`Repr::parse`] refuses octets as message: the first check that fails.
+/// Why [`Repr::parse`] refuses octets as a message: the first check that fails.
 #[derive(Debug, PartialEq, Eq, Clone, Copy)]
 pub enum Refusal {
     /// Fewer than 8 bytes.

@@ -1,4 +1,4 @@
-//! Why octets are no message: the first check that fails.
+//! Why octets are refused as a message: the first check that fails.
 
 ghost use Rattle.std.specs.Prelude.{◌≡◌, ◌↔◌, ◌≤◌, true, List, ℕ, length, IfSome, IsNone, Some};
 ghost use Rattle.opt_wire.specs.NdiscOption.{BeginsWithBlock};
@@ -15,7 +15,7 @@ use crate::icmpv6::{Packet, field};
 use opt_wire::writing::UNIT;
 use std::fmt;
 
-/// Why [`Repr::parse`] refuses octets as message: the first check that fails. A place is counted in bytes from the
+/// Why [`Repr::parse`] refuses octets as a message: the first check that fails. A place is counted in bytes from the
 /// front of the message, and the length of an option in units of 8 bytes (RFC 4861 section 4.6).
 #[derive(Debug, PartialEq, Eq, Clone, Copy)]
 pub enum Refusal {

@@ -230,7 +230,7 @@ impl<'a> Repr<'a> {
         self.put(&mut w);
     }
 
-    /// Does nothing; its contract states of two messages that a packet can hold that equal texts mean equal normal
+    /// Does nothing; its contract states, of two messages that a packet can hold, that equal texts mean equal normal
     /// forms, and conversely.
     #[tactic(auto, using(crate::proofs::NdiscFormat::ndisc_same_text))]
     pub fn same_text(a: &Self, b: &Self)

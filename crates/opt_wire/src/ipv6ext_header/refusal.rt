@@ -7,7 +7,7 @@ ghost use Rattle.opt_wire.specs.Ipv6ExtHeaderRefusal.{IsRead, Refuses, refusal_t
 use super::{Header, Repr, end_of, field};
 use std::fmt;
 
-/// Why [`Repr::parse`] refuses octets as header (RFC 8200 section 4.3): the first check that fails.
+/// Why [`Repr::parse`] refuses octets as a header (RFC 8200 section 4.3): the first check that fails.
 #[derive(Debug, PartialEq, Eq, Clone, Copy)]
 pub enum Refusal {
     /// Fewer than 8 bytes.

@@ -10,7 +10,7 @@ use crate::writing::UNIT;
 use std::fmt;
 use wirebase::{IPV6_HEADER_LEN, Ipv6Packet};
 
-/// Why octets begin with no option that [`Repr::parse`] reads: the first check that fails.
+/// Why [`Repr::parse`] refuses octets as an option: the first check that fails.
 #[derive(Debug, PartialEq, Eq, Clone, Copy)]
 pub enum Refusal {
     /// Fewer than 8 bytes.

@@ -232,7 +232,7 @@ impl<'a> Repr<'a> {
         self.put(&mut w);
     }
 
-    /// Does nothing; its contract states of two options that a packet can hold that equal texts mean equal normal
+    /// Does nothing; its contract states, of two options that a packet can hold, that equal texts mean equal normal
     /// forms, and conversely.
     #[tactic(auto, using(crate::proofs::NdiscOptionFormat::ndisc_option_same_text))]
     pub fn same_text(a: &Self, b: &Self)

@@ -20,7 +20,7 @@ pub enum Type {
     TargetLinkLayerAddr,
     /// A prefix of addresses on the link.
     PrefixInformation,
-    /// The packet that a redirect is about.
+    /// The packet that a redirect quotes.
     RedirectedHeader,
     /// The MTU of the link.
     Mtu,

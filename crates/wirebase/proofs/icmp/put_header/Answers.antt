@@ -6,7 +6,7 @@ use Rattle.wirebase.specs.ByteWriter.{sheet, put, fields, be8, be16}
 use Rattle.wirebase.proofs.Chains.{put-fields}
 use Rattle.wirebase.proofs.icmp.put_header.Goals as goal
 
--- the fields, and the same written together
+-- the fields, and their bytes written together
 abbrev header_fields : ℕ → ℕ → List ℕ → List (List ℕ)
 header_fields kind code rest = be8 kind ∷ be8 code ∷ be16 0 ∷ rest ∷ []
 

@@ -1,4 +1,4 @@
--- The number that stands for two has their bytes.
+-- The number that is written for two numbers has their bytes.
 use Rattle.std.proofs.Common.{◌≡◌, ℕ, ◌+◌, ◌*◌, ◌/◌, ◌%◌, ◌<◌, ◌^◌, [], ◌∷◌, sym, ap, ◌∙◌, arith}
 use Rattle.wirebase.specs.ByteWriter.{sheet, put, fields, be16, be32}
 use Rattle.wirebase.proofs.Chains.{put-fields}

@@ -1,4 +1,4 @@
--- The numbers that stand for fields side by side have the bytes of these fields.
+-- The numbers that are written for adjacent fields have the bytes of these fields.
 use Rattle.std.proofs.Common.{rules, ◌≡◌, ◌+◌, ℕ, List, [], ◌∷◌, refl, ap, ◌∙◌}
 use Rattle.wirebase.specs.Bytes.{over}
 use Rattle.wirebase.specs.ByteWriter.{Puts, fields, be8, be16, be32}
