@@ -165,7 +165,7 @@ type-small op o t small e =
 
 -- ---- the options of the fields
 
--- none has too much data, and all take so many bytes at most
+-- none has too much data, and all take a given number of bytes at most
 record Bounded (most : ℕ) (os : List OptionValue) : Type 0 where
   short : AllShort os
   len : length (options_text os) ≤ most

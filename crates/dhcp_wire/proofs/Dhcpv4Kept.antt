@@ -157,7 +157,7 @@ same_addresses (x ∷ xs) (y ∷ ys) e =
     let one : x ≡ y = same_address x y first in
     cc
 
--- a value by its parts, as a word that nothing looks into
+-- a value by its parts, as a function that no proof unfolds
 made : MessageType → ℕ → ℕ → Ethernet → Ipv4Address → Ipv4Address → Ipv4Address → Option Ipv4Address
     → Option Ipv4Address → Ipv4Address → Bool → Option Ipv4Address → Option Ethernet → Option Ipv4Address
     → Option (List ℕ) → Option (List Ipv4Address) → Option ℕ → Option ℕ → Option ℕ → Option ℕ → List OptionValue → Value

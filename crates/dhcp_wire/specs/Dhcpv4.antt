@@ -139,7 +139,7 @@ text v = header_text v ++ (options_text (options_of v) ++ 255 ∷ [])
 
 -- ---- the grammar
 
--- data of so many bytes, and nothing of other data
+-- data of a given number of bytes, and nothing of other data
 abbrev pub of_len : ℕ → List ℕ → Option (List ℕ)
 of_len n d = if length d == n then Some d else None
 
@@ -147,7 +147,7 @@ of_len n d = if length d == n then Some d else None
 abbrev pub said : {A : Type 0} → ℕ → (List ℕ → Option A) → OptionValue → Option A
 said kind says o = if o.kind == kind then says o.body else None
 
--- a number of so many bytes, the highest first
+-- a number in a given number of bytes, the highest first
 abbrev pub number_in : ℕ → List ℕ → Option ℕ
 number_in n d = option_map (big_number n) (of_len n d)
 
@@ -155,7 +155,7 @@ number_in n d = option_map (big_number n) (of_len n d)
 abbrev pub identifier_in : List ℕ → Option (List ℕ)
 identifier_in d = option_map (drop 1) (of_len 7 d)
 
--- the first whole addresses of four bytes, at most so many
+-- the first whole addresses of four bytes, at most a given number
 unfoldable pub whole_addresses : ℕ → List ℕ → List ℕ
 whole_addresses zero d = []
 whole_addresses (suc most) [] = []

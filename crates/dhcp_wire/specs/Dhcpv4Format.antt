@@ -47,11 +47,11 @@ text_len v = fields_len v + options_len v.additional_options
 
 -- ---- what can be written
 
--- whether an option may be written where so many bytes are free
+-- whether an option may be written where a given number of bytes are free
 abbrev pub fits : ℕ → OptionValue → Bool
 fits room o = nat_le (length o.body) 255 && nat_le (2 + length o.body) room
 
--- the texts of the options before the first that is refused, where so many bytes are free
+-- the texts of the options before the first that is refused, where a given number of bytes are free
 unfoldable pub texts_before : ℕ → List OptionValue → List ℕ
 texts_before room [] = []
 texts_before room (o ∷ os) =
@@ -62,7 +62,7 @@ abbrev pub AllShort : List OptionValue → Type 0
 AllShort [] = Unit {0}
 AllShort (o ∷ os) = (length o.body ≤ 255) × AllShort os
 
--- no data is too long, and so many bytes have room for the header, all options and the end mark
+-- no data is too long, and a given number of bytes have room for the header, all options and the end mark
 abbrev pub CanEmit : ℕ → Value → Type 0
 CanEmit room v = AllShort (options_of v) × (text_len v ≤ room)
 

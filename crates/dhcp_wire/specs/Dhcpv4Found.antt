@@ -1,4 +1,4 @@
--- What a pass over the options keeps: for each field what the last option says that says anything.
+-- What a pass over the options keeps: each field from the last option that gives it.
 use Rattle.std.specs.Prelude.{◌≡◌, ℕ, List, [], Option, None, Some}
 use Rattle.std.specs.Option.{option_map, option_or}
 use Rattle.std.specs.Prelude.{flat_map}
@@ -45,7 +45,7 @@ kept_of found = record {
   rebind_duration = found.repr.rebind_duration;
 }
 
--- a value without what options say
+-- a value without the fields that options give
 abbrev pub bare : Value → Value
 bare v = record v {
   message_type = type_of.Unknown 0;

@@ -39,7 +39,7 @@ address_of a b c d = record { a = a; b = b; c = c; d = d }
 abbrev pub first_address : List ℕ → Ipv4Address
 first_address d = address_of (slice_index d 0) (slice_index d 1) (slice_index d 2) (slice_index d 3)
 
--- a content of data of so many bytes; other data are octets
+-- a content of data of a given number of bytes; other data are octets
 abbrev pub sized : ℕ → List ℕ → Content → Content
 sized n d content = if length d == n then content else octets d
 
@@ -55,7 +55,7 @@ content_in format.Text d = text d
 content_in format.Kinds d = kinds d
 content_in format.Octets d = octets d
 
--- the addresses in these bytes, of which fewer than four at their end are none
+-- the addresses in these bytes; a rest of fewer than four bytes is ignored
 unfoldable pub addresses_in : List ℕ → List Ipv4Address
 addresses_in [] = []
 addresses_in (a ∷ []) = []
@@ -63,7 +63,8 @@ addresses_in (a ∷ b ∷ []) = []
 addresses_in (a ∷ b ∷ c ∷ []) = []
 addresses_in (a ∷ b ∷ c ∷ d ∷ rest) = address_of a b c d ∷ addresses_in rest
 
--- a call of `next` gives the first address and takes it off; where none is left it gives None, and none is left still
+-- a call of `next` gives the first address and takes it off; where none is left it gives None, and none is left
+-- afterwards
 abbrev pub GivesFirst : List Ipv4Address → Option Ipv4Address → List Ipv4Address → Type 0
 GivesFirst old None new = (old ≡ []) × (new ≡ [])
 GivesFirst old (Some a) new = old ≡ a ∷ new

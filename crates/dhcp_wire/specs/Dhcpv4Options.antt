@@ -46,7 +46,8 @@ pub data Options : List ℕ → List OptionValue → Type 0 where
 abbrev pub HasNoPadding : List ℕ → Type 0
 HasNoPadding bytes = (rest : List ℕ) → bytes ≢ 0 ∷ rest
 
--- a call of `next` gives the first option and takes it off; where none is left it gives None, and none is left still
+-- a call of `next` gives the first option and takes it off; where none is left it gives None, and none is left
+-- afterwards
 abbrev pub GivesFirst : List OptionValue → Option DhcpOption → List OptionValue → Type 0
 GivesFirst old None new = (old ≡ []) × (new ≡ [])
 GivesFirst old (Some o) new = old ≡ value_of_option o ∷ new

@@ -9,7 +9,7 @@ abbrev pub after_kind : ℕ → List ℕ → (List ℕ → List OptionValue) →
 after_kind kind [] go = []
 after_kind kind (n ∷ rest) go = counted kind n rest go
 
--- in at most so many turns; each takes a byte at least
+-- in at most a given number of turns; each takes a byte at least
 unfoldable pub options_within : ℕ → List ℕ → List OptionValue
 options_within most [] = []
 options_within zero (kind ∷ rest) = []

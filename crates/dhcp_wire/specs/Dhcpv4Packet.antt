@@ -34,7 +34,7 @@ use Rattle.std.specs.Str.{IsUtf8}
 use Rattle.wirebase.specs.Bytes.{Field, field, Writes}
 use Rattle.dhcp_wire.specs.declared.dhcpv4.packet.Packet.{Packet}
 
--- what a view was made from, and the view made from something else
+-- the buffer of a view, and the view with another buffer
 abbrev pub inner : {T : Type 0} → Packet T → T
 inner view = view.buffer
 

@@ -16,7 +16,7 @@ free w = drop w.position w.buffer.now
 abbrev pub the_slice : DhcpOptionWriter → GName
 the_slice w = w.buffer.ghost_name
 
--- an option may be written where so many bytes are free: one byte counts its data
+-- an option may be written where a given number of bytes are free: one byte counts its data
 abbrev pub Fits : ℕ → OptionValue → Type 0
 Fits room o = (length o.body ≤ 255) × (2 + length o.body ≤ room)
 

@@ -166,7 +166,7 @@ split_at text name rest len h e = (
       ∙ (ap (λ t. drop len t) h.whole ∙ drop_at name rest len (sym e)),
 )
 
--- a text begins with one part at the most
+-- a text begins with one part at most
 same_mark_len : (st : Stop) (mark other : List ℕ) → IsMark mark st → IsMark other st → length mark ≡ length other
 same_mark_len ends mark other h k = ap length h ∙ sym (ap length k)
 same_mark_len (goes_on p) mark other h k = ap length h.2 ∙ sym (ap length k.2)

@@ -137,7 +137,7 @@ pub record HeaderValue : Type 0 where
   pub outcome : Rcode
   pub counts : CountsValue
 
--- the content of the printed text of the library
+-- the contents of the values that the library prints
 abbrev pub counts_value : Counts → CountsValue
 counts_value counts = record {
   questions = counts.questions;

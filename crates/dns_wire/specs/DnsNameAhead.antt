@@ -32,8 +32,8 @@ by_front (pointer target) n reach go =
 by_front stop n reach go = at_end n
 by_front torn n reach go = at_fault n
 
--- the answers to come after n steps, with this text to read and these bytes of the message open, in at most so many
--- steps
+-- the answers to come after n steps, with this text to read and these bytes of the message open, in at most a given
+-- number of steps
 unfoldable pub answers : ℕ → ℕ → List ℕ → List ℕ → List Coming
 answers zero n text reach = at_fault n
 answers (suc most) n text reach = by_front (front_of text) n reach (answers most)

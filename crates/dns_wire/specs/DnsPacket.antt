@@ -19,7 +19,7 @@ use Rattle.wirebase.specs.Bytes.{Field, field, Writes}
 use Rattle.dns_wire.specs.DnsTables.{known_bits}
 use Rattle.dns_wire.specs.declared.dns.packet.Packet.{Packet}
 
--- what a view was made from, and the view made from something else
+-- the buffer of a view, and the view with another buffer
 abbrev pub inner : {T : Type 0} → Packet T → T
 inner view = view.buffer
 

@@ -23,7 +23,7 @@ pub record IsSplit (text name rest : List ℕ) : Type 0 where
   pub name_ : IsOnePart name
   pub whole : text ≡ name ++ rest
 
--- a text begins with a part of so many bytes
+-- a text begins with a part of a given number of bytes
 pub record BeginsWithPart (text : List ℕ) (len : ℕ) : Type 0 where
   pub labels : List (List ℕ)
   pub stop : Stop

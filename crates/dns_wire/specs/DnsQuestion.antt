@@ -75,8 +75,8 @@ format = record {
   IsCut = λ question. ⊥;
 }
 
--- What writing over `old` leaves: the text of the question over the front. Where there is just the text's length, it is
--- all that is left.
+-- What writing over `old` leaves: the text of the question over the front. Where `old` has exactly the text's length,
+-- it is all that is left.
 pub record Emits (question : QuestionValue) (old new : List ℕ) : Type 0 where
   pub text_ : new ≡ over old (text question)
   pub exact : length old ≡ text_len question → new ≡ text question

@@ -37,8 +37,8 @@ pub record PartBreaks (text : List ℕ) (reason : NameRefusal) : Type 0 where
   pub whole : text ≡ flat_map written labels ++ rest
   pub torn : IsTorn rest reason
 
--- Here a name breaks, for this reason, where so many bytes of the message are open: a pointer leads to none of them, or
--- nothing whole begins here.
+-- Here a name breaks, for this reason, where a given number of bytes of the message are open: a pointer leads to none
+-- of them, or nothing whole begins here.
 abbrev pub BreaksHere : ℕ → List ℕ → NameRefusal → Type 0
 BreaksHere open_bytes bytes (Pointer place) =
     (mark : List ℕ) × (behind : List ℕ) × (bytes ≡ mark ++ behind) × IsMark mark (goes_on place)

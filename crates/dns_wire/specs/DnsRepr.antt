@@ -87,8 +87,8 @@ format = record {
   IsCut = λ query. ⊥;
 }
 
--- What writing over `old` leaves: the text of the query over the front. Where there is just the text's length, it is
--- all that is left.
+-- What writing over `old` leaves: the text of the query over the front. Where `old` has exactly the text's length, it
+-- is all that is left.
 pub record Emits (query : QueryValue) (old new : List ℕ) : Type 0 where
   pub text_ : new ≡ over old (text query)
   pub exact : length old ≡ text_len query → new ≡ text query

@@ -10,7 +10,7 @@ use Rattle.dns_wire.specs.declared.dns.tables.Type.{«Type» as RecordType}
 use Rattle.dns_wire.specs.declared.dns.tables.Type.TheVariants as kind
 use Rattle.dns_wire.specs.declared.dns.tables.Flags.{Flags}
 
--- kinds of query (RFC 1035 section 4.1.1, but for the number of a status request, which is 2 there)
+-- kinds of query (RFC 1035 section 4.1.1, except for the number of a status request, which is 2 there)
 abbrev pub opcode_number : Opcode → ℕ
 opcode_number opcode.Query = 0
 opcode_number opcode.Status = 1

@@ -128,7 +128,7 @@ time_exceeded_name times.TtlExpired = codes "TtlExpired"
 time_exceeded_name times.FragExpired = codes "FragExpired"
 time_exceeded_name (times.Unknown n) = unknown_name n
 
--- the code of a message: of an error its reason, else its number
+-- the code of a message: of an error its reason, otherwise its number
 abbrev pub code_name : Message → ℕ → List ℕ
 code_name message.DstUnreachable code = unreachable_name (unreachable_of code)
 code_name message.TimeExceeded code = time_exceeded_name (time_exceeded_of code)

@@ -1,4 +1,4 @@
--- The grammar of ICMPv6 messages: the bytes are one message at the most, by the type at their front.
+-- The grammar of ICMPv6 messages: the bytes are one message at most, by the type at their front.
 use Rattle.std.proofs.Common.{◌≡◌, ℕ, ◌≤◌, true, List, length, refl, sym, ap, ◌∙◌, arith}
 use Rattle.wirebase.specs.declared.capabilities.ChecksumCapabilities.{ChecksumCapabilities}
 use Rattle.wirebase.specs.declared.ipv6.address.Ipv6Address.{Ipv6Address}

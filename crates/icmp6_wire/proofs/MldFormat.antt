@@ -146,7 +146,7 @@ text-begins (query code group flag qrv qqic sources d) = rw (query_text code gro
 text-begins (report count d) = rw (report_text count (d ∷ [])) refl
 text-begins (records rs) = rw (report_text (length rs) (record_texts rs)) refl
 
--- what is read does not hang on the checksum
+-- what is read does not depend on the checksum
 pub message-unsealed : (t code a b x y : ℕ) (rest : List ℕ) (v : MldValue) → IsMessage (t ∷ code ∷ a ∷ b ∷ rest) v
     → IsMessage (t ∷ code ∷ x ∷ y ∷ rest) v
 unfolding part

@@ -193,7 +193,7 @@ whole_sources (suc n) bytes =
     let count : 16 + 16 * n ≡ 16 * suc n = omega arith in
     more ∙ sym (take-add 16 (16 * n) bytes) ∙ ap (λ (k : ℕ). take k bytes) count
 
--- those of so many whole addresses at the front of some bytes
+-- those of a given number of whole addresses at the front of some bytes
 pub sources_of : (count n : ℕ) (bytes cut : List ℕ) → n ≡ min count (length bytes / 16) → cut ≡ take (16 * n) bytes
     → AreSources count bytes (sources_in cut)
 sources_of count n bytes cut e c =

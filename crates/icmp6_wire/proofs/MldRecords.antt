@@ -34,7 +34,7 @@ pub length-text : (v : RecordValue) → length (text v) ≡ 20
 length-text (address_record kind words sources group rest) =
     omega (arith, ap length (record_text kind words sources group rest), group.whole)
 
--- a record in octets of just its length
+-- a record in octets of exactly its length
 pub over-record_whole : (old : List ℕ) (v : RecordValue) → length old ≡ 20 → over old (text v) ≡ text v
 over-record_whole old v whole = over-exact old (text v) (whole ∙ sym (length-text v))
 
@@ -67,7 +67,7 @@ record_read (address_record kind words sources group rest) c = (
   c.4,
 )
 
--- bytes begin with one record at the most
+-- bytes begin with one record at most
 pub record-one : (bytes : List ℕ) (v w : RecordValue) → IsRecord bytes v → IsRecord bytes w → v ≡ w
 record-one bytes (address_record kind words sources group rest) (address_record other more many another behind) a b =
     let one = a.kind_ ∙ sym b.kind_ in

@@ -1,4 +1,4 @@
--- The texts of messages of multicast listener discovery, and their lengths; bytes are one message at the most.
+-- The texts of messages of multicast listener discovery, and their lengths; bytes are one message at most.
 use Rattle.std.proofs.Common.{◌≡◌, ◌↔◌, ◌≤◌, ℕ, ◌*◌, Bool, true, false, IsTrue, List, [], ◌∷◌, ◌++◌, length, refl}
 use Rattle.std.proofs.Common.{sym, ap, ◌∙◌, arith, length-append}
 use Rattle.std.proofs.lemmas.List.{append-nil, length-map}
@@ -52,7 +52,7 @@ text_some v = grind arith
 -- how many records there are, and how many bytes a message takes
 pub ruleset counts = (length-map, length-text)
 
--- ---- one message at the most
+-- ---- one message at most
 
 same_flag : (a b : Bool) (P : Type 0) → (IsTrue a ↔ P) → (IsTrue b ↔ P) → a ≡ b
 same_flag true true P f g = refl

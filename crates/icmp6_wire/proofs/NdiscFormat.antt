@@ -40,7 +40,7 @@ use Rattle.icmp6_wire.proofs.NdiscReading.{kind_of, message_text}
 use Rattle.icmp6_wire.proofs.NdiscTexts.{length-text}
 use Rattle.icmp6_wire.proofs.NdiscTiling.{blocks-unique}
 
--- ---- one message at the most
+-- ---- one message at most
 
 router_flags_of : ℕ → RouterFlags
 router_flags_of bits = record { 0 = bits }

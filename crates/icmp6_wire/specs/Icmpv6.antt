@@ -80,7 +80,7 @@ message_fields (mld m) = listeners.message_fields m
 abbrev pub text : MessageValue → List ℕ
 text v = fields (message_fields v)
 
--- the bytes that it takes, and those that are told before a list of records is written
+-- the bytes that it takes, and those before a list of records
 abbrev pub error_len : List ℕ → ℕ
 error_len d = 48 + min (length d) 1192
 
@@ -98,7 +98,7 @@ abbrev pub told_len : MessageValue → ℕ
 told_len (mld m) = listeners.told_len m
 told_len v = text_len v
 
--- a message that tells of an error
+-- a message that is an error
 abbrev pub IsErrorValue : MessageValue → Type 0
 IsErrorValue (echo_request ident seq_no d) = ⊥
 IsErrorValue (echo_reply ident seq_no d) = ⊥
@@ -226,8 +226,8 @@ format capabilities source destination =
     }
 
 -- What writing a message over `old` leaves. Where the checksum is computed, that of all the octets is good, however
--- many there are. Where there is just the message's length, its packet is all that is left, and a canonical value is
--- read back from it as its normal form.
+-- many there are. Where `old` has exactly the message's length, its packet is all that is left, and a canonical value
+-- is read back from it as its normal form.
 pub record Emits (capabilities : ChecksumCapabilities) (source destination : Ipv6Address) (v : MessageValue)
     (old new : List ℕ) : Type 0 where
   pub text_ : new ≡ emitted capabilities source destination v old

@@ -1,5 +1,5 @@
--- The view of an ICMPv6 message (RFC 4443 section 2.1), whose header is that of ICMP in wirebase; what the word after
--- the checksum is goes by the type.
+-- The view of an ICMPv6 message (RFC 4443 section 2.1), whose header is that of ICMP in wirebase; the meaning of the
+-- word after the checksum depends on the type.
 use Rattle.std.specs.Prelude.{◌≡◌, ℕ, ◌%◌, ◌^◌, ◌≤◌, Bool, true, false, List, [], ◌∷◌, length, drop}
 use Rattle.std.specs.Borrow.{Bor}
 use Rattle.wirebase.specs.Bytes.{Field, field, Reaches, Writes, byte_of, with_field}
@@ -12,7 +12,7 @@ use Rattle.icmp6_wire.specs.declared.icmpv6.tables.Message.{Message}
 use Rattle.icmp6_wire.specs.declared.icmpv6.tables.Message.TheVariants as message
 use Rattle.icmp6_wire.specs.Icmpv6Tables.{message_of}
 
--- what a view was made from, and the view made from something else
+-- the buffer of a view, and the view with another buffer
 abbrev pub inner : {T : Type 0} → Packet T → T
 inner view = view.buffer
 
@@ -115,6 +115,6 @@ CanClear _ bytes = ⊥
 
 -- ---- the checksum
 
--- the sum of the pseudo header of a message of so many bytes (RFC 4443 section 2.3, RFC 8200 section 8.1)
+-- the sum of the pseudo header of a message of a given number of bytes (RFC 4443 section 2.3, RFC 8200 section 8.1)
 unfoldable pub message_sum : Ipv6Address → Ipv6Address → ℕ → ℕ
 message_sum source destination bytes = pseudo_sum source destination Icmpv6 (bytes % 2 ^ 32)

@@ -62,7 +62,7 @@ message_fields (records rs) = report_fields (length rs) (record_texts rs)
 abbrev pub text : MldValue → List ℕ
 text v = fields (message_fields v)
 
--- the bytes that it takes, and those that are told before a list of records is written
+-- the bytes that it takes, and those before a list of records
 abbrev pub text_len : MldValue → ℕ
 text_len (query code group flag qrv qqic sources d) = 28 + length d
 text_len (report count d) = 8 + length d
@@ -137,8 +137,8 @@ format =
       IsCut = λ v. ⊥;
     }
 
--- What writing a message over `old` leaves: its text over the front. Where there is just its length, its text is all
--- that is left, and a canonical value is read back from it as its normal form.
+-- What writing a message over `old` leaves: its text over the front. Where `old` has exactly its length, its text is
+-- all that is left, and a canonical value is read back from it as its normal form.
 pub record Emits (v : MldValue) (old new : List ℕ) : Type 0 where
   pub text_ : new ≡ over old (text v)
   pub exact : length old ≡ text_len v → new ≡ text v

@@ -15,12 +15,12 @@ use Rattle.icmp6_wire.specs.declared.mld.refusal.RecordRefusal.TheVariants as re
 
 -- ---- records
 
--- an answer: all the bytes of a record, or why what follows is none
+-- an answer: all the bytes of a record, or why no record follows
 abbrev pub Answer : Type 0
 Answer = Result (List ℕ) RecordRefusal
 
--- So many records one after another, whatever follows them; or those before a place where the bytes end before a record
--- does, which is answered by one refusal, with the first check that fails.
+-- A given number of records one after another, whatever follows them; or the records before a place where the bytes end
+-- before a record does, and then one refusal with the first check that fails.
 pub data AreRecords : ℕ → List ℕ → List Answer → Type 0 where
   ends : {bytes : List ℕ} → AreRecords 0 bytes []
   goes_on : {n : ℕ} {bytes : List ℕ} {answers : List Answer} (front rest : List ℕ)
@@ -31,14 +31,14 @@ pub data AreRecords : ℕ → List ℕ → List Answer → Type 0 where
       → AreRecords (suc n) bytes (Err refusal ∷ [])
 
 -- A call of `next` gives what is read in the bytes of the first answer, and takes that off; where none is left it gives
--- None, and none is left still.
+-- None, and none is left afterwards.
 abbrev pub GivesRecord : List Answer → Option (Result AddressRecordRepr RecordRefusal) → List Answer → Type 0
 GivesRecord old None new = (old ≡ []) × (new ≡ [])
 GivesRecord old (Some (Ok record_)) new =
     (bytes : List ℕ) × IsRecord bytes (value_of record_) × (old ≡ Ok bytes ∷ new)
 GivesRecord old (Some (Err refusal)) new = old ≡ Err refusal ∷ new
 
--- the answers as they are computed, which the iterator's model needs; the reason goes by whether there are 20 bytes
+-- the answers as they are computed, which the iterator's model needs; the reason depends on whether there are 20 bytes
 abbrev pub first_refusal : Bool → RecordRefusal
 first_refusal true = record_refusal.Cut
 first_refusal false = record_refusal.Short
@@ -65,18 +65,20 @@ AreGiven v bytes = Unit {0}
 
 -- ---- sources
 
--- The first so many addresses of 16 bytes, of a record or of a query, as many of them as the bytes hold whole.
+-- The first addresses of 16 bytes, of a record or of a query: a given number of them, or as many as the bytes hold
+-- whole.
 pub record AreSources (count : ℕ) (bytes : List ℕ) (sources : List (List ℕ)) : Type 0 where
   pub number : length sources ≡ min count (length bytes / 16)
   pub each : AllByRecursion (λ source. length source ≡ 16) sources
   pub whole : concat sources ≡ take (16 * length sources) bytes
 
--- a call of `next` gives the first address and takes it off; where none is left it gives None, and none is left still
+-- a call of `next` gives the first address and takes it off; where none is left it gives None, and none is left
+-- afterwards
 abbrev pub GivesSource : List (List ℕ) → Option Ipv6Address → List (List ℕ) → Type 0
 GivesSource old None new = (old ≡ []) × (new ≡ [])
 GivesSource old (Some address) new = old ≡ octets_of address ∷ new
 
--- the addresses as they are computed: so many, of 16 bytes each
+-- the addresses as they are computed: a given number, of 16 bytes each
 unfoldable pub sources_ahead : ℕ → List ℕ → List (List ℕ)
 sources_ahead zero bytes = []
 sources_ahead (suc n) bytes = take 16 bytes ∷ sources_ahead n (drop 16 bytes)

@@ -23,7 +23,7 @@ use Rattle.icmp6_wire.specs.declared.mld.record.AddressRecordRepr.{AddressRecord
 use Rattle.icmp6_wire.specs.declared.mld.tables.RecordType.{RecordType}
 use Rattle.icmp6_wire.specs.declared.mld.tables.RecordType.TheVariants as record_type
 
--- what a view was made from, and the view made from something else
+-- the buffer of a view, and the view with another buffer
 abbrev pub inner : {T : Type 0} → AddressRecord T → T
 inner view = view.buffer
 

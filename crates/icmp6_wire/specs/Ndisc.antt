@@ -222,8 +222,8 @@ format = record {
   IsCut = λ v. ⊥;
 }
 
--- What writing a message over `old` leaves: its text over the front. Where there is just its length, its text is all
--- that is left, and a canonical value is read back from it as its normal form.
+-- What writing a message over `old` leaves: its text over the front. Where `old` has exactly its length, its text is
+-- all that is left, and a canonical value is read back from it as its normal form.
 pub record Emits (v : NdiscValue) (old new : List ℕ) : Type 0 where
   pub text_ : new ≡ over old (text v)
   pub exact : length old ≡ text_len v → new ≡ text v

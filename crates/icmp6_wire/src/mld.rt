@@ -1,11 +1,8 @@
-//! Multicast listener discovery, version 2 (RFC 3810). Version 1 (RFC 2710) is not read. Its reports (type 131) and its
-//! done messages (type 132) are refused with [`icmpv6::Refusal::UnknownType`](crate::icmpv6::Refusal::UnknownType). Its
-//! queries have the type of version 2, 130, and 24 bytes where those of version 2 have 28 or more (RFC 3810 section
-//! 8.1): they are refused with [`icmpv6::Refusal::Length`](crate::icmpv6::Refusal::Length).
+//! Multicast listener discovery, version 2 (RFC 3810).
 //!
-//! Of version 1 (RFC 2710) nothing is read. Its reports (type 131) and its done messages (type 132) are told by
-//! [`icmpv6::Refusal::UnknownType`](crate::icmpv6::Refusal::UnknownType). Its queries have the type of those of version
-//! 2, 130, and 24 bytes where those have 28 or more (RFC 3810 section 8.1): they are told by
+//! Version 1 (RFC 2710) is not read. Its reports (type 131) and its done messages (type 132) are refused with
+//! [`icmpv6::Refusal::UnknownType`](crate::icmpv6::Refusal::UnknownType). Its queries have the type of version 2, 130,
+//! and 24 bytes where those of version 2 have 28 or more (RFC 3810 section 8.1): they are refused with
 //! [`icmpv6::Refusal::Length`](crate::icmpv6::Refusal::Length).
 //!
 //! ```

@@ -52,7 +52,7 @@ puts-fields {w} {new} {wide} {fs} written same = record {
   same_slice = written.same_slice;
 }
 
--- ---- bytes that are taken one by one: so many, from an index on
+-- ---- bytes that are taken one by one: a given number, from an index on
 
 abbrev pub bytes_from : List ℕ → ℕ → ℕ → List ℕ
 bytes_from l i zero = []

@@ -207,7 +207,7 @@ known_at-some t n d fits = elim (tested (eqb t 1)) [
   ]
 ]
 
--- whole bytes are read, but for a router alert of other than 2 bytes
+-- whole bytes are read, except for a router alert of other than 2 bytes
 whole-read : (bytes : List ℕ) → BeginsWhole bytes
     → (byte_of option_type_field bytes ≡ 5 → byte_of opt_data_len_field bytes ≡ 2) → IsRead bytes
 whole-read [] w fits = absurd (omega (arith, w.0))

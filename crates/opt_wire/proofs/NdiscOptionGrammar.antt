@@ -1,4 +1,4 @@
--- Blocks of neighbor discovery options against what is read in them: bytes begin with one option at the most.
+-- Blocks of neighbor discovery options against what is read in them: bytes begin with one option at most.
 use Rattle.std.proofs.Common.{◌≡◌, ℕ, List, refl, sym, ap, ◌∙◌, arith}
 use Rattle.std.specs.Prelude.{Result, Ok, Err}
 use Rattle.std.specs.Result.{IfOk, IsOkAnd, IsErr}

@@ -14,7 +14,7 @@ use Rattle.opt_wire.specs.Ipv6Hbh as hop_by_hop
 use Rattle.opt_wire.specs.declared.ipv6ext_header.Header.{Header}
 use Rattle.opt_wire.specs.declared.ipv6ext_header.Repr.{Repr}
 
--- what a view was made from, and the view made from something else
+-- the buffer of a view, and the view with another buffer
 abbrev pub inner : {T : Type 0} → Header T → T
 inner view = view.buffer
 
@@ -78,7 +78,7 @@ pub record Emits (header : HeaderValue) (old new : List ℕ) : Type 0 where
   pub exact : length old ≡ 2 → new ≡ text header
 
 -- After a next header and a length, options of a hop-by-hop header that take as many bytes as the length counts are
--- read as the payload, and that payload as their normal form, where at most so many options are kept.
+-- read as the payload, and that payload as their normal form, where at most a given number of options are kept.
 abbrev pub CarriesOptions : ℕ → Type 0
 CarriesOptions most =
     (n count : ℕ) (options : List OptionValue) → n < 256 → count < 256

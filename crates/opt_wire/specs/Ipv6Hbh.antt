@@ -11,7 +11,7 @@ use Rattle.opt_wire.specs.Ipv6Option as option
 use Rattle.opt_wire.specs.Ipv6Option.{OptionValue, value_of as option_value}
 use Rattle.opt_wire.specs.Ipv6OptionAnswers.{Answer, Tile}
 
--- what a view was made from, and the view made from something else
+-- the buffer of a view, and the view with another buffer
 abbrev pub inner : {T : Type 0} → Header T → T
 inner view = view.buffer
 
@@ -40,8 +40,8 @@ text_len options = sum_by option.text_len options
 abbrev pub HaveData : List OptionValue → Type 0
 HaveData options = AllByRecursion option.HasData options
 
--- The grammar where at most so many options are kept: there are bytes, and the options of their tiling are read up to
--- one more than are kept; so there is no refusal among these.
+-- The grammar where at most a given number of options are kept: there are bytes, and the options of their tiling are
+-- read up to one more than are kept; so there is no refusal among these.
 pub record IsHeader (most : ℕ) (bytes : List ℕ) (options : List OptionValue) : Type 0 where
   pub answers : List Answer
   pub read : List OptionValue
@@ -60,8 +60,8 @@ pub record IsCanonical (most : ℕ) (options : List OptionValue) : Type 0 where
 abbrev pub norm : List OptionValue → List OptionValue
 norm options = map option.norm options
 
--- the format, where at most so many options are kept; no value is an exception, and what was read holds no more data
--- than it counts
+-- the format, where at most a given number of options are kept; no value is an exception, and what was read holds no
+-- more data than it counts
 abbrev pub format : ℕ → Format (List OptionValue)
 format most = record {
   Reads = IsHeader most;
@@ -73,8 +73,8 @@ format most = record {
   IsCut = λ options. ⊥;
 }
 
--- What writing options over `old` leaves, where at most so many are kept. Where there is just their length, their text
--- is all that is left, and canonical options are read back as their normal form.
+-- What writing options over `old` leaves, where at most a given number of are kept. Where `old` has exactly their
+-- length, their text is all that is left, and canonical options are read back as their normal form.
 pub record Emits (most : ℕ) (options : List OptionValue) (old new : List ℕ) : Type 0 where
   pub text_ : new ≡ over old (text options)
   pub exact : length old ≡ text_len options → new ≡ text options

@@ -8,18 +8,18 @@ use Rattle.opt_wire.specs.Ipv6Hbh.{IsHeader}
 use Rattle.opt_wire.specs.declared.ipv6hbh.refusal.Refusal.{Refusal}
 use Rattle.opt_wire.specs.declared.ipv6hbh.refusal.Refusal.TheVariants as refusals
 
--- the bytes are read, where at most so many options are kept
+-- the bytes are read, where at most a given number of options are kept
 abbrev pub IsRead : ℕ → List ℕ → Type 0
 IsRead most bytes = (options : List OptionValue) × IsHeader most bytes options
 
--- the bytes begin with so many options one after another, and these bytes follow
+-- the bytes begin with a given number of options one after another, and these bytes follow
 pub data AreBehind (bytes : List ℕ) : ℕ → List ℕ → Type 0 where
   none : AreBehind bytes 0 bytes
   one_more : {count : ℕ} {middle rest : List ℕ} → AreBehind bytes count middle → option.IsBehind middle rest
       → AreBehind bytes (suc count) rest
 
--- why other bytes are refused: there are none; or after so many options, at most as many as are kept, the bytes begin
--- with no option, for this reason
+-- why other bytes are refused: there are none; or after a given number of options, at most as many as are kept, the
+-- bytes begin with no option, for this reason
 abbrev pub Refuses : ℕ → List ℕ → Refusal → Type 0
 Refuses most bytes refusals.Empty = bytes ≡ []
 Refuses most bytes (refusals.Option index why) =

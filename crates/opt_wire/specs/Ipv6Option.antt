@@ -22,7 +22,7 @@ use Rattle.opt_wire.specs.declared.ipv6option.Repr.{Repr}
 use Rattle.opt_wire.specs.declared.ipv6option.Repr.TheVariants as repr
 use Rattle.opt_wire.specs.Ipv6OptionTables.{type_number, type_rows, type_of, alert_number, alert_rows, alert_of}
 
--- what a view was made from, and the view made from something else
+-- the buffer of a view, and the view with another buffer
 abbrev pub inner : {T : Type 0} → Ipv6Option T → T
 inner view = view.buffer
 
@@ -107,7 +107,7 @@ pub record BeginsWith (bytes : List ℕ) (v : OptionValue) : Type 0 where
   pub whole : bytes ≡ front ++ rest
   pub option : IsOption front v
 
--- a value that its own text gives back, but for data past its length
+-- a value that its own text gives back, except for data past its length
 abbrev pub IsCanonical : OptionValue → Type 0
 IsCanonical pad1 = Unit {0}
 IsCanonical (pad_n n) = n < 256
@@ -133,8 +133,8 @@ format = record {
   IsCut = λ v. ⊥;
 }
 
--- What writing an option over `old` leaves: its text, and what followed it. Where there is just the option's length,
--- its text is all that is left. A canonical value is read back as its normal form, whatever follows it.
+-- What writing an option over `old` leaves: its text, and what followed it. Where `old` has exactly the option's
+-- length, its text is all that is left. A canonical value is read back as its normal form, whatever follows it.
 pub record Emits (v : OptionValue) (old new : List ℕ) : Type 0 where
   pub text_ : new ≡ over old (text v)
   pub exact : length old ≡ text_len v → new ≡ text v

@@ -22,7 +22,7 @@ abbrev pub front_of : List ℕ → Option OptionValue
 front_of [] = None
 front_of (t ∷ rest) = if t == 0 then Some pad1 else counted_at t rest
 
--- the answers, in at most so many options; an option takes a byte at least
+-- the answers, in at most a given number of options; an option takes a byte at least
 abbrev pub after_front : Option OptionValue → List ℕ → (List ℕ → List Answer) → List Answer
 after_front None bytes go = Err (record {}) ∷ []
 after_front (Some v) bytes go = Ok v ∷ go (drop (text_len v) bytes)

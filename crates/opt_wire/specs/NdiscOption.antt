@@ -41,7 +41,7 @@ use Rattle.std.specs.Borrow.{Bor}
 use Rattle.wirebase.specs.Bytes.{Field, field, Reaches, Writes, byte_of}
 use Rattle.opt_wire.specs.declared.ndiscoption.NdiscOption.{NdiscOption}
 
--- what a view was made from, and the view made from something else
+-- the buffer of a view, and the view with another buffer
 abbrev pub inner : {T : Type 0} → NdiscOption T → T
 inner view = view.buffer
 

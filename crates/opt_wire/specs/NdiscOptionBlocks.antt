@@ -60,7 +60,7 @@ abbrev pub reason_of : List ℕ → Refusal
 reason_of bytes =
     reason_by (nat_le 8 (length bytes)) (nat_le 1 (units_in bytes)) (nat_le (8 * units_in bytes) (length bytes)) bytes
 
--- the answers, in at most so many blocks; a block takes a byte at least
+-- the answers, in at most a given number of blocks; a block takes a byte at least
 abbrev pub after_block : Bool → ℕ → List ℕ → (List ℕ → List Answer) → List Answer
 after_block true len bytes go = Ok (take len bytes) ∷ go (drop len bytes)
 after_block false len bytes go = Err (reason_of bytes) ∷ []

@@ -22,7 +22,7 @@ pub record HasUnits (bytes : List ℕ) : Type 0 where
   pub some : 1 ≤ units_in bytes
   pub whole : 8 * units_in bytes ≤ length bytes
 
--- a type that does not have so many units: a prefix has 4, a redirected packet 6 or more, an MTU 1
+-- a type that does not allow this number of units: a prefix has 4, a redirected packet 6 or more, an MTU 1
 abbrev pub IsMisfit : List ℕ → Kind.Type → ℕ → Type 0
 IsMisfit bytes kind.PrefixInformation n = (byte_of type_field bytes ≡ 3) × (n ≢ 4)
 IsMisfit bytes kind.RedirectedHeader n = (byte_of type_field bytes ≡ 4) × (n < 6)

@@ -51,7 +51,7 @@ pub record IsValidPrefix (p : PrefixInformation) : Type 0 where
 
 -- ---- texts
 
--- the units of 8 bytes that so many bytes take, and the bytes that are left of the last
+-- the units of 8 bytes that a given number of bytes take, and the bytes that are left of the last
 abbrev pub units : ℕ → ℕ
 units count = (count + 7) / 8
 
@@ -220,8 +220,8 @@ format = record {
   IsCut = λ v. ⊥;
 }
 
--- What writing an option over `old` leaves: its text over the front; where there is just its length, its text alone,
--- and that of a canonical value is read back as its normal form, whatever follows.
+-- What writing an option over `old` leaves: its text over the front; where `old` has exactly its length, its text
+-- alone, and that of a canonical value is read back as its normal form, whatever follows.
 pub record Emits (v : OptionValue) (old new : List ℕ) : Type 0 where
   pub text_ : new ≡ over old (text v)
   pub exact : length old ≡ text_len v → new ≡ text v

@@ -69,7 +69,7 @@ mod field {
 
     pub const MTU: Field = 4..8;
 
-    // The field of the data of an option of so many units.
+    // The field of the data of an option of `units` units.
     pub fn data(units: u8) -> Field
         ensures start { result.start ≡ 2 }
         ensures end { result.end ≡ 8 * units }
@@ -77,7 +77,7 @@ mod field {
         2..UNIT * units as usize
     }
 
-    // The field of the redirected packet in an option of so many units.
+    // The field of the redirected packet in an option of `units` units.
     pub fn redirected(units: u8) -> Field
         ensures start { result.start ≡ 8 }
         ensures end { result.end ≡ 8 * units }
@@ -90,7 +90,7 @@ mod field {
 
     pub const LONG_ADDR: Field = 2..10;
 
-    // The field of a link-layer address of so many bytes.
+    // The field of a link-layer address of `len` bytes.
     pub fn link_layer_addr(len: usize) -> Field
         requires { len ≤ 8 }
         ensures start { result.start ≡ 2 }

@@ -42,7 +42,7 @@ pub fn redirected_len(redirected: &RedirectedHeader<'_>) -> usize
     UNIT * units_of(REDIRECTED_HEADER_LEN + redirected.data.len())
 }
 
-// The number of units that so many bytes take.
+// The number of units that `count` bytes take.
 fn units_of(count: usize) -> usize
     ensures { result ≡ units count }
 {

@@ -71,7 +71,7 @@ same_header r s source destination protocol payload hops =
     ≡ header_of s.src_addr s.dst_addr s.next_header s.payload_len s.hop_limit = cc in
     made
 
--- bytes begin with one header at the most
+-- bytes begin with one header at most
 pub one_header : (bytes : List ℕ) (r s : Ipv6Repr) → IsHeader bytes r → IsHeader bytes s → r ≡ s
 one_header bytes r s a b =
     let source = same_address r.src_addr s.src_addr (a.source ∙ sym b.source) in
@@ -128,7 +128,7 @@ header-read r payload fits proper =
 pub drop-header_text : (r : Ipv6Repr) (payload : List ℕ) → drop 40 (header_text r ++ payload) ≡ payload
 drop-header_text r payload = drop_at (header_text r) payload 40 (length-header_text r)
 
--- a header in octets of just its length
+-- a header in octets of exactly its length
 pub over-header_whole : (old : List ℕ) (r : Ipv6Repr) → length old ≡ 40 → over old (header_text r) ≡ header_text r
 over-header_whole old r whole = over-exact old (header_text r) (whole ∙ sym (length-header_text r))
 
@@ -150,7 +150,7 @@ length-pseudo source destination protocol n =
       destination.whole,
     )
 
--- it is written over octets of just its length
+-- it is written over octets of exactly its length
 pub over-pseudo : (old : List ℕ) (source destination : Ipv6Address) (protocol : IpProtocol) (n : ℕ) → length old ≡ 40
     → over old (fields (pseudo_fields source destination protocol n))
     ≡ fields (pseudo_fields source destination protocol n)

@@ -1,4 +1,4 @@
--- A field that each option overwrites, and one that says nothing leaves, is what the last of the options says.
+-- A field that is overwritten by each option that gives it is what the last such option gives.
 use Rattle.std.proofs.Common.{◌≡◌, List, [], ◌∷◌, refl, ap, ◌∙◌}
 use Rattle.std.specs.Prelude.{Option, None, Some}
 use Rattle.std.specs.Option.{option_or}

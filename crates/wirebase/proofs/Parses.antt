@@ -1,5 +1,5 @@
--- What a parser owes where it answers a type of its own: if it is sound and reads where there is a value, it reads that
--- value.
+-- The promise of a parser that answers a type of its own: if it is sound and reads where there is a value, it reads
+-- that value.
 use Rattle.std.proofs.Common.{◌≡◌, Result, Ok, Err, IsOk, IfOk, IsOkAnd}
 
 pub reads-complete : {V T E : Type 0} (Reads : V → Type 0) → ((v w : V) → Reads v → Reads w → v ≡ w)

@@ -32,7 +32,7 @@ use Rattle.wirebase.specs.declared.ipv6.Ipv6Repr.{Ipv6Repr}
 
 -- ---- the view
 
--- what a view was made from, and the view made from something else
+-- the buffer of a view, and the view with another buffer
 abbrev pub inner : {T : Type 0} → Ipv6Packet T → T
 inner view = view.buffer
 
@@ -127,7 +127,8 @@ header_display r =
 
 -- ---- the pseudo header
 
--- what a checksum counts before a payload of so many bytes: the addresses, the bytes of the payload, and its protocol
+-- what a checksum counts before a payload of a given number of bytes: the addresses, the bytes of the payload, and its
+-- protocol
 unfoldable pub pseudo_fields : Ipv6Address → Ipv6Address → IpProtocol → ℕ → List (List ℕ)
 pseudo_fields source destination protocol bytes =
     octets_of source ∷ octets_of destination ∷ be32 bytes ∷ (0 ∷ 0 ∷ 0 ∷ []) ∷ be8 (protocol_number protocol) ∷ []

@@ -19,14 +19,11 @@ use bitflags::Flags as _;
 use std::alloc::AllocError;
 use wirebase::{Error, EthernetAddress, Hardware, Ipv4Address, Result, are_bytes};
 
-/// The value of a packet (RFC 2131 section 2), with the options that a client or a server asks for (RFC 2132). A field
-/// that comes from an option is that of the last option of its kind whose data has the length given at the field;
-/// options of another length are ignored, and the field is None where there is no other. [`Packet::options`] gives
-/// every option with its data, also data that a field has no room for.
+/// The value of a packet (RFC 2131 section 2), with the options that a client or a server asks for (RFC 2132).
 ///
-/// Where a field comes from an option, it is that of the last option of its kind whose data have the length that the
-/// field names; options of another length are passed over, and the field is None where there is no other.
-/// [`Packet::options`] gives every option with its data, and so what a field has no room for.
+/// A field that comes from an option is that of the last option of its kind whose data has the length given at the
+/// field; options of another length are ignored, and the field is None where there is no other. [`Packet::options`]
+/// gives every option with its data, also data that a field has no room for.
 #[derive(Debug, PartialEq, Eq, Drop)]
 pub struct Repr<'a> {
     /// The type of the message, option 53, of 1 byte. It fits the operation of the packet: a type that belongs to the

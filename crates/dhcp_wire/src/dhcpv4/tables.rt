@@ -193,7 +193,8 @@ impl Flags {
     }];
 }
 
-/// `broadcast` where the answer is to be sent to everyone, and else `-`. Bits that have no name are not printed.
+/// Prints `broadcast` where the answer is to be sent to everyone, and `-` otherwise. Bits that have no name are not
+/// printed.
 impl fmt::Display for Flags {
     ghost output = { λ flags. Some (flags_display flags.0) };
 

@@ -85,9 +85,9 @@ impl fmt::Display for Type {
     }
 }
 
-/// The name of the kind of query, or its number where it has none, as `OPCODE7`. It goes by the number: of
-/// [`Opcode::Status`], which is 1, it is `IQUERY`, and of `Opcode::Unknown(2)` it is `STATUS` (RFC 1035 section 4.1.1);
-/// 4 is `NOTIFY` (RFC 1996), 5 `UPDATE` (RFC 2136) and 6 `DSO` (RFC 8490).
+/// The name of the kind of query, or its number where it has none, as `OPCODE7`. The name is that of the number:
+/// [`Opcode::Status`], which is 1, prints as `IQUERY`, and `Opcode::Unknown(2)` as `STATUS` (RFC 1035 section 4.1.1); 4
+/// is `NOTIFY` (RFC 1996), 5 `UPDATE` (RFC 2136) and 6 `DSO` (RFC 8490).
 impl fmt::Display for Opcode {
     ghost output = { λ opcode. Some (opcode_display opcode) };
 

@@ -262,7 +262,7 @@ fn put_query(
     w.put_bytes(data);
 }
 
-// Writes a report of so many records, which the data holds.
+// Writes a report of `count` records, which the data holds.
 fn put_report(w: &mut ByteWriter<'_>, count: u16, data: &[u8])
     requires room { 8 + length «data».now ≤ length (free w.old) }
     ensures { Puts w.old w.new (report_fields count («data».now ∷ [])) }
@@ -284,7 +284,7 @@ fn put_list(w: &mut ByteWriter<'_>, records: &[AddressRecordRepr<'_>])
     put_records(w, records);
 }
 
-// Writes the header of a report of so many records.
+// Writes the header of a report of `count` records.
 fn put_report_header(w: &mut ByteWriter<'_>, count: u16)
     requires room { 8 ≤ length (free w.old) }
     ensures puts { Puts w.old w.new (report_fields count []) }

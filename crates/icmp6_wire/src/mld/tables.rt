@@ -7,7 +7,7 @@ ghost use Rattle.icmp6_wire.specs.MldTables.{record_type_number, record_type_row
 
 use std::fmt;
 
-/// What a record tells of the sources that a listener asks of a group, one byte (RFC 3810 section 5.2.12).
+/// What a record says about the sources that a listener asks of a group, one byte (RFC 3810 section 5.2.12).
 #[derive(Debug, PartialEq, Eq, PartialOrd, Ord, Clone, Copy)]
 pub enum RecordType {
     /// It listens to these sources alone.

@@ -107,7 +107,7 @@ fn why(octets: &[u8]) -> Refusal
     why_option(octets, header_len)
 }
 
-// Why the first option that is not whole, after a header of so many bytes, is refused.
+// Why the first option that is not whole, after a header of `header_len` bytes, is refused.
 fn why_option(octets: &[u8], header_len: usize) -> Refusal
     requires begins { BeginsWhole octets.now }
     requires neighbor { is_ndisc (message_in octets.now) ≡ true }

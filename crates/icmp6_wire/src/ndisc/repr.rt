@@ -86,7 +86,7 @@ pub enum Repr<'a> {
         /// The link-layer address of the sender.
         lladdr: Option<RawHardwareAddress>,
     },
-    /// A neighbor tells its link-layer address.
+    /// A neighbor gives its link-layer address.
     NeighborAdvert {
         /// The flags.
         flags: NeighborFlags,
@@ -95,7 +95,7 @@ pub enum Repr<'a> {
         /// The link-layer address of the target.
         lladdr: Option<RawHardwareAddress>,
     },
-    /// A router tells of a better first hop.
+    /// A router announces a better first hop.
     Redirect {
         /// The better first hop.
         target_addr: Ipv6Address,

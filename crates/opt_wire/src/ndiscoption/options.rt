@@ -11,18 +11,13 @@ use super::{NdiscOption, Refusal, Repr};
 use crate::writing::UNIT;
 use std::marker::Model;
 
-/// The options of a message of neighbor discovery in turn, also those of unknown types. For a whole option that
-/// [`Repr::parse`] refuses, the reason is given, and then the next option: a prefix of more than 4 units, an MTU of
-/// other than 1, or a redirected header that holds no whole packet of version 6. Where the octets end before an option
-/// does, or an option has fewer units than its type requires, or none, the reason is given once, and then the end.
-/// Hosts discard such a message (RFC 4861 section 6.1). The reason is the first check that fails, as in
-/// [`Repr::refusal`].
+/// The options of a message of neighbor discovery in turn, also those of unknown types.
 ///
-/// A whole option in which [`Repr::parse`] reads none is answered by the reason, and the one after it comes next: a
-/// prefix of more than 4 units, an MTU of other than 1, or a redirected header that holds no whole packet of version 6.
-/// Where the octets end before an option does, or where one counts fewer units than its type has, as none at all, the
-/// reason comes once, and then the end for good. Hosts discard such a message (RFC 4861 section 6.1). The reason is the
-/// first check that fails, as [`Repr::refusal`] tells it.
+/// For a whole option that [`Repr::parse`] refuses, the reason is given, and then the next option: a prefix of more
+/// than 4 units, an MTU of other than 1, or a redirected header that holds no whole packet of version 6. Where the
+/// octets end before an option does, or an option has fewer units than its type requires, or none, the reason is given
+/// once, and then the end. Hosts discard such a message (RFC 4861 section 6.1). The reason is the first check that
+/// fails, as in [`Repr::refusal`].
 ///
 /// ```
 /// use control_wire::ndiscoption::{NdiscOptions, Refusal, Repr, Type};

@@ -1,4 +1,4 @@
--- The printed texts of is written, and what the addresses print that are left, is what all.
+-- What is written, followed by the printed text of the addresses that are left, is the printed text of all.
 use Rattle.std.proofs.Common.{◌≡◌, ℕ, List, ◌++◌, codes, flat_map}
 use Rattle.std.specs.Fmt.{HasWritten, IsPlainFormatter}
 use Rattle.wirebase.specs.Ipv4.{address_text}
