@@ -1,4 +1,4 @@
--- What a pass over the options keeps is what the last option says; and bytes have one value.
+-- A pass over the options keeps, for each field, what the last option gives; and bytes have one value.
 use Rattle.std.proofs.Common.{◌≡◌, ℕ, Bool, List, [], ◌∷◌, ◌++◌, flat_map, slice_index, Option, None, Some}
 use Rattle.std.proofs.Common.{refl, sym, ap, subst, ◌∙◌}
 use Rattle.std.specs.Option.{option_map}
@@ -24,7 +24,7 @@ use Rattle.dhcp_wire.specs.declared.dhcpv4.tables.OpCode.TheVariants as opcode
 use Rattle.dhcp_wire.specs.Dhcpv4Tables.{opcode_number, opcode_of}
 use Rattle.dhcp_wire.proofs.Dhcpv4Lists.{list-options, options-unique}
 
--- ---- the last word of each
+-- ---- the last option for each field
 
 pub kept-type : (op : ℕ) (os : List OptionValue) → (keep_all (keep op) nothing os).message_type
     ≡ last_of (said 53 (type_in op)) os
@@ -157,7 +157,7 @@ same_addresses (x ∷ xs) (y ∷ ys) e =
     let one : x ≡ y = same_address x y first in
     cc
 
--- a value by its parts, as a function that no proof unfolds
+-- a value by its parts, as a function that is not unfolded
 made : MessageType → ℕ → ℕ → Ethernet → Ipv4Address → Ipv4Address → Ipv4Address → Option Ipv4Address
     → Option Ipv4Address → Ipv4Address → Bool → Option Ipv4Address → Option Ethernet → Option Ipv4Address
     → Option (List ℕ) → Option (List Ipv4Address) → Option ℕ → Option ℕ → Option ℕ → Option ℕ → List OptionValue → Value

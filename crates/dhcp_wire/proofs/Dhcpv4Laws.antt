@@ -81,7 +81,7 @@ dhcp_format = record {
 pub dhcp_same_text : (a b : Value) → SameText format a b
 dhcp_same_text a b = same_text format dhcp_format tt a b
 
--- ---- what writing a value leaves
+-- ---- the result of writing a value
 
 read-on : (v : Value) (old new : List ℕ) → length (text v) ≤ length old → IsCanonical v → new ≡ over old (text v)
     → IsPacket new (norm v)

@@ -96,7 +96,8 @@ behind h old rest mine n os (Err x) e room is w =
           ∙ laid h old before n e (omega arith);
     }
 
--- what writing a value leaves where the header was written, and then the options into all that was free after it
+-- the result of writing a value, where the header was written, and then the options into all bytes that were free after
+-- it
 pub laid_behind : (v : Value) (old part mine new : List ℕ) (w u x : Writer) (n : ℕ) (result : Result (Unit {0}) Error)
     → 240 ≤ length old → IsBlank w old → Puts w u (header_fields v) → n ≡ length (free_bytes u)
     → part ≡ take n (free_bytes u) → WritesOptions (options_of v) part result mine → length mine ≡ n

@@ -1,4 +1,4 @@
--- What was written is read back: the options of a text, and what the last of each kind says.
+-- What was written is read back: the options of a text, and the last option of each kind.
 use Rattle.std.proofs.Common.{◌≡◌, ◌≢◌, ℕ, zero, suc, ◌≤◌, ◌<◌, ◌^◌, Bool, true, false, cond, eqb, List}
 use Rattle.std.proofs.Common.{[]}
 use Rattle.std.proofs.Common.{◌∷◌, ◌++◌, length, drop, flat_map, Option, None, Some, refl, sym, ap, subst}
@@ -179,7 +179,7 @@ ethernet-additional : (os : List OptionValue) → AreAdditional os → AreOfEthe
 ethernet-additional [] h = tt
 ethernet-additional (o ∷ os) h = (λ is _. absurd (h.0.12 is), ethernet-additional os h.1)
 
--- ---- the last word of each kind
+-- ---- the last option of each kind
 
 last-append : {A : Type 0} (says : OptionValue → Option A) (xs ys : List OptionValue)
     → last_of says (xs ++ ys) ≡ option_or (last_of says ys) (last_of says xs)
@@ -237,7 +237,7 @@ last-slots kind says (s ∷ ss) =
     last-slot kind says s.kind s.body (of_slots ss)
     ∙ ap (λ last. one_more says (eqb s.kind kind) s.body last) (last-slots kind says ss)
 
--- of all options of a value, those of its fields alone say something of a field
+-- of all options of a value, only those of its fields give a field
 last-options : {A : Type 0} (kind : ℕ) (says : List ℕ → Option A) (v : Value)
     → ((k : ℕ) → IsOther k → k ≢ kind) → AreAdditional v.additional_options
     → last_of (said kind says) (options_of v) ≡ in_slots kind says (slots_of v)
@@ -247,7 +247,7 @@ last-options kind says v other h =
     (silent kind says v.additional_options (are_not kind other v.additional_options h))
     ∙ last-slots kind says (slots_of v)
 
--- ---- what each says
+-- ---- what each of them gives
 
 address-back : (a : Option Ipv4Address) → option_map octets_of a ≡ said_of (of_len 4) (option_map octets_of a)
 address-back None = refl

@@ -143,7 +143,7 @@ text v = header_text v ++ (options_text (options_of v) ++ 255 ∷ [])
 abbrev pub of_len : ℕ → List ℕ → Option (List ℕ)
 of_len n d = if length d == n then Some d else None
 
--- what an option of this kind says by its data; one of another kind says nothing
+-- what an option of this kind gives by its data; one of another kind gives nothing
 abbrev pub said : {A : Type 0} → ℕ → (List ℕ → Option A) → OptionValue → Option A
 said kind says o = if o.kind == kind then says o.body else None
 

@@ -1,4 +1,5 @@
--- What writing a value leaves, option by option: what a writer has settled, what is free, and whether all went well.
+-- The result of writing a value, option by option: the bytes that are settled, the bytes that are free, and whether
+-- nothing was refused.
 use Rattle.std.specs.Prelude.{ℕ, ◌+◌, Bool, true, false, List, [], ◌∷◌, ◌++◌, length, drop, Option, None, Some, Result}
 use Rattle.std.specs.Prelude.{is_ok, ◌≡◌, ◌≤◌, ◌↔◌, IsOk, OnOk, OnErr}
 use Rattle.wirebase.specs.Bytes.{over}
@@ -27,9 +28,9 @@ slots_len (s ∷ rest) = data_len s.body + slots_len rest
 abbrev pub counted_len : Value → ℕ
 counted_len v = 241 + slots_len (slots_of v)
 
--- ---- what writing leaves, option by option
+-- ---- the result of writing, option by option
 
--- what is settled, what is free, and whether nothing was refused so far
+-- the bytes that are settled, the bytes that are free, and whether nothing was refused so far
 pub record Progress : Type 0 where
   pub settled_ : List ℕ
   pub free_ : List ℕ

@@ -1,4 +1,4 @@
--- What writing a DHCP packet leaves, and the format: which values their own text gives back, and as what.
+-- The result of writing a DHCP packet, and the format: which values their own text gives back, and as which values.
 use Rattle.std.specs.Prelude.{◌≡◌, ◌≢◌, ℕ, ◌+◌, ◌-◌, ◌≤◌, ◌<◌, ◌^◌, ◌↔◌, Bool, nat_le, ◌&&◌, List, [], ◌∷◌, ◌++◌}
 use Rattle.std.specs.Prelude.{length}
 use Rattle.std.specs.Prelude.{if◌then◌else◌, Option, None, Some, Result, IsOk, OnOk, OnErr}

@@ -21,8 +21,8 @@ character n =
 abbrev pub quoted : List ℕ → List ℕ
 quoted bytes = pieces (codes "\"" ∷ flat_map character bytes ∷ codes "\"" ∷ [])
 
--- what data print: addresses, numbers and kinds in decimal, texts in quotation marks, and other data as two hexadecimal
--- digits a byte, with colons between them
+-- the printed text of data: addresses, numbers and kinds in decimal, texts in quotation marks, and other data as two
+-- hexadecimal digits a byte, with colons between them
 abbrev pub content_display : Content → List ℕ
 content_display (address a) = address_text a
 content_display (addresses bytes) = commas address_text (addresses_in bytes)

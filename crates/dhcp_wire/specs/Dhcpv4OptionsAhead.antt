@@ -1,4 +1,4 @@
--- The list of the options in bytes, as it is computed: what an iterator over them has still to give.
+-- The list of the options in bytes, as it is computed: those that an iterator over them has still to give.
 use Rattle.std.specs.Prelude.{ℕ, zero, suc, ◌==◌, nat_lt, List, [], ◌∷◌, length, take, drop, if◌then◌else◌}
 use Rattle.dhcp_wire.specs.Dhcpv4Options.{OptionValue, option}
 

@@ -1,4 +1,4 @@
--- What a writer of options leaves in the slice that it writes to.
+-- The bytes that a writer of options leaves in the slice that it writes to.
 use Rattle.std.specs.Prelude.{◌≡◌, ℕ, ◌+◌, ◌≤◌, List, length, take, drop}
 use Rattle.std.specs.Borrow.{GName}
 use Rattle.dhcp_wire.specs.declared.dhcpv4.options.DhcpOptionWriter.{DhcpOptionWriter}

@@ -1,4 +1,4 @@
--- What the walk over a name gives.
+-- The answers of the walk over a name.
 use Rattle.std.proofs.Common.{◌≡◌, slice_range, ℕ, ◌+◌, ◌*◌, ◌≤◌, List, [], ◌∷◌, ◌++◌, length, take, drop, map}
 use Rattle.std.proofs.Common.{refl, sym, ap, ◌∙◌, subst, inl, inr, zero, suc, arith}
 use Rattle.std.specs.List.{AllByRecursion}

@@ -138,7 +138,7 @@ question_rewrites bytes v rest are small h =
 pub question_same_text : (a b : QuestionValue) → SameText format a b
 question_same_text a b = same_text format question_format _ a b
 
--- ---- what writing leaves
+-- ---- the result of writing
 
 pub question_emits : (q : QuestionValue) (old new : List ℕ) → text_len q ≤ length old → new ≡ over old (text q)
     → Emits q old new

@@ -131,7 +131,7 @@ query_format = record {
 pub query_same_text : (a b : QueryValue) → SameText format a b
 query_same_text a b = same_text format query_format _ a b
 
--- ---- what writing leaves
+-- ---- the result of writing
 
 pub query_emits : (q : QueryValue) (old new : List ℕ) → new ≡ over old (text q) → Emits q old new
 query_emits q old new e = record {

@@ -1,4 +1,4 @@
--- What messages and their parts print, by the names of IANA's registry of DNS parameters.
+-- The printed texts of messages and their parts, by the names of IANA's registry of DNS parameters.
 use Rattle.std.specs.Prelude.{ℕ, ◌==◌, if◌then◌else◌, List, [], ◌∷◌, ◌++◌, length, nat_lt, Option, None, Some}
 use Rattle.std.specs.Prelude.{codes, decimal}
 use Rattle.std.specs.Int.Bits.{bit_and}
@@ -188,6 +188,6 @@ header_display header =
     ∷ codes " rcode=" ∷ rcode_display header.outcome
     ∷ codes " " ∷ counts_display header.counts ∷ [])
 
--- what a view prints: the header, or that there are too few octets for one
+-- the printed text of a view: the header, or that there are too few octets for one
 abbrev pub view_display : List ℕ → List ℕ
 view_display bytes = if nat_lt (length bytes) 12 then codes "DNS (wire::Error)" else header_display (header_in bytes)

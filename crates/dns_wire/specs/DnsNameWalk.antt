@@ -1,4 +1,4 @@
--- The walk over a name: what a caller sees of it, and what it gives.
+-- The walk over a name: what a caller sees of it, and the answers that it gives.
 use Rattle.std.specs.Prelude.{◌≡◌, ℕ, ◌+◌, ◌*◌, ◌≤◌, Bool, true, false, if◌then◌else◌, List, [], ◌∷◌, ◌++◌, length}
 use Rattle.std.specs.Prelude.{◌↔◌, Option, None, Some, Result, Ok, Err, slice_get}
 use Rattle.std.specs.Borrow.{Bor}
@@ -62,7 +62,7 @@ Gives [] labels = ⊥
 Gives (c ∷ cs) [] = c.answer ≡ ending
 Gives (c ∷ cs) (bytes ∷ more) = (c.answer ≡ label bytes) × Gives cs more
 
--- ---- what it gives
+-- ---- the answers
 
 -- The labels of window i, where n labels come before them: after the n-th label, in window i, there were n + i steps.
 abbrev pub in_window : ℕ → ℕ → List (List ℕ) → List Coming

@@ -98,7 +98,7 @@ text_some (ndisc m) = ndisc_some m
 text_some (mld m) = mld_some m
 text_some _ = omega arith
 
--- what a message is written into has room for a header
+-- the octets that a message is written into have room for a header
 pub room_some : (v : MessageValue) (bytes : List ℕ) → CanEmit v bytes → 8 ≤ length bytes
 room_some (echo_request ident seq_no d) bytes c = c
 room_some (echo_reply ident seq_no d) bytes c = c

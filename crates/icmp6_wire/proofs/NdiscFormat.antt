@@ -371,7 +371,7 @@ ndisc_format = record {
 pub ndisc_same_text : (a b : NdiscValue) → SameText format a b
 ndisc_same_text a b = same_text format ndisc_format tt a b
 
--- ---- what writing leaves
+-- ---- the result of writing
 
 pub ndisc_emits : (v : NdiscValue) (old new : List ℕ) → new ≡ over old (text v) → Emits v old new
 ndisc_emits v old new left =

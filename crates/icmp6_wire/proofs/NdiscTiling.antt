@@ -109,7 +109,7 @@ pub says_all : (bytes : List ℕ) (k : Kept)
 unfolding keep_all
 says_all bytes k so_far = so_far [] ends
 
--- ---- what is kept is what the last option of each kind says
+-- ---- the last option of each kind is kept
 
 said : {A : Type 0} (field : Kept → Option A) (says : OptionValue → Option A)
     → ((k : Kept) (o : OptionValue) → field (keep k o) ≡ option_or (says o) (field k)) → field nothing ≡ None

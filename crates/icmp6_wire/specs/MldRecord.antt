@@ -83,7 +83,7 @@ text v = fields (record_fields v)
 abbrev pub group_of : RecordValue → Ipv6Address
 group_of (address_record kind words sources group rest) = group
 
--- The grammar: the fields are there, and this is what they say.
+-- The grammar: the fields are there, and have this content.
 pub record IsFields (bytes : List ℕ) (kind : RecordType) (words sources : ℕ) (group : Ipv6Address)
     (rest : List ℕ) : Type 0 where
   pub whole : Reaches mcast_addr_field bytes

@@ -152,7 +152,7 @@ pub record IsRouterAdvert (bytes : List ℕ) (hops : ℕ) (flags : RouterFlags) 
   pub reachable_ : micros_of reachable ≡ 1000 * number_of reachable_time_field bytes
   pub retrans_ : micros_of retrans ≡ 1000 * number_of retrans_time_field bytes
 
--- the message of these fixed fields, whose other fields are what the last option of their kind says
+-- the message of these fixed fields, whose other fields are given by the last option of their kind
 abbrev pub IsContent : List ℕ → List OptionValue → NdiscValue → Type 0
 IsContent bytes options (router_solicit l) = (byte_of type_field bytes ≡ 0x85) × (l ≡ last_of source_in options)
 IsContent bytes options (router_advert hops flags lifetime reachable retrans l m p) =

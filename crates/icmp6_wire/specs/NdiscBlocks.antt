@@ -1,5 +1,5 @@
 -- The options of a message of neighbor discovery: its payload is blocks one after another (RFC 4861 section 4.6), and a
--- field is what the last option of its kind says.
+-- field is given by the last option of its kind.
 use Rattle.std.specs.Prelude.{◌≡◌, ℕ, ◌*◌, List, [], ◌∷◌, ◌++◌, length, Option, None, Some}
 use Rattle.wirebase.specs.declared.ipv6.Ipv6Repr.{Ipv6Repr}
 use Rattle.opt_wire.specs.NdiscOption.{units_in, BeginsWithBlock}
@@ -22,7 +22,7 @@ pub data AreBlocks : List ℕ → List OptionValue → Type 0 where
       → IsBlock block → ((v : OptionValue) → BeginsWith block v → ⊥) → AreBlocks rest options → bytes ≡ block ++ rest
       → AreBlocks bytes options
 
--- what an option says of each kind
+-- what an option gives for each kind
 abbrev pub source_in : OptionValue → Option (List ℕ)
 source_in (source address) = Some address
 source_in _ = None

@@ -1,4 +1,4 @@
--- What a pass over the options of a message keeps: of each kind what the last option says.
+-- A pass over the options of a message keeps the last option of each kind.
 use Rattle.std.specs.Prelude.{◌≡◌, ℕ, List, Option, None}
 use Rattle.std.specs.Option.{option_map, option_or}
 use Rattle.wirebase.specs.HardwareAddress.{raw_bytes}

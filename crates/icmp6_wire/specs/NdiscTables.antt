@@ -18,7 +18,7 @@ router_bits flags = flags.0
 abbrev pub neighbor_bits : NeighborFlags → ℕ
 neighbor_bits flags = flags.0
 
--- what a set of flags prints: the names of those that are set, with a comma between them; `-` where none is
+-- the printed text of a set of flags: the names of those that are set, with a comma between them; `-` where none is
 abbrev pub router_flags_text : ℕ → List ℕ
 router_flags_text bits =
     if bit_and bits 0x80 == 0 then if bit_and bits 0x40 == 0 then codes "-" else codes "other"

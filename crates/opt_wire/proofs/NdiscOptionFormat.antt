@@ -199,7 +199,7 @@ ndisc_option_format = record {
 pub ndisc_option_same_text : (a b : OptionValue) → SameText format a b
 ndisc_option_same_text a b = same_text format ndisc_option_format tt a b
 
--- ---- what writing leaves
+-- ---- the result of writing
 
 pub option_emits : (v : OptionValue) (old new : List ℕ) → CanEmit v → text_len v ≤ length old → new ≡ over old (text v)
     → Emits v old new

@@ -38,7 +38,7 @@ type_text (kind.Unknown n) = decimal n
 abbrev pub flag_rows : List (List ℕ × ℕ)
 flag_rows = (codes "ON_LINK", 0x80) ∷ (codes "ADDRCONF", 0x40) ∷ []
 
--- what a set of flags prints: the names of those that are set, with a comma between them; `-` where none is
+-- the printed text of a set of flags: the names of those that are set, with a comma between them; `-` where none is
 abbrev pub flags_text : ℕ → List ℕ
 flags_text bits =
     if bit_and bits 0x80 == 0 then if bit_and bits 0x40 == 0 then codes "-" else codes "addrconf"

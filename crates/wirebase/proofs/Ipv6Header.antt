@@ -78,7 +78,7 @@ one_header bytes r s a b =
     let destination = same_address r.dst_addr s.dst_addr (a.destination ∙ sym b.destination) in
     same_header r s source destination (a.protocol ∙ sym b.protocol) (a.payload ∙ sym b.payload) (a.hops ∙ sym b.hops)
 
--- ---- what the emitter needs
+-- ---- lemmas for the emitter
 
 -- a writer that had longer octets, all of them free, leaves the header over their front
 pub over-header : (old : List ℕ) (r : Ipv6Repr) → over old (header_text r)
@@ -132,7 +132,7 @@ drop-header_text r payload = drop_at (header_text r) payload 40 (length-header_t
 pub over-header_whole : (old : List ℕ) (r : Ipv6Repr) → length old ≡ 40 → over old (header_text r) ≡ header_text r
 over-header_whole old r whole = over-exact old (header_text r) (whole ∙ sym (length-header_text r))
 
--- what emitters of quotes need
+-- lemmas for emitters of quotes
 pub ruleset header_texts = (length-header_text, over-header_whole)
 
 -- ---- the pseudo header

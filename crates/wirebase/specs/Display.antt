@@ -7,8 +7,8 @@ pieces [] = []
 pieces (piece ∷ []) = piece
 pieces (piece ∷ next ∷ more) = piece ++ pieces (next ∷ more)
 
--- What a view prints, by its parser's own relation: the text of the value that its octets are read as, or else that
--- they are refused.
+-- The printed text of a view, by its parser's own relation: the text of the value that its octets are read as, or the
+-- text for octets that are refused.
 pub record Shows {V : Type 0} (Reads : V → Type 0) (text : V → List ℕ) (refused : List ℕ)
     (Prints : List ℕ → Type 0) : Type 0 where
   pub reads : (v : V) → Reads v → Prints (text v)

@@ -15,7 +15,7 @@ hardware_rows = rows_of hardware_number (hardware.Ethernet ∷ [])
 abbrev pub hardware_of : ℕ → Hardware
 hardware_of n = case_in hardware.Unknown hardware_rows n
 
--- what a kind prints: its name, or its number
+-- the printed text of a kind: its name, or its number
 abbrev pub hardware_display : Hardware → List ℕ
 hardware_display hardware.Ethernet = codes "Ethernet"
 hardware_display (hardware.Unknown n) = decimal n

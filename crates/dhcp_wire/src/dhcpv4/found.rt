@@ -29,8 +29,8 @@ use arrayvec::ArrayVec;
 use byteorder::{BigEndian, ByteOrder};
 use wirebase::{Error, EthernetAddress, Ipv4Address, Result};
 
-// The options seen so far: each field of the value is the last option of its kind and length, and the type of the
-// message is there where an option gives it.
+// The options seen so far: each field of the value from the last option of its kind and length, and the type of the
+// message, where an option gives it.
 #[derive(Drop)]
 pub(super) struct Found<'a> {
     pub(super) message_type: Option<MessageType>,

@@ -412,8 +412,8 @@ impl<T: OctetsMut> Packet<T> {
         self.buffer.set_u16(field::FLAGS, value.bits());
     }
 
-    /// A writer over the options: over all octets from 240 on, which are free. What it leaves there the view then
-    /// holds. Requires at least 240 bytes.
+    /// A writer over the options: all octets from 240 on, which are free. The view then holds what is written there.
+    /// Requires at least 240 bytes.
     pub fn options_mut(&mut self) -> DhcpOptionWriter<'_>
         requires { Reaches magic_field (T.bytes (inner self.old)) }
         ensures* lends { sem 𝓛 (follows (the_row T.row) (Array byte 0) self.entry.ghost_name

@@ -27,7 +27,7 @@ pub enum Refusal {
     UnknownCode(u8),
     /// An error that does not quote a whole IPv4 header: fewer than 20 bytes, or fewer than the header's own length.
     QuotedHeader,
-    /// An error whose quoted header is longer than its own total length.
+    /// An error whose quoted header is longer than the total length that it gives.
     QuotedLength,
     /// An error that quotes fewer bytes than the total length in the quoted header, as routers may. The errors of the
     /// crate `quote_wire` read those.

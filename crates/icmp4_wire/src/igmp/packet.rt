@@ -91,7 +91,7 @@ impl<T: Octets> Packet<T> {
         Ipv4Address::from_octets(self.buffer.field(field::GROUP_ADDRESS).try_into().unwrap())
     }
 
-    /// Whether the octets, as many as they are, carry their checksum (RFC 1071).
+    /// Whether all the octets together carry their checksum (RFC 1071).
     pub fn verify_checksum(&self) -> bool
         ensures { IsTrue result ↔ IsGood (T.bytes (inner self.now)) 0 }
     {

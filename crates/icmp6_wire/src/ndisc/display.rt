@@ -1,4 +1,4 @@
-//! What messages print, each in one line.
+//! Messages printed, each in one line.
 
 ghost use Rattle.std.specs.Prelude.{Some};
 ghost use Rattle.std.specs.Option.{option_map};

@@ -1,4 +1,4 @@
-//! The numbers of options, of router alerts and of what an unknown option asks (RFC 8200 section 4.2, RFC 2711).
+//! The numbers of options, of router alerts, and of the treatment of unknown options (RFC 8200 section 4.2, RFC 2711).
 
 ghost use Rattle.std.specs.Prelude.{◌≡◌, ◌*◌, ◌/◌, Some};
 ghost use Rattle.wirebase.specs.Numbered.{Ascends, IsProper, IsTable, IsEqualityOf};

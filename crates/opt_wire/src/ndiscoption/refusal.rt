@@ -42,7 +42,7 @@ impl<'a> Repr<'a> {
     }
 }
 
-// Why the octets, which begin with no option, don't.
+// The first check that fails in octets that don't begin with an option.
 pub(super) fn why_none(opt: &NdiscOption<&[u8]>) -> Refusal
     requires { IsRead (view_octets opt.now) → ⊥ }
     ensures { Refuses (view_octets opt.now) result }

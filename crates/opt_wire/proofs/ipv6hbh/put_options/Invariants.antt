@@ -4,7 +4,7 @@ use Rattle.opt_wire.specs.Ipv6Option.{value_of}
 use Rattle.opt_wire.specs.Ipv6Hbh.{header_fields, text_len, HaveData}
 use Rattle.opt_wire.proofs.ipv6hbh.put_options.Given as goal
 
--- what is left to write gives what the whole gives
+-- writing the rest gives the result of writing the whole
 abbrev pub invariant-loop-option : goal.invariant-loop-option
 invariant-loop-option l = record {
   texts : put_all (sheet l.w) (header_fields (map value_of (drop l.option-index l.options)))

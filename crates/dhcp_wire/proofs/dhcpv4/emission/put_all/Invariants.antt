@@ -4,7 +4,7 @@ use Rattle.dhcp_wire.specs.Dhcpv4Options.{value_of_option}
 use Rattle.dhcp_wire.specs.Dhcpv4Writer.{the_slice}
 use Rattle.dhcp_wire.proofs.dhcpv4.emission.put_all.Given as goal
 
--- what is left to do gives what the whole gives
+-- doing the rest gives the result of doing the whole
 abbrev pub invariant-loop-option : goal.invariant-loop-option
 invariant-loop-option l = record {
   same : the_slice l.w ≡ the_slice l.initial.w;

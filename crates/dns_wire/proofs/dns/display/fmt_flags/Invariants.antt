@@ -1,4 +1,4 @@
--- What is printed so far, and what the flags still to come print after it.
+-- The text printed so far, and the text that the flags still to come print after it.
 use Rattle.std.proofs.Common.{◌≡◌, ℕ, List, [], ◌++◌, codes, map, length}
 use denote.Text.{Utf8}
 use denote.Shadow.{shadow}

@@ -3,7 +3,7 @@ use Rattle.wirebase.specs.ByteWriter.{sheet, free, put_all, the_slice}
 use Rattle.icmp6_wire.specs.Mld.{values_of, record_texts, AreGroups}
 use Rattle.icmp6_wire.proofs.mld.repr.put_records.Given as goal
 
--- what is left to write gives what the whole gives
+-- writing the rest gives the result of writing the whole
 abbrev pub invariant-loop-record : goal.invariant-loop-record
 invariant-loop-record l = record {
   texts : put_all (sheet l.w) (record_texts (values_of (drop l.record-index l.records)))

@@ -3,7 +3,7 @@ use Rattle.wirebase.specs.ByteWriter.{sheet, free, put, the_slice}
 use Rattle.wirebase.specs.Ipv4.{octets_of}
 use Rattle.dhcp_wire.proofs.dhcpv4.data.RefArrayVecIpv4AddressMAX_DNS_SERVER_COUNTData.put.Given as goal
 
--- what is left to write gives what the whole gives
+-- writing the rest gives the result of writing the whole
 abbrev pub invariant-loop-address : goal.invariant-loop-address
 invariant-loop-address l = record {
   texts : put (sheet l.w) (flat_map octets_of (drop l.address-index l.address-items))

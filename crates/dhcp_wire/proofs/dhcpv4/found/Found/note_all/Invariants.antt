@@ -7,7 +7,7 @@ use Rattle.dhcp_wire.specs.Dhcpv4OptionsAhead.{list_of}
 use Rattle.dhcp_wire.specs.Dhcpv4Packet.{inner, op_field, options_in}
 use Rattle.dhcp_wire.proofs.dhcpv4.found.Found.note_all.Given as goal
 
--- what is left to do gives what the whole gives
+-- doing the rest gives the result of doing the whole
 abbrev pub invariant-loop-option : goal.invariant-loop-option
 invariant-loop-option l = record {
   kept : keep_all (keep (byte_of op_field (inner l.packet).now)) (kept_of l.self) l.option-iterator
