@@ -20,7 +20,7 @@ module _ (order : Order) (code n : ℕ) where
   abbrev pub Tells : List ℕ → List ℕ → Type 0
   Tells bytes value = TellsOption order code n bytes value
 
-  -- behind another option, what the options behind it tell
+  -- after another option, what the options after it tell
   tells_later : (bytes value : List ℕ) (other m : ℕ) → IsOption order bytes other m
       → ((other ≡ code) × (m ≡ n) → ⊥) → Tells bytes value → Tells (drop (option_end m) bytes) value
   tells_later bytes value other m is differs (here found e) =
@@ -28,7 +28,7 @@ module _ (order : Order) (code n : ℕ) where
   tells_later bytes value other m is differs (later other' m' is' some differs' rest) =
       subst (λ k. Tells (drop (option_end k) bytes) value) (sym is'.length_ ∙ is.length_) rest
 
-  -- the same of the bytes behind an option as the code takes them
+  -- the same of the bytes after an option as the code takes them
   pub tells_behind : (bytes value : List ℕ) (other m most : ℕ) → IsOption order bytes other m → other ≢ 0
       → ((other ≡ code) × (m ≡ n) → ⊥) → length (drop (option_end m) bytes) ≤ most
       → Tells (take most (drop (option_end m) bytes)) value ↔ Tells bytes value
@@ -164,7 +164,7 @@ module _ (section : Order) (bytes : List ℕ) where
   shown_behind h one none (first begins) = absurd (none begins)
   shown_behind h one none (behind k is whole shows) = subst (λ j. ShowsBehind j bytes) (sym (one k is)) shows
 
-  -- behind a block that is there as a whole, what the bytes show that do not begin with a packet
+  -- after a block that is there as a whole, what the bytes show that do not begin with a packet
   pub shows_behind : (h : Head) (most : ℕ) → IsHead section bytes h → ((k : Head) → IsHead section bytes k → h ≡ k)
       → h.total_len ≤ length bytes → (BeginsPacket section bytes → ⊥) → length (drop h.total_len bytes) ≤ most
       → ShowsPacket h.order (take most (drop h.total_len bytes)) ↔ ShowsPacket section bytes

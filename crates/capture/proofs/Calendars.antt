@@ -92,7 +92,7 @@ unfolding days_of_months
 months_left year months left days in_month is within so_far =
     let month = rw add-one at is in rw add-one (omega (arith, month))
 
--- the date in a month, behind the months that passed whole
+-- the date in a month, after the months that passed whole
 pub date_found : (year months left days in_month : ℕ) → months < 12 → in_month ≡ month_days year (months + 1)
     → left < in_month → left + days_of_months year months ≡ days
     → (first : ℕ) → date_of first ≡ date year 1 1 → date_of (first + days) ≡ date year (months + 1) (left + 1)
@@ -232,7 +232,7 @@ leap_cycle cycles year =
 year_days-cycle : (cycles year : ℕ) → year_days (400 * cycles + year) ≡ year_days year
 year_days-cycle cycles year = ap (λ leap. if leap then 366 else 365) (leap_cycle cycles year)
 
--- the days behind whole years are of one year
+-- the days after whole years are of one year
 pub within_year : (cycles years day : ℕ) → days_of_years years ≤ day → day < days_of_years (years + 1)
     → day - days_of_years years < year_days (1970 + 400 * cycles + years)
 unfolding days_of_years
@@ -241,7 +241,7 @@ within_year cycles years day least most =
     let next = rw add-one at most in
     rw (year, year_days-cycle cycles (1970 + years)) (omega (arith, next))
 
--- the first day of that year, and the days behind it
+-- the first day of that year, and the days after it
 pub first_day : (cycles years : ℕ)
     → date_of (days_of_years (400 * cycles + years)) ≡ date (1970 + 400 * cycles + years) 1 1
 first_day cycles years =

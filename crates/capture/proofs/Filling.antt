@@ -96,7 +96,7 @@ pub shown_none : (all : List ℕ) (old : Option (List ℕ)) (done : ℕ) → Rea
 shown_none all old done reads shown end =
     subst (λ o. IfSome o (λ xs. length shown ≡ 0 → xs ≡ [])) (nothing_read all old done reads) end
 
--- ---- a front that was read, and what is left behind it
+-- ---- a front that was read, and what is left after it
 
 pub reads_splits : (all octets : List ℕ) (left : Option (List ℕ)) (n : ℕ) → Reads all left octets n
     → Splits all octets left

@@ -86,7 +86,7 @@ pub data BlockEnds (section : Order) (interfaces : List Interface) (bytes : List
 abbrev pub BeginsSection : List ℕ → Type 0
 BeginsSection bytes = IsSectionKind (take 4 bytes)
 
--- The bytes are the next that stands in a capture: a file's header, a record or a block.
+-- The bytes are the next item of a capture: a file's header, a record or a block.
 pub data IsUnit (old : State) (bytes : List ℕ) (new : State) (packet : Option PacketValue) : Type 0 where
   file : (h : FileHeader) → old.stage ≡ stage.Start → length bytes ≡ 24 → IsFileHeader bytes h
       → new.stage ≡ stage.File h → packet ≡ None → IsUnit old bytes new packet
@@ -108,7 +108,7 @@ pub data Ends (s : State) (bytes : List ℕ) (ending : Ending) : Type 0 where
       → Ends s bytes ending
 
 -- These bytes show the next packet's record or block as a whole, and the blocks before it; at the start nothing is
--- known of what comes, and behind the end nothing is read.
+-- known of what comes, and after the end nothing is read.
 abbrev pub ShowsNext : Stage → List ℕ → Type 0
 ShowsNext stage.Start shown = ⊥
 ShowsNext (stage.File h) shown = ShowsRecord most_octets h.order shown
@@ -154,7 +154,7 @@ packet_of r octets = record {
   octets = octets;
 }
 
--- What a call of `next` says of all bytes that were left, where `left` are left behind it: the first packet that they
+-- What a call of `next` says of all bytes that were left, where `left` are left after it: the first packet that they
 -- hold, or what ends them where they hold none.
 abbrev pub GivesNext : State → List ℕ → Next → List ℕ → State → Option (List ℕ) → Type 0
 GivesNext old bytes (next.Record r) octets new left =

@@ -16,7 +16,7 @@ use Rattle.capture.specs.declared.pcap.FileHeader.{FileHeader}
 use Rattle.capture.specs.declared.pcapng.Head.{Head}
 use Rattle.capture.specs.declared.pcapng.Interface.{Interface}
 
--- the bytes of a unit stand in front of what is left
+-- the bytes of a unit precede what is left
 pub record Splits (all front : List ℕ) (left : Option (List ℕ)) : Type 0 where
   pub rest : List ℕ
   pub split : all ≡ front ++ rest

@@ -38,7 +38,7 @@ units resolution = if nat_lt resolution 128 then 10 ^ resolution else 2 ^ (resol
 abbrev pub nanoseconds_of : ℕ → ℕ → ℕ
 nanoseconds_of resolution ticks = ticks * 1000000000 / units resolution
 
--- the digits of a second that a resolution tells, of at most nine: a power of 2 has as many behind the point as one of
+-- the digits of a second that a resolution tells, of at most nine: a power of 2 has as many after the point as one of
 -- 10
 abbrev pub digits_of : ℕ → ℕ
 digits_of resolution = min (resolution % 128) 9

@@ -79,7 +79,7 @@ enum Step {
 pub struct Capture {
     stage: Stage,
     interfaces: Vec<Interface>,
-    // The record or block that was read last, and where its packet stands.
+    // The record or block that was read last, and the place of its packet.
     octets: Vec<u8>,
     start: usize,
     end: usize,

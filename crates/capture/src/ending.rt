@@ -9,7 +9,7 @@ use std::io::Error;
 /// What ends the records of a capture.
 #[derive(Debug, PartialEq, Eq, Clone, Copy)]
 pub enum Ending {
-    /// The capture ends behind a whole record.
+    /// The capture ends after a whole record.
     Whole,
     /// The capture ends within a record or a block.
     Cut,
@@ -17,7 +17,7 @@ pub enum Ending {
     TooLarge,
     /// A section describes more interfaces than are kept.
     TooManyInterfaces,
-    /// A block contradicts itself or what stands before it, by the check that fails first.
+    /// A block contradicts itself or what is before it, by the check that fails first.
     Malformed(Refusal),
     /// The file or the section has a version that is not read.
     Version,

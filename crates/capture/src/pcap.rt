@@ -54,7 +54,7 @@ pub enum Precision {
 /// The header of a file.
 #[derive(Debug, PartialEq, Eq, Clone, Copy)]
 pub struct FileHeader {
-    /// The order of the bytes of the numbers behind the magic number.
+    /// The order of the bytes of the numbers after the magic number.
     pub order: Order,
     /// What the fractions of the seconds count.
     pub precision: Precision,
@@ -178,7 +178,7 @@ impl UnitHead for RecordHeader {
     }
 }
 
-/// The packet of a record with this header, whose bytes stand behind it.
+/// The packet of a record with this header, whose bytes follow it.
 pub fn packet(file: &FileHeader, head: &RecordHeader) -> Packet
     ensures place { result.start ≡ 16 }
     ensures captured_len { result.captured_len ≡ head.now.captured_len }

@@ -109,7 +109,7 @@ const MICROSECONDS: u8 = 6;
 // The code of the option that tells what is added to each time.
 const IF_TSOFFSET: u16 = 14;
 
-/// What stands in front of a block.
+/// The head of a block.
 #[derive(Debug, PartialEq, Eq, Clone, Copy)]
 pub struct Head {
     /// The order of the bytes of its numbers: a section header has its own.

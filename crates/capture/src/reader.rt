@@ -29,7 +29,7 @@ pub fn fill<R: BufRead>(input: &mut R, octets: &mut Vec<u8>, count: usize) -> Re
     Err(Fault::Read)
 }
 
-// Takes what is at hand of so many octets, and answers whether these are all or the input has ended.
+// Takes what is at hand of so many octets, and returns whether these are all or the input has ended.
 fn take_part<R: BufRead>(input: &mut R, octets: &mut Vec<u8>, missing: usize) -> Result<bool, Fault>
     ensures part { IfOk result (λ ended. TakesPart (R.remaining input.old) (R.remaining input.new)
         octets.old.items octets.new.items missing ended) }
@@ -47,7 +47,7 @@ fn take_part<R: BufRead>(input: &mut R, octets: &mut Vec<u8>, missing: usize) ->
     Ok(ended)
 }
 
-/// Passes over so many octets, or over all where there are fewer, and answers whether there were as many.
+/// Passes over so many octets, or over all where there are fewer, and returns whether there were as many.
 pub fn skip<R: BufRead>(input: &mut R, count: usize) -> Result<bool, Fault>
     ensures skips { IfOk result (λ whole. Skips (R.remaining input.old) (R.remaining input.new) count whole) }
     ensures fault { IfErr result (λ fault. fault ≡ Fault.Read) }

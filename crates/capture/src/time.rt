@@ -47,7 +47,7 @@ impl Time {
         digits: 0,
     };
 
-    /// The time of a second and a fraction behind it, which may be more than a second.
+    /// The time of a second and a fraction after it, which may be more than a second.
     pub fn of_fraction(seconds: u32, fraction: u32, precision: Precision) -> Time
         ensures { IsTime result (seconds * 1000000000 + fraction_of precision fraction) (digits_in precision) }
     {
@@ -95,7 +95,7 @@ impl Time {
         }
     }
 
-    // The same of any seconds.
+    // The time of any number of seconds.
     fn shifted(self, seconds: i64) -> Time
         requires { self.nanoseconds < 1000000000 }
         ensures { IsTime result (moved seconds (nanos_of self)) self.digits }

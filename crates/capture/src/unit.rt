@@ -9,7 +9,7 @@ use crate::order::Order;
 use crate::reader::{fill, look, skip};
 use std::io::BufRead;
 
-/// What stands in front of a record or a block, and says how long that is.
+/// What precedes a record or a block, and says how long it is.
 pub trait UnitHead: Copy + Drop {
     ghost LEN: { ℕ };
 

@@ -52,7 +52,7 @@ module _ {E : Type 0} (a b : Option (List ℕ)) (r : Result (Option Reason) E) w
         | Err e ↦ λ gains. tt
       ]
 
-  -- the listing of a value stands in the page, and is gained with each line indented
+  -- the listing of a value is in the page, and is written with each line indented
   pub lists_page : {V R : Type 0} (IsValue : V → Type 0) (listing : V → List ℕ) (Refuses : R → Type 0)
       (of : R → Refusal) (v : V) (page : List ℕ) → IsValue v → page ≡ listing v
       → IfOk r (λ why. Gains a b (indented page) × (why ≡ None))

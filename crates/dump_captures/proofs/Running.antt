@@ -16,7 +16,7 @@ use Rattle.dump_captures.specs.declared.options.Options.{Options}
 use Rattle.dump_captures.specs.declared.tally.Outcome.{Outcome}
 
 -- How far a run has come, with `rest` left of all that there was: it has printed a text, and whatever the packets print
--- that the rest holds, all prints that behind it.
+-- that the rest holds, all prints that after it.
 pub record SoFar (options : Options) (all : List ℕ) (left : Option (List ℕ)) (s : State) (n : ℕ)
     (first tally : TallyValue) (before now : Option (List ℕ)) : Type 0 where
   pub rest : List ℕ

@@ -32,7 +32,7 @@ sum_all number xs i sum all so_far = so_far ∙ ap (sum_up number) (take_all i x
 abbrev with_comma : List ℕ → List ℕ
 with_comma part = codes ", " ++ part
 
--- the parts so far, before the bracket behind them
+-- the parts so far, before the bracket after them
 abbrev pub opened : List (List ℕ) → List ℕ
 opened [] = []
 opened (part ∷ parts) = codes " (" ++ part ++ flat_map (λ further. codes ", " ++ further) parts
@@ -86,7 +86,7 @@ parts-none t reasons i count d within is none =
     let empty : reason_parts t (get_or reasons i d) ≡ [] = rw zero refl in
     parts-more t reasons i d within ∙ ap (λ more. parts_so_far t reasons i ++ more) empty ∙ append-nil _
 
--- and another one is printed behind those before
+-- and another one is printed after those before
 pub parts-some : (t : TallyValue) (reasons : List Reason) (i count : ℕ) (d : Reason) (is_first : Bool)
     (a b c : Option (List ℕ)) → i < length reasons
     → count ≡ refused_for t (get_or reasons i d) → (count ≡ 0 → ⊥) → is_first ≡ is_none (parts_so_far t reasons i)

@@ -81,7 +81,7 @@ has_link-there number (l ∷ links) (suc place) within is =
       | false ↦ has_link-there number links place (omega (arith, within)) is
     ]
 
--- where it is at none, it comes behind the others
+-- where it is at none, it comes after the others
 pub one_more_of-missing : (number : ℕ) (links : List UnreadLink) → has_link number links ≡ false
     → one_more_of number links ≡ links ++ (record { link_type = number; frames = 1 } ∷ [])
 one_more_of-missing number [] none = refl
@@ -118,7 +118,7 @@ with_unread-there number t place seen lent written seen_is lent_is is within fou
       one_more_of-there number t.links place here is_it before,
     ) refl
 
--- where its link is not found, and there is room for it, it comes behind the others
+-- where its link is not found, and there is room for it, it comes after the others
 pub with_unread-new : (number : ℕ) (t : TallyValue) (seen written : List UnreadLink) → seen ≡ t.links
     → has_link number seen ≡ false → length t.links < 16
     → written ≡ t.links ++ (record { link_type = number; frames = 1 } ∷ [])

@@ -14,7 +14,7 @@ use Rattle.std.specs.Prelude.{map}
 use Rattle.dump_captures.specs.Arguments.{ReadingValue, Reads, TaskValue, at_end, ends, more, nothing_read, then_word}
 use Rattle.dump_captures.specs.Arguments.{with_word}
 
--- what is left of a vector behind its first item
+-- what is left of a vector after its first item
 pub skipped : {X Z : Type 0} (it : IntoIter X Z) (s : Skip (IntoIter X Z))
     → into_iter_len it ≡ length (into_iter_items it) → skip_source s ≡ it → skip_count s ≡ 1
     → YieldsList (skip_steps (into_iter_steps {X = X} {Z = Z})) (λ y. y) s (drop 1 (into_iter_items it))

@@ -60,14 +60,14 @@ then_name (Err wrong) name = Err wrong
 abbrev pub with_names : List (List ℕ) → Result Only (List ℕ)
 with_names names = fold then_name (Ok chooses_none) names
 
--- the names stand between commas
+-- the names are separated by commas
 unfoldable pub only_of : List ℕ → Result Only (List ℕ)
 only_of list = with_names (slice_split (λ octet. octet == 44) list)
 
 -- ---- the task
 
--- What is wrong: a word that is no option, a name in a list that is no kind's, or that there is no list behind
--- `--only`. The last is told of arguments that are no words.
+-- What is wrong: a word that is no option, a name in a list that is no kind's, or that there is no list after `--only`.
+-- The last is told of arguments that are no words.
 pub data WrongValue : Type 0 where
   unknown_option : List ℕ → WrongValue
   unknown_kind : List ℕ → WrongValue
@@ -138,12 +138,12 @@ with_option word r =
     else if bytes_eq word (codes "--help") then ends help
     else ends (unknown (unknown_option word))
 
--- the list of names behind `--only`, of which the last list decides
+-- the list of names after `--only`, of which the last list decides
 abbrev pub with_only : Result Only (List ℕ) → ReadingValue → Reads
 with_only (Err name) r = ends (unknown (unknown_kind name))
 with_only (Ok only) r = more (record r { options = record r.options { only = only }; wants_kinds = false })
 
--- Behind `--only` stands a list of names, and behind `--` are files alone.
+-- `--only` is followed by a list of names, and `--` by files alone.
 abbrev pub with_word : List ℕ → ReadingValue → Reads
 with_word word r =
     if r.wants_kinds then with_only (only_of word) r

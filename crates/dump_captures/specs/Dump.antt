@@ -50,7 +50,7 @@ pub data PacketPrints (options : Options) (number : ℕ) (p : PacketValue) (text
 abbrev pub next_number : ℕ → ℕ
 next_number n = min (n + 1) (2 ^ 64 - 1)
 
--- What the packets behind n others print, one after another; each is counted.
+-- What the packets after n others print, one after another; each is counted.
 abbrev pub PacketsPrint : Options → ℕ → TallyValue → List PacketValue → List ℕ → TallyValue → Type 0
 PacketsPrint options n old [] text new = (text ≡ []) × (new ≡ old)
 PacketsPrint options n old (p ∷ packets) text new =

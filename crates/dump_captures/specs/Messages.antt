@@ -1,4 +1,4 @@
--- What a control packet prints below its heading, each line behind two spaces, and why it is refused if it is.
+-- What a control packet prints below its heading, each line after two spaces, and why it is refused if it is.
 use Rattle.std.specs.Prelude.{◌≡◌, ℕ, Bool, true, false, List, [], ◌++◌, length, nat_lt, if◌then◌else◌}
 use Rattle.std.specs.Prelude.{Option, None, Some, codes}
 use Rattle.std.specs.Option.{option_map}
@@ -104,7 +104,7 @@ abbrev pub DhcpPrints : List ℕ → List ℕ → Option Reason → Type 0
 DhcpPrints octets =
     ListsOrRefuses (IsPacket octets) (Indents dhcp_listing) (dhcp_refusals.Refuses octets) refusal.Dhcp
 
--- behind a message of DNS, why it is not listed to its end
+-- after a message of DNS, why it is not listed to its end
 abbrev pub end_text : Option Unread → List ℕ
 end_text None = []
 end_text (Some unread) = refusal_text (refusal.Dns unread)

@@ -140,7 +140,7 @@ head_of (datagram.Cut head) = Some head
 head_of (datagram.Fragment head) = Some head
 head_of _ = None
 
--- the ports behind a header of IPv4; a fragment that is not the first begins with none
+-- the ports after a header of IPv4; a fragment that is not the first begins with none
 abbrev pub ports_behind : List ℕ → Head → Option (ℕ × ℕ)
 ports_behind bytes h = if h.frag_offset == 0 then ports_in h.protocol (drop (header_len_in bytes) bytes) else None
 

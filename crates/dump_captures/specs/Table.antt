@@ -14,7 +14,7 @@ use Rattle.dump_captures.specs.declared.tally.Row.{Row}
 abbrev pub head_text : List ℕ
 head_text = codes "kind\tlisted\tcut\tfragment\tshort\tchecksum\ttype\tquote\tname\tmalformed\toctets\n"
 
--- numbers, each behind a tab
+-- numbers, each after a tab
 abbrev pub with_tabs : List ℕ → List ℕ
 with_tabs numbers = flat_map (λ n. codes "\t" ++ decimal n) numbers
 

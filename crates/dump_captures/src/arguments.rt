@@ -28,9 +28,9 @@ pub enum Task {
 pub enum Wrong {
     /// This is no option.
     UnknownOption(String),
-    /// This stands in a list behind `--only`, and is no kind.
+    /// This item of a list after `--only` is no kind.
     UnknownKind(String),
-    /// No list stands behind `--only`.
+    /// No list follows `--only`.
     MissingList,
     /// One of them is no text, and so none was read.
     NotText,
@@ -119,7 +119,7 @@ impl Reading {
         Ok(self.read_option(argument))
     }
 
-    // Reads the list of names behind `--only`.
+    // Reads the list of names after `--only`.
     fn read_kinds(&mut self, alloc: Global, list: &str) -> Result<Step, Fault>
         ensures step { IfOk result (λ step. reads_of step (reading_of self.new)
             ≡ with_only (only_of list.now) (reading_of self.old)) }

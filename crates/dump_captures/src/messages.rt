@@ -1,4 +1,4 @@
-//! What a control packet prints below its heading, each line behind two spaces.
+//! What a control packet prints below its heading, each line after two spaces.
 
 #![tactic(auto, using(listing::proofs::Printing::gained, listing::proofs::Printing::gains_both))]
 
@@ -26,8 +26,8 @@ use listing::page::{Page, write_indented};
 use std::io;
 use std::io::Write;
 
-/// Prints what a control packet holds, and answers why it is refused, or None where it is listed. What is to be
-/// indented stands in the page meanwhile.
+/// Prints what a control packet holds, and returns why it is refused, or None where it is listed. Text that is to be
+/// indented is in the page meanwhile.
 pub fn show_listing<W: Write>(
     output: &mut W,
     page: &mut Page,

@@ -66,7 +66,7 @@ pub fn run_onto<R: Read + Drop, W: Write + Drop>(
     }
 }
 
-/// The same over an output that has a buffer, which counts on from what was counted.
+/// Dumps to an output that has a buffer, and adds to the counts so far.
 pub fn dump<R: Read + Drop, W: Write>(
     alloc: Global,
     options: &Options,
@@ -88,7 +88,7 @@ pub fn dump<R: Read + Drop, W: Write>(
     Ok(ending)
 }
 
-// Prints the packets, and answers what ends them. What is printed is written out before the input is waited for.
+// Prints the packets, and returns what ends them. What is printed is written out before the input is waited for.
 fn show_packets<R: Read, W: Write>(
     alloc: Global,
     options: &Options,
@@ -131,7 +131,7 @@ fn write_out_before_wait<R: Read, W: Write>(
     Ok(())
 }
 
-/// Prints a packet, and answers what became of it. Requires that the record's time is in order.
+/// Prints a packet, and returns what became of it. Requires that the record's time is in order.
 pub fn show_packet<W: Write>(
     options: &Options,
     output: &mut W,

@@ -48,7 +48,7 @@ impl<R: Read> Read for Watched<R> {
     }
 }
 
-/// The whole of `pcapdump`: prints what the files that the arguments name hold, and answers the program's status.
+/// The whole of `pcapdump`: prints what the files that the arguments name hold, and returns the program's status.
 pub fn run_program(rt: &(impl Env + Files + Input + Print + AllocGlobal)) -> u8 {
     let task = match env::args(rt) {
         Ok(arguments) => read_task(rt.alloc(), arguments),
@@ -65,7 +65,7 @@ pub fn run_program(rt: &(impl Env + Files + Input + Print + AllocGlobal)) -> u8 
     }
 }
 
-// Prints the help, and answers the status.
+// Prints the help, and returns the status.
 fn print_help(rt: &impl Print) -> u8 {
     match println!(rt; "{}\n\n{}", help::USAGE, help::HELP) {
         Ok(()) => WHOLE,
@@ -73,7 +73,7 @@ fn print_help(rt: &impl Print) -> u8 {
     }
 }
 
-// Prints the captures of these files, and answers the status, the greatest that holds.
+// Prints the captures of these files, and returns the status, the greatest that holds.
 fn dump_all(
     rt: &(impl Files + Input + Print + AllocGlobal),
     options: &Options,
@@ -122,7 +122,7 @@ fn dump_each<W: Write>(
     Ok(())
 }
 
-// Prints the capture of a file, and answers the status. A fault of the output or of memory ends it all.
+// Prints the capture of a file, and returns the status. A fault of the output or of memory ends it all.
 fn dump_file<W: Write>(
     rt: &(impl Files + Input + Print + AllocGlobal),
     options: &Options,
@@ -159,7 +159,7 @@ fn dump_file<W: Write>(
     }
 }
 
-// Prints the capture of an input, and answers what ends it, and the error with which the last read failed, if any.
+// Prints the capture of an input, and returns what ends it, and the error with which the last read failed, if any.
 fn dump_input<R: Read + Drop, W: Write>(
     rt: &impl AllocGlobal,
     options: &Options,
@@ -177,7 +177,7 @@ fn open<R: Files>(rt: &R, file: &str) -> io::Result<R::File> {
     if fs::metadata(rt, file)?.is_dir() {
         return Err(io::Error::from(io::ErrorKind::IsADirectory));
     }
-    File::open(rt, file)
+    fs::open(rt, file)
 }
 
 // The name of all these captures together, which one alone has.
@@ -206,7 +206,7 @@ fn report_counts(
     Ok(())
 }
 
-// Says what ended a capture if it did not end behind a whole record, and answers the status.
+// Says what ended a capture if it did not end after a whole record, and returns the status.
 fn report_ending(rt: &impl Print, file: &str, ending: Ending, packets: u64) -> u8 {
     let status = match ending {
         Ending::Whole => return WHOLE,
@@ -220,7 +220,7 @@ fn report_ending(rt: &impl Print, file: &str, ending: Ending, packets: u64) -> u
     status
 }
 
-// Says that an input could not be read on, and why, and answers the status.
+// Says that an input could not be read on, and why, and returns the status.
 fn report_unread(rt: &impl Print, file: &str, error: Option<io::Error>, packets: u64) -> u8 {
     let Some(error) = error else {
         let _ = eprintln!(rt; "pcapdump: {file}: reading failed");
@@ -233,7 +233,7 @@ fn report_unread(rt: &impl Print, file: &str, error: Option<io::Error>, packets:
     FAILED
 }
 
-// Says what is wrong about the arguments, and how the program is called, and answers the status.
+// Says what is wrong about the arguments, and how the program is called, and returns the status.
 fn report_wrong(rt: &impl Print, wrong: &Wrong) -> u8 {
     let _ = match wrong {
         Wrong::UnknownOption(word) => {
@@ -250,7 +250,7 @@ fn report_wrong(rt: &impl Print, wrong: &Wrong) -> u8 {
     WRONG
 }
 
-// Says what ended the program, and answers the status. Where nobody reads on, that is no fault.
+// Says what ended the program, and returns the status. Where nobody reads on, that is no fault.
 fn report_fault(rt: &impl Print, fault: Fault) -> u8 {
     let what = match fault {
         Fault::Closed => return WHOLE,

@@ -237,7 +237,7 @@ fn refused_v4<'a>(tags: &'a [u8], octets: &[u8], reason: Reason, refusal: Refusa
     }
 }
 
-// The ports behind a header of IPv4; a fragment that is not the first begins with none.
+// The ports after a header of IPv4; a fragment that is not the first begins with none.
 fn ports_behind(octets: &[u8], head: &Head) -> Option<(u16, u16)>
     ensures { result ≡ ports_behind octets.now head.now }
 {
@@ -248,7 +248,7 @@ fn ports_behind(octets: &[u8], head: &Head) -> Option<(u16, u16)>
     }
 }
 
-// What stands behind a header of IPv4, by the length that it has.
+// What follows an IPv4 header, by the header's length.
 fn behind_header(octets: &[u8]) -> &[u8]
     ensures { result.now ≡ drop (header_len_in octets.now) octets.now }
 {

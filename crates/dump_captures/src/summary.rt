@@ -101,7 +101,7 @@ fn write_reasons<W: Write>(output: &mut W, tally: &Tally) -> io::Result<()>
     output.write_all(b")")
 }
 
-// A reason with its number, behind what stands before the first or a further one.
+// A reason with its number, after the text that precedes the first or a further one.
 fn write_reason<W: Write>(
     output: &mut W,
     is_first: bool,

@@ -57,7 +57,7 @@ fn show_row<W: Write>(output: &mut W, kind: Kind, row: &Row) -> io::Result<()>
     output.write_all(b"\n")
 }
 
-// Prints numbers, each behind a tab.
+// Prints numbers, each after a tab.
 fn show_numbers<W: Write>(output: &mut W, numbers: &[u64]) -> io::Result<()>
     ensures { OnOk result (Gains (W.contents output.old) (W.contents output.new)
         (with_tabs numbers.now)) }

@@ -14,7 +14,7 @@ use std::io::Write;
 
 const DAY_SECONDS: u64 = 86_400;
 
-// How long the text of a date is whose year has four digits, and that of the time behind it.
+// How long the text of a date is whose year has four digits, and that of the time after it.
 const DATE_LEN: usize = 10;
 
 const TIME_LEN: usize = 20;
@@ -99,7 +99,7 @@ fn date_octets(date: Date) -> [u8; DATE_LEN]
     ]
 }
 
-// Hours, minutes and seconds, nine digits of nanoseconds, and what stands between them.
+// Hours, minutes and seconds, nine digits of nanoseconds, and the characters between them.
 fn time_octets(seconds: u64, nanoseconds: u32) -> [u8; TIME_LEN]
     ensures { result ≡ time_of_day_text seconds nanoseconds }
 {
@@ -124,7 +124,7 @@ fn digit(number: u64) -> u8
     b'0' + (number % 10) as u8
 }
 
-// A date, and a time behind it.
+// A date, and a time after it.
 fn join(date: &[u8; DATE_LEN], time: &[u8; TIME_LEN]) -> [u8; DATE_LEN + TIME_LEN]
     ensures { result ≡ date.now ++ time.now }
 {

@@ -1,4 +1,4 @@
--- A line that is cut behind its first word: that word, and those of what follows.
+-- A line that is cut after its first word: that word, and those of what follows.
 use Rattle.std.proofs.Common.{◌≡◌, ◌≢◌, ℕ, zero, suc, ◌-◌, ◌<◌, ◌≤◌, List, [], ◌∷◌, ◌++◌, All, length, take, drop}
 use Rattle.std.proofs.Common.{refl, ap, sym, ◌∙◌, inl, inr, arith, eq-zero-or-pos, take_all, take-append-drop}
 use Rattle.std.proofs.Common.{length-drop, length-take-le}
@@ -16,7 +16,7 @@ words_in-spaces (x ∷ spaces) rest are =
     rw this (words_in-append [] (spaces ++ rest)
     ∙ words_in-spaces spaces rest (All-tail (λ octet. octet ≡ 32) x spaces are))
 
--- a word, with a space behind it or nothing
+-- a word, with a space after it or nothing
 words_in-first : (word : List ℕ) (space : ℕ) (rest : List ℕ) → Free word → 0 < length word → space ≡ 32
     → words_in (word ++ (space ∷ rest)) ≡ word ∷ words_in (space ∷ rest)
 words_in-first word space rest free some is =
@@ -49,7 +49,7 @@ module _ (text : List ℕ) (n : ℕ) (some : 0 < length text) (first : slice_ind
       ap words_in (sym (take-append-drop n text))
       ∙ rest_cut (drop n text) refl (λ more. ends (omega (arith, more, length-drop n text)))
 
--- what stands behind some spaces: a word that is cut off, or none
+-- what follows some spaces: a word that is cut off, or nothing
 module _ (whole : List ℕ) (s : ℕ) (within : s ≤ length whole) (spaces : All (λ octet. octet ≡ 32) (take s whole)) where
   abbrev pub behind : List ℕ
   behind = take (length whole - s) (drop s whole)

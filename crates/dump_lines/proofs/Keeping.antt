@@ -72,7 +72,7 @@ module _ (front : List ℕ) (n : ℕ) (is : IsFront front n) where
   front_bad five [] = ap shape_of words_in-end ∙ shape_of-five is.words [] (is.count ∙ five)
   front_bad five (y ∷ ys) = ap shape_of (words_in-front y ys) ∙ shape_of-five is.words _ (is.count ∙ five)
 
-  -- a word with a space behind it makes a longer front
+  -- a word with a space after it makes a longer front
   pub front_more : (word : List ℕ) → Free word → 0 < length word → IsFront ((front ++ word) ++ (32 ∷ [])) (n + 1)
   front_more word free some = record {
     words = is.words ++ (word ∷ []);
@@ -85,7 +85,7 @@ module _ (front : List ℕ) (n : ℕ) (is : IsFront front n) where
     no_end = strip_last-append 13 (front ++ word) 32 [];
   }
 
-  -- behind it, a word that is too long even without a CR
+  -- after it, a word that is too long even without a CR
   long_word : (word rest : List ℕ) → Free word → 131071 < length word
       → (first : List ℕ) × (more : List (List ℕ))
       × (words_in (strip_last 13 (front ++ (word ++ rest))) ≡ is.words ++ (first ∷ more)) × (131070 < length first)

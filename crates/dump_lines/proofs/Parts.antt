@@ -40,7 +40,7 @@ strip_last-append octet (x ∷ xs) y ys =
     strip_last-more octet x (xs ++ (y ∷ ys)) (length xs + length ys) (omega (arith, length-append xs (y ∷ ys)))
     ∙ ap (λ l. x ∷ l) (strip_last-append octet xs y ys)
 
--- where it does not stand, nothing goes
+-- where there is none, nothing is dropped
 pub strip_last-free : (octet : ℕ) (xs : List ℕ) → All (λ x. x ≢ octet) xs → strip_last octet xs ≡ xs
 strip_last-free octet [] free = refl
 strip_last-free octet (x ∷ []) free = rw (ne_eqb x octet (All-head (λ x. x ≢ octet) x [] free)) refl
@@ -116,7 +116,7 @@ words_in-free xs ys free some =
           ∙ rw (lt-ltb 0 (length (xs ++ first.0)) long) refl,
     )
 
--- with nothing behind them they are the word
+-- with nothing after them they are the word
 pub words_in-word : (xs : List ℕ) → Free xs → 0 < length xs → words_in xs ≡ xs ∷ []
 words_in-word xs free some =
     let whole = parts_of-free xs [] [] [] free refl in

@@ -68,7 +68,7 @@ LinesPrint-more (other ∷ shapes) shape text first (mine, more, this, rest, e) 
   rw e (append_assoc mine more first),
 )
 
--- what is written out gains nothing, and what is gained behind that is all that is
+-- what is written out gains nothing, and what is gained after that is all that is
 pub gains_kept : (a b : Option (List ℕ)) → Keeps a b → Gains a b []
 gains_kept None b kept = record { appends = tt }
 gains_kept (Some xs) None kept = absurd kept

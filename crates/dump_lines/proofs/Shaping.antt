@@ -19,7 +19,7 @@ pub are_short-more : (words : List (List ℕ)) (word : List ℕ) → are_short w
 are_short-more [] word short one = rw (le-leb (length word) 131070 one) refl
 are_short-more (first ∷ words) word short one = grind (arith, are_short-more words word)
 
--- a word behind some others is too long, or is a fifth
+-- a word after some others is too long, or is a fifth
 pub shape_of-too_long : (words : List (List ℕ)) (word : List ℕ) (more : List (List ℕ)) → 131070 < length word
     → shape_of (words ++ (word ∷ more)) ≡ bad
 shape_of-too_long words word more long = shape_of-long words word more (lt-leb (length word) 131070 long)
@@ -54,7 +54,7 @@ module _ {X : Type 0} (now : X → List ℕ) where
       let many : length (a ∷ b ∷ c ∷ d ∷ e ∷ xs) - 1 - 1 ≡ suc (suc (suc (length xs))) = omega arith in
       rw (many, both_bad (are_short (map now (a ∷ b ∷ c ∷ d ∷ e ∷ xs)))) refl
 
--- the command of a word, by the words behind it
+-- the command of a word, by the words after it
 module _ {X : Type 0} (now : X → List ℕ) (word : List ℕ) where
   pub command_of-other : (xs : List X) → length xs ≡ 1 → bytes_eq word (codes "name") ≡ false
       → None ≡ command_of word (map now xs)

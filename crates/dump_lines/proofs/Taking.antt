@@ -43,7 +43,7 @@ shape_or_bad true x y e = refl
 shape_or_bad false x y e = e
 
 module _ (line : Line) (is : IsKept line) where
-  -- spaces behind a space, or in front
+  -- spaces after a space, or in front
   pub takes_spaces : (spaces : List ℕ) → Spaces spaces → line.start ≡ length line.octets.items → Takes line line spaces
   takes_spaces spaces are behind =
       let none : is.word ≡ [] =
@@ -82,7 +82,7 @@ module _ (line : Line) (is : IsKept line) where
           rw this (ap line_shape (sym (append_assoc line.octets.items (32 ∷ []) (spaces ++ rest)))
           ∙ spaces_skipped (line.octets.items ++ (32 ∷ [])) (line.words + 1) (front_longer more) spaces rest rest_are)
 
-  -- spaces behind a word
+  -- spaces after a word
   pub takes_word_end : (new : Line) (spaces : List ℕ) → Spaces spaces → length spaces ≢ 0
       → line.start ≢ length line.octets.items
       → new.octets.items ≡ line.octets.items ++ (32 ∷ []) → new.is_bad ≡ line.is_bad → Takes line new spaces
@@ -112,7 +112,7 @@ module _ (line : Line) (is : IsKept line) where
     );
   }
 
-  -- spaces behind one word more than a line may have
+  -- spaces after one word more than a line may have
   pub takes_many : (new : Line) (spaces : List ℕ) → Spaces spaces → length spaces ≢ 0
       → line.start ≢ length line.octets.items
       → line.words ≡ 4 → new.is_bad ≡ true → Takes line new spaces
@@ -304,7 +304,7 @@ line_read (Some octets) (Some left) (Some rest) fresh line new begun count is re
 
 -- ---- what was at hand
 
--- spaces and what stands behind them, of octets at hand
+-- spaces and what follows them, of octets at hand
 module _ (shown : List ℕ) (s n : ℕ) (in_shown : s ≤ length shown)
     (in_rest : n ≤ length (take (length shown - s) (drop s shown))) where
   rest_is : take (length shown - s) (drop s shown) ≡ drop s shown

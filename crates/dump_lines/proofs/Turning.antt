@@ -51,7 +51,7 @@ octets_of-append (digit ∷ []) rest even = absurd (omega arith)
 octets_of-append (high ∷ low ∷ front) rest even =
     ap (λ octets. (value high * 16 + value low) ∷ octets) (octets_of-append front rest (omega arith))
 
--- the octets of some digits more, behind those that are written
+-- the octets of some digits more, after those that are written
 more : (text octets after digits : List ℕ) (i j k l : ℕ) → length digits % 2 ≡ 0
     → drop j text ≡ digits ++ drop l text → take k after ≡ take i octets ++ octets_of digits
     → take i octets ++ octets_of (drop j text) ≡ octets_of text
@@ -126,7 +126,7 @@ digit_small x is = grind arith
 value_small : (x : ℕ) → IsDigit x → value x < 16
 value_small x is = grind arith
 
--- the low four bits of an octet behind others
+-- the low four bits of an octet after others
 low_step : (n m x : ℕ) → x < 128 → bit_and (n * 256 + x) (m * 256 + 15) ≡ bit_and n m * 256 + x % 16
 low_step n m x small = rw (and_block 8 n m x 15 (omega (arith, small)) (omega arith), and_mask x 4) refl
 
@@ -160,7 +160,7 @@ values_within [] all = omega arith
 values_within (x ∷ xs) all =
     omega (arith, value_small x (All-head IsDigit x xs all), values_within xs (All-tail IsDigit x xs all))
 
--- of two values, the octet behind those of others
+-- of two values, the octet after those of others
 octet_step : (n m v w : ℕ) → v < 16 → w < 16 → n % 256 < 16
     → bit_and (16 * ((n * 256 + w) * 256 + v) + ((n * 256 + w) * 256 + v) / 256) (m * 65536 + 255)
     ≡ bit_and (16 * n + n / 256) m * 65536 + (v * 16 + w)

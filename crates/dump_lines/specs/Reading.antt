@@ -19,14 +19,14 @@ pub record IsFresh (line : Line) : Type 0 where
 pub record Takes (old new : Line) (octets : List ℕ) : Type 0 where
   pub shape : (rest : List ℕ) → shape_from old (octets ++ rest) ≡ shape_from new rest
 
--- octets behind which a word begins: so many words, whatever follows, and no CR at the end
+-- octets after which a word begins: so many words, whatever follows, and no CR at the end
 pub record IsFront (front : List ℕ) (n : ℕ) : Type 0 where
   pub words : List (List ℕ)
   pub count : length words ≡ n
   pub followed : (rest : List ℕ) → words_in (front ++ rest) ≡ words ++ words_in rest
   pub no_end : strip_last 13 front ≡ front
 
--- at most four whole words are kept, each with a space behind it, and a fifth as far as it may be the last
+-- at most four whole words are kept, each with a space after it, and a fifth as far as it may be the last
 pub record IsKept (line : Line) : Type 0 where
   pub front : List ℕ
   pub word : List ℕ
@@ -46,7 +46,7 @@ NextLine octets left line true =
     × (left ≡ Some (drop_through 10 octets))
 NextLine octets left line false = octets ≡ []
 
--- a part of a line was taken off what a reader had left: octets of the line, and behind them its LF where it has ended,
+-- a part of a line was taken off what a reader had left: octets of the line, and after them its LF where it has ended,
 -- or nothing where nothing is left
 pub record TakesPart (old new : Option (List ℕ)) (before after_ : Line) (count : ℕ) (ended : Bool) : Type 0 where
   pub text : List ℕ

@@ -1,4 +1,4 @@
-//! One look at an input for its next line, which is read where it stands if it is at hand whole.
+//! One look at an input for its next line, which is read in the input's buffer if it is there as a whole.
 
 ghost use Rattle.std.specs.Prelude.{◌≡◌, ◌≤◌, ◌⊎◌, ℕ, IfOk, IfErr, IfSome, OnSome, List, Option, length, take};
 ghost use Rattle.std.specs.Io.KnownBytes.{Consumes, IsAtEnd};
@@ -22,7 +22,7 @@ pub enum Glance<'a> {
     End,
 }
 
-/// Looks for the next line, whose packet stands in the room.
+/// Looks for the next line, whose packet goes to the buffer.
 #[inline]
 pub fn look<'a, R: BufRead>(
     alloc: Global,
@@ -45,7 +45,8 @@ pub fn look<'a, R: BufRead>(
     Ok(glance)
 }
 
-// The same of the octets at hand, of which there are none at the input's end alone; answers how many are taken too.
+// `look` over the buffered octets, which are empty only at the input's end; also returns the number of octets that are
+// taken.
 #[inline]
 fn look_at<'a>(
     alloc: Global,

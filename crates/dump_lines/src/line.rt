@@ -13,7 +13,7 @@ use listing::printer;
 use std::alloc::Global;
 use std::io::Write;
 
-/// Prints what a line holds, and answers whether its shape is known.
+/// Prints what a line holds, and returns whether its shape is known.
 ///
 /// It is a command, the words for that, and a packet. A line without a word prints nothing.
 pub fn show_line<W: Write>(
@@ -30,7 +30,7 @@ pub fn show_line<W: Write>(
     show_shape(output, line.shape(alloc, room)?)
 }
 
-/// The same of its shape.
+/// Prints the output of a line of this shape.
 pub fn show_shape<W: Write>(output: &mut W, shape: Shape<'_>) -> Result<bool, Fault>
     ensures known { IfOk result (λ known. known ≡ is_known (seen shape.entry)) }
     ensures prints { OnOk result (GainsSome (W.contents output.old) (W.contents output.new)

@@ -30,7 +30,7 @@ pub fn run<R: Read + Drop, W: Write + Drop>(
     Ok(all_known)
 }
 
-/// The same, which hands the output back with all that was printed written out.
+/// Runs the program and returns the output with all that was printed written out.
 pub fn run_onto<R: Read + Drop, W: Write + Drop>(
     alloc: Global,
     input: R,
@@ -99,7 +99,7 @@ fn show_lines<R: Read, W: Write>(
     Err(Fault::Read)
 }
 
-// Prints what the next line holds, and answers whether its shape is known, or None where there is no line. What is kept
+// Prints what the next line holds, and returns whether its shape is known, or None where there is no line. What is kept
 // of a line that is not at hand whole is kept in `line`, and the packet of one that is in `room`.
 #[tactic(auto, using(crate::proofs::Running::gains_behind))]
 fn show_next<R: Read, W: Write>(
@@ -125,7 +125,7 @@ fn show_next<R: Read, W: Write>(
     }
 }
 
-// The same of a line that is not at hand whole. Its packet may be long, and is not kept for the lines after it.
+// Shows a line that is not buffered as a whole. Its packet may be long, and is not kept for the lines after it.
 #[tactic(auto, using(crate::proofs::Running::gains_behind))]
 fn show_part<R: Read, W: Write>(
     alloc: Global,

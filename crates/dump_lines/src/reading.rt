@@ -1,7 +1,7 @@
 //! Lines of an input, read in bounded memory.
 //!
-//! What is kept of a line are its words, each with one space behind it but the last. A line with a word too long
-//! or too many words is bad whatever follows, so that nothing more of it is kept.
+//! What is kept of a line are its words, each with one space after it but the last. A line with a word too long or too
+//! many words is bad whatever follows, so that nothing more of it is kept.
 
 ghost use Rattle.std.specs.Prelude.{◌≡◌, ◌≢◌, ◌≤◌, ◌⊎◌, ℕ, All, IfOk, IfErr, IfSome, OnSome, List, [], length, take};
 ghost use Rattle.std.specs.Prelude.{◌↔◌, IsOk, Option};
@@ -21,11 +21,11 @@ use std::io::{BufRead, ErrorKind};
 /// A line as far as it is read.
 #[derive(Drop)]
 pub struct Line {
-    // Its words, each with one space behind it but the last.
+    // Its words, each with one space after it but the last.
     octets: Vec<u8>,
     // Where the last of them begins.
     start: usize,
-    // How many stand before that one.
+    // The number of octets before that one.
     words: usize,
     // Whether the line is bad, whatever follows.
     is_bad: bool,
@@ -55,7 +55,7 @@ impl Line {
         self.is_bad = false;
     }
 
-    /// Its shape, once it is read. Its packet stands in the room.
+    /// The line's shape, once it is read. The packet is in the buffer.
     pub fn shape<'a>(&self, alloc: Global, room: &'a mut Vec<u8>) -> Result<Shape<'a>, Fault>
         ensures shape { IfOk result (λ shape. seen shape ≡ shape_from self.now []) }
         ensures fault { IfErr result (λ fault. fault ≡ Fault.Memory) }
@@ -66,7 +66,7 @@ impl Line {
         Shape::of_line(alloc, room, self.octets.as_slice())
     }
 
-    // Takes spaces, of which one is kept where a word stands before them.
+    // Takes spaces, of which one is kept after a word.
     fn take_spaces(&mut self, spaces: &[u8]) -> Result<(), Fault>
         requires kept { IsKept self.old }
         requires spaces { All (λ octet. octet ≡ 32) spaces.now }
@@ -112,7 +112,7 @@ impl Line {
     }
 }
 
-/// Reads the next line, and answers whether there was one.
+/// Reads the next line, and returns whether there was one.
 pub fn read_line<R: BufRead>(input: &mut R, line: &mut Line) -> Result<bool, Fault>
     ensures next { IfOk result (λ more. IfSome (R.remaining input.old) (λ octets.
         NextLine octets (R.remaining input.new) line.new more)) }
@@ -143,8 +143,8 @@ pub fn try_again(error: &io::Error) -> Result<(), Fault>
     }
 }
 
-// Takes spaces and what is at hand of a word behind them; answers how many octets were taken, and whether the line
-// or the input has ended.
+// Takes spaces and what is at hand of a word after them; answers how many octets were taken, and whether the line or
+// the input has ended.
 fn take_part<R: BufRead>(input: &mut R, line: &mut Line) -> Result<(usize, bool), Fault>
     requires { IsKept line.old }
     ensures kept { IfOk result (λ _. IsKept line.new) }
@@ -164,7 +164,7 @@ fn take_part<R: BufRead>(input: &mut R, line: &mut Line) -> Result<(usize, bool)
     Ok((count, ended))
 }
 
-// The same of the octets at hand, of which there are none at the input's end alone.
+// `take_part` of the buffered octets, which are empty only at the input's end.
 fn take_shown(line: &mut Line, shown: &[u8]) -> Result<(usize, bool), Fault>
     requires { IsKept line.old }
     ensures kept { IfOk result (λ _. IsKept line.new) }
@@ -181,7 +181,7 @@ fn take_shown(line: &mut Line, shown: &[u8]) -> Result<(usize, bool), Fault>
     Ok((end, shown.is_empty()))
 }
 
-// Takes the spaces in front and the word behind them, or all that a bad line has at hand, and answers how many octets
+// Takes the spaces in front and the word after them, or all that a bad line has at hand, and returns how many octets
 // these are.
 fn take_front(line: &mut Line, shown: &[u8]) -> Result<usize, Fault>
     requires { IsKept line.old }

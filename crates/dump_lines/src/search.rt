@@ -1,4 +1,4 @@
-//! Where an octet stands among others: a word's end or a line's, or the end of a run of spaces.
+//! The place of an octet among others: a word's or a line's end, or the end of a run of spaces.
 
 ghost use Rattle.std.specs.Prelude.{◌≡◌, ◌≢◌, ◌<◌, ◌≤◌, ◌⊎◌, All, false, length, slice_index, take};
 
@@ -26,7 +26,7 @@ pub fn spaces_len(octets: &[u8]) -> usize
     octets.len()
 }
 
-// The same, by whole steps as far as they are spaces.
+// The end of a run of spaces, by whole steps as far as these are spaces.
 #[inline(never)]
 fn many_spaces_len(octets: &[u8]) -> usize
     ensures bound { result ≤ length octets.now }
@@ -55,8 +55,7 @@ fn steps_of_spaces(octets: &[u8]) -> usize
     steps * STEP
 }
 
-// Whether another octet than a space stands among these. There is no branch between the octets, so that all are
-// compared at once.
+// Whether any of these octets is not a space. There is no branch between the octets, so that all are compared at once.
 #[inline(always)]
 fn has_other(octets: &[u8]) -> bool
     ensures { result ≡ false → All (λ octet. octet ≡ 32) octets.now }

@@ -24,7 +24,7 @@ pub enum Shape<'a> {
 }
 
 impl<'a> Shape<'a> {
-    /// The shape of a line without its LF. Its packet stands in the room.
+    /// The shape of a line without its LF. The packet goes to the buffer.
     pub fn of_line(alloc: Global, room: &'a mut Vec<u8>, line: &[u8]) -> Result<Shape<'a>, Fault>
         ensures shape { IfOk result (λ shape. seen shape ≡ line_shape line.now) }
         ensures fault { IfErr result (λ fault. fault ≡ Fault.Memory) }

@@ -27,7 +27,7 @@ const FEWEST_DIGITS: usize = 2;
 // The digits of an address.
 const ADDRESS_DIGITS: usize = 32;
 
-/// The first word of a text, which has no octet where there is none, and what stands behind it.
+/// The first word of a text, empty where there is none, and what follows it.
 pub fn next_word<'a>(text: &'a [u8]) -> (&'a [u8], &'a [u8])
     ensures some { 0 < length result.0.now → words_in text.now ≡ result.0.now ∷ words_in result.1.now }
     ensures none { length result.0.now ≡ 0 → words_in text.now ≡ [] }
@@ -44,7 +44,7 @@ pub fn is(word: &[u8], name: &str) -> bool
     word == name.as_bytes()
 }
 
-/// The octets that a word spells, or None where it spells none. They stand in a room that is kept from word to word and
+/// The octets that a word spells, or None where it spells none. They are in a buffer that is kept from word to word and
 /// grows where it is too small.
 ///
 /// `-` spells no octets, and an even number, 2 to 131,070, of hexadecimal digits of either case an octet for each two,
@@ -69,7 +69,7 @@ pub fn read_word<'a>(
     Ok(Some(&room.as_slice()[..count]))
 }
 
-// Makes room for so many octets at the least. What stood there is lost where there was less.
+// Makes the buffer at least this large. Its contents are lost where it was smaller.
 fn grow(alloc: Global, room: &mut Vec<u8>, count: usize) -> Result<(), Fault>
     ensures room { OnOk result (count ≤ vec_len room.new) }
     ensures fault { IfErr result (λ fault. fault ≡ Fault.Memory) }

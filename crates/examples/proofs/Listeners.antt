@@ -43,7 +43,7 @@ front_at : (rs : List AddressRecordRepr) (i : ℕ) (r : AddressRecordRepr) → i
     → drop i rs ≡ r ∷ drop (i + 1) rs
 front_at rs i r h is = drop_more rs i r h ∙ ap (λ (x : AddressRecordRepr). x ∷ drop (i + 1) rs) (sym is)
 
--- the group of the next record, and those behind it
+-- the group of the next record, and those after it
 pub listed_here : (rs : List AddressRecordRepr) (i : ℕ) (r : AddressRecordRepr) (group : Ipv6Address) → i < length rs
     → r ≡ get_or rs i r → octets_of (group_of (value_of r)) ≡ octets_of group
     → IsListedIn (values_of (drop i rs)) group

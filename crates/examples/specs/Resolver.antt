@@ -65,7 +65,7 @@ responds flags = bit_and flags 0x8000 == 0x8000
 abbrev pub truncates : ℕ → Bool
 truncates flags = bit_and flags 0x0200 == 0x0200
 
--- The question of a message has this type and this name. The rest stands behind it.
+-- The question of a message has this type and this name. The rest follows it.
 pub record Asks (message name : List ℕ) (asked : RecordType) (rest : List ℕ) : Type 0 where
   pub written : List ℕ
   pub question : IsQuestion (payload_in message) (record { name = written; kind = asked }) rest
@@ -91,7 +91,7 @@ outcome message = rcode_of (rcode_in (number_of flags_field message))
 abbrev pub is_truncated : List ℕ → Bool
 is_truncated message = truncates (flags_in (number_of flags_field message))
 
--- All that is to be read of the response to a query: as many records as it counts stand behind the question, and the
+-- All that is to be read of the response to a query: as many records as it counts follow the question, and the
 -- addresses of the name that was asked are sought, of the type that was asked.
 pub record AreAnswers (message : List ℕ) (id : ℕ) (name : List ℕ) (asked : RecordType) (answers : Answers)
     : Type 0 where
@@ -118,7 +118,7 @@ Tells message id name asked (Failed code) = IsFailure message id name asked code
 
 -- ---- its answers
 
--- what is still to be read: so many records stand at the front of the bytes, and a name's addresses are sought
+-- what is still to be read: this many records are at the front of the bytes, and a name's addresses are sought
 pub record Search : Type 0 where
   pub name : List ℕ
   pub left : ℕ
@@ -154,8 +154,8 @@ pub record Says (message : List ℕ) (asked : RecordType) (name : List ℕ) (r :
   pub same_ : IsTrue same ↔ AreSameName message r.name name
   pub is : turn ≡ said_of same asked name r
 
--- A search finds an address, and this is left to read after it: the first record says the address, or it says for
--- which name to go on, and the search for that name in the records behind it finds the address.
+-- A search finds an address, and this is left to read after it: the first record says the address, or it says for which
+-- name to go on, and the search for that name in the records after it finds the address.
 pub data Finds (message : List ℕ) (asked : RecordType) (address : AddressRecord) (after : Search)
     : Search → Type 0 where
   here : {now : Search} (r : RecordValue) → now.left ≡ after.left + 1 → IsRecord now.bytes r after.bytes

@@ -47,7 +47,7 @@ pub record MayTell (bytes : List ℕ) : Type 0 where
   pub first : ipv4.frag_offset_in bytes ≡ 0
   pub no_error : IsError bytes → ⊥
 
--- the error of this type and code, with this number behind its checksum; what a link has put behind the datagram is not
+-- the error of this type and code, with this number after its checksum; what a link has put after the datagram is not
 -- quoted
 abbrev pub error_about : KindV4 → ℕ → ℕ → List ℕ → List ℕ
 error_about kind code rest bytes =

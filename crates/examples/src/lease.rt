@@ -56,7 +56,7 @@ pub enum Message {
         /// The address.
         address: Ipv4Address,
     },
-    /// The same to everyone, where that server didn't answer.
+    /// A request to every server, where that server didn't answer (rebinding).
     Rebind {
         /// The address.
         address: Ipv4Address,
@@ -109,9 +109,9 @@ pub enum Answer {
     Nak(Ipv4Address),
 }
 
-/// Writes a client's message over the front of the octets, with zeros behind it up to `min_len`, and says how many
-/// bytes it takes. None exactly where they have no room; then they are as they were. Requires that the client requests
-/// at most 255 kinds of option.
+/// Writes a client's message over the front of the octets, with zeros after it up to `min_len`, and says how many bytes
+/// it takes. None exactly where they have no room; then they are as they were. Requires that the client requests at
+/// most 255 kinds of option.
 pub fn write(
     message: &Message,
     transaction_id: u32,
@@ -245,7 +245,7 @@ impl<'a> Client<'a> {
     }
 }
 
-// Writes a packet over the front of the octets, with zeros behind it up to so many bytes.
+// Writes a packet over the front of the octets, with zeros after it up to so many bytes.
 fn write_padded(repr: &Repr<'_>, min_len: usize, out: &mut [u8]) -> Option<usize>
     requires short { AllShort (options_of (packet_value repr.now)) }
     requires small { text_len (packet_value repr.now) ≤ 600 }

@@ -1,5 +1,5 @@
 //! A host that listens to multicast groups over IPv6: multicast listener discovery, version 2 (RFC 3810). Its messages
-//! go from its link-local address to all routers that listen to reports, `ff02::16`, with hop limit 1 and behind the
+//! go from its link-local address to all routers that listen to reports, `ff02::16`, with hop limit 1 and after the
 //! options of `router_alert`.
 
 ghost use Rattle.std.specs.Prelude.{◌≡◌, ◌≤◌, ◌+◌, ◌*◌, ◌↔◌, ◌<◌, [], ◌∷◌, ℕ, List, length, take, drop};

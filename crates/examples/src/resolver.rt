@@ -97,7 +97,7 @@ pub fn query(transaction_id: u16, name: &[u8], type_: Type, out: &mut [u8]) -> O
 pub struct Answers<'a> {
     /// The whole response, into which its names' pointers lead.
     pub message: &'a [u8],
-    /// The name, as it is written where it stands.
+    /// The name, in the form that is written in a message.
     pub name: &'a [u8],
     /// The type of the addresses, A or AAAA.
     pub type_: Type,
@@ -174,7 +174,7 @@ fn responds(packet: &Packet<&[u8]>, transaction_id: u16) -> bool
     packet.question_count() == 1
 }
 
-// What stands behind the question, where it is the one that was asked.
+// What follows the question, where it is the question that was asked.
 fn after_question<'a>(message: &'a [u8], name: &'a [u8], type_: Type) -> Option<&'a [u8]>
     requires { Reaches header message.now }
     ensures asks { IfSome result (λ rest. Asks message.entry.now name.entry.now type_ rest.now) }
@@ -196,7 +196,7 @@ fn after_question<'a>(message: &'a [u8], name: &'a [u8], type_: Type) -> Option<
 }
 
 /// The next address of the name, of the type that was asked, and what is left to read after it. None where no record
-/// has another up to the first that can't be read. An alias counts for the records behind it.
+/// has another up to the first that can't be read. An alias counts for the records after it.
 pub fn next_address(answers: Answers<'_>) -> Option<(AddressRecord, Answers<'_>)>
     ensures found { IfSome result (λ next. Finds answers.entry.message.now answers.entry.type_
         next.0 (search_of next.1) (search_of answers.entry)) }

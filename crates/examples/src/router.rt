@@ -116,7 +116,7 @@ fn router_in(message: &ndisc::Repr<'_>) -> Option<RouterInformation>
     }
 }
 
-/// The options of a router's advertisement: all that stands behind its first 16 bytes.
+/// The options of a router's advertisement: all that follows its first 16 bytes.
 pub fn options(advertisement: &[u8]) -> &[u8]
     ensures { result.now ≡ options_in advertisement.now }
 {
@@ -126,7 +126,7 @@ pub fn options(advertisement: &[u8]) -> &[u8]
     }
 }
 
-/// The first prefix that options tell, and the options behind it: by one call after another every prefix of the link
+/// The first prefix that options tell, and the options after it: by one call after another every prefix of the link
 /// (RFC 4861 section 6.3.4), of which `is_valid_prefix_info` says whether a host makes itself an address. None at the
 /// end. The options are those of a valid advertisement.
 pub fn next_prefix(options: &[u8]) -> Option<(PrefixInformation, &[u8])>
@@ -146,7 +146,7 @@ pub fn next_prefix(options: &[u8]) -> Option<(PrefixInformation, &[u8])>
     None
 }
 
-// The block at the front, and what stands behind it. None where the octets don't begin with a block.
+// The block at the front, and what follows it. None where the octets don't begin with a block.
 fn split_block(octets: &[u8]) -> Option<(&[u8], &[u8])>
     ensures sound { IfSome result (λ parts. IsBlock parts.0.now
         × (octets.now ≡ parts.0.now ++ parts.1.now)) }

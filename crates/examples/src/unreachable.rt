@@ -52,7 +52,7 @@ pub fn port_unreachable(datagram: &[u8], out: &mut [u8]) -> Option<usize>
     tell(kind, PORT, 0, datagram, out)
 }
 
-/// The same of a datagram that has no hops left, by a router.
+/// The error about a datagram that has no hops left, sent by a router.
 pub fn time_exceeded(datagram: &[u8], out: &mut [u8]) -> Option<usize>
     ensures tells { IfSome result (λ n. MayTell datagram.now
         × (take n out.new ≡ time_exceeded_text datagram.now)) }
@@ -64,8 +64,8 @@ pub fn time_exceeded(datagram: &[u8], out: &mut [u8]) -> Option<usize>
     tell(icmpv4_error::Kind::TimeExceeded, 0, 0, datagram, out)
 }
 
-/// The same of a datagram that is not to be fragmented and larger than the next link carries, `mtu` bytes, by a router
-/// (RFC 1191 section 4).
+/// The error about a datagram that is not to be fragmented and larger than the next link carries, `mtu` bytes, sent by
+/// a router (RFC 1191 section 4).
 pub fn too_big(mtu: u16, datagram: &[u8], out: &mut [u8]) -> Option<usize>
     ensures tells { IfSome result (λ n. MayTell datagram.now
         × (take n out.new ≡ too_big_text mtu datagram.now)) }
@@ -180,7 +180,7 @@ pub fn port_unreachable_v6(own: &Ipv6Address, packet: &[u8], out: &mut [u8]) -> 
     tell_v6(own, kind, PORT_V6, 0, packet, out)
 }
 
-/// The same of a packet that has no hops left, by a router.
+/// The error about a packet that has no hops left, sent by a router.
 pub fn time_exceeded_v6(own: &Ipv6Address, packet: &[u8], out: &mut [u8]) -> Option<usize>
     ensures tells { IfSome result (λ n. TellsV6
         (λ source. time_exceeded_v6_text own.now source packet.now) packet.now (take n out.new)) }
@@ -198,8 +198,8 @@ pub fn time_exceeded_v6(own: &Ipv6Address, packet: &[u8], out: &mut [u8]) -> Opt
     tell_v6(own, kind, 0, 0, packet, out)
 }
 
-/// The same of a packet that is larger than the next link carries, `mtu` bytes, by a router. It is told of a packet to
-/// many receivers too (RFC 4443 section 2.4(e.3)).
+/// The error about a packet that is larger than the next link carries, `mtu` bytes, sent by a router. It is sent for
+/// multicast packets too (RFC 4443 section 2.4(e.3)).
 pub fn too_big_v6(own: &Ipv6Address, mtu: u32, packet: &[u8], out: &mut [u8]) -> Option<usize>
     ensures tells { IfSome result (λ n. TellsV6
         (λ source. too_big_v6_text own.now source mtu packet.now) packet.now (take n out.new)) }

@@ -1,4 +1,4 @@
--- Headers that extend IPv6 stand one behind another.
+-- Headers that extend IPv6 follow one another.
 use Rattle.std.proofs.Common.{◌≡◌, ℕ, List, drop, slice_index, Option, subst}
 use Rattle.wirebase.specs.Ip.{protocol_of}
 use Rattle.wirebase.specs.declared.ip.IpProtocol.{IpProtocol}

@@ -1,4 +1,4 @@
--- The VLAN tags that stand in bytes.
+-- The VLAN tags that are in bytes.
 use Rattle.std.proofs.Common.{◌≡◌, ℕ, ◌≤◌, ◌<◌, List, [], ◌∷◌, length, drop, slice_index, Some, refl, ap, arith}
 use Rattle.std.specs.Iterator.{MakesProgress, at_most}
 use Rattle.frame_wire.specs.LinkVlans.{tags_in, tag_of}

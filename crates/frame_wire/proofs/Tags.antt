@@ -1,4 +1,4 @@
--- Tags stand one behind another.
+-- Tags follow one another.
 use Rattle.std.proofs.Common.{◌≡◌, ℕ, ◌+◌, ◌-◌, ◌≤◌, List, [], ◌++◌, length, take, drop, refl, sym, ap, subst, ◌∙◌}
 use Rattle.std.proofs.Common.{arith, append_assoc, length-drop, ◌<◌, Bool, true, false, IsTrue, ◌↔◌, Result, Ok, Err}
 use Rattle.std.proofs.Common.{IfOk}
@@ -8,7 +8,7 @@ use Rattle.wirebase.specs.Bytes.{field, part, number_of}
 use Rattle.frame_wire.specs.Link.{IsTagType, IsTagged, plain, tagged}
 use Rattle.frame_wire.specs.LinkRefusal.{IsTagCut, here, later}
 
--- the first bytes are tags, behind which `last` is the type of what follows: what is tagged there is tagged here
+-- the first bytes are tags, after which `last` is the type of what follows: what is tagged there is tagged here
 pub record SoFar (type : ℕ) (bytes : List ℕ) (last end : ℕ) : Type 0 where
   pub fits : end ≤ length bytes
   pub forth : (tags : List ℕ) (final : ℕ) (rest : List ℕ) → IsTagged last (drop end bytes) tags final rest

@@ -24,7 +24,7 @@ use Rattle.frame_wire.specs.declared.datagram.Addresses.{Addresses}
 use Rattle.frame_wire.specs.declared.udp.UdpRepr.{UdpRepr}
 use Rattle.frame_wire.proofs.UdpSeals.{length-sealed_datagram, checksum-small, checksum-some, sealed-good}
 
--- ---- a text, and what stands behind it
+-- ---- a text, and what follows it
 
 -- a datagram of some checksum by its fields
 abbrev datagram_text : UdpValue → ℕ → List ℕ → List ℕ
@@ -63,7 +63,7 @@ record IsContent (bytes : List ℕ) (v : UdpValue) : Type 0 where
   destination : v.ports.dst_port ≡ number_of dst_port_field bytes
   payload_ : v.payload ≡ bytes_of (payload_field bytes) bytes
 
--- what stands in the bytes of a datagram, and behind them
+-- what is in the bytes of a datagram, and after them
 record Holds (bytes : List ℕ) (v : UdpValue) (checksum : ℕ) (rest : List ℕ) : Type 0 where
   len : len_in bytes ≡ text_len v
   source : v.ports.src_port < 2 ^ 16 → v.ports.src_port ≡ number_of src_port_field bytes
@@ -104,14 +104,14 @@ content v checksum rest source destination fits =
       payload_ = sym (ap (λ (n : ℕ). take n (v.payload ++ rest)) few ∙ take_at v.payload rest _ refl);
     }
 
--- what stands behind a datagram stands behind its data
+-- what follows a datagram follows its data
 join : (v : UdpValue) (checksum : ℕ) (rest : List ℕ)
     → datagram_text v checksum [] ++ rest ≡ datagram_text v checksum rest
 join v checksum rest =
     ap (λ (l : List ℕ). big_bytes 2 v.ports.src_port ++ (big_bytes 2 v.ports.dst_port
     ++ (big_bytes 2 (text_len v) ++ (big_bytes 2 checksum ++ l)))) (append_assoc v.payload [] rest)
 
--- a checksum that holds, whatever stands behind the datagram
+-- a checksum that holds, whatever follows the datagram
 verified : (addresses : Addresses) (v : UdpValue) (checksum : ℕ) (rest : List ℕ) → text_len v ≤ 65535 → checksum ≢ 0
     → checksum ≤ 65535 → IsGood (datagram_text v checksum []) (sum_before addresses Udp (text_len v))
     → IsSealed addresses (datagram_text v checksum rest)
@@ -265,7 +265,7 @@ datagram_emits capabilities addresses v old new fits room left =
       round_trips = round_trips (format capabilities addresses) (udp_format capabilities addresses) v;
     }
 
--- a front that was sealed, and what stood behind it
+-- a front that was sealed, and what followed it
 sealed-front : (capabilities : ChecksumCapabilities) (addresses : Addresses) (v : UdpValue) (old left sealed : List ℕ)
     → text_len v ≤ length old → is_computed capabilities.udp ≡ true → left ≡ over old (text v)
     → sealed ≡ sealed_datagram addresses (take (text_len v) left)

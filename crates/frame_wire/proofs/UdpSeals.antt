@@ -34,7 +34,7 @@ fold-never_zero n zero e =
     fold_same 65535 (n + 65535) 1 (omega arith) (omega (arith, e)) ∙ fold_small 65535 (omega arith)
 fold-never_zero n (suc checksum) e = ap fold e ∙ fold_small 65535 (omega arith)
 
--- ---- what stands in the field
+-- ---- what is in the field
 
 -- the number that was written into it
 number-written : (bytes : List ℕ) (n : ℕ) → 8 ≤ length bytes → n ≤ 65535

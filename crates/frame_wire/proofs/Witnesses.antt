@@ -1,4 +1,4 @@
--- What is read, and what is cut, behind the header of a link.
+-- What is read, and what is cut, after the header of a link.
 use Rattle.std.proofs.Common.{◌≡◌, ◌≢◌, ℕ, ◌+◌, ◌-◌, ◌≤◌, List, length, drop, refl, sym, subst, ◌∙◌, arith}
 use Rattle.std.proofs.Common.{Bool, true, false, ◌↔◌, Option, None, Some, IsNone, IsSome}
 use Rattle.byteorder.specs.Endian.{big_number}
@@ -11,7 +11,7 @@ use Rattle.frame_wire.specs.Udp.{BeginsWhole, HasChecksum, src_port_field, dst_p
 use Rattle.frame_wire.specs.UdpRefusal.{IsRead}
 use Rattle.frame_wire.specs.declared.datagram.Addresses.{Addresses}
 
--- tags of the type and the bytes that stand in a frame
+-- tags of the type and the bytes that are in a frame
 tagged_at : (octets : List ℕ) (place start kind : ℕ) (rest : List ℕ) (t : TypedValue)
     → kind ≡ number_of (field place (place + 2)) octets → rest ≡ drop start octets
     → IsTagged kind rest t.tags t.type t.payload

@@ -29,7 +29,7 @@ pub record HasUnstated4 (bytes : List ℕ) : Type 0 where
   pub least : 20 ≤ ipv4.header_len_in bytes
   pub none : ipv4.total_len_in bytes ≡ 0
 
--- a datagram that no fragment is, whose header is there, and whose payload is all that stands behind it
+-- a datagram that is no fragment, whose header is there, and whose payload is all that follows it
 pub record IsOpen4 (bytes : List ℕ) (v : DatagramValue) : Type 0 where
   pub there : ipv4.header_len_in bytes ≤ length bytes
   pub unfragmented : IsFragment4 bytes → ⊥

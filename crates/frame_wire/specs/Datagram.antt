@@ -60,7 +60,7 @@ pub record IsHeaded4 (bytes : List ℕ) (v : DatagramValue) : Type 0 where
   pub hop_limit_ : v.hop_limit ≡ byte_of ipv4.time_to_live_field bytes
   pub hop_by_hop_ : v.hop_by_hop ≡ None
 
--- The grammar: the bytes begin with a whole datagram by its own lengths, and what stands behind it is no part.
+-- The grammar: the bytes begin with a whole datagram by its own lengths, and what follows it is no part.
 pub record IsDatagram4 (bytes : List ℕ) (v : DatagramValue) : Type 0 where
   pub header : HasHeader4 bytes
   pub total : ipv4.total_len_in bytes ≤ length bytes
@@ -127,7 +127,7 @@ pub data EndsAt (p : IpProtocol) (bytes : List ℕ) (end : ℕ) : Type 0 where
   extension : IsExtension p → HasExtension bytes → end ≡ extension_end bytes → EndsAt p bytes end
   atomic : p ≡ Ipv6Frag → HasAtomic bytes → end ≡ 8 → EndsAt p bytes end
 
--- the options of a hop-by-hop header, behind its first two bytes (RFC 8200 section 4.3); other headers have none
+-- the options of a hop-by-hop header, after its first two bytes (RFC 8200 section 4.3); other headers have none
 abbrev pub options_of : IpProtocol → List ℕ → Option (List ℕ)
 options_of HopByHop header = Some (part header 2 (extension_end header))
 options_of _ header = None
@@ -143,12 +143,12 @@ routed header destination =
     then part header (extension_end header - 16) (extension_end header)
     else destination
 
--- the destination behind a header
+-- the destination after a header
 pub data Routes (p : IpProtocol) (header destination next : List ℕ) : Type 0 where
   by_route : p ≡ Ipv6Route → next ≡ routed header destination → Routes p header destination next
   by_options : p ≢ Ipv6Route → next ≡ destination → Routes p header destination next
 
--- A protocol and the bytes behind it lead past some headers to a protocol, with these bytes and this destination.
+-- A protocol and the bytes after it lead past some headers to a protocol, with these bytes and this destination.
 pub data Passes : IpProtocol → List ℕ → List ℕ → IpProtocol → List ℕ → List ℕ → Type 0 where
   here : {p : IpProtocol} {bytes destination : List ℕ} {q : IpProtocol} {rest final : List ℕ}
       → q ≡ p → rest ≡ bytes → final ≡ destination → Passes p bytes destination q rest final
@@ -171,17 +171,17 @@ pub record HasHeader6 (bytes : List ℕ) : Type 0 where
 abbrev pub total_len6 : List ℕ → ℕ
 total_len6 bytes = 40 + ipv6.payload_len_in bytes
 
--- what stands behind the fixed header, up to the datagram's end
+-- what follows the fixed header, up to the datagram's end
 abbrev pub behind6 : List ℕ → List ℕ
 behind6 bytes = bytes_of (ipv6.payload_field bytes) bytes
 
--- the header behind the fixed one
+-- the header after the fixed one
 abbrev pub next_header_in : List ℕ → IpProtocol
 next_header_in bytes = protocol_of (byte_of ipv6.next_header_field bytes)
 
--- The fixed header of a datagram, and what stands behind it, which leads past as many headers as there are to a
--- protocol that is none of them. A hop-by-hop header may stand only directly behind the fixed one (RFC 8200
--- section 4.1): a later one is passed like any other.
+-- The fixed header of a datagram, and what follows it, which leads past as many headers as there are to a protocol that
+-- is none of them. A hop-by-hop header may only follow directly after the fixed one (RFC 8200 section 4.1): a later one
+-- is passed like any other.
 pub record IsHeaded6 (bytes behind : List ℕ) (v : DatagramValue) : Type 0 where
   pub source : Ipv6Address
   pub destination : Ipv6Address
@@ -194,13 +194,13 @@ pub record IsHeaded6 (bytes behind : List ℕ) (v : DatagramValue) : Type 0 wher
   pub passed : IsExtension v.protocol → ⊥
   pub unfragmented : v.protocol ≢ Ipv6Frag
 
--- The grammar: the bytes begin with a whole datagram by its own length, and what stands behind it is no part.
+-- The grammar: the bytes begin with a whole datagram by its own length, and what follows it is no part.
 pub record IsDatagram6 (bytes : List ℕ) (v : DatagramValue) : Type 0 where
   pub header : HasHeader6 bytes
   pub total : total_len6 bytes ≤ length bytes
   pub headed : IsHeaded6 bytes (behind6 bytes) v
 
--- what the fixed header tells of a datagram that is cut, without the headers behind it
+-- what the fixed header tells of a datagram that is cut, without the headers after it
 pub record IsHead6 (bytes : List ℕ) (h : Head) : Type 0 where
   pub source : Ipv6Address
   pub destination : Ipv6Address
@@ -212,7 +212,7 @@ pub record IsHead6 (bytes : List ℕ) (h : Head) : Type 0 where
   pub frag_offset_ : h.frag_offset ≡ 0
   pub more_frags_ : h.more_frags ≡ false
 
--- The headers lead to that of a fragment that is not atomic (RFC 8200 section 4.5): the protocol behind it, a reserved
+-- The headers lead to that of a fragment that is not atomic (RFC 8200 section 4.5): the protocol after it, a reserved
 -- byte, the offset in the upper 13 bits of two bytes, of which the lowest is set where more fragments follow, and the
 -- identification.
 pub record IsFragment6 (bytes behind : List ℕ) (h : Head) : Type 0 where
@@ -230,7 +230,7 @@ pub record IsFragment6 (bytes behind : List ℕ) (h : Head) : Type 0 where
   pub frag_offset_ : h.frag_offset ≡ 8 * (number_of (field 2 4) header / 8)
   pub more_frags_ : IsTrue h.more_frags ↔ (number_of (field 2 4) header % 2 ≡ 1)
 
--- a protocol and the bytes behind it lead to a header of a protocol that is not whole
+-- a protocol and the bytes after it lead to a header of a protocol that is not whole
 pub record LeadsToTorn (p : IpProtocol) (bytes destination : List ℕ) (q : IpProtocol) : Type 0 where
   pub rest : List ℕ
   pub final : List ℕ
@@ -243,7 +243,7 @@ pub record IsJumbogram (bytes : List ℕ) : Type 0 where
   pub uncounted : ipv6.payload_len_in bytes ≡ 0
   pub header : next_header_in bytes ≡ HopByHop
 
--- what is told of the bytes behind a fixed header, where they lead to no payload
+-- what is told of the bytes after a fixed header, where they lead to no payload
 abbrev pub RefusesBehind6 : List ℕ → List ℕ → Refusal → Type 0
 RefusesBehind6 bytes behind Jumbogram = IsJumbogram bytes
 RefusesBehind6 bytes behind (Extension p) =

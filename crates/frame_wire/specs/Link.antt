@@ -1,4 +1,4 @@
--- Frames of links: what their headers say of the network, VLAN tags, and the bytes behind them.
+-- Frames of links: what their headers say of the network, VLAN tags, and the bytes after them.
 use Rattle.std.specs.Prelude.{◌≡◌, ◌≢◌, ℕ, ◌+◌, ◌*◌, ◌/◌, ◌%◌, ◌≤◌, ◌⊎◌, List, [], ◌∷◌, ◌++◌, length, take, drop}
 use Rattle.std.specs.Prelude.{slice_index}
 use Rattle.std.specs.Prelude.{nat_lt, if◌then◌else◌, Option, None, Some}
@@ -34,9 +34,8 @@ network_of_type n = case_in Other ((Ipv4, 0x0800) ∷ (Ipv6, 0x86dd) ∷ []) n
 abbrev pub IsTagType : ℕ → Type 0
 IsTagType n = (n ≡ 0x8100) ⊎ (n ≡ 0x88a8)
 
--- Behind a type stand as many tags as there are, each with the type of what is behind it; behind them stand these
--- bytes,
--- which have the last of the types.
+-- A type is followed by any number of tags, each with the type of what is after it; these bytes follow the tags and
+-- have the last of the types.
 pub data IsTagged : ℕ → List ℕ → List ℕ → ℕ → List ℕ → Type 0 where
   plain : {type : ℕ} {bytes tags : List ℕ} {last : ℕ} {rest : List ℕ} → (IsTagType type → ⊥) → tags ≡ [] → last ≡ type
       → rest ≡ bytes → IsTagged type bytes tags last rest
@@ -59,7 +58,7 @@ typed_of t = record { type = t.kind; tags = t.tags.now; payload = t.payload.now 
 abbrev pub network_of_protocol : ℕ → Network
 network_of_protocol n = case_in Other ((Ipv4, 0x0021) ∷ (Ipv6, 0x0057) ∷ []) n
 
--- A protocol stands in one byte where that is odd, and else in two (RFC 1661 section 6.5).
+-- A protocol takes one byte where that is odd, and else in two (RFC 1661 section 6.5).
 pub data IsProtocol (bytes : List ℕ) (tags : List ℕ) (v : FrameValue) : Type 0 where
   short : 1 ≤ length bytes → slice_index bytes 0 % 2 ≡ 1
       → v ≡ frame (network_of_protocol (slice_index bytes 0)) tags (drop 1 bytes) → IsProtocol bytes tags v
@@ -70,7 +69,7 @@ pub data IsProtocol (bytes : List ℕ) (tags : List ℕ) (v : FrameValue) : Type
 abbrev pub HasAddress : List ℕ → Type 0
 HasAddress bytes = (2 ≤ length bytes) × (number_of (field 0 2) bytes ≡ 0xff03)
 
--- The grammar of a frame, where an address and a control byte may stand in front.
+-- The grammar of a frame, which may begin with an address and a control byte.
 pub data IsPpp (bytes : List ℕ) (v : FrameValue) : Type 0 where
   addressed : HasAddress bytes → IsProtocol (drop 2 bytes) [] v → IsPpp bytes v
   bare : (HasAddress bytes → ⊥) → IsProtocol bytes [] v → IsPpp bytes v
@@ -81,13 +80,13 @@ pub data IsPpp (bytes : List ℕ) (v : FrameValue) : Type 0 where
 abbrev pub IsSession : List ℕ → Type 0
 IsSession bytes = (6 ≤ length bytes) × (number_of (field 0 2) bytes ≡ 0x1100)
 
--- what a payload of a type is: a PPPoE session has a protocol of PPP behind its six bytes
+-- what a payload of a type is: a PPPoE session has a protocol of PPP after its six bytes
 pub data IsPayload (type : ℕ) (tags bytes : List ℕ) (v : FrameValue) : Type 0 where
   session : type ≡ 0x8864 → IsSession bytes → IsProtocol (drop 6 bytes) tags v → IsPayload type tags bytes v
   other : ((type ≡ 0x8864) × IsSession bytes → ⊥) → v ≡ frame (network_of_type type) tags bytes
       → IsPayload type tags bytes v
 
--- a type, and the bytes behind it
+-- a type, and the bytes after it
 pub record IsTypedFrame (type : ℕ) (bytes : List ℕ) (v : FrameValue) : Type 0 where
   pub typed : TypedValue
   pub tagged_ : IsTagged type bytes typed.tags typed.type typed.payload
@@ -108,8 +107,8 @@ pub record IsRaw (bytes : List ℕ) (v : FrameValue) : Type 0 where
   pub some : 1 ≤ length bytes
   pub value : v ≡ frame (network_of_version (slice_index bytes 0 / 16)) [] bytes
 
--- The family stands in four bytes in the order of the machine that captured: it has at most 16 bits, and so it is read
--- with the highest byte first where that gives such a number, and else with the lowest first.
+-- The family is in four bytes in the order of the machine that captured: it has at most 16 bits, and so it is read with
+-- the highest byte first where that gives such a number, and else with the lowest first.
 abbrev pub family_in : List ℕ → ℕ
 family_in bytes =
     if nat_lt (number_of (field 0 4) bytes) 65536 then number_of (field 0 4) bytes

@@ -16,7 +16,7 @@ IsRead link bytes = (v : FrameValue) × IsFrame link bytes v
 abbrev pub IsProtocolCut : List ℕ → Type 0
 IsProtocolCut bytes = (length bytes ≡ 0) ⊎ ((length bytes ≡ 1) × (slice_index bytes 0 % 2 ≢ 1))
 
--- behind a type stand tags, of which the last is cut
+-- a type is followed by tags, of which the last is cut
 pub data IsTagCut : ℕ → List ℕ → Type 0 where
   here : {type : ℕ} {bytes : List ℕ} → IsTagType type → length bytes < 4 → IsTagCut type bytes
   later : {type : ℕ} {bytes : List ℕ} → IsTagType type → 4 ≤ length bytes
@@ -37,7 +37,7 @@ RefusesTyped place start bytes Protocol =
     × IsSessionCut t.type t.payload)
 RefusesTyped place start bytes _ = ⊥
 
--- of a frame of PPP, behind its address and control bytes or without them
+-- of a frame of PPP, after its address and control bytes or without them
 abbrev pub RefusesPpp : List ℕ → Refusal → Type 0
 RefusesPpp bytes Protocol =
     (HasAddress bytes × IsProtocolCut (drop 2 bytes)) ⊎ ((HasAddress bytes → ⊥) × IsProtocolCut bytes)

@@ -1,6 +1,6 @@
 -- The VLAN tags of a frame (IEEE 802.1Q clause 9.6): four bytes each, of which the first two have a priority of three
 -- bits, a bit for frames that may be dropped first, and the number of the VLAN in twelve bits; the others are the type
--- of what is behind the tag.
+-- of what is after the tag.
 --
 --  0                   1
 --  0 1 2 3 4 5 6 7 8 9 0 1 2 3 4 5

@@ -81,9 +81,9 @@ format capabilities addresses = record {
   IsCut = λ v. ⊥;
 }
 
--- What writing a datagram leaves where `old` stood: it stands at the front, and what stood behind it stays. Its
--- checksum holds where it is computed, and is not 0. Where there is just the datagram's length, it is all that is left.
--- A canonical value is read back, whatever stands behind the datagram.
+-- The octets after a datagram is written over `old`: it is at the front, and what followed it is kept. Its checksum
+-- holds where it is computed, and is not 0. Where there is just the datagram's length, it is all that is left. A
+-- canonical value is read back, whatever follows the datagram.
 pub record Emits (capabilities : ChecksumCapabilities) (addresses : Addresses) (v : UdpValue) (old new : List ℕ)
     : Type 0 where
   pub text_ : new ≡ over old (packet_text capabilities addresses v)

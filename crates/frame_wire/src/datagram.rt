@@ -72,10 +72,10 @@ pub enum Refusal {
     /// They are a jumbogram (RFC 2675): the payload length is 0 before a hop-by-hop header, which has the length in its
     /// place. Without that option there such a datagram contradicts itself (RFC 2675 section 3).
     Jumbogram,
-    /// A header that extends IPv6, of this protocol, ends behind the datagram.
+    /// A header that extends IPv6, of this protocol, ends after the datagram.
     Extension(IpProtocol),
     /// They are a part of a datagram. An atomic fragment of IPv6 (RFC 6946 section 2), at offset 0 with no more
-    /// fragments behind it, is a whole datagram and no part.
+    /// fragments after it, is a whole datagram and no part.
     Fragment(Head),
 }
 
@@ -91,7 +91,7 @@ pub struct Head {
     /// The identification that the fragments of one datagram share; None for an IPv6 datagram that is cut, of which
     /// only the fixed header is read.
     pub ident: Option<u32>,
-    /// Where the payload stands in that of the datagram that was fragmented, in bytes: a multiple of 8.
+    /// The offset of the payload in that of the datagram that was fragmented, in bytes: a multiple of 8.
     pub frag_offset: u16,
     /// Whether this is a fragment that others follow.
     pub more_frags: bool,
@@ -124,11 +124,11 @@ pub struct Datagram<'a> {
     pub protocol: IpProtocol,
     /// The hops that are left.
     pub hop_limit: u8,
-    /// The options of the hop-by-hop header, which `ipv6hbh::Header` reads: its octets behind the first two, up to its
-    /// end. It may stand only directly behind the header of IPv6 (RFC 8200 section 4.1): None where it does not, and in
+    /// The options of the hop-by-hop header, which `ipv6hbh::Header` reads: its octets after the first two, up to its
+    /// end. It may only follow directly after the header of IPv6 (RFC 8200 section 4.1): None where it does not, and in
     /// IPv4.
     pub hop_by_hop: Option<&'a [u8]>,
-    /// The payload: what stands behind the options or the headers that extend IPv6, up to the datagram's end.
+    /// The payload: what follows the options or the headers that extend IPv6, up to the datagram's end.
     pub payload: &'a [u8],
 }
 
@@ -139,8 +139,8 @@ const IPV4_HEADER_LEN: usize = 20;
 const FRAGMENT_HEADER_LEN: usize = 8;
 
 impl<'a> Datagram<'a> {
-    /// The datagram of IPv4 at the front of the octets, by its total length; what stands behind it, as padding, is no
-    /// part. The header's checksum is not verified, since machines that leave it to their network cards capture none; a
+    /// The datagram of IPv4 at the front of the octets, by its total length; what follows it, as padding, is no part.
+    /// The header's checksum is not verified, since machines that leave it to their network cards capture none; a
     /// receive path calls `Ipv4Packet::verify_checksum` too.
     #[inline]
     pub fn parse_v4(octets: &'a [u8]) -> Result<Datagram<'a>, Refusal>
@@ -171,9 +171,9 @@ impl<'a> Datagram<'a> {
         })
     }
 
-    /// The datagram of IPv6 at the front of the octets, by its payload length; what stands behind it is no part. Its
+    /// The datagram of IPv6 at the front of the octets, by its payload length; what follows it is no part. Its
     /// hop-by-hop, destination and routing headers are passed, and a hop-by-hop header in its place gives its options.
-    /// The header of an atomic fragment (RFC 6946 section 2), at offset 0 with no more fragments behind it, is passed
+    /// The header of an atomic fragment (RFC 6946 section 2), at offset 0 with no more fragments after it, is passed
     /// too; every other fragment is refused, and so is a jumbogram.
     pub fn parse_v6(octets: &'a [u8]) -> Result<Datagram<'a>, Refusal>
         ensures sound { IfOk result (λ d. IsDatagram6 octets.now (value_of d)) }
@@ -242,8 +242,8 @@ fn head_v6(octets: &[u8]) -> Head
     }
 }
 
-// The datagram of a fixed header of IPv6 and of what stands behind it. It and the passing of headers are inlined, so
-// that a datagram is not copied from call to call.
+// The datagram of a fixed header of IPv6 and of what follows it. It and the passing of headers are inlined, so that a
+// datagram is not copied from call to call.
 #[inline(always)]
 fn read_v6<'a>(octets: &[u8], behind: &'a [u8]) -> Result<Datagram<'a>, Refusal>
     requires { 40 ≤ length octets.now }
@@ -268,7 +268,7 @@ fn read_v6<'a>(octets: &[u8], behind: &'a [u8]) -> Result<Datagram<'a>, Refusal>
     })
 }
 
-// Why the headers of IPv6 lead to no payload: one is cut, or none is counted, since the length stands in the first.
+// Why the headers of IPv6 lead to no payload: one is cut, or none is counted, since the length is in the first.
 #[inline(never)]
 fn torn_v6(octets: &[u8], behind: &[u8], protocol: IpProtocol) -> Refusal
     requires fixed { 40 ≤ length octets.now }
@@ -406,7 +406,7 @@ fn header_end(protocol: IpProtocol, header: &[u8]) -> Option<usize>
     Some(8 * header[1] as usize + 8)
 }
 
-// The destination behind a header that is passed.
+// The destination after a header that is passed.
 fn behind_header(protocol: IpProtocol, header: &[u8], dst_addr: Ipv6Address) -> Ipv6Address
     requires { (protocol ≡ IpProtocol.Ipv6Route) → HasExtension header.now }
     ensures { Routes protocol header.now (octets_of dst_addr) (octets_of result) }

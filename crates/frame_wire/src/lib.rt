@@ -1,4 +1,4 @@
-//! What stands below a control packet: frames of links, IP datagrams with their options and extension headers, and UDP.
+//! The layers below a control packet: frames of links, IP datagrams with their options and extension headers, and UDP.
 //!
 //! ```
 //! use frame_wire::{Datagram, Link, Network, UdpPacket, UdpRepr};

@@ -123,11 +123,11 @@ pub struct Frame<'a> {
     /// The VLAN tags, the outermost first: four bytes each, of which the lower 12 bits of the first two are the VLAN's
     /// number (IEEE 802.1Q clause 9.6). [`Frame::vlan_tags`] gives them one by one.
     pub tags: &'a [u8],
-    /// What stands behind the headers of the link.
+    /// What follows the headers of the link.
     pub payload: &'a [u8],
 }
 
-// A payload by its EtherType, behind as many tags as there are.
+// A payload by its EtherType, after as many tags as there are.
 #[derive(Debug, PartialEq, Eq, Clone, Copy)]
 struct Typed<'a> {
     kind: u16,
@@ -190,7 +190,7 @@ fn is_tag(kind: u16) -> bool
     kind == 0x8100 || kind == 0x88a8
 }
 
-// What stands behind a type and the tags that follow it. Refused where a tag is cut short.
+// What follows a type and the tags that follow it. Refused where a tag is cut short.
 fn untagged<'a>(kind: u16, octets: &'a [u8]) -> Result<Typed<'a>>
     ensures sound { IfOk result (λ t. IsTagged kind octets.now (typed_of t).tags (typed_of t).type
         (typed_of t).payload) }
@@ -214,7 +214,7 @@ fn untagged<'a>(kind: u16, octets: &'a [u8]) -> Result<Typed<'a>>
     })
 }
 
-// What stands behind a protocol of PPP. Refused where the protocol is cut short.
+// What follows a protocol of PPP. Refused where the protocol is cut short.
 fn protocol<'a>(octets: &'a [u8], tags: &'a [u8]) -> Result<Frame<'a>>
     ensures sound { IfOk result (λ f. IsProtocol octets.now tags.now (value_of f)) }
     ensures cut { IfErr result (λ _. IsProtocolCut octets.now) }
@@ -293,7 +293,7 @@ fn typed_at(octets: &[u8], place: usize, start: usize) -> Result<Frame<'_>>
     read_typed(octets.u16_at(place..place + 2), behind(octets, start))
 }
 
-// What stands behind a type.
+// What follows a type.
 fn read_typed(kind: u16, octets: &[u8]) -> Result<Frame<'_>>
     ensures sound { IfOk result (λ f. IsTypedFrame kind octets.now (value_of f)) }
     ensures complete { (v : FrameValue) → IsTypedFrame kind octets.now v → IsOkAnd result (λ f. value_of f ≡ v) }
@@ -335,7 +335,7 @@ fn raw(octets: &[u8]) -> Result<Frame<'_>>
     })
 }
 
-// A frame behind an address family. Refused where that is cut short.
+// A frame after an address family. Refused where that is cut short.
 fn family(octets: &[u8]) -> Result<Frame<'_>>
     ensures sound { IfOk result (λ f. IsFamily octets.now (value_of f)) }
     ensures cut { IfErr result (λ _. length octets.now < 4) }

@@ -378,7 +378,7 @@ impl UdpRepr {
     }
 
     /// Writes the datagram of this payload over the front of the octets, with its checksum where `checksum_caps.udp`
-    /// has it computed, and else with 0 for none, which no receiver takes over IPv6; what stands behind it stays. A
+    /// has it computed, and else with 0 for none, which no receiver accepts over IPv6; what follows it is kept. A
     /// checksum of 0 is written as 0xffff, which is the same sum (RFC 768). It takes 8 bytes and the payload: requires
     /// that the octets have them, and that they are at most 65,535.
     ///

@@ -10,7 +10,7 @@ use Rattle.wirebase.specs.declared.ethernet.EthernetAddress.{EthernetAddress}
 use Rattle.listing.specs.Layout.{text_or_none}
 use Rattle.listing.specs.ListingDhcp.{addresses_text, hardware_text}
 
--- an address behind a comma
+-- an address after a comma
 abbrev pub with_comma : Ipv4Address → List ℕ
 with_comma next = codes "," ++ address_text next
 

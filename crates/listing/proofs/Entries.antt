@@ -16,7 +16,7 @@ use Rattle.listing.specs.declared.message.unread.Unread.TheVariants as unread
 use Rattle.listing.proofs.Printing.{gains_none, gains_both}
 
 module _ (margin : List ℕ) (is_multicast : Bool) (message : List ℕ) where
-  -- behind what is done, what the entries that are left print is what all print
+  -- after what is done, what the entries that are left print is what all print
   abbrev pub AreLeft : Left → Left → List ℕ → Type 0
   AreLeft left all done = (more : List ℕ) (unread : Option Unread)
       → EntriesPrint margin is_multicast message left more unread

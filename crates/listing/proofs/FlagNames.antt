@@ -1,4 +1,4 @@
--- The names of flags, with commas between them and behind them.
+-- The names of flags, with commas between them and after them.
 use Rattle.std.proofs.Common.{◌≡◌, ℕ, ◌+◌, ◌-◌, ◌≤◌, Bool, true, false, cond, List, [], ◌∷◌, ◌++◌, length, take, codes}
 use Rattle.std.proofs.Common.{refl, sym, ap, ◌∙◌, arith, length-append, append_assoc, flat_map}
 use Rattle.std.proofs.lemmas.List.{length-take-le, take-take}
@@ -18,7 +18,7 @@ pub names_first : (name : List ℕ) (place word : ℕ) (rows : List (List ℕ ×
     ≡ (if has_bit word place then name ++ codes "," else []) ++ each_behind (names_set rows word)
 names_first name place word rows = at_bit (has_bit word place) name (names_set rows word)
 
--- the comma of each name stands in front of the next one
+-- the comma after each name precedes the next name
 commas : (names : List (List ℕ))
     → codes "," ++ each_behind names ≡ flat_map (λ (next : List ℕ). codes "," ++ next) names ++ codes ","
 commas [] = refl

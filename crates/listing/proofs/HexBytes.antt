@@ -45,7 +45,7 @@ lower_is (byte ∷ rest) are =
     (ap (λ (l : List ℕ). slice_index lower_digits (byte / 16) ∷ slice_index lower_digits (byte % 16) ∷ l)
     (lower_is rest (λ k. are (suc k))))
 
--- ---- data of any type, each word behind a space
+-- ---- data of any type, each word after a space
 
 pub generic_none : (bytes : List ℕ) → length bytes ≡ 0
     → word (generic_text bytes) ≡ word (codes "\\#") ++ word (decimal 0)

@@ -5,7 +5,7 @@ use Rattle.std.proofs.lemmas.Bool.{eq-eqb}
 use Rattle.std.specs.Prelude.{slice_index, codes}
 use Rattle.listing.specs.Indented.{before_first, lines_in, indented}
 
--- it ends behind the first LF
+-- it ends after the first LF
 pub line_until : (text : List ℕ) (end : ℕ) → end < length text
     → ((k : ℕ) → k < end → slice_index text k ≡ 10 → ⊥) → slice_index text end ≡ 10
     → lines_in text ≡ take (suc end) text ∷ lines_in (drop (suc end) text)
@@ -24,7 +24,7 @@ line_whole (x ∷ y ∷ ys) some none =
     let rest = line_whole (y ∷ ys) (omega arith) (λ k before. none (suc k) (omega arith)) in
     rw (ne_eqb x 10 (none 0 (omega arith))) (ap (before_first x) rest)
 
--- a line more behind its spaces
+-- a line more after its spaces
 pub one_line : (done line behind rest text : List ℕ) → lines_in rest ≡ line ∷ lines_in behind
     → done ++ indented rest ≡ indented text → done ++ codes "  " ++ line ++ indented behind ≡ indented text
 one_line done line behind rest text first so_far = simp append_assoc (simp append_assoc at (rw first at so_far))

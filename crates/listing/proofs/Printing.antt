@@ -23,12 +23,12 @@ pub gains_both : (a b c : Option (List ℕ)) (text more : List ℕ) → Gains a 
 gains_both a b c text more first second =
     record { appends = Appends-trans a b c text more first.appends second.appends }
 
--- the same, to be written in a row
+-- a text that is written in a row with others
 infixl 20 ◌then◌
 pub ◌then◌ : {a b c : Option (List ℕ)} {text more : List ℕ} → Gains a b text → Gains b c more → Gains a c (text ++ more)
 first then second = gains_both _ _ _ _ _ first second
 
--- the same, where the last write may fail
+-- a text that is written where the last write may fail
 pub gains_last : {E : Type 0} {a b : Option (List ℕ)} {text : List ℕ} (c : Option (List ℕ)) (more : List ℕ)
     (r : Result (Unit {0}) E)
     → Gains a b text → OnOk r (Gains b c more) → OnOk r (Gains a c (text ++ more))

@@ -26,7 +26,7 @@ cut_last room text end octet within is =
     sym (take-take (end - 1) end room (omega arith)) ∙ ap (take (end - 1)) is
     ∙ ap (λ n. take n (text ++ octet ∷ [])) last ∙ take-append_seam text (octet ∷ [])
 
--- two octets that are set one behind the other
+-- two octets that are set one after the other
 pub two_set : (room : List ℕ) (at x y : ℕ) → at + 1 < length room
     → take (at + 2) (set (set room at x) (at + 1) y) ≡ take at room ++ x ∷ y ∷ []
 two_set room at x y within =
@@ -44,7 +44,7 @@ four_put room four text at len end fits long within ends is =
     ∙ ap (take (at + len)) all ∙ rw front at (take-append-add (take at room) four len)
     ∙ ap (λ t. take at room ++ t) is
 
--- a digit behind those before it
+-- a digit after those before it
 pub behind_others : (room before others whole : List ℕ) (at place digit : ℕ) → place ≡ at + 1 → place < length room
     → whole ≡ others ++ digit ∷ [] → take (at + 1) room ≡ before ++ others
     → take (place + 1) (set room place digit) ≡ before ++ whole
@@ -62,7 +62,7 @@ over_zero room before others whole at place none digit here within lone is front
     let before_it : take place room ≡ before = rw same at kept in
     take_more_set room place digit within ∙ rw (before_it, is) refl
 
--- three texts one behind another
+-- three texts one after another
 pub three_parts : (kept x y z whole first second third : List ℕ) → first ≡ kept ++ x → second ≡ first ++ y
     → third ≡ second ++ z → x ++ y ++ z ≡ whole → third ≡ kept ++ whole
 three_parts kept x y z whole first second third a b c is = rw (c, b, a, ← is) (simp append_assoc)
@@ -79,7 +79,7 @@ table_digit n small =
 abbrev pub colon_text : ℕ → List ℕ
 colon_text group = hex group ++ codes ":"
 
--- colons behind the groups in the place of those before them
+-- colons after the groups in the place of those before them
 colons : (groups : List ℕ) → flat_map (λ t. codes ":" ++ hex t) groups ++ codes ":"
     ≡ codes ":" ++ flat_map colon_text groups
 colons [] = refl
@@ -101,7 +101,7 @@ groups_end room front (group ∷ groups) end index all some within is =
     let whole = rw (take_all index (group ∷ groups) all, groups_colon group groups, ← append_assoc) at is in
     cut_last room (front ++ groups_text (group ∷ groups)) end 58 within whole
 
--- what is behind a run is all that is left
+-- what is after a run is all that is left
 pub behind_run : (groups : List ℕ) (k : ℕ) → length groups ≡ 8 → take (8 - k) (drop k groups) ≡ drop k groups
 behind_run groups k eight = take_all (8 - k) (drop k groups) (omega (arith, length-drop k groups))
 
@@ -125,7 +125,7 @@ hex_digit n small =
     let last : n % 16 ≡ n = omega arith in
     rw (lt-leb 0x1000 n (omega arith), lt-leb 0x100 n (omega arith), lt-leb 0x10 n small, last) refl
 
--- its last digit stands behind those of its sixteenth: where it has two digits, three or four
+-- its last digit follows those of its sixteenth: where it has two digits, three or four
 hex_two : (n : ℕ) → 0x10 ≤ n → n < 0x100 → hex n ≡ hex (n / 16) ++ digit_char (n % 16) ∷ []
 unfolding hex
 hex_two n more few =
@@ -177,7 +177,7 @@ hex_step n more fits =
 
 -- ---- endpoints
 
--- four numbers with a dot behind each
+-- four numbers with a dot after each
 pub four_numbers : (a b c d first second third last : List ℕ) → first ≡ a ++ codes "."
     → second ≡ first ++ (b ++ codes ".") → third ≡ second ++ (c ++ codes ".") → last ≡ third ++ (d ++ codes ".")
     → last ≡ (a ++ codes "." ++ b ++ codes "." ++ c ++ codes "." ++ d) ++ codes "."

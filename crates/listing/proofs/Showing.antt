@@ -4,7 +4,7 @@ use Rattle.std.proofs.lemmas.List.{append-nil}
 use Rattle.listing.proofs.Printing.{gains_none, gains_both}
 use Rattle.listing.specs.Output.{Gains, GainsSome}
 
--- behind what is done, each text of the rest makes a text of the whole
+-- after what is done, each text of the rest makes a text of the whole
 abbrev pub GoesOn : (List ℕ → Type 0) → (List ℕ → Type 0) → List ℕ → Type 0
 GoesOn IsRest IsWhole done = (more : List ℕ) → IsRest more → IsWhole (done ++ more)
 
@@ -41,7 +41,7 @@ pub gains_that : {E : Type 0} (text : List ℕ) (a b : Option (List ℕ)) (r : R
 gains_that text a b (Ok x) (whole, is, gains) = subst (λ t. Gains a b t) is gains
 gains_that text a b (Err e) gains = tt
 
--- what was gained behind a line, and then a text more
+-- what was gained after a line, and then a text more
 pub behind : (line so_far next : List ℕ) {a b c : Option (List ℕ)} → Gains a b (line ++ so_far) → Gains b c next
     → Gains a c (line ++ (so_far ++ next))
 behind line so_far next {a} {b} {c} first second =

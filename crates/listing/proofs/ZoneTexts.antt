@@ -40,7 +40,7 @@ test_none : (b : Bool) (x y : List ℕ) → cond b (string_then x y) None ≡ No
 test_none true x y e = cc e
 test_none false x y e = refl
 
--- the string at the front of strings, and those behind it
+-- the string at the front of strings, and those after it
 pub record IsFirstString (octets string rest : List ℕ) : Type 0 where
   pub whole : octets ≡ written string ++ rest
   pub fewer : length rest < length octets
@@ -77,13 +77,13 @@ no_strings (n ∷ more) e are =
 
 -- ---- the characters of a string
 
--- what opens a string, and what its characters and the quote behind them make of it
+-- what opens a string, and what its characters and the quote after them make of it
 pub string_opens : (string more : List ℕ) → more ≡ flat_map string_character string ++ codes "\""
     → codes " \"" ++ more ≡ word (string_text string)
 unfolding word string_text
 string_opens string more is = ap (λ (t : List ℕ). 32 ∷ 34 ∷ t) is
 
--- bytes that are written as themselves, one that is not, and those behind it
+-- bytes that are written as themselves, one that is not, and those after it
 pub string_goes_on : (left more : List ℕ) (len : ℕ) → len < length left
     → flat_map string_character (take len left) ≡ take len left
     → more ≡ flat_map string_character (drop (len + 1) left) ++ codes "\""

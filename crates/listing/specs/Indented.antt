@@ -12,7 +12,7 @@ abbrev pub lines_in : List ℕ → List (List ℕ)
 lines_in [] = []
 lines_in (octet ∷ rest) = if octet == 10 then (octet ∷ []) ∷ lines_in rest else before_first octet (lines_in rest)
 
--- each line behind two spaces
+-- each line after two spaces
 abbrev pub indented : List ℕ → List ℕ
 indented text = flat_map (λ line. codes "  " ++ line) (lines_in text)
 

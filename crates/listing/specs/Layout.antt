@@ -1,4 +1,4 @@
--- How the program lays out what it prints: lines and fields, and the values behind a field's name.
+-- How the program lays out what it prints: lines and fields, and the values after a field's name.
 use Rattle.std.specs.Prelude.{◌≡◌, ℕ, ◌⊎◌, Bool, if◌then◌else◌, List, [], ◌∷◌, ◌++◌, Option, None, Some, codes}
 use Rattle.std.specs.Prelude.{decimal}
 use Rattle.hex.specs.Hex.{encode_lower}
@@ -15,7 +15,7 @@ line text = text ++ codes "\n"
 unfoldable pub field : List ℕ → List ℕ → List ℕ
 field name value = name ++ codes "=" ++ value ++ codes "\n"
 
--- a field of a part, behind the part's name with its dot; of a value that is no part, behind nothing
+-- a field of a part, after the part's name with its dot; of a value that is no part, after nothing
 unfoldable pub part_field : List ℕ → List ℕ → List ℕ → List ℕ
 part_field part name value = part ++ field name value
 

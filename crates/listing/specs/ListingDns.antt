@@ -5,7 +5,7 @@ use Rattle.dns_wire.specs.DnsQuestion.{IsQuestion, QuestionValue}
 use Rattle.dns_wire.specs.DnsTables.{type_number}
 use Rattle.listing.specs.Layout.{line, field, octets_text, IsListingOrRefused}
 
--- a question, and how many octets stand behind it
+-- a question, and the number of octets after it
 abbrev pub question_listing : QuestionValue × List ℕ → List ℕ
 question_listing read =
     field (codes "name") (octets_text read.0.name)

@@ -1,4 +1,4 @@
--- What an error of ICMPv4 prints, each line behind a margin.
+-- What an error of ICMPv4 prints, each line after a margin.
 use Rattle.std.specs.Prelude.{◌≡◌, ℕ, ◌/◌, ◌^◌, List, [], ◌++◌, codes, decimal}
 use Rattle.std.specs.List.{join_by}
 use Rattle.wirebase.specs.ByteWriter.{be32}
@@ -23,7 +23,7 @@ kind_name kind.ParamProblem = codes "ParamProblem"
 abbrev pub gateway_listing : List ℕ → ℕ → List ℕ
 gateway_listing margin n = part_field margin (codes "gateway") (join_by decimal (codes ".") (be32 n))
 
--- What the four bytes behind the checksum say (RFC 792): in the last two the MTU of the next link, in all four the
+-- What the four bytes after the checksum say (RFC 792): in the last two the MTU of the next link, in all four the
 -- address of a gateway, in the first the place of what is wrong; of the other types nothing.
 abbrev pub rest_listing : List ℕ → Kind → ErrorValue Kind → List ℕ
 rest_listing margin kind.DstUnreachable v =

@@ -1,4 +1,4 @@
--- What an error of ICMPv6 prints, each line behind a margin.
+-- What an error of ICMPv6 prints, each line after a margin.
 use Rattle.std.specs.Prelude.{◌≡◌, ℕ, List, [], ◌++◌, codes, decimal}
 use Rattle.quote_wire.specs.Error.{ErrorValue}
 use Rattle.quote_wire.specs.Quote.{IsIpv6Quote}
@@ -15,7 +15,7 @@ kind_name kind.PktTooBig = codes "PktTooBig"
 kind_name kind.TimeExceeded = codes "TimeExceeded"
 kind_name kind.ParamProblem = codes "ParamProblem"
 
--- What the four bytes behind the checksum say (RFC 4443 section 3): the MTU of the next link, or the place of what is
+-- What the four bytes after the checksum say (RFC 4443 section 3): the MTU of the next link, or the place of what is
 -- wrong; of the other types nothing.
 abbrev pub rest_listing : List ℕ → Kind → ErrorValue Kind → List ℕ
 rest_listing margin kind.DstUnreachable v = []

@@ -7,7 +7,7 @@ use Rattle.opt_wire.specs.declared.ndiscoption.repr.PrefixInformation.{PrefixInf
 use Rattle.listing.specs.Layout.{line, field, part_field, octets_text, millis_text, IsListingOrRefused}
 use Rattle.listing.specs.ListingIpv6.{address_text, header_listing}
 
--- a prefix, behind the name of the part that it is
+-- a prefix, after the name of the part that it is
 abbrev pub prefix_listing : List ℕ → PrefixInformation → List ℕ
 prefix_listing part p =
     part_field part (codes "prefix_len") (decimal p.prefix_len)
@@ -16,7 +16,7 @@ prefix_listing part p =
     ++ part_field part (codes "preferred_lifetime") (millis_text p.preferred_lifetime)
     ++ part_field part (codes "prefix") (address_text p.prefix)
 
--- a redirected packet, behind the names of its header and of the part that it is
+-- a redirected packet, after the names of its header and of the part that it is
 abbrev pub redirected_listing : List ℕ → List ℕ → Ipv6Repr → List ℕ → List ℕ
 redirected_listing header_part part h d =
     header_listing header_part h ++ part_field part (codes "data") (octets_text d)

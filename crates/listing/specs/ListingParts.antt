@@ -72,6 +72,6 @@ HasStrings _ = Unit {0}
 
 -- ---- flags
 
--- names, each with a comma behind it
+-- names, each with a comma after it
 abbrev pub each_behind : List (List ℕ) → List ℕ
 each_behind names = flat_map (λ name. name ++ codes ",") names

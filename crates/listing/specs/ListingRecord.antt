@@ -55,11 +55,11 @@ pub record AuthorityReads (message : List ℕ) (soa : AuthorityValue) (text : Li
       word primary ++ word mailbox ++ word (decimal soa.serial) ++ word (decimal soa.refresh)
       ++ word (decimal soa.retry) ++ word (decimal soa.expire) ++ word (decimal soa.minimum)
 
--- strings of up to 255 bytes, each behind its length
+-- strings of up to 255 bytes, each after its length
 abbrev pub StringsRead : List ℕ → List ℕ → Type 0
 StringsRead bytes text = (each : List (List ℕ)) × (bytes ≡ flat_map written each) × (text ≡ string_words each)
 
--- the names in data read, and this is the text of the data, each word behind a space
+-- the names in data read, and this is the text of the data, each word after a space
 abbrev pub DataReads : List ℕ → RDataValue → List ℕ → Type 0
 DataReads message (address4 address) text = text ≡ word (ipv4.address_text address)
 DataReads message (address6 address) text = text ≡ word (ipv6.address_text address)

@@ -39,7 +39,7 @@ fn put_v4(room: &mut [u8; ROOM], address: Ipv4Address, port: Option<u16>) -> usi
     let end_d = put_octet(room, end_c, d);
     match port {
         Some(port) => {
-            // It stands over the last dot.
+            // A colon is written over the last dot.
             room[end_d - 1] = b':';
             put_port(room, end_d, port)
         }
@@ -47,8 +47,8 @@ fn put_v4(room: &mut [u8; ROOM], address: Ipv4Address, port: Option<u16>) -> usi
     }
 }
 
-/// Writes an address of IPv6, as `2001:db8::1`, and in brackets where a port stands behind it, as `[2001:db8::1]:53`
-/// (RFC 5952 sections 4 and 6).
+/// Writes an address of IPv6, as `2001:db8::1`, and in brackets where a port follows it, as `[2001:db8::1]:53` (RFC
+/// 5952 sections 4 and 6).
 pub fn write_v6<W: Write>(output: &mut W, address: Ipv6Address, port: Option<u16>) -> io::Result<()>
     ensures { OnOk result (Gains (W.contents output.old) (W.contents output.new)
         (v6_text address port)) }

@@ -57,7 +57,7 @@ pub fn show_message<W: Write>(output: &mut W, message: &Repr<'_>) -> io::Result<
     }
 }
 
-/// Prints a message that was read, each line behind two spaces. The page has room for what is indented; of an echo most
+/// Prints a message that was read, each line after two spaces. The page has room for what is indented; of an echo most
 /// is data, which is written at once.
 pub fn show_indented<W: Write>(
     output: &mut W,
@@ -95,7 +95,7 @@ fn show_indented_other<W: Write>(
     write_indented(output, page.as_slice())
 }
 
-/// Prints an echo of either ICMP behind its name, each line behind two spaces. Requires that the name is of one line.
+/// Prints an echo of either ICMP after its name, each line after two spaces. Requires that the name is of one line.
 #[tactic(auto, using(crate::proofs::Printing::gained, crate::proofs::Printing::gains_both))]
 pub fn show_indented_echo<W: Write>(
     output: &mut W,
@@ -115,7 +115,7 @@ pub fn show_indented_echo<W: Write>(
     part_field(output, MARGIN, "data", data)
 }
 
-/// Prints an echo of either ICMP behind its name.
+/// Prints an echo of either ICMP after its name.
 pub fn show_echo<W: Write>(
     output: &mut W,
     name: &str,

@@ -16,7 +16,7 @@ use std::io;
 use std::io::Write;
 use wirebase::Ipv4Address;
 
-/// Prints an error and what it quotes, each line behind a margin. Requires that it quotes the front of a datagram, as
+/// Prints an error and what it quotes, each line after a margin. Requires that it quotes the front of a datagram, as
 /// each error does that `Repr::parse` gives.
 pub fn show_error<W: Write>(output: &mut W, margin: &str, error: &Repr<'_>) -> io::Result<()>
     requires { IsDatagram error.now.quoted.now }
@@ -45,7 +45,7 @@ fn show_quoting<W: Write>(
     show_ipv4_quote(output, margin, quote)
 }
 
-// Prints what the four bytes behind the checksum say.
+// Prints what the four bytes after the checksum say.
 fn show_rest<W: Write>(output: &mut W, margin: &str, error: &Repr<'_>) -> io::Result<()>
     ensures { OnOk result (Gains (W.contents output.old) (W.contents output.new)
         (rest_listing margin.now error.now.kind (value_of error.now))) }

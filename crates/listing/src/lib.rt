@@ -1,4 +1,4 @@
-//! Listings: what packets hold, printed a name or a field a line, behind `name=`.
+//! Listings: what packets hold, printed a name or a field a line, after `name=`.
 //!
 //! Each `show_` prints what the grammar reads in some octets, or `refused` where it reads nothing.
 #![tactic(auto)]

@@ -11,7 +11,7 @@ use std::alloc::Global;
 use std::io;
 use std::io::Write;
 
-/// What stands before each line of an indented text.
+/// The text before each line of an indented text.
 pub const MARGIN: &str = "  ";
 
 /// A text that is put together before it is written. It takes each write as one: a `Vec` takes it in a loop.
@@ -67,7 +67,7 @@ impl Write for Page {
     }
 }
 
-/// Writes each line of a text behind two spaces. The text's last line may have no LF.
+/// Writes each line of a text after two spaces. The text's last line may have no LF.
 pub fn write_indented<W: Write>(output: &mut W, text: &[u8]) -> io::Result<()>
     ensures { OnOk result (Gains (W.contents output.old) (W.contents output.new)
         (indented text.now)) }

@@ -16,7 +16,7 @@ use std::io;
 use std::io::Write;
 use wirebase::{Duration, Ipv4Address};
 
-/// What may stand behind a field's name: a number, truth value, text, octets, or none of these.
+/// The value after a field's name: a number, truth value, text or octets, or no value.
 pub trait Value: Drop {
     /// What the value is printed as.
     ghost text: { Self → List ℕ };
@@ -164,7 +164,7 @@ pub fn field<V: Value, W: Write>(output: &mut W, name: &str, value: V) -> io::Re
     line(output, value)
 }
 
-/// Prints a field of a part, whose name and a dot, `part`, stand before the field's name.
+/// Prints a field of a part, after `part`: the part's name and a dot, which precede the field's name.
 #[inline(always)]
 pub fn part_field<V: Value, W: Write>(
     output: &mut W,

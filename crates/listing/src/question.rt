@@ -12,7 +12,7 @@ use dns_wire::dns::Question;
 use std::io;
 use std::io::Write;
 
-/// Prints the question at the front of the octets, and how many octets stand behind it.
+/// Prints the question at the start of the octets, and returns the number of octets after it.
 pub fn show_question<W: Write>(output: &mut W, packet: &[u8]) -> io::Result<()>
     ensures { OnOk result (GainsSome (W.contents output.old) (W.contents output.new)
         (QuestionPrints packet.now)) }

@@ -14,7 +14,7 @@ use quote_wire::quote::{Ipv4Quote, Ipv6Quote};
 use std::io;
 use std::io::Write;
 
-/// Prints the name of an error's type and its code, each behind a margin.
+/// Prints the name of an error's type and its code, each after a margin.
 pub(crate) fn show_head<W: Write>(
     output: &mut W,
     margin: &str,
@@ -29,7 +29,7 @@ pub(crate) fn show_head<W: Write>(
     part_field(output, margin, "code", code)
 }
 
-/// Prints what an error of ICMPv4 quotes, each line behind a margin.
+/// Prints what an error of ICMPv4 quotes, each line after a margin.
 pub fn show_ipv4_quote<W: Write>(
     output: &mut W,
     margin: &str,
@@ -78,7 +78,7 @@ fn ipv4_ports_of(quote: &Ipv4Quote<'_>) -> Option<(u16, u16)>
     }
 }
 
-/// Prints what an error of ICMPv6 quotes, each line behind a margin.
+/// Prints what an error of ICMPv6 quotes, each line after a margin.
 pub fn show_ipv6_quote<W: Write>(
     output: &mut W,
     margin: &str,

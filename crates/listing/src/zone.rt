@@ -21,7 +21,7 @@ use std::io::Write;
 pub use string::strings;
 use wirebase::Ipv6Address;
 
-/// Writes a value behind a space.
+/// Writes a value after a space.
 #[tactic(auto, using(crate::proofs::Printing::gained, crate::proofs::Printing::gains_both), unfolding(record_wire::specs::ZoneText::word))]
 pub fn word<V: Value, W: Write>(output: &mut W, value: V) -> io::Result<()>
     ensures { OnOk result (Gains (W.contents output.old) (W.contents output.new)
@@ -31,7 +31,7 @@ pub fn word<V: Value, W: Write>(output: &mut W, value: V) -> io::Result<()>
     value.write_to(output)
 }
 
-/// Writes an address behind a space.
+/// Writes an address after a space.
 #[tactic(auto, using(crate::proofs::Printing::gained, crate::proofs::Printing::gains_both), unfolding(record_wire::specs::ZoneText::word))]
 pub fn ipv6_word<W: Write>(output: &mut W, address: Ipv6Address) -> io::Result<()>
     ensures { OnOk result (Gains (W.contents output.old) (W.contents output.new)
@@ -41,7 +41,7 @@ pub fn ipv6_word<W: Write>(output: &mut W, address: Ipv6Address) -> io::Result<(
     write_v6(output, address, None)
 }
 
-/// Writes a name behind a space.
+/// Writes a name after a space.
 #[tactic(auto, using(crate::proofs::Printing::gained, crate::proofs::Printing::gains_both), unfolding(record_wire::specs::ZoneText::word))]
 pub fn name_word<W: Write>(output: &mut W, name: &NameText) -> io::Result<()>
     ensures { OnOk result (Gains (W.contents output.old) (W.contents output.new)
@@ -51,7 +51,7 @@ pub fn name_word<W: Write>(output: &mut W, name: &NameText) -> io::Result<()>
     name.write_to(output)
 }
 
-/// Writes data of any type behind a space: the number of bytes, and these in hexadecimal.
+/// Writes data of any type after a space: the number of bytes, and these in hexadecimal.
 pub fn generic<W: Write>(output: &mut W, octets: &[u8]) -> io::Result<()>
     ensures { OnOk result (Gains (W.contents output.old) (W.contents output.new)
         (word_text (generic_text octets.now))) }

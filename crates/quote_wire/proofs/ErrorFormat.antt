@@ -30,7 +30,7 @@ pub record IsProtocol {K : Type 0} (p : Protocol K) : Type 0 where
   pub one : (a b : K) → p.number a ≡ p.number b → a ≡ b
   pub cut : (bytes : List ℕ) → p.IsQuoted bytes → p.IsQuoted (take p.most bytes)
 
--- bytes that begin with a type and a code, whatever the checksum behind them
+-- bytes that begin with a type and a code, whatever the checksum after them
 record Begins (bytes : List ℕ) (t code : ℕ) (behind : List ℕ) : Type 0 where
   first : ℕ
   second : ℕ

@@ -1,4 +1,4 @@
--- Octets that are no error: where they have a header and the type of an error, they quote nothing that an error quotes.
+-- Octets that are no error: where they have a header and the type of an error, what follows them is no quote.
 use Rattle.std.proofs.Common.{ℕ, List, refl}
 use Rattle.wirebase.specs.Bytes.{byte_of, number_of}
 use Rattle.wirebase.specs.Icmp.{type_field, code_field, data_in}

@@ -22,8 +22,8 @@ use Rattle.wirebase.specs.Display.{pieces}
 use Rattle.wirebase.specs.Format.{Format, RoundTrips}
 use Rattle.wirebase.specs.Icmp.{type_field, code_field, checksum_field, header, data_in}
 
--- what the errors of one protocol are: the numbers of their types, what they may quote and how many bytes of it, who
--- takes care of the checksum, and the sum of the pseudo header of an error of so many bytes
+-- the errors of one protocol: the numbers of their types, what they may quote and how many bytes of it, who takes care
+-- of the checksum, and the sum of the pseudo header of an error of so many bytes
 pub record Protocol (K : Type 0) : Type 1 where
   pub number : K → ℕ
   pub IsQuoted : List ℕ → Type 0
@@ -38,7 +38,7 @@ pub record ErrorValue (K : Type 0) : Type 0 where
   pub rest : ℕ
   pub quoted : List ℕ
 
--- the four bytes behind the checksum
+-- the four bytes after the checksum
 abbrev pub rest_field : Field
 rest_field = field 4 8
 
@@ -67,7 +67,7 @@ module _ {K : Type 0} (p : Protocol K) where
   emitted v old = seal (over old (text v))
 
   -- The grammar: the header is there, its checksum is good where it is verified, the type is that of an error, and what
-  -- stands behind the header is quoted.
+  -- follows the header is quoted.
   pub record IsError (bytes : List ℕ) (v : ErrorValue K) : Type 0 where
     pub whole : Reaches header bytes
     pub good : is_verified p.checksum ≡ true → IsGood bytes (p.extra (length bytes))
@@ -82,8 +82,7 @@ module _ {K : Type 0} (p : Protocol K) where
   IsRead bytes = (v : ErrorValue K) × IsError bytes v
 
   -- Why octets are no error, by the checks in this order: the header is there, its checksum is good where it is
-  -- verified, the type is that of an error, and what stands behind the header is quoted. Each says that those before
-  -- it hold.
+  -- verified, the type is that of an error, and what follows the header is quoted. Each says that those before it hold.
   pub record HasHeader (bytes : List ℕ) : Type 0 where
     pub whole : Reaches header bytes
     pub good : is_verified p.checksum ≡ true → IsGood bytes (p.extra (length bytes))
@@ -127,7 +126,7 @@ module _ {K : Type 0} (p : Protocol K) where
     IsCut = λ v. p.most < length v.quoted;
   }
 
-  -- What writing an error leaves where `old` stood. Where there is just the error's length, its packet is all that is
+  -- The octets after an error is written over `old`. Where they have just the error's length, its packet is all that is
   -- left, and a canonical value is read back in it as its normal form. Where the checksum is computed, it is good in
   -- octets of any length.
   pub record Emits (v : ErrorValue K) (old new : List ℕ) : Type 0 where

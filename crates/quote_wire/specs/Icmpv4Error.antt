@@ -28,7 +28,7 @@ kind_number kind.TimeExceeded = 11
 kind_number kind.ParamProblem = 12
 
 -- The front of an IPv4 datagram: its header, of version 4 and 20 bytes or more by its own length, and 8 bytes or more
--- behind it, whatever its total length says (RFC 792).
+-- after it, whatever its total length says (RFC 792).
 pub record IsDatagram (bytes : List ℕ) : Type 0 where
   pub version : byte_of ihl_field bytes / 16 ≡ 4
   pub header : 20 ≤ header_len_in bytes
@@ -77,7 +77,7 @@ unfoldable pub gateway_display : Option (List ℕ) → List ℕ
 gateway_display None = []
 gateway_display (Some octets) = pieces (codes " gateway=" ∷ join_by decimal (codes ".") octets ∷ [])
 
--- with what its code says, and what it tells behind the checksum
+-- with what its code says, and what it tells after the checksum
 abbrev pub shown : ErrorValue Kind → Option (List ℕ) → List ℕ
 shown v None =
     pieces (codes "ICMPv4 " ∷ kind_display v.kind ∷ codes " code=" ∷ decimal v.code

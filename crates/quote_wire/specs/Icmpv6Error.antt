@@ -63,7 +63,7 @@ kind_display kind.PktTooBig = codes "packet too big"
 kind_display kind.TimeExceeded = codes "time exceeded"
 kind_display kind.ParamProblem = codes "parameter problem"
 
--- with what its code says, and what it tells behind the checksum
+-- with what its code says, and what it tells after the checksum
 abbrev pub shown : ErrorValue Kind → Option (List ℕ) → List ℕ
 shown v None =
     pieces (codes "ICMPv6 " ∷ kind_display v.kind ∷ codes " code=" ∷ decimal v.code

@@ -1,6 +1,6 @@
--- What an error quotes of a datagram: the fields of its header, and all that stands behind it, whatever its own length
--- says: as much of its payload as is quoted, and extensions where there are any (RFC 4884 section 7). The headers are
--- those of IPv4 (RFC 791 section 3.1) and of IPv6 (RFC 8200 section 3).
+-- What an error quotes of a datagram: the fields of its header, and all that follows it, whatever its own length says:
+-- as much of its payload as is quoted, and extensions where there are any (RFC 4884 section 7). The headers are those
+-- of IPv4 (RFC 791 section 3.1) and of IPv6 (RFC 8200 section 3).
 use Rattle.std.specs.Prelude.{◌≡◌, ◌≢◌, ◌↔◌, ℕ, ◌+◌, ◌/◌, ◌%◌, ◌^◌, ◌<◌, ◌≤◌, ◌⊎◌, List, [], ◌∷◌, ◌++◌, length, drop}
 use Rattle.std.specs.Prelude.{IsTrue, Bool, if◌then◌else◌, slice_index, codes, decimal}
 use Rattle.wirebase.specs.Bytes.{Field, field, bytes_of, byte_of, number_of}
@@ -14,7 +14,7 @@ use Rattle.quote_wire.specs.declared.quote.Ipv6Quote.{Ipv6Quote}
 use Rattle.quote_wire.specs.declared.quote.refusal.Refusal.{Refusal}
 use Rattle.quote_wire.specs.declared.quote.refusal.Refusal.TheVariants.{Short, Version, Length, Data}
 
--- the type of service of an IPv4 header, and its options, which stand between its fixed fields and its payload
+-- the type of service of an IPv4 header, and its options, which are between its fixed fields and its payload
 abbrev pub type_of_service_field : Field
 type_of_service_field = field 1 2
 
@@ -85,7 +85,7 @@ ipv6_quote_display q =
     ∷ codes " dst_addr=" ∷ address_text q.dst_addr
     ∷ codes " payload=" ∷ decimal (length q.payload.now) ∷ [])
 
--- ---- why octets quote no packet, by the check that fails first: each row says that the checks before its own hold
+-- ---- why octets hold no quote, by the check that fails first: each row says that the checks before its own hold
 
 -- the fixed fields of an IPv4 header, of version 4 and 20 bytes or more by its own length
 pub record HasFixed4 (bytes : List ℕ) : Type 0 where

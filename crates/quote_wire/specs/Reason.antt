@@ -1,8 +1,8 @@
--- What codes say.
+-- The meanings of codes.
 use Rattle.std.specs.Prelude.{ℕ, suc, List, [], ◌∷◌, Option, None, Some}
 use Rattle.wirebase.specs.Numbered.{case_in}
 
--- words with the number of each, counted on from this one
+-- words, each with its number, counted on from this one
 abbrev pub counted : ℕ → List (List ℕ) → List (Option (List ℕ) × ℕ)
 counted n [] = []
 counted n (words ∷ rest) = (Some words, n) ∷ counted (suc n) rest

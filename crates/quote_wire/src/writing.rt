@@ -1,4 +1,4 @@
-//! How the errors of both protocols are written.
+//! Writing of errors, for both protocols.
 
 ghost use Rattle.std.specs.Prelude.{◌≡◌, ◌≤◌, length};
 ghost use Rattle.wirebase.specs.Bytes.{over};
@@ -7,7 +7,7 @@ ghost use Rattle.quote_wire.specs.Error.{error_fields};
 
 use wirebase::{ByteWriter, icmp};
 
-// Writes an error of this type over the front of the octets, as far as they go, with the checksum zero.
+// Writes an error of this type at the start of the octets, cut at their end, with a checksum of zero.
 #[tactic(auto, using(wirebase::proofs::Chains::chain))]
 pub(crate) fn write_error(octets: &mut [u8], number: u8, code: u8, rest: u32, quoted: &[u8])
     requires { 8 ≤ length octets.old }
@@ -16,7 +16,7 @@ pub(crate) fn write_error(octets: &mut [u8], number: u8, code: u8, rest: u32, qu
     put_error(&mut ByteWriter::new(octets), number, code, rest, quoted);
 }
 
-// The same through a writer.
+// Writes the error through a writer.
 #[tactic(auto, unfolding(wirebase::specs::ByteWriter::be32))]
 fn put_error(w: &mut ByteWriter<'_>, number: u8, code: u8, rest: u32, quoted: &[u8])
     requires { 8 ≤ length (free w.old) }

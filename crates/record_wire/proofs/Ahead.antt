@@ -1,4 +1,4 @@
--- What stands in turn at the front of octets: as many turns as octets are enough.
+-- What is in turn at the front of octets: as many turns as octets are enough.
 use Rattle.std.proofs.Common.{◌≡◌, ℕ, zero, suc, ◌<◌, ◌≤◌, List, [], ◌∷◌, length, Option}
 use Rattle.std.proofs.Common.{None, Some, refl, sym, ap, ◌∙◌}
 use Rattle.std.proofs.Common.{arith}
@@ -6,7 +6,7 @@ use Rattle.std.specs.Iterator.{MakesProgress, at_most}
 use Rattle.std.specs.Borrow.{Bor}
 use Rattle.record_wire.specs.Ahead.{then_more, ahead_up_to, ahead}
 
--- what stands at the front takes an octet at least
+-- each item takes at least one octet
 abbrev pub Shrinks : {V : Type 0} → (List ℕ → Option (V × List ℕ)) → Type 0
 Shrinks {V} first = (octets rest : List ℕ) (v : V) → first octets ≡ Some (v, rest) → length rest < length octets
 

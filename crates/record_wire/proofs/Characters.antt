@@ -13,7 +13,7 @@ pub chosen : {A : Type 0} (b : Bool) (x y z : A) → cond b x y ≡ z → ((b �
 chosen true x y z e = inl (refl, e)
 chosen false x y z e = inr (refl, e)
 
--- a byte and what stands behind it
+-- a byte and what follows it
 abbrev pub byte_then : ℕ → List ℕ → Option (ℕ × List ℕ)
 byte_then byte rest = Some (byte, rest)
 

@@ -16,7 +16,7 @@ pub record IsFirst (octets label rest : List ℕ) : Type 0 where
   pub one : IsLabel label
   pub whole : octets ≡ written label ++ rest
 
--- a label and what stands behind it
+-- a label and what follows it
 abbrev label_then : List ℕ → List ℕ → Option (List ℕ × List ℕ)
 label_then label rest = Some (label, rest)
 
@@ -135,7 +135,7 @@ labels-some octets label rest e =
 pub in_nothing : labels_in [] ≡ []
 in_nothing = labels-none [] refl
 
--- the labels that were written are those in the octets, also where byte 0 stands behind them
+-- the labels that were written are those in the octets, also where byte 0 follows them
 pub labels-written : (labels : List (List ℕ)) → AllByRecursion IsLabel labels → labels_in (written_all labels) ≡ labels
 labels-written [] each = in_nothing
 labels-written (label ∷ labels) each =
@@ -188,7 +188,7 @@ pub each_more : (labels : List (List ℕ)) (label : List ℕ) → AllByRecursion
 each_more [] label each fits = (fits, tt)
 each_more (l ∷ labels) label each fits = (each.0, each_more labels label each.1 fits)
 
--- of the labels of a name, what stands before the last ones
+-- of the labels of a name, what is before the last ones
 pub room_before : (done : List (List ℕ)) (label : List ℕ) (more : List (List ℕ))
     → length (wire (done ++ label ∷ more)) ≤ 255
     → length (written_all done) + length (written label) + 1 ≤ 255

@@ -1,4 +1,4 @@
--- The text of a name whose bytes all stand for themselves.
+-- The text of a name without escapes.
 use Rattle.std.proofs.Common.{◌≡◌, ℕ, ◌≤◌, Bool, true, false, ◌&&◌, not, List, [], ◌∷◌, ◌++◌, length, take}
 use Rattle.std.proofs.Common.{◌+◌, cond, codes, refl, sym, ap, ◌∙◌, inl, inr, rules, arith, append_assoc, length-append}
 use Rattle.std.proofs.lemmas.List.{length-take-le}
@@ -10,7 +10,7 @@ use Rattle.record_wire.specs.NameText.{specials, is_in, character, label_text, b
 use Rattle.record_wire.specs.NameDotted.{is_usual, is_usual_label, are_usual, dotted}
 use Rattle.record_wire.proofs.NamePieces.{plain_text}
 
--- ---- bytes that stand for themselves
+-- ---- bytes that are written as themselves
 
 first_true : (a b : Bool) → (a && b) ≡ true → a ≡ true
 first_true true b e = refl

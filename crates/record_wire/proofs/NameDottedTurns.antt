@@ -30,7 +30,7 @@ copied room part at n len fits long within =
     sym (take-take (at + len) (at + n) (put_mid at n room part) (omega arith))
     ∙ ap (take (at + len)) all ∙ rw front at (take-append-add (take at room) part len)
 
--- a label of which a piece of the text was copied that it stands in front of
+-- a label of which a piece of the text was copied that the label begins
 pub piece_copied : (room label ahead part : List ℕ) (at n : ℕ) → at + n ≤ length room → n ≤ length ahead
     → length label ≤ n → StandInFront label ahead → part ≡ take n ahead
     → take (at + length label) (put_mid at n room part) ≡ take at room ++ label
@@ -90,14 +90,14 @@ one_label left bytes rest e =
     let w = Whole-front left bytes rest (sym e) in
     (w.some, w.few)
 
--- a label stands in front of what its length is cut off of
+-- a label precedes what is cut off by its length
 pub behind_length : (left label rest : List ℕ) → whole label rest ≡ front_of left
     → StandInFront label (take (length left - 1) (drop 1 left))
 behind_length left label rest e =
     let w = Whole-front left label rest (sym e) in
     record { rest = rest; is = drop_whole 1 left ∙ ap (λ (t : List ℕ). drop 1 t) w.is }
 
--- the labels in octets, and one that is written behind them
+-- the labels in octets, and one that is written after them
 one_more : (octets label : List ℕ) (done : List (List ℕ)) → AllByRecursion IsLabel done
     → octets ≡ written_all done → IsLabel label
     → labels_in (octets ++ written label) ≡ labels_in octets ++ label ∷ []

@@ -95,7 +95,7 @@ first_more : (done : List (List ℕ)) (label : List ℕ) → (first : List ℕ) 
 first_more [] label = (label, [], refl)
 first_more (d ∷ done) label = (d, done ++ label ∷ [], refl)
 
--- the last label is read, and the end or a last dot stands behind it
+-- the last label is read, and the end or a last dot follows it
 pub all_read : (text octets left label rest next : List ℕ) → SoFar text octets left → IsLabel label
     → Spells left label rest → GoesOn rest [] → next ≡ octets ++ written label → AreSpelled text next
 all_read text octets left label rest next so one spells ends e =
@@ -151,7 +151,7 @@ next_label text octets left label labels so is =
           (room_before so.done b.label b.more (subst (λ ls. length (wire ls) ≤ 255) b.is is.name.fits));
     }
 
--- ---- what stands behind a label
+-- ---- what follows a label
 
 spelled_some : (after label rest : List ℕ) → Spells after label rest → 1 ≤ length label → 1 ≤ length after
 spelled_some after [] rest s one = absurd (omega arith)
@@ -246,7 +246,7 @@ next_goes text octets left label rest first labels so spells no_more other is =
     let one = spelling_one label n.label left rest n.rest spells no_more n.spells n.no_more in
     other_alone n.rest n.more (ap behind_in one.1 ∙ other) n.goes n.each
 
--- a text is not shorter than what stands behind its characters
+-- a text is not shorter than what follows its characters
 pub spelled_shorter : (label text rest : List ℕ) → Spells text label rest → length rest ≤ length text
 spelled_shorter [] text rest s = omega (arith, ap length s)
 spelled_shorter (b ∷ label) text rest (character, behind, is, whole, s) =

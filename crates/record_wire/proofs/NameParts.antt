@@ -17,7 +17,7 @@ use Rattle.record_wire.specs.NameParts.{AreInFront}
 use Rattle.record_wire.specs.Names.{Names, most_pointers}
 use Rattle.record_wire.proofs.LabelLists.{drop_seam, written_more, each_more, name_of}
 
--- what stands behind so many bytes, as a range up to the end
+-- what follows so many bytes, as a range up to the end
 pub drop_whole : (n : ℕ) (xs : List ℕ) → take (length xs - n) (drop n xs) ≡ drop n xs
 drop_whole n xs = take_all (length xs - n) (drop n xs) (omega (arith, length-drop n xs))
 
@@ -178,8 +178,8 @@ steps_of_name text message labels name =
 
 -- ---- the name so far
 
--- The octets are those of the labels that were read, behind so many pointers. The labels of the name are these, and
--- then those that come from the text that is left, with these bytes of the message open.
+-- The octets are those of the labels that were read, after so many pointers. The labels of the name are these, and then
+-- those that come from the text that is left, with these bytes of the message open.
 pub record IsReadTo (text message octets left reach : List ℕ) (pointers : ℕ) : Type 0 where
   pub steps : ℕ
   pub done : List (List ℕ)
@@ -353,7 +353,7 @@ pointers_read text message octets left reach pointers so labels name =
       steps_of_name text message labels name,
     )
 
--- a pointer behind as many as are followed is of no name that is read
+-- a pointer after as many as are followed is of no name that is read
 pub no_name_more : (text message octets left reach : List ℕ) (pointers target : ℕ)
     → IsReadTo text message octets left reach pointers
     → pointer target ≡ front_of left → target < length reach → pointers ≡ most_pointers

@@ -48,7 +48,7 @@ number_text byte h e f =
       decimal_digit (byte % 10) (omega arith),
     ) refl
 
--- four octets that are set one behind another
+-- four octets that are set one after another
 pub four_set : (xs : List ℕ) (i x y z w : ℕ) → i + 4 ≤ length xs
     → take (i + 4) (slice_set (slice_set (slice_set (slice_set xs i x) (i + 1) y) (i + 2) z) (i + 3) w)
     ≡ take i xs ++ x ∷ y ∷ z ∷ w ∷ []
@@ -110,7 +110,7 @@ takes_two took f g h p q r a b all one two is = record {
   whole = grind (arith, append_assoc, is, one.whole, two.whole);
 }
 
--- what is put behind what waits
+-- what is put after what waits
 pub takes_more : {W : Type 0} (took : W → List ℕ → W → Type 0) (f g : Formatter W) (p a q more r all : List ℕ)
     → Takes took f p a g q → r ≡ q ++ more → a ++ more ≡ all → IsAscii more → Takes took f p all g r
 takes_more took f g p a q more r all one put is small = record {

@@ -21,7 +21,7 @@ use Rattle.record_wire.proofs.NameParts.{in_front, behind_front}
 
 -- ---- labels that are passed over
 
--- labels with which the name is too long, or behind which reading goes on
+-- labels with which the name is too long, or after which reading goes on
 long_by : (text message left opened behind : List ℕ) (octets pointers : ℕ) (labels : List (List ℕ))
     → AllByRecursion IsLabel labels → left ≡ written_all labels ++ behind
     → ComesTo text message octets pointers left opened → octets < 255
@@ -141,7 +141,7 @@ place_left : (text message octets left opened : List ℕ) (pointers : ℕ)
 place_left text message octets left opened pointers so =
     record { octets = length octets; pointers = pointers; opened = opened; comes = so.comes }
 
--- a label behind which the name has too many octets
+-- a label after which the name has too many octets
 pub label_long : (text message octets left opened bytes rest : List ℕ) (pointers : ℕ)
     → IsAt text message octets left opened pointers → whole bytes rest ≡ front_of left
     → 255 ≤ length octets + (1 + length bytes) → RefusesName text message TooLong
@@ -172,7 +172,7 @@ unfolding place_left
 one_pointer_more text message octets left opened pointers place so e inside most =
     (left, place, place_left text message octets left opened pointers so, points left place e, inside, most)
 
--- no label stands at the front of what is torn
+-- torn octets do not begin with a label
 torn_front : (left behind : List ℕ) (labels : List (List ℕ)) → AllByRecursion IsLabel labels
     → left ≡ written_all labels ++ behind → torn ≡ front_of left → left ≡ behind
 torn_front left behind [] each is e = is

@@ -33,7 +33,7 @@ string_before n rest fits (strings, is) =
           (sym (take-append-drop n rest) ∙ ap (λ (l : List ℕ). take n rest ++ l) is),
     )
 
--- the first string, and those behind it
+-- the first string, and those after it
 pub string_first : (n : ℕ) (rest : List ℕ) → AreStrings (n ∷ rest) → (n ≤ length rest) × AreStrings (drop n rest)
 string_first n rest ([], is) = cc is
 string_first n rest (s ∷ strings, is) =
@@ -55,7 +55,7 @@ test_none : (b : Bool) (x : List ℕ) → cond b (Some x) None ≡ None → b �
 test_none true x e = cc e
 test_none false x e = refl
 
--- octets are strings where those behind the first one are, and the other way round
+-- octets are strings where those after the first one are, and the other way round
 pub strings_behind : (left rest : List ℕ) → string_rest left ≡ Some rest
     → (AreStrings rest → AreStrings left) × (AreStrings left → AreStrings rest) × (length rest < length left)
 strings_behind [] rest e = cc e

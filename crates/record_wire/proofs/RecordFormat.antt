@@ -1,4 +1,4 @@
--- What stands behind a name is one question and one record, and as many bytes are left.
+-- A name is followed by one question and one record, and as many bytes are left.
 use Rattle.std.proofs.Common.{◌≡◌, ℕ, ◌≤◌, List, length, take, drop, refl, sym, ap, ◌∙◌}
 use Rattle.dns_wire.specs.declared.dns.tables.Type.{«Type» as RecordType}
 use Rattle.wirebase.specs.Bytes.{number_of}
@@ -23,7 +23,7 @@ pub question_split : (bytes : List ℕ) (q : QuestionValue) (rest : List ℕ) (h
     → IsSplit bytes q.name h.after
 question_split bytes q rest h = record { name_ = h.name_; whole = h.whole }
 
--- two questions behind one name
+-- two questions after one name
 pub question_one : (bytes : List ℕ) (q r : QuestionValue) (rest more : List ℕ) (a : IsQuestion bytes q rest)
     (b : IsQuestion bytes r more) → q.name ≡ r.name → a.after ≡ b.after → (q ≡ r) × (rest ≡ more)
 question_one bytes q r rest more a b name after = (
@@ -52,7 +52,7 @@ pub record_split : (bytes : List ℕ) (r : RecordValue) (rest : List ℕ) (h : I
     → IsSplit bytes r.name h.after
 record_split bytes r rest h = record { name_ = h.name_; whole = h.whole }
 
--- two records behind one name
+-- two records after one name
 pub behind_one : (after : List ℕ) (r s : RecordValue) (rest more : List ℕ) → IsBehindName after r rest
     → IsBehindName after s more → r.name ≡ s.name → (r ≡ s) × (rest ≡ more)
 behind_one after r s rest more a b name = (
@@ -61,7 +61,7 @@ behind_one after r s rest more a b name = (
   a.rest_ ∙ sym b.rest_,
 )
 
--- ---- what begins with a name and has the fields behind it
+-- ---- what begins with a name and has the fields after it
 
 pub question_here : (bytes name after : List ℕ) → IsSplit bytes name after → 4 ≤ length after → HasQuestion bytes
 question_here bytes name after split fits = (

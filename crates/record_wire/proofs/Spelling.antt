@@ -42,7 +42,7 @@ spelling_one (b ∷ label) (o ∷ others) text left rest (character, after, is, 
     let q = spelling_one label others after left rest s e (subst (λ x. Spells x others rest) (sym p.1) t) f in
     (ap (λ x. x ∷ others) (sym p.0) ∙ ap (λ xs. b ∷ xs) q.0, q.1)
 
--- a spelling with a character behind it is a part of a longer one
+-- a spelling with a character after it is a part of a longer one
 pub spelling_longer : (label others text left : List ℕ) (byte : ℕ) (after rest : List ℕ) → Spells text label left
     → first_byte left ≡ Some (byte, after) → Spells text others rest → first_byte rest ≡ None
     → length label + 1 ≤ length others

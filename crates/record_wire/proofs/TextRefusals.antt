@@ -69,7 +69,7 @@ rest_of_label text refusal.TooLong is = absurd is
 rest_of_label text refusal.Escape is = is
 rest_of_label text (refusal.Byte byte) is = is
 
--- ---- behind the labels that were read
+-- ---- after the labels that were read
 
 abbrev read_to : (text octets left label rest : List ℕ) → SoFar text octets left → Spells left label rest
     → IsReadTo text rest

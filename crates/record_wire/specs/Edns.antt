@@ -1,5 +1,5 @@
--- An OPT record (RFC 6891 sections 6.1.2 and 6.1.3): the size of its sender's UDP payloads stands in the place of a
--- class, and in the place of a time to live
+-- An OPT record (RFC 6891 sections 6.1.2 and 6.1.3): the size of its sender's UDP payloads is in the place of a class,
+-- and in the place of a time to live
 --
 -- +-------------------------------+-------------------------------+
 -- |  upper bits of response code  |            version            |
@@ -88,7 +88,7 @@ pub record IsOption (bytes : List ℕ) (option : OptionValue) (rest : List ℕ) 
 abbrev pub HasOption : List ℕ → Type 0
 HasOption bytes = (option : OptionValue) × (rest : List ℕ) × IsOption bytes option rest
 
--- they are too short for a code and a length, or what is behind these is shorter than the length
+-- they are too short for a code and a length, or what is after these is shorter than the length
 abbrev pub RefusesOption : List ℕ → OptionRefusal → Type 0
 RefusesOption bytes refusal.Fields = length bytes < 4
 RefusesOption bytes refusal.Data = Reaches option_length_field bytes × (length (drop 4 bytes) < option_len bytes)
@@ -97,7 +97,7 @@ RefusesOption bytes refusal.Data = Reaches option_length_field bytes × (length 
 abbrev pub Answer : Type 0
 Answer = Result OptionValue OptionRefusal
 
--- Options one after another up to the end of the bytes, or up to a place where none stands, which is answered by the
+-- Options one after another up to the end of the bytes, or up to a place where there is none, which is answered by the
 -- reason for that.
 abbrev pub Tile : List ℕ → List Answer → Type 0
 Tile bytes [] = bytes ≡ []

@@ -1,4 +1,4 @@
--- What stands behind the header of a message, in order (RFC 1035 section 4.1): the questions, and then the records that
+-- What follows the header of a message, in order (RFC 1035 section 4.1): the questions, and then the records that
 -- answer, those that name an authority, and those that add to them, as many of each as the header counts.
 use Rattle.std.specs.Prelude.{◌≡◌, ◌≢◌, ℕ, ◌+◌, ◌-◌, ◌<◌, ◌≤◌, nat_lt, Bool, true, false, not, ◌&&◌}
 use Rattle.std.specs.Prelude.{if◌then◌else◌, ◌⊎◌, List}
@@ -34,7 +34,7 @@ ends_in message =
       all = authorities + number_of additional_count_field message;
     }
 
--- the section of the entry that stands behind n others
+-- the section of the entry that follows n others
 abbrev pub section_at : Ends → ℕ → Section
 section_at ends n =
     if nat_lt n ends.questions then Question
@@ -88,7 +88,7 @@ pub record IsSettled (left : Left) : Type 0 where
   pub most : left.taken ≤ left.ends.all
   pub none : left.refused ≡ true → HasEntry (section_at left.ends left.taken) left.bytes → ⊥
 
--- the next entry stands at the front of the bytes
+-- the next entry is at the front of the bytes
 pub record IsNext (old : Left) (e : EntryValue) (new : Left) : Type 0 where
   pub unbroken : old.refused ≡ false
   pub some : old.taken < old.ends.all
@@ -97,7 +97,7 @@ pub record IsNext (old : Left) (e : EntryValue) (new : Left) : Type 0 where
   pub taken_ : new.taken ≡ old.taken + 1
   pub refused_ : new.refused ≡ false
 
--- an entry is left, and none stands at the front of the bytes; none is left then, and the bytes stay
+-- an entry is left, and none is at the front of the bytes; none is left then, and the bytes stay
 pub record IsBroken (old new : Left) : Type 0 where
   pub unbroken : old.refused ≡ false
   pub some : old.taken < old.ends.all
@@ -107,7 +107,7 @@ pub record IsBroken (old new : Left) : Type 0 where
   pub refused_ : new.refused ≡ true
   pub bytes_ : new.bytes ≡ old.bytes
 
--- A call gives the next entry and takes it off; where none stands it gives one refusal, and then the end for good.
+-- A call gives the next entry and takes it off; where there is none it gives one refusal, and then the end for good.
 abbrev pub GivesEntry : Left → Option (Result Entry Error) → Left → Type 0
 GivesEntry old None new = ((old.refused ≡ true) ⊎ (old.taken ≡ old.ends.all)) × (new ≡ old)
 GivesEntry old (Some (Ok e)) new = IsNext old (entry_of e) new

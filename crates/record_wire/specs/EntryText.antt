@@ -73,7 +73,7 @@ RefusesEntryText is_multicast message (entries.record_in section r) why =
 
 -- ---- texts
 
--- what stands behind the line of an entry whose flag is set
+-- what follows the line of an entry whose flag is set
 abbrev pub mark : Bool → List ℕ → List (List ℕ)
 mark is_set text = if is_set then text ∷ [] else []
 

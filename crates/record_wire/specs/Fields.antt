@@ -1,4 +1,4 @@
--- Data with fields in front of one or two names and behind them: of MINFO (RFC 1035 section 3.3.7), RP, AFSDB and RT
+-- Data with fields in front of one or two names and after them: of MINFO (RFC 1035 section 3.3.7), RP, AFSDB and RT
 -- (RFC 1183), PX (RFC 2163), KX (RFC 2230), SIG and NXT (RFC 2535), NAPTR (RFC 3403) and NSEC (RFC 4034 section 4).
 use Rattle.std.specs.Prelude.{◌≡◌, ℕ, ◌≤◌, ◌<◌, ◌&&◌, nat_le, if◌then◌else◌, Bool, true, false, List, [], ◌∷◌, ◌++◌}
 use Rattle.std.specs.Prelude.{length, take, drop, slice_index, flat_map, Option, None, Some}
@@ -108,7 +108,7 @@ signature_in bytes = record {
   key_tag = number_of key_tag_field bytes;
 }
 
--- three strings stand at the front of the bytes: flags, services and a regular expression (RFC 3403 section 4.1)
+-- three strings are at the front of the bytes: flags, services and a regular expression (RFC 3403 section 4.1)
 pub record AreThree (bytes strings rest : List ℕ) : Type 0 where
   pub flags : List ℕ
   pub services : List ℕ
@@ -135,7 +135,7 @@ pub record IsSignature (bytes : List ℕ) (value : FrontValue) (rest : List ℕ)
   pub is : value ≡ signs (signature_in bytes)
   pub rest_ : rest ≡ drop 18 bytes
 
--- these fields stand at the front of the bytes, and then a rest
+-- these fields are at the front of the bytes, and then a rest
 abbrev pub IsFront : FrontForm → List ℕ → FrontValue → List ℕ → Type 0
 IsFront front_form.Nothing bytes value rest = (value ≡ no_front) × (rest ≡ bytes)
 IsFront front_form.Number bytes value rest = IsNumber bytes value rest
@@ -149,7 +149,7 @@ abbrev pub IsSecond : Bool → List ℕ → Option (List ℕ) → List ℕ → T
 IsSecond false bytes value rest = (value ≡ None) × (rest ≡ bytes)
 IsSecond true bytes value rest = (name : List ℕ) × (value ≡ Some name) × IsSplit bytes name rest
 
--- ---- behind the names
+-- ---- after the names
 
 -- A map of types below 128, a bit for each. That of type 0 is clear: where it is set, a map has another form (RFC 2535
 -- section 5.2).
@@ -157,7 +157,7 @@ pub record IsMap (bytes : List ℕ) : Type 0 where
   pub len : length bytes ≤ 16
   pub first : slice_index bytes 0 < 128
 
--- maps of 1 to 32 bytes, each behind the upper byte of its types and its length (RFC 4034 section 4.1.2)
+-- maps of 1 to 32 bytes, each after the upper byte of its types and its length (RFC 4034 section 4.1.2)
 pub record MapValue : Type 0 where
   pub upper : ℕ
   pub map : List ℕ
@@ -174,7 +174,7 @@ pub record AreMaps (bytes : List ℕ) : Type 0 where
   pub each : AllByRecursion IsTypesMap maps
   pub whole : bytes ≡ flat_map map_bytes maps
 
--- the fields behind the names are all of the bytes
+-- the fields after the names are all of the bytes
 abbrev pub IsRest : RestForm → List ℕ → RestValue → Type 0
 IsRest rest_form.Nothing bytes value = (bytes ≡ []) × (value ≡ no_rest)
 IsRest rest_form.Signature bytes value = value ≡ signature bytes
@@ -194,7 +194,7 @@ pub record IsFields (form : Form) (bytes : List ℕ) (value : FieldsValue) : Typ
 
 -- ---- as it is computed
 
--- the first map, and what stands behind it
+-- the first map, and what follows it
 abbrev pub first_map : List ℕ → Option (MapValue × List ℕ)
 first_map [] = None
 first_map (upper ∷ []) = None

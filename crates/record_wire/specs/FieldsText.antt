@@ -1,4 +1,4 @@
--- Data with fields in front of one name or two and behind them, whose names are read, and its text in a zone file.
+-- Data with fields in front of one name or two and after them, whose names are read, and its text in a zone file.
 use Rattle.std.specs.Prelude.{◌≡◌, ℕ, ◌+◌, ◌*◌, ◌/◌, ◌%◌, ◌==◌, if◌then◌else◌, ◌⊎◌, List, [], ◌∷◌, ◌++◌}
 use Rattle.std.specs.Prelude.{length, flat_map, codes, decimal, Option, None, Some}
 use Rattle.wirebase.specs.Display.{pieces}
@@ -70,7 +70,7 @@ signature_text s =
     ∷ codes " " ∷ decimal s.original_ttl ∷ codes " " ∷ decimal s.expiration
     ∷ codes " " ∷ decimal s.inception ∷ codes " " ∷ decimal s.key_tag ∷ [])
 
--- each field in front of the names, and a space behind it
+-- each field in front of the names, and a space after it
 abbrev pub front_text : FrontValue → List ℕ
 front_text no_front = []
 front_text (numbered n) = pieces (decimal n ∷ codes " " ∷ [])
@@ -83,7 +83,7 @@ abbrev pub second_text : Option (List (List ℕ)) → List ℕ
 second_text None = []
 second_text (Some labels) = word (whole_name labels)
 
--- the type of a number behind a space, where the least significant bit is set
+-- the type of a number after a space, where the least significant bit is set
 abbrev pub bit_text : ℕ → ℕ → List ℕ
 bit_text bits number = if bits % 2 == 0 then [] else word (type_display (type_of number))
 
@@ -128,7 +128,7 @@ fields_text fields =
     pieces (front_text fields.front_ ∷ whole_name fields.first ∷ second_text fields.second
     ∷ rest_text fields.rest_ ∷ [])
 
--- the same with the lengths of the names
+-- the text in normal form: its names have the lengths of their labels
 abbrev pub names_display : List ℕ → Option (List ℕ) → List ℕ
 names_display first None = pieces (codes "name_len=" ∷ decimal (length first) ∷ [])
 names_display first (Some second) =

@@ -1,10 +1,10 @@
--- The octets of a whole name (RFC 1035 section 3.1): each label behind its length, and then byte 0.
+-- The octets of a whole name (RFC 1035 section 3.1): each label after its length, and then byte 0.
 use Rattle.std.specs.Prelude.{ℕ, ◌≤◌, ◌&&◌, nat_le, if◌then◌else◌, List, [], ◌∷◌, ◌++◌, length, take, drop}
 use Rattle.std.specs.Prelude.{Option, None, Some, suc, zero}
 use Rattle.std.specs.List.{AllByRecursion, flat_map}
 use Rattle.dns_wire.specs.DnsName.{IsLabel, written}
 
--- each label behind its length
+-- each label after its length
 abbrev pub written_all : List (List ℕ) → List ℕ
 written_all labels = flat_map written labels
 
@@ -18,7 +18,7 @@ pub record AreOfName (labels : List (List ℕ)) : Type 0 where
 
 -- ---- the labels in octets, as they are computed
 
--- the label at the front of octets, and what stands behind it
+-- the label at the front of octets, and what follows it
 abbrev pub first_label : List ℕ → Option (List ℕ × List ℕ)
 first_label [] = None
 first_label (n ∷ rest) =

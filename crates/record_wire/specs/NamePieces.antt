@@ -13,7 +13,7 @@ pub record Takes {W : Type 0} (took : W → List ℕ → W → Type 0) (old : Fo
   pub whole : waited ++ text ≡ written ++ waits
   pub ascii : IsAscii waits
 
--- The same where no write failed, by the length of what waits in the piece.
+-- the text of a piece where no write failed, by the number of bytes that wait in it
 abbrev pub TakesOnOk : {W : Type 0} → (W → List ℕ → W → Type 0) → Formatter W → List ℕ → Result ℕ Error → List ℕ
     → Formatter W → List ℕ → Type 0
 TakesOnOk took old waited result text new piece = IsPlainFormatter old → IsAscii waited

@@ -21,7 +21,7 @@ numbered_at x (y ∷ z ∷ rest) =
     if is_ascii_digit y && is_ascii_digit z && nat_lt (three_digits x y z) 256 then Some (three_digits x y z, rest)
     else None
 
--- what stands behind a backslash
+-- what follows a backslash
 abbrev pub quoted_in : List ℕ → Option (ℕ × List ℕ)
 quoted_in [] = None
 quoted_in (x ∷ rest) =
@@ -29,7 +29,7 @@ quoted_in (x ∷ rest) =
     else if is_ascii_graphic x then Some (x, rest)
     else None
 
--- the byte that the first character of a text stands for, and what stands behind the character
+-- the byte that the first character of a text denotes, and what follows the character
 abbrev pub first_byte : List ℕ → Option (ℕ × List ℕ)
 first_byte [] = None
 first_byte (x ∷ rest) =
@@ -37,7 +37,7 @@ first_byte (x ∷ rest) =
     else if is_ascii_graphic x && not (is_special x) then Some (x, rest)
     else None
 
--- what stands behind the text of a label: the end or a last dot, a dot and then a text, or something else
+-- what follows the text of a label: the end or a last dot, a dot and then a text, or something else
 pub data BehindLabel : Type 0 where
   at_end : BehindLabel
   at_label : List ℕ → BehindLabel
@@ -53,7 +53,7 @@ seen_behind End = at_end
 seen_behind (Label text) = at_label text.now
 seen_behind Other = at_other
 
--- the first byte, and those behind it; the first three, and those behind them
+-- the first byte, and those after it; the first three, and those after them
 abbrev pub first_octet : List ℕ → Option (ℕ × List ℕ)
 first_octet [] = None
 first_octet (byte ∷ rest) = Some (byte, rest)

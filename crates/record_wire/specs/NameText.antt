@@ -17,8 +17,8 @@ is_in (x ∷ xs) byte = (byte == x) || is_in xs byte
 abbrev pub is_special : ℕ → Bool
 is_special byte = is_in specials byte
 
--- A character stands for a byte: a visible one for itself, unless it has a meaning of its own; any visible one but a
--- digit behind a backslash; and three digits behind a backslash for the byte of that number.
+-- A character denotes a byte: a visible one itself, unless it has a meaning of its own; any visible one but a digit,
+-- after a backslash, itself; and three digits after a backslash the byte of that number.
 pub data IsCharacter (byte : ℕ) (text : List ℕ) : Type 0 where
   itself : IsTrue (is_ascii_graphic byte) → IsFalse (is_special byte) → text ≡ byte ∷ [] → IsCharacter byte text
   quoted : IsTrue (is_ascii_graphic byte) → IsFalse (is_ascii_digit byte) → text ≡ 92 ∷ byte ∷ []
@@ -28,14 +28,14 @@ pub data IsCharacter (byte : ℕ) (text : List ℕ) : Type 0 where
 
 -- ---- texts
 
--- a text is characters that stand for these bytes, one after another, and then a rest
+-- a text is characters that denote these bytes, one after another, and then a rest
 abbrev pub Spells : List ℕ → List ℕ → List ℕ → Type 0
 Spells text [] rest = text ≡ rest
 Spells text (byte ∷ bytes) rest =
     (character : List ℕ) × (after : List ℕ) × IsCharacter byte character × (text ≡ character ++ after)
     × Spells after bytes rest
 
--- behind a label stands the end, or a last dot, or a dot and then the next label
+-- a label is followed by the end, by a last dot, or by a dot and the next label
 abbrev pub GoesOn : List ℕ → List (List ℕ) → Type 0
 GoesOn text [] = (text ≡ []) ⊎ (text ≡ codes ".")
 GoesOn text (label ∷ labels) =
@@ -53,7 +53,7 @@ pub record IsNameText (text : List ℕ) (labels : List (List ℕ)) : Type 0 wher
 
 -- ---- the text that is written
 
--- a byte is written as the first of these that it can be: itself, behind a backslash, by its number
+-- a byte is written as the first of these that it can be: itself, after a backslash, by its number
 abbrev pub character : ℕ → List ℕ
 character byte =
     if is_special byte then codes "\\" ++ byte ∷ []
@@ -63,7 +63,7 @@ character byte =
 abbrev pub label_text : List ℕ → List ℕ
 label_text label = flat_map character label
 
--- labels, each behind a dot
+-- labels, each after a dot
 abbrev pub behind_dots : List (List ℕ) → List ℕ
 behind_dots labels = flat_map (λ label. codes "." ++ label_text label) labels
 

@@ -3,12 +3,12 @@ use Rattle.std.specs.Prelude.{ℕ, ◌≤◌, List, length}
 use Rattle.dns_wire.specs.DnsName.{IsName}
 use Rattle.record_wire.specs.Labels.{AreOfName}
 
--- The most pointers that are followed. A name of 255 octets has 127 labels at most, so behind more pointers one leads
--- to no label of its own.
+-- The most pointers that are followed. A name of 255 octets has 127 labels at most, so after more pointers one leads to
+-- no label of its own.
 abbrev pub most_pointers : ℕ
 most_pointers = 127
 
--- The name that begins in a text and may go on in a message has these labels, behind as many pointers as are followed.
+-- The name that begins in a text and may go on in a message has these labels, after as many pointers as are followed.
 pub record IsFollowed (text message : List ℕ) (labels : List (List ℕ)) : Type 0 where
   pub is : IsName text message labels
   pub few : length is.targets ≤ most_pointers

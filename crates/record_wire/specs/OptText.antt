@@ -20,7 +20,7 @@ edns_by class ttl bytes = record {
 abbrev pub edns_flags_text : ℕ → List ℕ
 edns_flags_text flags = if flags == 0x8000 then codes "do" else decimal flags
 
--- an option by its name and its data, or why none stands there
+-- an option by its name and its data, or why there is none
 abbrev pub answer_text : Answer → List ℕ
 answer_text (Ok option) = option_display option
 answer_text (Err why) = option_refusal_display why

@@ -26,7 +26,7 @@ use Rattle.record_wire.specs.declared.rdata.RData.TheVariants as rdata
 
 -- ---- layouts
 
--- fields in front of one name or two and behind them
+-- fields in front of one name or two and after them
 abbrev pub form : FrontForm → Bool → RestForm → Layout
 form front has_two rest = layout.Fields (record { front = front; has_two = has_two; «rest» = rest })
 
@@ -65,7 +65,7 @@ layout_of (kind.Unknown n) class =
 
 -- ---- data
 
--- the fields of MX and SRV in front of the name, and those of SOA behind the two names
+-- the fields of MX and SRV in front of the name, and those of SOA after the two names
 abbrev pub preference_field : Field
 preference_field = field 0 2
 
@@ -93,11 +93,11 @@ expire_field = field 12 16
 abbrev pub minimum_field : Field
 minimum_field = field 16 20
 
--- strings of up to 255 bytes, each behind its length (RFC 1035 section 3.3)
+-- strings of up to 255 bytes, each after its length (RFC 1035 section 3.3)
 abbrev pub AreStrings : List ℕ → Type 0
 AreStrings bytes = (strings : List (List ℕ)) × (bytes ≡ flat_map written strings)
 
--- what stands behind the first string, as it is computed
+-- what follows the first string, as it is computed
 abbrev pub string_rest : List ℕ → Option (List ℕ)
 string_rest [] = None
 string_rest (n ∷ rest) = if nat_le n (length rest) then Some (drop n rest) else None
@@ -201,7 +201,7 @@ pub record IsAuthority (bytes : List ℕ) (value : RDataValue) : Type 0 where
     minimum = number_of minimum_field after;
   })
 
--- strings of up to 255 bytes, each behind its length, one at least (RFC 1035 sections 3.3 and 3.3.14)
+-- strings of up to 255 bytes, each after its length, one at least (RFC 1035 sections 3.3 and 3.3.14)
 pub record IsStrings (bytes : List ℕ) (value : RDataValue) : Type 0 where
   pub some : 1 ≤ length bytes
   pub are : AreStrings bytes

@@ -19,19 +19,19 @@ use Rattle.record_wire.specs.declared.rdata.Layout.TheVariants as layout
 use Rattle.record_wire.specs.declared.rdata.refusal.DataRefusal.{DataRefusal}
 use Rattle.record_wire.specs.declared.rdata.refusal.DataRefusal.TheVariants as refusal
 
--- no name of one part begins in the bytes, or bytes stand behind it
+-- no name of one part begins in the bytes, or bytes follow it
 abbrev pub RefusesName : List ℕ → DataRefusal → Type 0
 RefusesName bytes (refusal.Name why) = IsNoPart bytes why
 RefusesName bytes refusal.BehindName =
     (name : List ℕ) × (after : List ℕ) × IsSplit bytes name after × (1 ≤ length after)
 RefusesName bytes _ = ⊥
 
--- the bytes are fewer than these numbers have, or those behind the numbers are refused as a name
+-- the bytes are fewer than these numbers have, or those after the numbers are refused as a name
 abbrev pub RefusesBehind : ℕ → List ℕ → DataRefusal → Type 0
 RefusesBehind len bytes refusal.Numbers = length bytes < len
 RefusesBehind len bytes why = (len ≤ length bytes) × RefusesName (drop len bytes) why
 
--- the first name is none; the second is none; behind both stand other than 20 bytes
+-- the first name is malformed; the second is; after both are not just 20 bytes
 abbrev pub RefusesAuthority : List ℕ → DataRefusal → Type 0
 RefusesAuthority bytes (refusal.Name why) = IsNoPart bytes why
 RefusesAuthority bytes (refusal.SecondName why) =
@@ -41,7 +41,7 @@ RefusesAuthority bytes refusal.Times =
     × IsSplit bytes primary behind × IsSplit behind mailbox after × (length after ≢ 20)
 RefusesAuthority bytes _ = ⊥
 
--- there are no bytes; behind whole strings one begins whose bytes are not all there
+-- there are no bytes; after whole strings one begins whose bytes are not all there
 abbrev pub RefusesStrings : List ℕ → DataRefusal → Type 0
 RefusesStrings bytes refusal.NoString = bytes ≡ []
 RefusesStrings bytes refusal.String =
@@ -49,7 +49,7 @@ RefusesStrings bytes refusal.String =
     × (bytes ≡ flat_map written strings ++ len ∷ rest) × (length rest < len)
 RefusesStrings bytes _ = ⊥
 
--- the numbers in front of a name are cut; behind those of a rule no three strings stand
+-- the numbers in front of a name are cut; those of a rule are not followed by three strings
 abbrev pub RefusesFront : FrontForm → List ℕ → DataRefusal → Type 0
 RefusesFront front_form.Number bytes refusal.Numbers = length bytes < 2
 RefusesFront front_form.Rule bytes refusal.Numbers = length bytes < 4
@@ -58,21 +58,21 @@ RefusesFront front_form.Rule bytes refusal.String =
 RefusesFront front_form.Signed bytes refusal.Numbers = length bytes < 18
 RefusesFront _ bytes _ = ⊥
 
--- what stands behind the names is not the rest of the data
+-- what follows the names is not the rest of the data
 abbrev pub RefusesRest : RestForm → List ℕ → DataRefusal → Type 0
 RefusesRest rest_form.Nothing bytes refusal.BehindName = 1 ≤ length bytes
 RefusesRest rest_form.Bits bytes refusal.Types = IsMap bytes → ⊥
 RefusesRest rest_form.Types bytes refusal.Types = AreMaps bytes → ⊥
 RefusesRest _ bytes _ = ⊥
 
--- behind the fields in front no name stands
+-- the fields before the name are not followed by a name
 pub record RefusesFirst (form : Form) (bytes : List ℕ) (why : PartRefusal) : Type 0 where
   pub value : FrontValue
   pub behind : List ℕ
   pub front_ : IsFront form.front bytes value behind
   pub none : IsNoPart behind why
 
--- behind the first of two names no other stands
+-- the first of two names is not followed by another
 pub record RefusesSecond (form : Form) (bytes : List ℕ) (why : PartRefusal) : Type 0 where
   pub two : form.has_two ≡ true
   pub value : FrontValue
@@ -83,7 +83,7 @@ pub record RefusesSecond (form : Form) (bytes : List ℕ) (why : PartRefusal) : 
   pub name_ : IsSplit behind name after
   pub none : IsNoPart after why
 
--- the names stand, and what stands behind them is not the rest
+-- the names are there, and what follows them is not the rest
 pub record RefusesBehindNames (form : Form) (bytes : List ℕ) (why : DataRefusal) : Type 0 where
   pub value : FrontValue
   pub behind : List ℕ

@@ -1,5 +1,5 @@
 -- Questions and resource records of any type and class (RFC 1035 sections 4.1.2 and 4.1.3): a name of one part, and
--- behind it
+-- after it
 --
 -- +-------------------------------+-------------------------------+
 -- |             type              |             class             |
@@ -64,7 +64,7 @@ record_of r = record {
 abbrev pub data_len : List ℕ → ℕ
 data_len after = number_of length_field after
 
--- what stands behind the name of a record
+-- what follows the name of a record
 pub record IsBehindName (after : List ℕ) (r : RecordValue) (rest : List ℕ) : Type 0 where
   pub reaches : Reaches length_field after
   pub kind_ : r.kind ≡ type_of (number_of type_field after)
@@ -74,7 +74,7 @@ pub record IsBehindName (after : List ℕ) (r : RecordValue) (rest : List ℕ) :
   pub data_is : r.data_ ≡ take (data_len after) (drop 10 after)
   pub rest_ : rest ≡ drop (data_len after) (drop 10 after)
 
--- The grammar: these bytes are a name of one part, what stands behind the name of this record, and then a rest.
+-- The grammar: these bytes are a name of one part, what follows the name of this record, and then a rest.
 pub record IsRecord (bytes : List ℕ) (r : RecordValue) (rest : List ℕ) : Type 0 where
   pub after : List ℕ
   pub name_ : IsOnePart r.name

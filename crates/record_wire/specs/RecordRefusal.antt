@@ -15,7 +15,7 @@ use Rattle.record_wire.specs.declared.refusal.Refusal.TheVariants as refusal
 
 -- ---- names of one part
 
--- whole labels stand at the front of a text, and then this
+-- whole labels are at the front of a text, and then this
 pub record Behind (text left : List ℕ) : Type 0 where
   pub labels : List (List ℕ)
   pub each : AllByRecursion IsLabel labels
@@ -26,7 +26,7 @@ abbrev pub IsCut : List ℕ → Type 0
 IsCut [] = Unit {0}
 IsCut (n ∷ rest) = ((1 ≤ n) × (n ≤ 63) × (length rest < n)) ⊎ ((192 ≤ n) × (rest ≡ []))
 
--- behind whole labels the octets are cut, or begin with a byte that is neither a length nor a pointer's
+-- after whole labels the octets are cut, or begin with a byte that is neither a length nor a pointer's
 abbrev pub IsNoPart : List ℕ → PartRefusal → Type 0
 IsNoPart text part.Cut = (left : List ℕ) × Behind text left × IsCut left
 IsNoPart text (part.LabelType n) =
@@ -34,14 +34,14 @@ IsNoPart text (part.LabelType n) =
 
 -- ---- questions and records
 
--- the name is none, or what is behind it is too short for a type and a class
+-- the name is none, or what is after it is too short for a type and a class
 abbrev pub RefusesQuestion : List ℕ → Refusal → Type 0
 RefusesQuestion bytes (refusal.Name why) = IsNoPart bytes why
 RefusesQuestion bytes refusal.Fields =
     (name : List ℕ) × (after : List ℕ) × IsSplit bytes name after × (length after < 4)
 RefusesQuestion bytes refusal.Data = ⊥
 
--- the name is none; what is behind it is too short for the fields; what is behind these is shorter than their length
+-- the name is none; what is after it is too short for the fields; what is after these is shorter than their length
 abbrev pub RefusesRecord : List ℕ → Refusal → Type 0
 RefusesRecord bytes (refusal.Name why) = IsNoPart bytes why
 RefusesRecord bytes refusal.Fields =

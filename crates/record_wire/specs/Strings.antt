@@ -1,14 +1,14 @@
--- Strings of up to 255 bytes, each behind its length (RFC 1035 section 3.3).
+-- Strings of up to 255 bytes, each after its length (RFC 1035 section 3.3).
 use Rattle.std.specs.Prelude.{◌≡◌, ℕ, nat_le, if◌then◌else◌, List, [], ◌∷◌, ◌++◌, length, take, drop, flat_map}
 use Rattle.std.specs.Prelude.{Option, None, Some}
 use Rattle.dns_wire.specs.DnsName.{written}
 use Rattle.record_wire.specs.Ahead.{ahead}
 
--- no string stands at the front of octets
+-- the octets do not begin with a string
 abbrev pub HasNoString : List ℕ → Type 0
 HasNoString octets = (string rest : List ℕ) → octets ≡ written string ++ rest → ⊥
 
--- these strings stand at the front of octets, and no other behind them
+-- the octets begin with these strings, and with no other after them
 pub record AreStringsAhead (octets : List ℕ) (strings : List (List ℕ)) : Type 0 where
   pub rest : List ℕ
   pub whole : octets ≡ flat_map written strings ++ rest

@@ -8,14 +8,14 @@ use Rattle.record_wire.specs.NameText.{IsCharacter, Spells, IsNameText}
 use Rattle.record_wire.specs.declared.name.text_refusal.NameTextRefusal.{NameTextRefusal}
 use Rattle.record_wire.specs.declared.name.text_refusal.NameTextRefusal.TheVariants as refusal
 
--- a text is these labels, each with a dot behind it, and then more
+-- a text is these labels, each with a dot after it, and then more
 abbrev pub Leads : List ℕ → List (List ℕ) → List ℕ → Type 0
 Leads text [] left = text ≡ left
 Leads text (label ∷ labels) left =
     (rest : List ℕ) × (after : List ℕ) × Spells text label rest × (rest ≡ codes "." ++ after)
     × (1 ≤ length after) × Leads after labels left
 
--- a text is whole labels with dots behind them, the characters of one more label, and then a rest
+-- a text is whole labels with dots after them, the characters of one more label, and then a rest
 pub record IsReadTo (text rest : List ℕ) : Type 0 where
   pub done : List (List ℕ)
   pub each : AllByRecursion IsLabel done
@@ -24,7 +24,7 @@ pub record IsReadTo (text rest : List ℕ) : Type 0 where
   pub label : List ℕ
   pub spells : Spells left label rest
 
--- no character stands at the front
+-- the text does not begin with a character
 abbrev pub BeginsWithNone : List ℕ → Type 0
 BeginsWithNone text = (byte : ℕ) (character rest : List ℕ) → IsCharacter byte character
     → text ≡ character ++ rest → ⊥
@@ -34,7 +34,7 @@ abbrev pub IsLabelEnd : List ℕ → Type 0
 IsLabelEnd [] = Unit {0}
 IsLabelEnd (byte ∷ rest) = byte ≡ 46
 
--- what is left of a text where no character stands: the end or a dot, a backslash, or another byte
+-- the rest of a text that does not begin with a character: the end or a dot, a backslash, or another byte
 abbrev pub RefusesRest : List ℕ → NameTextRefusal → Type 0
 RefusesRest rest refusal.EmptyLabel = IsLabelEnd rest
 RefusesRest rest refusal.Escape = (more : List ℕ) × (rest ≡ 92 ∷ more) × BeginsWithNone rest
@@ -42,15 +42,15 @@ RefusesRest rest (refusal.Byte byte) =
     (more : List ℕ) × (rest ≡ byte ∷ more) × (byte ≢ 46) × (byte ≢ 92) × BeginsWithNone rest
 RefusesRest rest _ = ⊥
 
--- what is left of a text where no label of 1 to 63 bytes stands: too many characters or none
+-- the rest of a text that does not begin with a label of 1 to 63 bytes: too many characters or none
 abbrev pub RefusesLabel : List ℕ → NameTextRefusal → Type 0
 RefusesLabel text refusal.LongLabel =
     (label : List ℕ) × (rest : List ℕ) × Spells text label rest × (63 < length label)
 RefusesLabel text refusal.TooLong = ⊥
 RefusesLabel text why = RefusesRest text why
 
--- A label has no characters, and the text is not a dot alone; it has too many; with it the name has too many octets;
--- behind it stands a backslash that begins no character, or another byte that begins none.
+-- A label has no characters, and the text is not a dot alone; it has too many; with it the name has too many octets; it
+-- is followed by a backslash or another byte that begins no character.
 abbrev pub RefusesText : List ℕ → NameTextRefusal → Type 0
 RefusesText text refusal.EmptyLabel =
     (rest : List ℕ) × (read : IsReadTo text rest) × (read.label ≡ []) × IsLabelEnd rest × (text ≢ codes ".")

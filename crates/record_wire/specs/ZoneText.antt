@@ -4,7 +4,7 @@ use Rattle.std.specs.Prelude.{List, [], ◌∷◌, ◌++◌, length, flat_map, m
 use Rattle.wirebase.specs.Ethernet.{hex_byte}
 use Rattle.record_wire.specs.NameText.{name_text}
 
--- a word behind a space
+-- a word after a space
 unfoldable pub word : List ℕ → List ℕ
 word text = codes " " ++ text
 
@@ -18,7 +18,7 @@ whole_name (label ∷ labels) = name_text (label ∷ labels) ++ codes "."
 abbrev pub has_meaning : ℕ → Bool
 has_meaning byte = byte == 34 || byte == 92
 
--- a byte of a string: `"` and `\` behind a backslash, and a byte that is not 32 to 126 by its number
+-- a byte of a string: `"` and `\` after a backslash, and a byte that is not 32 to 126 by its number
 unfoldable pub string_character : ℕ → List ℕ
 string_character byte =
     if has_meaning byte then codes "\\" ++ byte ∷ []
@@ -29,11 +29,11 @@ string_character byte =
 abbrev pub is_itself : ℕ → Bool
 is_itself byte = nat_le 32 byte && nat_le byte 126 && not (has_meaning byte)
 
--- a string stands in quotes
+-- a string in quotes
 unfoldable pub string_text : List ℕ → List ℕ
 string_text string = codes "\"" ++ flat_map string_character string ++ codes "\""
 
--- strings, each behind a space
+-- strings, each after a space
 abbrev pub string_words : List (List ℕ) → List ℕ
 string_words strings = flat_map (λ string. word (string_text string)) strings
 

@@ -140,8 +140,8 @@ pub struct EdnsOption<'a> {
 }
 
 impl<'a> EdnsOption<'a> {
-    /// What stands behind the option at the front of the octets, and the option. Refused where they do not begin with
-    /// a code, a length and as many bytes.
+    /// Parses the option at the start of the octets; returns the rest and the option. Refused where they do not begin
+    /// with a code, a length and that many bytes.
     pub fn parse(octets: &'a [u8]) -> Result<(&'a [u8], EdnsOption<'a>)>
         ensures sound { IfOk result (λ read. IsOption octets.now (option_of read.1) read.0.now) }
         ensures complete { (option : OptionValue) (rest : List ℕ) → IsOption octets.now option rest
@@ -249,8 +249,8 @@ impl fmt::Display for OptionRefusal {
     }
 }
 
-/// The options in the data of an OPT record in turn: each one while they read, one refusal where no whole option
-/// stands, which says why, as [`EdnsOption::refusal`] does, and then the end for good.
+/// The options in the data of an OPT record in turn: each one while they read, one refusal where there is no whole
+/// option, which says why, as [`EdnsOption::refusal`] does, and then the end for good.
 ///
 /// ```
 /// use record_wire::{EdnsOptions, OptionRefusal};
@@ -268,7 +268,7 @@ impl fmt::Display for OptionRefusal {
 /// ```
 #[derive(Debug, Clone, Drop)]
 pub struct EdnsOptions<'a> {
-    // The octets behind the options that were given; none behind a refusal.
+    // The octets after the options that were given; none after a refusal.
     left: &'a [u8],
 }
 

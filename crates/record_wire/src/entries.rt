@@ -1,4 +1,4 @@
-//! What stands behind the header of a message, in order (RFC 1035 section 4.1).
+//! What follows the header of a message, in order (RFC 1035 section 4.1).
 
 ghost use Rattle.std.specs.Prelude.{◌≡◌, ◌↔◌, true, ℕ, List, IfOk, IsOkAnd, IfSome, IsSome, IsNone};
 ghost use Rattle.dns_wire.specs.DnsPacket.{view_octets, header};
@@ -47,7 +47,7 @@ impl fmt::Display for Section {
 pub enum Entry<'a> {
     /// A question.
     Question(Question<'a>),
-    /// A record, of the section that it stands in.
+    /// A record, and the section that it is in.
     Record(Section, Record<'a>),
 }
 
@@ -67,8 +67,8 @@ impl fmt::Display for Entry<'_> {
 }
 
 /// The questions and the records of a message in turn, as many as its header counts: each one while they read, one
-/// refusal where none stands, and then the end for good. Behind a refusal, [`Entries::refusal`] gives the
-/// reason, and [`Entries::rest`] the bytes that were refused.
+/// refusal where there is none, and then the end for good. After a refusal, [`Entries::refusal`] gives the reason, and
+/// [`Entries::rest`] the bytes that were refused.
 ///
 /// ```
 /// use record_wire::{Entries, Entry};
@@ -93,7 +93,7 @@ pub struct Entries<'a> {
     taken: u32,
     // Whether the next one was refused.
     is_refused: bool,
-    // The bytes behind those that were given.
+    // The bytes after those that were given.
     bytes: &'a [u8],
 }
 
@@ -166,8 +166,8 @@ impl<'a> Entries<'a> {
         Some((section, refusal))
     }
 
-    /// The bytes behind the entries that were given: where the next one begins, or the one that was refused. Behind the
-    /// last entry it is what stands behind the message's records.
+    /// The bytes after the entries that were given: where the next one begins, or the one that was refused. After the
+    /// last entry it is what follows the message's records.
     pub fn rest(&self) -> &'a [u8]
         ensures { result.now ≡ self.now.bytes }
     {
@@ -181,7 +181,7 @@ impl<'a> Entries<'a> {
         !self.is_refused && self.taken < self.all
     }
 
-    // The section of the entry behind those that were given.
+    // The section of the entry after those that were given.
     fn section(&self) -> Section
         ensures { result ≡ section_at self.now.ends self.now.taken }
     {
@@ -226,7 +226,7 @@ impl<'a> Iterator for Entries<'a> {
     }
 }
 
-// What stands behind the entry of a section, and the entry.
+// Parses the entry of a section; returns the rest and the entry.
 fn read_entry(section: Section, bytes: &[u8]) -> Result<(&[u8], Entry<'_>)>
     ensures sound { IfOk result (λ read. IsEntry section bytes.now (entry_of read.1) read.0.now) }
     ensures complete { (value : EntryValue) (rest : List ℕ) → IsEntry section bytes.now value rest

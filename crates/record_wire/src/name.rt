@@ -34,11 +34,11 @@ use wirebase::{Error, Result};
 /// The most octets that a name has (RFC 1035 section 2.3.4).
 pub const MAX_NAME_LEN: usize = 255;
 
-/// The most pointers that a name is followed behind. A name of 255 octets has 127 labels at most, so behind more
-/// pointers one leads to no label of its own: no encoder writes such a chain, and each turn of it costs time.
+/// The most pointers that a name is followed after. A name of 255 octets has 127 labels at most, so after more pointers
+/// one leads to no label of its own: no encoder writes such a chain, and each turn of it costs time.
 pub const MAX_POINTERS: usize = 127;
 
-/// A whole name, by its octets: each label of 1 to 63 bytes behind its length, and then byte 0; 255 octets at most.
+/// A whole name, by its octets: each label of 1 to 63 bytes after its length, and then byte 0; 255 octets at most.
 ///
 /// ```
 /// use record_wire::Name;
@@ -59,7 +59,7 @@ impl Name {
     ghost use Rattle.record_wire.specs.NameText.{IsNameText, name_text};
 
     /// The name that begins in `bytes`, a part of the message or not, and goes on where its pointers lead in the
-    /// message. Refused where there is none, where it has more than 255 octets, and where it goes on behind more than
+    /// message. Refused where there is none, where it has more than 255 octets, and where it goes on after more than
     /// [`MAX_POINTERS`] pointers.
     pub fn read<'a>(packet: &Packet<&'a [u8]>, bytes: &'a [u8]) -> Result<Name>
         ensures sound { IfOk result (λ name.
@@ -89,10 +89,9 @@ impl Name {
     }
 
     /// The name of this text: labels with dots between them, a last dot allowed, and a dot alone for the root. A
-    /// visible character stands for itself, but `"`, `$`, `(`, `)`, `.`, `;`, `@` and `\` stand behind a backslash;
-    /// three digits behind a backslash are the number of a byte. Refused where the text is none, where a label is
-    /// empty or has more than 63 bytes, and where the name has more than 255 octets: [`Name::from_text_refusal`] says
-    /// why.
+    /// visible character is written as itself, but `"`, `$`, `(`, `)`, `.`, `;`, `@` and `\` follow a backslash; three
+    /// digits after a backslash are the number of a byte. Refused where the text is none, where a label is empty or has
+    /// more than 63 bytes, and where the name has more than 255 octets: [`Name::from_text_refusal`] says why.
     pub fn from_text(text: &[u8]) -> Result<Name>
         ensures sound { IfOk result (λ name. IsNameText text.now (labels_of name)) }
         ensures complete { (labels : List (List ℕ)) → IsNameText text.now labels
@@ -128,7 +127,7 @@ impl Name {
         }
     }
 
-    /// The octets: each label behind its length, and then byte 0.
+    /// The octets: each label after its length, and then byte 0.
     pub fn octets(&self) -> &[u8]
         ensures value { result.now ≡ wire (labels_of self.now) }
         ensures name { AreOfName (labels_of self.now) }
@@ -163,9 +162,9 @@ impl Name {
     }
 }
 
-// Writes the octets of the name that begins in `bytes` and goes on in a message, where nothing stands yet: a name is
-// large, so it is written where it stays, and labels that stand side by side are copied as one. A pointer leads to one
-// of the bytes that are open, and leaves those below that place open, so this ends. Refused by the check that fails
+// Writes the octets of the name that begins in `bytes` and goes on in a message to `octets`, which is empty. A name is
+// large, so it is written in its place, and labels that lie together are copied at once. A pointer leads to one of the
+// bytes that are open, and leaves only those below that place open, so this ends. Refused by the check that fails
 // first.
 fn put_name<'a>(
     octets: &mut ArrayVec<u8, MAX_NAME_LEN>,

@@ -17,7 +17,7 @@ use dns_wire::dns::{Type, split_name};
 use std::fmt;
 use wirebase::{Error, Ipv4Address, Ipv6Address, Octets, Result};
 
-// The data of MX and SRV in front of a name, and of SOA behind two names.
+// The data of MX and SRV in front of a name, and of SOA after two names.
 mod field {
     use wirebase::Field;
 
@@ -88,7 +88,7 @@ pub enum RData<'a> {
     },
     /// Who is responsible for a zone (RFC 1035 section 3.3.13).
     Soa(Authority<'a>),
-    /// Strings of up to 255 bytes, each behind its length, one at least (RFC 1035 section 3.3.14): `TxtStrings` gives
+    /// Strings of up to 255 bytes, each after its length, one at least (RFC 1035 section 3.3.14): `TxtStrings` gives
     /// them in turn.
     Txt(&'a [u8]),
     /// Fields and one name or two, of type MINFO, RP, AFSDB, RT, SIG, PX, NXT, NAPTR, KX or NSEC.
@@ -246,7 +246,7 @@ fn find_layout(type_: Type, class: u16) -> Layout
     }
 }
 
-// The layout of fields in front of one name or two and behind them.
+// The layout of fields in front of one name or two and after them.
 fn form(front: FrontForm, has_two: bool, rest: RestForm) -> Layout
     ensures { result ≡ form front has_two rest }
 {
@@ -400,7 +400,7 @@ fn is_name(octets: &[u8]) -> bool
     }
 }
 
-// Whether these bytes are strings, each behind its length.
+// Whether these bytes are strings, each after its length.
 fn are_strings(octets: &[u8]) -> bool
     ensures { IsTrue result ↔ AreStrings octets.now }
 {
@@ -414,7 +414,7 @@ fn are_strings(octets: &[u8]) -> bool
     true
 }
 
-// What stands behind the string at the front of octets. None where no whole string stands.
+// What follows the string at the front of octets. None where there is no whole string.
 fn behind_string(octets: &[u8]) -> Option<&[u8]>
     ensures { seen_rest result ≡ string_rest octets.now }
 {

@@ -15,7 +15,7 @@ use dns_wire::dns::{Type, split_name};
 use std::fmt;
 use wirebase::{Error, Octets, Result};
 
-// What stands behind the name of a question and of a record; the picture is in specs/Record.antt.
+// What follows the name of a question and of a record; the picture is in specs/Record.antt.
 mod field {
     use wirebase::Field;
 
@@ -55,8 +55,8 @@ pub struct Question<'a> {
 }
 
 impl<'a> Question<'a> {
-    /// What stands behind the question at the front of the octets, and the question. Refused where they do not begin
-    /// with a name of one part, a type and a class.
+    /// Parses the question at the start of the octets; returns the rest and the question. Refused where they do not
+    /// begin with a name of one part, a type and a class.
     #[inline]
     pub fn parse(octets: &'a [u8]) -> Result<(&'a [u8], Question<'a>)>
         ensures sound { IfOk result (λ read. IsQuestion octets.now (question_of read.1) read.0.now) }
@@ -151,8 +151,8 @@ pub struct Record<'a> {
 }
 
 impl<'a> Record<'a> {
-    /// What stands behind the record at the front of the octets, and the record. Refused where they do not begin with
-    /// a name of one part, a type, a class, a time to live, a length and as many bytes.
+    /// Parses the record at the start of the octets; returns the rest and the record. Refused where they do not begin
+    /// with a name of one part, a type, a class, a time to live, a length and that many bytes of data.
     #[inline]
     pub fn parse(octets: &'a [u8]) -> Result<(&'a [u8], Record<'a>)>
         ensures sound { IfOk result (λ read. IsRecord octets.now (record_of read.1) read.0.now) }
@@ -226,7 +226,7 @@ impl<'a> Record<'a> {
         multicast::class_of(self.class)
     }
 
-    // What stands behind the record of this name, and the record; the octets begin behind its name.
+    // Parses what follows a record's name; returns the rest and the record.
     fn read_behind(name: &'a [u8], after: &'a [u8]) -> Result<(&'a [u8], Record<'a>)>
         ensures sound { IfOk result (λ read.
             IsBehindName after.now (record_of read.1) read.0.now) }

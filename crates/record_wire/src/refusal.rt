@@ -28,7 +28,7 @@ pub enum PartRefusal {
 pub enum Refusal {
     /// There is no name.
     Name(PartRefusal),
-    /// Fewer bytes than the fields behind the name have: 4 in a question, 10 in a record.
+    /// Fewer bytes than the fields after the name have: 4 in a question, 10 in a record.
     Fields,
     /// Fewer bytes of data than a record's length says.
     Data,
@@ -81,8 +81,8 @@ pub(crate) fn why_no_part(text: &[u8]) -> PartRefusal
     }
 }
 
-/// Why nothing whole stands at the front of octets. It is rare, and inlined it would take registers of the loop that
-/// reads names.
+/// Why octets do not begin with a whole item. Refusals are rare, and inlined this would take registers from the loop
+/// that reads names.
 #[inline(never)]
 pub(crate) fn why_torn(octets: &[u8]) -> PartRefusal
     requires { torn ≡ front_of octets.now }

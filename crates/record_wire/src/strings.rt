@@ -7,8 +7,8 @@ ghost use Rattle.record_wire.specs.NameReading.{seen_label};
 
 use std::marker::Model;
 
-/// The strings of TXT and NAPTR data in turn, each without the byte of its length. They end where no whole string
-/// stands; in the data of `RData::Txt` and in the strings of a rule they take up all the octets.
+/// The strings of TXT and NAPTR data in turn, each without the byte of its length. They end where there is no whole
+/// string; in the data of `RData::Txt` and in the strings of a rule they take up all the octets.
 ///
 /// ```
 /// use record_wire::TxtStrings;
@@ -18,7 +18,7 @@ use std::marker::Model;
 /// ```
 #[derive(Debug, Clone, Drop)]
 pub struct TxtStrings<'a> {
-    // The octets behind the strings that were given.
+    // The octets after the strings that were given.
     left: &'a [u8],
 }
 
@@ -62,7 +62,7 @@ impl<'a> Iterator for TxtStrings<'a> {
     }
 }
 
-// The string at the front of octets, and what stands behind it. None where no whole string stands.
+// The string at the front of octets, and what follows it. None where there is no whole string.
 fn split_string(octets: &[u8]) -> Option<(&[u8], &[u8])>
     ensures { seen_label result ≡ first_string octets.now }
 {

@@ -114,7 +114,7 @@ pub enum DataText<'a> {
     },
     /// Who is responsible for a zone (RFC 1035 section 3.3.13).
     Soa(AuthorityText),
-    /// Strings of up to 255 bytes, each behind its length (RFC 1035 section 3.3.14): `TxtStrings` gives them in turn.
+    /// Strings of up to 255 bytes, each after its length (RFC 1035 section 3.3.14): `TxtStrings` gives them in turn.
     Txt(&'a [u8]),
     /// Fields and one name or two, of type MINFO, RP, AFSDB, RT, SIG, PX, NXT, NAPTR, KX or NSEC.
     Fields(FieldsText<'a>),
@@ -266,7 +266,7 @@ impl<'a> Record<'a> {
         self.text_of_class(packet, self.class)
     }
 
-    /// The same of a record of multicast DNS: its class is without the top bit, which is a flag there (RFC 6762 section
+    /// The text of a record of multicast DNS: its class is without the top bit, which is a flag there (RFC 6762 section
     /// 10.2); the payload size of an OPT record is left as it is. [`crate::Entry::text`] reads the entries of either
     /// kind of message.
     pub fn multicast_text(
@@ -285,7 +285,7 @@ impl<'a> Record<'a> {
         self.text_of_class(packet, self.multicast_class())
     }
 
-    // The same of a record that is taken as one of this class.
+    // The text of a record whose class is taken as this one.
     fn text_of_class(
         &self,
         packet: &Packet<&'a [u8]>,

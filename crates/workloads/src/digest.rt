@@ -15,7 +15,7 @@ use byteorder::{ByteOrder, LittleEndian};
 // How far the digest is turned before a word is added to it.
 const TURN: u32 = 5;
 
-// What stands for what is missing: no number of 32 bits.
+// The digest of a missing value: no number of 32 bits.
 const MISSING: u64 = 0x1_0000_0000;
 
 // The bytes that are added of the front of data.

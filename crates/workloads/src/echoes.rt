@@ -303,7 +303,7 @@ fn send_error(number: u64, datagram: &[u8], reply: &mut [u8], digest: &mut Diges
     }
 }
 
-// The same about a packet of IPv6.
+// An error about a packet of IPv6.
 fn send_error_v6(number: u64, quoted: &[u8], reply: &mut [u8], digest: &mut Digest) {
     let caps = ChecksumCapabilities::default();
     let own = address(number);

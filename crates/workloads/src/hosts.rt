@@ -1,5 +1,5 @@
 //! Hosts and routers of a link speak with their neighbors: solicitations and advertisements, reports of multicast
-//! groups of both families, and the hop-by-hop header that reports stand behind.
+//! groups of both families, and the hop-by-hop header before reports.
 
 ghost use Rattle.std.specs.Prelude.{◌≤◌, ◌≡◌, ℕ, List, length};
 ghost use Rattle.control_wire.specs.Mld.{CanEmit as CanEmitListener, text_len as text_len_of, value_of as listener_of};
@@ -350,7 +350,7 @@ fn exchange_member(message: &igmp::Repr, packet: &mut [u8], digest: &mut Digest)
     }
 }
 
-// Writes the header that a report stands behind, with up to seven options more, and reads it.
+// Writes the header before a report, with up to seven options more, and reads it.
 fn lead(random: &mut Random, pool: &Pool, packet: &mut [u8], digest: &mut Digest) {
     let number = random.next();
     let mut header = ipv6hbh::Repr::mldv2_router_alert();

@@ -66,7 +66,7 @@ impl fmt::Display for TwoDigits {
     }
 }
 
-// The first digits of nanoseconds behind a point, or nothing where there are none.
+// The first digits of nanoseconds after a point, or nothing where there are none.
 #[derive(Clone, Copy)]
 struct Fraction {
     digits: u8,

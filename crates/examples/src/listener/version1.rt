@@ -1,6 +1,6 @@
 //! Multicast listener discovery, version 1 (RFC 2710), by which a host answers a querier of that version: its queries
 //! have just 24 bytes (RFC 3810 section 8.2.1). Each group has a report of its own. Messages go with hop limit 1 and
-//! behind the options of `router_alert`, too.
+//! after the options of `router_alert`, too.
 
 ghost use Rattle.std.specs.Prelude.{◌≡◌, ◌≤◌, length, take, drop, IfSome, None, Some};
 ghost use Rattle.control_wire.specs.DurationType.{Duration as AnyDuration};

@@ -35,7 +35,7 @@ pub struct Captured<'a> {
 
 impl<'a> Captured<'a> {
     /// The datagram of IPv4 at the front of the octets, as far as it is there. A whole one is what `Datagram::parse_v4`
-    /// reads. One that ends behind the octets has the payload that is there, and it is told how many bytes are missing.
+    /// reads. One that ends after the octets has the payload that is there, and it is told how many bytes are missing.
     /// One with a total length of 0 is taken to end where the octets do. Refused with `Cut` where the header itself,
     /// with its options, is cut, and where `Datagram::parse_v4` refuses for another reason; a fragment is a `Fragment`,
     /// also where it is cut.
@@ -70,7 +70,7 @@ impl<'a> Captured<'a> {
     }
 
     /// The datagram of IPv6 at the front of the octets, as far as it is there. A whole one is what `Datagram::parse_v6`
-    /// reads. One that ends behind the octets has the payload that is there, and it is told how many bytes are missing.
+    /// reads. One that ends after the octets has the payload that is there, and it is told how many bytes are missing.
     /// Refused with `Cut` where a header that extends IPv6 is cut, and where `Datagram::parse_v6` refuses for another
     /// reason; a fragment is a `Fragment`, also where it is cut.
     pub fn parse_v6(octets: &'a [u8]) -> Result<Captured<'a>, Refusal>
@@ -88,7 +88,7 @@ impl<'a> Captured<'a> {
     }
 }
 
-// A datagram of IPv4 of which all octets behind the header are payload.
+// A datagram of IPv4 of which all octets after the header are payload.
 fn open_v4<'a>(octets: &'a [u8], head: Head) -> Result<Datagram<'a>, Refusal>
     requires opening { IsOpening4 octets.now }
     requires head { IsHead4 octets.now head }

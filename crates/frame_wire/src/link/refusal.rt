@@ -13,9 +13,9 @@ use wirebase::Octets;
 pub enum Refusal {
     /// Fewer bytes than the header of the link has.
     Short,
-    /// A VLAN tag of four bytes ends behind the octets.
+    /// A VLAN tag of four bytes ends after the octets.
     Tag,
-    /// A protocol of PPP, of one byte where that is odd and else of two, ends behind the octets.
+    /// A protocol of PPP, of one byte where that is odd and else of two, ends after the octets.
     Protocol,
     /// The PPPoE version is not 1 but this one (RFC 2516 section 4).
     SessionVersion(u8),

@@ -38,7 +38,7 @@ pub struct VlanTag {
 /// ```
 #[derive(Debug, Clone, Drop)]
 pub struct VlanTags<'a> {
-    // The octets behind the tags that were given.
+    // The octets after the tags that were given.
     left: &'a [u8],
 }
 

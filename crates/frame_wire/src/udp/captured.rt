@@ -33,11 +33,11 @@ pub struct CapturedUdp<'a> {
 }
 
 impl<'a> CapturedUdp<'a> {
-    /// The datagram at the front of the octets, as far as it is there; what stands behind it is no part. A whole one is
-    /// what `UdpPacket::check_len` accepts. One that ends behind the octets has the data that are there, and it is told
-    /// how many bytes are missing. Refused with `Short` where fewer than 8 bytes are there, and with `Length` where the
-    /// length is below 8. No checksum is verified, which a datagram that is cut can't have; `UdpRepr::parse` verifies
-    /// that of a whole one.
+    /// The datagram at the front of the octets, as far as it is there; what follows it is no part. A whole one is what
+    /// `UdpPacket::check_len` accepts. One that goes on past the octets has the data that are there, and the number of
+    /// missing bytes. Refused with `Short` where fewer than 8 bytes are there, and with `Length` where the length is
+    /// below 8. No checksum is verified, which a datagram that is cut can't have; `UdpRepr::parse` verifies that of a
+    /// whole one.
     pub fn parse(octets: &'a [u8]) -> Result<CapturedUdp<'a>, Refusal>
         ensures sound { IfOk result (λ c. IsCaptured octets.now (captured_of c)) }
         ensures refuses { IfErr result (λ refusal. RefusesCaptured octets.now refusal) }

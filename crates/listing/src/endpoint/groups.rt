@@ -29,7 +29,7 @@ fn group(high: u8, low: u8) -> u16
     u16::from(high) * 256 + u16::from(low)
 }
 
-/// Puts the text of groups behind the first octets of a room, and answers where it ends: the first longest run of two
+/// Puts the text of groups after the first octets of a room, and returns where it ends: the first longest run of two
 /// zeros or more is `::`.
 pub fn put_address(room: &mut [u8; ROOM], at: usize, groups: &[u16; 8]) -> usize
     requires { at ≤ 8 }
@@ -76,7 +76,7 @@ fn put_groups(room: &mut [u8; ROOM], at: usize, groups: &[u16]) -> usize
     for group in groups {
         end = put_group(room, end, *group);
     }
-    // The last colon has no group behind it.
+    // The last colon has no group after it.
     if groups.is_empty() { end } else { end - 1 }
 }
 
@@ -96,8 +96,8 @@ fn put_group(room: &mut [u8; ROOM], at: usize, group: u16) -> usize
     last + 2
 }
 
-// Puts the last digit of a number behind that of its sixteenth, which stands at `at`, or over it where the sixteenth
-// is 0. Answers where the digit stands.
+// Puts the last digit of a number after that of its sixteenth, at `at`, or over it where the sixteenth is 0. Returns
+// the place of the digit.
 #[inline(always)]
 fn next_digit(room: &mut [u8; ROOM], at: usize, number: u16) -> usize
     requires { at ≤ 62 }

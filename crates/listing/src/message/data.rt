@@ -184,7 +184,7 @@ fn show_fields<'a, W: Write>(
     }
 }
 
-// Writes fields behind a space.
+// Writes fields after a space.
 #[tactic(auto, using(crate::proofs::Printing::gained, crate::proofs::Printing::gains_both), unfolding(record_wire::specs::ZoneText::word))]
 fn write_fields<W: Write>(output: &mut W, text: &FieldsText<'_>) -> io::Result<()>
     ensures { OnOk result (Gains (W.contents output.old) (W.contents output.new)

@@ -75,7 +75,7 @@ impl Value for EdnsOption<'_> {
     }
 }
 
-// Prints options up to one that is cut, and answers why it is.
+// Prints options up to one that is cut, and returns why it is.
 fn show_options<W: Write>(
     output: &mut W,
     margin: &str,

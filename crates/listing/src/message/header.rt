@@ -40,7 +40,7 @@ pub fn show_header<W: Write>(output: &mut W, margin: &str, octets: &[u8]) -> io:
 #[derive(Clone, Copy)]
 struct FlagNames(u16);
 
-// The bytes of all names, each with a comma behind it.
+// The bytes of all names, each with a comma after it.
 const NAMES_LEN: usize = 21;
 
 impl Value for FlagNames {
@@ -56,7 +56,7 @@ impl Value for FlagNames {
     }
 }
 
-// Puts the names, each with a comma behind it, at the room's front, and answers where they end.
+// Puts the names, each with a comma after it, at the room's front, and returns where they end.
 fn put_names(word: u16, room: &mut [u8; NAMES_LEN]) -> usize
     ensures fits { result ≤ 21 }
     ensures puts { take result room.new ≡ each_behind (names_set flag_names word) }

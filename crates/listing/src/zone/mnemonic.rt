@@ -15,7 +15,7 @@ use record_wire::classes;
 use std::io;
 use std::io::Write;
 
-/// Writes a type behind a space.
+/// Writes a type after a space.
 pub fn type_word<W: Write>(output: &mut W, type_: Type) -> io::Result<()>
     ensures { OnOk result (Gains (W.contents output.old) (W.contents output.new)
         (word (type_text (type_number type_)))) }
@@ -26,7 +26,7 @@ pub fn type_word<W: Write>(output: &mut W, type_: Type) -> io::Result<()>
     }
 }
 
-/// Writes a class behind a space.
+/// Writes a class after a space.
 pub fn class_word<W: Write>(output: &mut W, number: u16) -> io::Result<()>
     ensures { OnOk result (Gains (W.contents output.old) (W.contents output.new)
         (word (class_text number))) }

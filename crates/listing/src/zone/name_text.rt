@@ -19,7 +19,7 @@ use std::io::Write;
 /// stays.
 #[derive(Drop)]
 pub struct NameText {
-    // Most names have no byte that needs a backslash, and their text stands at the front of this.
+    // Most names have no byte that needs a backslash; their text is at the front of this buffer.
     room: [u8; ROOM_LEN],
     len: usize,
     // A name of another text.
@@ -66,7 +66,7 @@ impl NameText {
         }
     }
 
-    // The same by the name's octets.
+    // Writes the name by its octets.
     #[inline(never)]
     fn read_other<'a>(
         &mut self,

@@ -14,8 +14,7 @@ ghost use Rattle.listing.specs.Output.{Gains, GainsSome};
 use std::io;
 use std::io::Write;
 
-/// Writes strings, each of which stands behind its length, in quotes and behind a space. Requires that the octets are
-/// strings.
+/// Writes strings, each stored after its length, in quotes and after a space. Requires that the octets are strings.
 pub fn strings<W: Write>(output: &mut W, octets: &[u8]) -> io::Result<()>
     requires { AreStrings octets.now }
     ensures { OnOk result (GainsSome (W.contents output.old) (W.contents output.new)
@@ -29,7 +28,7 @@ pub fn strings<W: Write>(output: &mut W, octets: &[u8]) -> io::Result<()>
     Ok(())
 }
 
-// The string at the front of octets, and what stands behind it. None where no whole string stands.
+// The string at the front of octets, and what follows it. None where there is no whole string.
 fn split_string(octets: &[u8]) -> Option<(&[u8], &[u8])>
     ensures { seen_label result ≡ first_string octets.now }
 {
@@ -42,7 +41,7 @@ fn split_string(octets: &[u8]) -> Option<(&[u8], &[u8])>
     }
 }
 
-// Writes a string in quotes behind a space.
+// Writes a string in quotes after a space.
 fn write_string<W: Write>(output: &mut W, string: &[u8]) -> io::Result<()>
     ensures { OnOk result (Gains (W.contents output.old) (W.contents output.new)
         (word (string_text string.now))) }
@@ -60,7 +59,7 @@ fn write_string<W: Write>(output: &mut W, string: &[u8]) -> io::Result<()>
     }
 }
 
-// What stands behind the byte at a place.
+// What follows the byte at a place.
 fn behind(string: &[u8], place: usize) -> &[u8]
     requires { place < length string.now }
     ensures { result.now ≡ drop (place + 1) string.now }
@@ -94,7 +93,7 @@ fn is_special(byte: u8) -> bool
     byte == b'"' || byte == b'\\'
 }
 
-// Writes a byte behind a backslash: itself where it has a meaning of its own, and else its number.
+// Writes a byte after a backslash: itself where it has a meaning of its own, and else its number.
 fn write_quoted<W: Write>(output: &mut W, byte: u8) -> io::Result<()>
     requires { is_itself byte ≡ false }
     ensures { OnOk result (Gains (W.contents output.old) (W.contents output.new)

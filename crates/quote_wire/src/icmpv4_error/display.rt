@@ -10,9 +10,9 @@ use super::{Kind, Repr};
 use std::fmt;
 use wirebase::Ipv4Address;
 
-/// The type by its name, the code and what it says, the next hop's MTU, the gateway or the pointer where the error
-/// tells one, and the number of bytes that are quoted, as
-/// `ICMPv4 redirect code=1 (redirect for the host) gateway=192.0.2.1 quoted=28`.
+/// The type by its name, the code and its meaning, the next hop's MTU, the gateway or the pointer where the error has
+/// one, and the number of quoted bytes, as `ICMPv4 redirect code=1 (redirect for the host) gateway=192.0.2.1
+/// quoted=28`.
 impl fmt::Display for Repr<'_> {
     ghost output = { λ repr. Some (repr_display (value_of repr)) };
 
@@ -52,7 +52,7 @@ impl fmt::Display for Kind {
     }
 }
 
-// What is told or not, with its name in front: nothing where it is not.
+// An optional field after its name; nothing where it is None.
 
 #[derive(Clone, Copy)]
 struct Mtu(Option<u16>);

@@ -1,4 +1,4 @@
-//! What the codes of errors say (RFC 792, RFC 1122 section 3.2.2, RFC 1812 section 5.2.7.1).
+//! The meanings of the codes of errors (RFC 792, RFC 1122 section 3.2.2, RFC 1812 section 5.2.7.1).
 
 ghost use Rattle.std.specs.Prelude.{◌≡◌};
 ghost use Rattle.std.specs.Option.{option_map};
@@ -8,8 +8,7 @@ ghost use Rattle.quote_wire.specs.Icmpv4Reason.{param_problem_reason, reason_of}
 use super::{Kind, Repr};
 
 impl Repr<'_> {
-    /// What the code says, in the words that `icmpv4::DstUnreachable` and its like print; None for a code that has
-    /// none.
+    /// The meaning of the code, in the words of `icmpv4::DstUnreachable` and its like; None for a code without one.
     pub fn reason(&self) -> Option<&'static str>
         ensures { option_map (λ words. words.now) result ≡ reason_of self.now.kind self.now.code }
     {

@@ -7,8 +7,8 @@ ghost use Rattle.quote_wire.specs.Icmpv6Error.{value_of, kind_display, repr_disp
 use super::{Kind, Repr};
 use std::fmt;
 
-/// The type by its name, the code and what it says, the next link's MTU or the pointer where the error tells one, and
-/// the number of bytes that are quoted, as `ICMPv6 packet too big code=0 mtu=1280 quoted=48`.
+/// The type by its name, the code and its meaning, the next link's MTU or the pointer where the error has one, and the
+/// number of quoted bytes, as `ICMPv6 packet too big code=0 mtu=1280 quoted=48`.
 impl fmt::Display for Repr<'_> {
     ghost output = { λ repr. Some (repr_display (value_of repr)) };
 
@@ -43,7 +43,7 @@ impl fmt::Display for Kind {
     }
 }
 
-// What is told or not, with its name in front: nothing where it is not.
+// An optional field after its name; nothing where it is None.
 
 #[derive(Clone, Copy)]
 struct Mtu(Option<u32>);

@@ -1,4 +1,4 @@
-//! Why octets quote no packet.
+//! Why octets hold no quote of a packet.
 
 ghost use Rattle.std.specs.Prelude.{◌↔◌, IfSome, IsNone, Some};
 ghost use Rattle.quote_wire.specs.Icmpv4Error.{IsDatagram};
@@ -11,16 +11,17 @@ use crate::icmpv6_error::is_packet_front;
 use std::fmt;
 use wirebase::{IPV6_HEADER_LEN, Ipv4Packet, Ipv6Packet};
 
-/// Why octets quote no packet that [`Ipv4Quote::parse`] or [`Ipv6Quote::parse`] reads: the check that fails first.
+/// Why [`Ipv4Quote::parse`] or [`Ipv6Quote::parse`] refuses octets: the check that fails first.
 #[derive(Debug, PartialEq, Eq, Clone, Copy)]
 pub enum Refusal {
-    /// Fewer bytes than the header has: of IPv4 fewer than 20 or than its own length, of IPv6 fewer than 40.
+    /// Fewer bytes than the header has: for IPv4 fewer than 20 or than its own length field says, for IPv6 fewer than
+    /// 40.
     Short,
-    /// The header is of another version than 4 or 6 respectively, by its number.
+    /// The header's version is not 4 or 6 respectively; this is its number.
     Version(u8),
-    /// The header of IPv4 has fewer than 20 bytes by its own length; these are the bytes.
+    /// The IPv4 header's own length is below 20; this is that length in bytes.
     Length(u8),
-    /// Fewer than 8 bytes stand behind the header of IPv4 (RFC 792).
+    /// Fewer than 8 bytes follow the IPv4 header (RFC 792).
     Data,
 }
 

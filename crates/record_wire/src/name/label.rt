@@ -14,7 +14,7 @@ use wirebase::{Error, Result};
 /// The most bytes that a label has (RFC 1035 section 2.3.4).
 pub(super) const MAX_LABEL_LEN: usize = 63;
 
-/// The label at the front of octets, and what stands behind it. None at byte 0, and where no whole label stands.
+/// The label at the front of octets, and what follows it. None at byte 0, and where there is no whole label.
 pub(super) fn split_label(octets: &[u8]) -> Option<(&[u8], &[u8])>
     ensures { seen_label result ≡ first_label octets.now }
 {
@@ -30,7 +30,7 @@ pub(super) fn split_label(octets: &[u8]) -> Option<(&[u8], &[u8])>
 /// The labels of a name in turn, each without its length.
 #[derive(Debug, Clone, Drop)]
 pub struct Labels<'a> {
-    // The octets behind the labels that were given.
+    // The octets after the labels that were given.
     left: &'a [u8],
 }
 
@@ -72,7 +72,7 @@ impl<'a> Iterator for Labels<'a> {
     }
 }
 
-/// Writes a label behind its length. Refused where there is no room; then less may be written.
+/// Writes a label after its length. Refused where there is no room; then less may be written.
 pub(super) fn push_label(octets: &mut ArrayVec<u8, MAX_NAME_LEN>, label: &[u8]) -> Result<()>
     requires { length label.now ≤ 63 }
     ensures room { IsOk result ↔ (length octets.old.items + length (written label.now) ≤ 255) }
@@ -87,8 +87,8 @@ pub(super) fn push_label(octets: &mut ArrayVec<u8, MAX_NAME_LEN>, label: &[u8]) 
     Ok(())
 }
 
-/// Writes labels behind the others. Refused where no name has room for them, which byte 0 ends. Of none nothing is
-/// copied: between two pointers often no label stands.
+/// Writes labels after the others. Refused where no name has room for them, which byte 0 ends. Where there are none,
+/// nothing is copied: two pointers often have no label between them.
 #[inline]
 pub(super) fn push_labels(octets: &mut ArrayVec<u8, MAX_NAME_LEN>, labels: &[u8]) -> Result<()>
     requires { length octets.old.items < 255 }

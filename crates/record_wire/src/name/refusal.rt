@@ -16,7 +16,7 @@ use std::{fmt, result};
 pub enum NameRefusal {
     /// The name is cut, or has a label of another kind.
     Part(PartRefusal),
-    /// A pointer to this place leads nowhere or round: out of the message, or, behind another pointer, not to below the
+    /// A pointer to this place leads nowhere or round: out of the message, or, after another pointer, not to below the
     /// place that the one before it led to (RFC 1035 section 4.1.4).
     Pointer(usize),
     /// The name follows more than [`crate::name::MAX_POINTERS`] pointers, with labels between them or not.

@@ -26,9 +26,9 @@ pub(super) fn is_root(text: &[u8]) -> bool
     matches!(text, [b'.'])
 }
 
-/// Writes the labels of a text, with dots between them and a last dot allowed, where nothing stands yet. Refused where
-/// the text is none, where a label is empty or has more than 63 bytes, and where they have more than 255 octets. It
-/// stands apart, so that the root is read without the room that a label's text takes.
+/// Writes the labels of a text, with dots between them and a last dot allowed, to an empty name. Refused where the text
+/// is malformed, where a label is empty or has more than 63 bytes, and where they have more than 255 octets. A function
+/// of its own, so that the root is read without the buffer for a label's text.
 #[inline(never)]
 pub(super) fn put_labels(octets: &mut ArrayVec<u8, MAX_NAME_LEN>, text: &[u8]) -> Result<()>
     requires { octets.old.items ≡ [] }
@@ -48,7 +48,7 @@ pub(super) fn put_labels(octets: &mut ArrayVec<u8, MAX_NAME_LEN>, text: &[u8]) -
     }
 }
 
-/// What stands behind the text of a label.
+/// What follows the text of a label.
 #[derive(Clone, Copy)]
 pub(super) enum Behind<'a> {
     /// The end, or a last dot.
@@ -59,7 +59,7 @@ pub(super) enum Behind<'a> {
     Other,
 }
 
-/// What stands behind the text of a label.
+/// What follows the text of a label.
 pub(super) fn read_behind(text: &[u8]) -> Behind<'_>
     ensures { seen_behind result ≡ behind_in text.now }
 {
@@ -71,8 +71,8 @@ pub(super) fn read_behind(text: &[u8]) -> Behind<'_>
     }
 }
 
-/// Reads a label's text, up to where no more characters stand, and gives what stands there. Refused where the label
-/// would be empty or has more than 63 bytes.
+/// Reads a label's text up to where no character follows, and gives the rest. Refused where the label would be empty or
+/// has more than 63 bytes.
 pub(super) fn read_label(text: &[u8]) -> Result<(ArrayVec<u8, MAX_LABEL_LEN>, &[u8])>
     ensures sound { IfOk result (λ read. IsSpelling text.now read.0.items read.1.now) }
     ensures some { IfOk result (λ read. 1 ≤ length read.0.items) }
@@ -94,7 +94,7 @@ pub(super) fn read_label(text: &[u8]) -> Result<(ArrayVec<u8, MAX_LABEL_LEN>, &[
     Ok((label, left))
 }
 
-/// The byte that the first character of a text stands for, and what stands behind the character.
+/// The byte that the first character of a text denotes, and what follows the character.
 pub(super) fn read_byte(text: &[u8]) -> Option<(u8, &[u8])>
     ensures { seen_byte result ≡ first_byte text.now }
 {
@@ -105,7 +105,7 @@ pub(super) fn read_byte(text: &[u8]) -> Option<(u8, &[u8])>
     }
 }
 
-// The same of what stands behind a backslash.
+// The byte that the text after a backslash denotes, and what follows it.
 fn read_quoted(text: &[u8]) -> Option<(u8, &[u8])>
     ensures { seen_byte result ≡ quoted_in text.now }
 {
@@ -116,7 +116,7 @@ fn read_quoted(text: &[u8]) -> Option<(u8, &[u8])>
     }
 }
 
-// The same of what stands behind the first of three digits.
+// The byte that three digits denote, of which the first is given, and what follows them.
 fn read_number(first: u8, text: &[u8]) -> Option<(u8, &[u8])>
     requires { IsTrue (is_ascii_digit first) }
     ensures { seen_byte result ≡ numbered_at first text.now }
@@ -164,8 +164,8 @@ const PIECE_LEN: usize = 64;
 
 const CHARACTER_LEN: usize = 4;
 
-/// Writes the labels in octets with dots between them, and a dot alone where there are none. It stands apart, so that
-/// the root is written without the room that a piece takes.
+/// Writes the labels in octets with dots between them, and a dot alone where there are none. A function of its own, so
+/// that the root is written without the buffer for a piece.
 #[inline(never)]
 pub(super) fn fmt_labels<W: fmt::Write>(f: &mut fmt::Formatter<W>, octets: &[u8]) -> fmt::Result
     ensures { WritesOnOk W.write_str_gives f.old result (name_text (labels_in octets.now)) f.new }
@@ -190,8 +190,8 @@ pub(super) fn fmt_labels<W: fmt::Write>(f: &mut fmt::Formatter<W>, octets: &[u8]
     }
 }
 
-// Puts the text of a label behind what waits, which has this length, and gives the length of what waits then. The
-// length is no part of the piece, so that it stays in a register.
+// Puts the text of a label after what waits, which has this length, and gives the length of what waits then. The length
+// is no part of the piece, so that it stays in a register.
 fn put_label<W: fmt::Write>(
     f: &mut fmt::Formatter<W>,
     piece: &mut [u8; PIECE_LEN],
@@ -216,7 +216,7 @@ fn put_label<W: fmt::Write>(
     Ok(len)
 }
 
-// Writes what waits, where there is no room for the longest character behind it.
+// Writes what waits, where there is no room for the longest character after it.
 fn make_room<W: fmt::Write>(
     f: &mut fmt::Formatter<W>,
     piece: &[u8; PIECE_LEN],
@@ -241,8 +241,8 @@ pub(crate) fn write_piece<W: fmt::Write>(f: &mut fmt::Formatter<W>, text: &[u8])
     f.write_str(std::str::from_utf8(text).unwrap_or(""))
 }
 
-// Puts a byte behind a backslash: itself where it has a meaning of its own, and else its number. Gives the length of
-// what waits then. It stands apart, so that the loop over plain characters stays small.
+// Puts a byte after a backslash: itself where it has a meaning of its own, and else its number. Returns the number of
+// bytes that then wait in the piece. A function of its own, so that the loop over plain characters stays small.
 #[inline(never)]
 #[tactic(auto, using(std::proofs::lemmas::List::take_more_set))]
 fn put_quoted(piece: &mut [u8; PIECE_LEN], waiting: usize, byte: u8) -> usize

@@ -14,17 +14,17 @@ use std::fmt;
 /// Why [`crate::Name::from_text`] refuses a text, which it reads from its front on: the check that fails first.
 #[derive(Debug, PartialEq, Eq, Clone, Copy)]
 pub enum NameTextRefusal {
-    /// A label has no bytes: the text is empty or begins with a dot, or two dots stand side by side.
+    /// A label has no bytes: the text is empty or begins with a dot, or two dots are adjacent.
     EmptyLabel,
     /// A label has more than 63 bytes (RFC 1035 section 2.3.4).
     LongLabel,
     /// The name has more than 255 octets (RFC 1035 section 2.3.4).
     TooLong,
-    /// A backslash with neither a visible character but a digit behind it, nor three digits of a number up to 255 (RFC
+    /// A backslash with neither a visible character but a digit after it, nor three digits of a number up to 255 (RFC
     /// 1035 section 5.1).
     Escape,
-    /// This byte, which stands for itself behind a backslash alone, or not at all: it has a meaning of its own, or is
-    /// not visible.
+    /// This byte, which is itself only after a backslash, or not at all: it has a meaning of its own, or is not
+    /// visible.
     Byte(u8),
 }
 
@@ -72,7 +72,7 @@ pub(super) fn why_no_text(text: &[u8]) -> NameTextRefusal
     }
 }
 
-// Why no label of 1 to 63 bytes stands at the front of a text.
+// Why a text does not begin with a label of 1 to 63 bytes.
 fn why_no_label(text: &[u8]) -> NameTextRefusal
     requires { (label rest : List ℕ) → IsSpelling text.now label rest → 1 ≤ length label → length label ≤ 63 → ⊥ }
     ensures { RefusesLabel text.now result }
@@ -83,7 +83,7 @@ fn why_no_label(text: &[u8]) -> NameTextRefusal
     }
 }
 
-// Why no character stands at the front of a text.
+// Why a text does not begin with a character.
 fn why_no_character(text: &[u8]) -> NameTextRefusal
     requires { first_byte text.now ≡ None }
     ensures { RefusesRest text.now result }

@@ -1,4 +1,4 @@
-//! Data with fields in front of one or two names and behind them: of mailboxes, of hosts with a number, of rules for
+//! Data with fields in front of one or two names and after them: of mailboxes, of hosts with a number, of rules for
 //! naming, of signatures and of the types that a name has (RFC 1035 section 3.3.7, RFC 1183, RFC 2163, RFC 2230, RFC
 //! 2535, RFC 3403, RFC 4034 section 4).
 
@@ -48,16 +48,16 @@ pub(super) mod field {
 /// length, and then byte 0 or a pointer into the message.
 #[derive(Debug, PartialEq, Eq, Clone, Copy)]
 pub struct Fields<'a> {
-    /// What stands in front of the names.
+    /// What is in front of the names.
     pub front: Front<'a>,
     /// The name, or the first of two: the mailbox that is responsible, of MINFO (RMAILBX) and RP (mbox-dname); the
     /// domain of RFC 822, of PX (MAP822); the host, of AFSDB, RT and KX; the replacement, of NAPTR; the signer, of SIG;
     /// the next name, of NXT and NSEC.
     pub first: &'a [u8],
-    /// The second name: the mailbox for errors, of MINFO (EMAILBX); where TXT records stand, of RP (txt-dname); the
-    /// domain of X.400, of PX (MAPX400).
+    /// The second name: of MINFO the mailbox for errors (EMAILBX), of RP the name that has the TXT records (txt-dname),
+    /// of PX the domain of X.400 (MAPX400).
     pub second: Option<&'a [u8]>,
-    /// What stands behind the names.
+    /// What follows the names.
     pub rest: Rest<'a>,
 }
 
@@ -76,7 +76,7 @@ pub enum Front<'a> {
         order: u16,
         /// Among rules of one order, the lower, the better.
         preference: u16,
-        /// The flags, the services and the regular expression, which may each be empty, each behind its length:
+        /// The flags, the services and the regular expression, which may each be empty, each after its length:
         /// `TxtStrings` gives them in turn.
         strings: &'a [u8],
     },
@@ -104,7 +104,7 @@ pub struct Signed {
     pub key_tag: u16,
 }
 
-/// The fields behind the names.
+/// The fields after the names.
 #[derive(Debug, PartialEq, Eq, Clone, Copy)]
 pub enum Rest<'a> {
     /// None.
@@ -114,7 +114,7 @@ pub enum Rest<'a> {
     /// The types that the name has, of NXT: a bit for each from type 0 on, the most significant bit of a byte first
     /// (RFC 2535 section 5.2).
     Bits(&'a [u8]),
-    /// The types that the name has, of NSEC: maps of up to 256 types, each behind the upper byte of their numbers and
+    /// The types that the name has, of NSEC: maps of up to 256 types, each after the upper byte of their numbers and
     /// its length of 1 to 32 bytes, with a bit for each type, the most significant bit of a byte first (RFC 4034
     /// section 4.1.2).
     Types(&'a [u8]),
@@ -124,11 +124,11 @@ pub enum Rest<'a> {
 /// it.
 #[derive(Debug, PartialEq, Eq, Clone, Copy)]
 pub struct Form {
-    /// What stands in front of the names.
+    /// What is in front of the names.
     pub front: FrontForm,
     /// Whether there are two names.
     pub has_two: bool,
-    /// What stands behind the names.
+    /// What follows the names.
     pub rest: RestForm,
 }
 
@@ -145,7 +145,7 @@ pub enum FrontForm {
     Signed,
 }
 
-/// How the fields behind the names are laid out.
+/// How the fields after the names are laid out.
 #[derive(Debug, PartialEq, Eq, Clone, Copy)]
 pub enum RestForm {
     /// None.
@@ -176,7 +176,7 @@ pub(super) fn read(form: Form, octets: &[u8]) -> Result<Fields<'_>>
     })
 }
 
-// The fields in front of a name, and what stands behind them.
+// The fields in front of a name, and what follows them.
 pub(super) fn split_front(form: FrontForm, octets: &[u8]) -> Result<(Front<'_>, &[u8])>
     ensures sound { IfOk result (λ split. IsFront form octets.now (front_of split.0) split.1.now) }
     ensures complete { (value : FrontValue) (rest : List ℕ) → IsFront form octets.now value rest
@@ -219,7 +219,7 @@ fn split_rule(octets: &[u8]) -> Result<(Front<'_>, &[u8])>
     Ok((front, rest))
 }
 
-// Three strings, and what stands behind them.
+// Three strings, and what follows them.
 fn split_strings(octets: &[u8]) -> Result<(&[u8], &[u8])>
     ensures sound { IfOk result (λ split. AreThree octets.now split.0.now split.1.now) }
     ensures complete { (strings rest : List ℕ) → AreThree octets.now strings rest
@@ -257,7 +257,7 @@ fn split_signature(octets: &[u8]) -> Result<(Front<'_>, &[u8])>
     Ok((front, &octets[field::SIGNATURE_END..]))
 }
 
-// The second name, where there are two, and what stands behind it.
+// The second name, where there are two, and what follows it.
 pub(super) fn split_second(has_two: bool, octets: &[u8]) -> Result<(Option<&[u8]>, &[u8])>
     ensures sound { IfOk result (λ split. IsSecond has_two octets.now (name_of split.0) split.1.now) }
     ensures complete { (value : Option (List ℕ)) (rest : List ℕ) → IsSecond has_two octets.now value rest
@@ -270,7 +270,7 @@ pub(super) fn split_second(has_two: bool, octets: &[u8]) -> Result<(Option<&[u8]
     Ok((Some(name), rest))
 }
 
-// The fields behind the names, which take all the octets.
+// The fields after the names, which take all the octets.
 fn read_rest(form: RestForm, octets: &[u8]) -> Result<Rest<'_>>
     ensures sound { IfOk result (λ read. IsRest form octets.now (rest_of read)) }
     ensures complete { (value : RestValue) → IsRest form octets.now value
@@ -292,7 +292,7 @@ fn is_map(octets: &[u8]) -> bool
     octets.len() <= 16 && !matches!(octets, [128..=255, ..])
 }
 
-// Whether octets are maps of bits, each behind the upper byte of its types and its length.
+// Whether octets are maps of bits, each after the upper byte of its types and its length.
 fn are_maps(octets: &[u8]) -> bool
     ensures { IsTrue result ↔ AreMaps octets.now }
 {
@@ -306,7 +306,7 @@ fn are_maps(octets: &[u8]) -> bool
     true
 }
 
-// The upper byte of the types of the first map, the map, and what stands behind it. None where no whole map stands.
+// The upper byte of the types of the first map, the map, and what follows it. None where there is no whole map.
 pub(crate) fn split_map(octets: &[u8]) -> Option<(u8, &[u8], &[u8])>
     ensures { seen_map result ≡ first_map octets.now }
 {

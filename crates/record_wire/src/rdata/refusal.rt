@@ -38,11 +38,11 @@ pub enum DataRefusal {
     Numbers,
     /// There is no name where one should begin; of two names, the first.
     Name(PartRefusal),
-    /// Bytes stand behind the names, where the data should end.
+    /// Bytes follow the names, where the data should end.
     BehindName,
-    /// There is no name behind the first one: the mailbox of SOA, or the second name of MINFO, RP and PX.
+    /// There is no name after the first one: the mailbox of SOA, or the second name of MINFO, RP and PX.
     SecondName(PartRefusal),
-    /// Behind the names of SOA stand fewer or more than the 20 bytes of its numbers.
+    /// After the names of SOA are fewer or more than the 20 bytes of its numbers.
     Times,
     /// No bytes, where TXT has one string at least.
     NoString,
@@ -218,7 +218,7 @@ fn why_no_fields(form: Form, octets: &[u8]) -> DataRefusal
     }
 }
 
-// Why the fields in front of a name do not stand at their front.
+// Why the octets do not begin with the fields before a name.
 fn why_no_front(form: FrontForm, octets: &[u8]) -> DataRefusal
     requires { (value : FrontValue) (rest : List ℕ) → IsFront form octets.now value rest → ⊥ }
     ensures { RefusesFront form octets.now result }

@@ -32,7 +32,7 @@ pub enum EntryText<'a> {
     },
     /// A record.
     Record {
-        /// The section that it stands in.
+        /// The section that the record is in.
         section: Section,
         /// The record, with its names read.
         text: RecordText<'a>,
@@ -172,8 +172,8 @@ fn flushes_cache(record: &Record<'_>, is_multicast: bool) -> bool
     is_multicast && record.flushes_cache()
 }
 
-/// The section, the question or the record as a zone file has it, and behind it ` ; unicast-response` or
-/// ` ; cache-flush` where its flag is set.
+/// The section, the question or the record as a zone file has it, and after it ` ; unicast-response` or ` ;
+/// cache-flush` where its flag is set.
 impl fmt::Display for EntryText<'_> {
     ghost use Rattle.std.specs.Prelude.{Some};
     ghost use Rattle.record_wire.specs.EntryText.{entry_text};

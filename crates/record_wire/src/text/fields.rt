@@ -1,4 +1,4 @@
-//! Data with fields in front of one name or two and behind them, as a zone file has it (RFC 1035 section 5.1, RFC 1183,
+//! Data with fields in front of one name or two and after them, as a zone file has it (RFC 1035 section 5.1, RFC 1183,
 //! RFC 2163, RFC 2230, RFC 2535 section 7.2, RFC 3403 section 4.1, RFC 4034 sections 3.2 and 4.2).
 
 #![tactic(auto, unfolding(crate::specs::ZoneText::word))]
@@ -22,16 +22,16 @@ use std::{fmt, result};
 /// The fields of data with one name or two, with each name read.
 #[derive(PartialEq, Eq, Clone, Drop)]
 pub struct FieldsText<'a> {
-    /// What stands in front of the names.
+    /// What is in front of the names.
     pub front: Front<'a>,
     /// The name, or the first of two: the mailbox that is responsible, of MINFO (RMAILBX) and RP (mbox-dname); the
     /// domain of RFC 822, of PX (MAP822); the host, of AFSDB, RT and KX; the replacement, of NAPTR; the signer, of SIG;
     /// the next name, of NXT and NSEC.
     pub first: Name,
-    /// The second name: the mailbox for errors, of MINFO (EMAILBX); where TXT records stand, of RP (txt-dname); the
-    /// domain of X.400, of PX (MAPX400).
+    /// The second name: of MINFO the mailbox for errors (EMAILBX), of RP the name that has the TXT records (txt-dname),
+    /// of PX the domain of X.400 (MAPX400).
     pub second: Option<Name>,
-    /// What stands behind the names.
+    /// What follows the names.
     pub rest: Rest<'a>,
 }
 
@@ -66,7 +66,7 @@ impl fmt::Display for Fields<'_> {
     }
 }
 
-/// Each field, and a space behind it.
+/// Each field, and a space after it.
 impl fmt::Display for Front<'_> {
     ghost output = { λ front. Some (front_text (front_of front)) };
 
@@ -106,7 +106,7 @@ impl fmt::Display for Signed {
     }
 }
 
-/// A space, and the signature in base64; or each type behind a space.
+/// A space, and the signature in base64; or each type after a space.
 impl fmt::Display for Rest<'_> {
     ghost output = { λ rest_. Some (rest_text (rest_of rest_)) };
 
@@ -120,7 +120,7 @@ impl fmt::Display for Rest<'_> {
     }
 }
 
-// A second name behind a space, where there is one.
+// A second name after a space, where there is one.
 #[derive(Clone, Copy)]
 struct Second<'a>(&'a Option<Name>);
 
@@ -135,7 +135,7 @@ impl fmt::Display for Second<'_> {
     }
 }
 
-// Writes each type of the maps behind a space, up to where no whole map stands.
+// Writes each type of the maps after a space, up to where there is no whole map.
 fn fmt_maps<W: fmt::Write>(f: &mut fmt::Formatter<W>, octets: &[u8]) -> fmt::Result
     ensures { WritesOnOk W.write_str_gives f.old result (maps_text octets.now) f.new }
 {
@@ -147,7 +147,7 @@ fn fmt_maps<W: fmt::Write>(f: &mut fmt::Formatter<W>, octets: &[u8]) -> fmt::Res
     Ok(())
 }
 
-// Writes each type of a map behind a space. The first bit is of this type.
+// Writes each type of a map after a space. The first bit is of this type.
 fn fmt_map<W: fmt::Write>(f: &mut fmt::Formatter<W>, first: u16, map: &[u8]) -> fmt::Result
     ensures { WritesOnOk W.write_str_gives f.old result (map_text first map.now) f.new }
 {
@@ -185,7 +185,7 @@ impl fmt::Display for Byte {
     }
 }
 
-// A type behind a space, where the least significant bit is set.
+// A type after a space, where the least significant bit is set.
 #[derive(Clone, Copy)]
 struct Bit(u8, u16);
 

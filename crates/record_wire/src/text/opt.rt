@@ -45,7 +45,7 @@ impl fmt::Display for FlagsWord {
     }
 }
 
-// Options, each behind a semicolon, up to one that is cut.
+// Options, each after a semicolon, up to one that is cut.
 #[derive(Clone, Copy)]
 struct Options<'a>(&'a [u8]);
 
@@ -57,7 +57,7 @@ impl fmt::Display for Options<'_> {
     }
 }
 
-// An option, or why none stands where it should.
+// An option, or why the octets do not begin with one.
 #[derive(Clone, Copy)]
 struct Answer<'a>(result::Result<EdnsOption<'a>, OptionRefusal>);
 

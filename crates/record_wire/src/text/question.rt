@@ -47,7 +47,7 @@ impl<'a> Question<'a> {
         self.text_of_class(packet, self.class)
     }
 
-    /// The same of a question of multicast DNS: its class is without the top bit, which is a flag there (RFC 6762
+    /// The text of a question of multicast DNS: its class is without the top bit, which is a flag there (RFC 6762
     /// section 5.4). [`crate::Entry::text`] reads the entries of either kind of message.
     pub fn multicast_text(
         &self,
@@ -62,7 +62,7 @@ impl<'a> Question<'a> {
         self.text_of_class(packet, self.multicast_class())
     }
 
-    // The same of a question that is taken as one of this class.
+    // The text of a question whose class is taken as this one.
     pub(crate) fn text_of_class(
         &self,
         packet: &Packet<&'a [u8]>,

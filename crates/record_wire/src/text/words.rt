@@ -33,7 +33,7 @@ impl fmt::Display for Whole<'_> {
     }
 }
 
-/// Strings, each of which stands behind its length, in quotes and with spaces between them.
+/// Strings, each after its length, in quotes and with spaces between them.
 #[derive(Clone, Copy)]
 pub(super) struct Strings<'a>(pub(super) &'a [u8]);
 
@@ -50,7 +50,7 @@ impl fmt::Display for Strings<'_> {
     }
 }
 
-// Writes each string that is left behind a space.
+// Writes each string that is left after a space.
 fn fmt_behind_spaces<W: fmt::Write>(
     f: &mut fmt::Formatter<W>,
     mut strings: TxtStrings<'_>,
@@ -87,7 +87,7 @@ fn fmt_characters<W: fmt::Write>(f: &mut fmt::Formatter<W>, string: &[u8]) -> fm
     Ok(())
 }
 
-// A byte of a string: itself, behind a backslash where it has a meaning of its own, or its number behind one.
+// A byte of a string: itself, after a backslash where it has a meaning of its own, or its number after one.
 #[derive(Clone, Copy)]
 struct Character(u8);
 
@@ -212,7 +212,7 @@ fn fmt_last<W: fmt::Write>(f: &mut fmt::Formatter<W>, left: &[u8]) -> fmt::Resul
     }
 }
 
-// What stands for `=` among six bits each.
+// The value that becomes `=`, among those of six bits.
 const PADDING: u8 = 64;
 
 // Writes a character for six bits each.
@@ -222,7 +222,7 @@ fn write_digits<W: fmt::Write>(f: &mut fmt::Formatter<W>, a: u8, b: u8, c: u8, d
     write_piece(f, &[digit(a), digit(b), digit(c), digit(d)])
 }
 
-// The first three bytes, and those behind them.
+// The first three bytes, and those after them.
 fn split_group(bytes: &[u8]) -> Option<(u8, u8, u8, &[u8])>
     ensures { seen_group result ≡ first_group bytes.now }
 {
@@ -232,7 +232,7 @@ fn split_group(bytes: &[u8]) -> Option<(u8, u8, u8, &[u8])>
     }
 }
 
-/// The first byte, and those behind it.
+/// The first byte, and those after it.
 pub(super) fn split_byte(bytes: &[u8]) -> Option<(u8, &[u8])>
     ensures { seen_byte result ≡ first_octet bytes.now }
 {

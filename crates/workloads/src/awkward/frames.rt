@@ -86,7 +86,7 @@ fn parse_udp(octets: &[u8], digest: &mut Digest) {
     digest.add_ends(packet.payload());
 }
 
-/// Reads a capture of blocks that are passed over, with a short packet behind each eighth of them; every other one
+/// Reads a capture of blocks that are passed over, with a short packet after each eighth of them; every other one
 /// through a buffer that the longer blocks do not fit.
 pub fn read_capture(
     alloc: Global,

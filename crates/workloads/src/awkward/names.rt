@@ -1,4 +1,4 @@
-//! Names in many pieces, and behind thousands of pointers.
+//! Names in many pieces, and after thousands of pointers.
 
 use crate::digest::Digest;
 use arrayvec::ArrayString;
@@ -10,7 +10,7 @@ use std::fmt::Write;
 // The bytes of a message's header.
 const HEADER_LEN: usize = 12;
 
-// The labels of a name of 255 octets, of one byte each, and the bytes of one and of the pointer behind it.
+// The labels of a name of 255 octets, of one byte each, and the bytes of one and of the pointer after it.
 const PIECES: usize = 127;
 
 const PIECE_LEN: usize = 4;
@@ -57,7 +57,7 @@ fn add_name(message: &[u8], place: usize, digest: &mut Digest) {
     }
 }
 
-/// Writes a name whose labels stand apart, each before a pointer to the next one, and reads it.
+/// Writes a name whose labels are apart, each before a pointer to the next one, and reads it.
 pub fn read_pieces(number: u64, message: &mut [u8; PIECES_LEN], digest: &mut Digest) {
     message[PIECES_LEN - 1] = 0;
     for piece in 0..PIECES {
@@ -88,8 +88,7 @@ pub fn write_chain(message: &mut [u8]) {
     }
 }
 
-/// Reads the labels of a name behind thousands of pointers, and a whole name behind 127 at most, as many as are
-/// followed.
+/// Reads the labels of a name after thousands of pointers, and a whole name after 127 at most, as many as are followed.
 pub fn read_chain(number: u64, message: &[u8], digest: &mut Digest) {
     let place = HEADER_LEN + 4 + 2 * (number % 8_000) as usize;
     add_labels(message, place, digest);

@@ -1,5 +1,5 @@
-//! What the library tells in other types than that of the start, which docs/PERF.md names. Where the jobs are built
-//! over the start, bench/since_start.txt stands in the place of this file.
+//! What the library gives in other types than the start did, which docs/PERF.md names. Where the jobs are built over
+//! the start, bench/since_start.txt takes the place of this file.
 
 use capture::{Ending, Time};
 use frame_wire::Refusal;

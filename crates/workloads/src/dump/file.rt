@@ -12,7 +12,7 @@ const MORE_RECORDS: u32 = 101;
 // The bytes of a packet that a capture keeps, at least: of a few long packets fewer are kept than there were.
 const LEAST_KEPT: u32 = 1_100;
 
-// How often a block stands between the packets that is passed over.
+// How often a block that is passed over comes between the packets.
 const OTHER_EVERY: u32 = 16;
 
 // The link type of Ethernet.

@@ -10,7 +10,7 @@ use frame_wire::Addresses;
 /// The bytes of the longest frame.
 pub const MOST_FRAME_LEN: usize = 1_514;
 
-// The bytes of the shortest frame, without the checksum behind it.
+// The bytes of the shortest frame, without the checksum after it.
 const LEAST_FRAME_LEN: usize = 60;
 
 // The bytes of the headers.
@@ -45,7 +45,7 @@ pub fn write(octets: &mut [u8], sources: &Sources, random: &mut Random) -> usize
     put(octets, end, &[0; LEAST_FRAME_LEN][end..])
 }
 
-// Writes the header of a frame, of which one of eight has a VLAN tag, and gives the place behind it.
+// Writes the header of a frame, of which one of eight has a VLAN tag, and gives the place after it.
 fn put_link(octets: &mut [u8], number: u64, is_v4: bool) -> usize {
     let place = put(octets, 0, &number.to_be_bytes());
     let place = put(octets, place, &[0x52, 0x54, 0, 1]);
@@ -106,7 +106,7 @@ fn host(number: u64) -> Ipv6Address {
     )
 }
 
-// Writes a packet of IPv6, behind a hop-by-hop header where that is wanted, and says how many bytes it has.
+// Writes a packet of IPv6, after a hop-by-hop header where that is wanted, and says how many bytes it has.
 fn write_v6(octets: &mut [u8], number: u64, sources: &Sources, random: &mut Random) -> usize {
     let extended = if upper::has_alert(number) {
         HOP_BY_HOP_LEN

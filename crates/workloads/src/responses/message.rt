@@ -12,7 +12,7 @@ use std::alloc::Global;
 use std::fmt::Write;
 use std::io;
 
-// The bytes of the header, behind which the question stands.
+// The bytes of the header, which the question follows.
 const HEADER_LEN: usize = 12;
 
 // The bytes of letters that are kept.
@@ -66,7 +66,7 @@ impl Letters {
     }
 }
 
-// Where names stand to which pointers lead.
+// The places of names that pointers lead to.
 #[derive(Clone, Copy)]
 struct Places {
     // The second label of the question.
@@ -80,7 +80,7 @@ pub fn low(number: u64) -> u16 {
     (number % 65_536) as u16
 }
 
-/// Writes bytes at a place, where there is room for them, and gives the place behind them.
+/// Writes bytes at a place, where there is room for them, and gives the place after them.
 pub fn put(octets: &mut [u8], place: usize, bytes: &[u8]) -> usize {
     let place = place.min(octets.len());
     if bytes.len() > octets.len() - place {
@@ -114,7 +114,7 @@ pub fn write_name(octets: &mut [u8], letters: &Letters, number: u64) -> usize {
     put_parent(octets, place, letters, number)
 }
 
-// Writes the further labels of a name at a place, and gives the place behind it.
+// Writes the further labels of a name at a place, and gives the place after it.
 fn put_parent(octets: &mut [u8], start: usize, letters: &Letters, number: u64) -> usize {
     let mut place = start;
     let mut rest = number >> 24;
@@ -125,7 +125,7 @@ fn put_parent(octets: &mut [u8], start: usize, letters: &Letters, number: u64) -
     put(octets, place, &[0])
 }
 
-// Writes a question behind the header, and gives the place behind it and that of its name's second label.
+// Writes a question after the header, and gives the place after it and that of its name's second label.
 fn put_question(octets: &mut [u8], letters: &Letters, number: u64) -> (usize, usize) {
     let parent = put_label(octets, HEADER_LEN, letters, number);
     let type_ = put_parent(octets, parent, letters, number);
@@ -133,7 +133,7 @@ fn put_question(octets: &mut [u8], letters: &Letters, number: u64) -> (usize, us
     (put_u16(octets, class, CLASS_IN), parent)
 }
 
-// Writes the data of a record and its length at a place, and gives its type, the place behind it, and that of the name
+// Writes the data of a record and its length at a place, and gives its type, the place after it, and that of the name
 // in it where there is one.
 fn put_data(
     octets: &mut [u8],
@@ -181,7 +181,7 @@ fn class_of(number: u64) -> u16 {
     }
 }
 
-// Writes a record at a place, and gives the place behind it.
+// Writes a record at a place, and gives the place after it.
 fn put_record(
     octets: &mut [u8],
     start: usize,

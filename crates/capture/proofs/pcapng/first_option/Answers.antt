@@ -1,4 +1,4 @@
--- An option tells the value, or those behind it do.
+-- An option tells the value, or those after it do.
 use Rattle.std.proofs.Common.{◌≡◌, ◌⊎◌, inl, inr, ℕ, arith, refl, length-drop}
 use Rattle.wirebase.specs.Bytes.{part}
 use Rattle.capture.specs.Pcapng.{here, option_end}

@@ -1,4 +1,4 @@
--- The octets begin with a packet, or those behind a block show one.
+-- The octets begin with a packet, or those after a block show one.
 use Rattle.std.proofs.Common.{arith, length-drop, ap, refl, IsTrue, false}
 use Rattle.capture.specs.Pcapng.{first}
 use Rattle.capture.proofs.Blocks.{shows_behind, shows_none}

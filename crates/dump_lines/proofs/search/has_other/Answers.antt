@@ -1,4 +1,4 @@
--- Each turn looks at one octet, and behind the last all are looked at.
+-- Each turn looks at one octet, and after the last all are looked at.
 use Rattle.std.proofs.Common.{◌≡◌, arith, sym}
 use Rattle.std.proofs.lemmas.List.{take_all}
 use Rattle.std.proofs.lemmas.List.Elements.{All-same}

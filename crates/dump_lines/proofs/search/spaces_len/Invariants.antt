@@ -1,4 +1,4 @@
--- Spaces alone stand below the index.
+-- There are only spaces below the index.
 use Rattle.std.proofs.Common.{◌≡◌, All, take}
 use Rattle.dump_lines.proofs.search.spaces_len.Given as goal
 

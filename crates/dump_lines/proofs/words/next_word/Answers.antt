@@ -1,4 +1,4 @@
--- The word is cut off behind the spaces, up to the next space.
+-- The word is cut off after the spaces, up to the next space.
 use Rattle.dump_lines.proofs.Cutting.{one_word, no_word}
 use Rattle.dump_lines.proofs.words.next_word.Goals as goal
 

@@ -1,4 +1,4 @@
--- What stands behind the tags is what their last type says.
+-- The last type of the tags is that of what follows them.
 use Rattle.frame_wire.specs.Link.{typed_of}
 use Rattle.frame_wire.proofs.Tags.{if_ok}
 use Rattle.frame_wire.proofs.link.read_typed.Goals as goal

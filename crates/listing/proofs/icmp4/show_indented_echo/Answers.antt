@@ -1,4 +1,4 @@
--- Each line stands behind its spaces.
+-- Each line follows its spaces.
 use Rattle.std.proofs.Common.{OnOk, arith, subst}
 use Rattle.listing.specs.Output.{Gains}
 use Rattle.listing.proofs.OneLine.{indented_echo}

@@ -1,4 +1,4 @@
--- The digits so far stand behind those of what is left.
+-- The digits so far follow those of what is left.
 use Rattle.std.proofs.Common.{◌≡◌, ◌+◌, ◌≤◌, ◌++◌, length, drop, decimal}
 use Rattle.listing.proofs.number.put_digits.Given as goal
 

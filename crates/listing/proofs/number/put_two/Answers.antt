@@ -1,4 +1,4 @@
--- The two digits stand in front of the others.
+-- The two digits precede the others.
 use Rattle.std.proofs.Common.{◌≡◌, ◌-◌, ◌++◌, drop, ap, ◌∙◌, arith}
 use Rattle.listing.proofs.Numbers.{two_put}
 use Rattle.listing.proofs.number.put_two.Goals as goal

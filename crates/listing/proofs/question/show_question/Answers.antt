@@ -1,4 +1,4 @@
--- The question and the octets behind it are one value, or there is none.
+-- The question and the octets after it are one value, or there is none.
 use Rattle.dns_wire.specs.DnsQuestion.{value_of}
 use Rattle.listing.proofs.Printing.{listed_on_ok, refused_on_ok}
 use Rattle.listing.proofs.question.show_question.Goals as goal

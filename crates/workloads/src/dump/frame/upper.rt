@@ -1,4 +1,4 @@
-//! The messages that stand behind the headers of IP.
+//! The messages after the headers of IP.
 
 use crate::dump::frame::Sources;
 use crate::random::Random;
@@ -29,7 +29,7 @@ pub fn is_v4(number: u64) -> bool {
     matches!(number % KINDS, 0 | 1 | 3 | 4 | 5)
 }
 
-/// Whether a hop-by-hop header stands before the message of this number.
+/// Whether a hop-by-hop header precedes the message of this number.
 pub fn has_alert(number: u64) -> bool {
     number % KINDS == 8
 }

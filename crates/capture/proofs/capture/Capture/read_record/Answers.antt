@@ -1,4 +1,4 @@
--- The record's packet stands behind its header.
+-- The record's packet follows its header.
 use Rattle.std.proofs.Common.{arith}
 use Rattle.capture.proofs.Records.{record_ends, record_read}
 use Rattle.capture.proofs.capture.Capture.read_record.Goals as goal

@@ -1,4 +1,4 @@
--- What the message prints, and behind it why it is not listed to its end, if it is not.
+-- What the message prints, and after it why it is not listed to its end, if it is not.
 use Rattle.std.proofs.Common.{None, Some, false, refl, sym}
 use Rattle.std.proofs.lemmas.List.{append-nil}
 use Rattle.listing.specs.ListingMessage.{MessagePrints}

@@ -1,4 +1,4 @@
--- The link is counted already, or comes behind the others.
+-- The link is counted already, or comes after the others.
 use Rattle.std.proofs.Common.{rules, ◌≡◌, ◌<◌, false, length, refl}
 use Rattle.dump_captures.specs.Tally.{has_link, tally_of}
 use Rattle.dump_captures.proofs.Tallies.{with_unread-there, with_unread-new}

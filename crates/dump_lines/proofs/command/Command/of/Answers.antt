@@ -1,4 +1,4 @@
--- The words behind the command are other ones, or too many.
+-- The words after the command are other ones, or too many.
 use Rattle.std.proofs.Common.{sym, ◌∙◌, arith}
 use Rattle.dump_lines.proofs.Shaping.{command_of-other, command_of-many}
 use Rattle.dump_lines.proofs.command.Command.of.Goals as goal

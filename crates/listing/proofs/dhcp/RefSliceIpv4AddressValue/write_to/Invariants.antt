@@ -1,4 +1,4 @@
--- The addresses behind the first so far, with a comma before each.
+-- The addresses after the first so far, with a comma before each.
 use Rattle.std.proofs.Common.{take}
 use Rattle.std.specs.Prelude.{flat_map}
 use Rattle.listing.specs.Output.{Gains}

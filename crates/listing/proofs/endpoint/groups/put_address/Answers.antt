@@ -1,4 +1,4 @@
--- The groups before the run, and those behind it.
+-- The groups before the run, and those after it.
 use Rattle.std.proofs.Common.{◌+◌, ◌++◌, take, ap, ◌∙◌}
 use Rattle.std.specs.Net.Text.{groups_text}
 use Rattle.listing.proofs.Rooms.{short_run, long_run, behind_run, three_parts}

@@ -1,4 +1,4 @@
--- The groups so far, each with a colon behind it.
+-- The groups so far, each with a colon after it.
 use Rattle.std.proofs.Common.{◌≡◌, ◌+◌, ◌*◌, ◌≤◌, ◌++◌, length, take}
 use Rattle.std.specs.List.{flat_map}
 use Rattle.listing.proofs.Rooms.{colon_text}

@@ -1,4 +1,4 @@
--- The bits of the table, each compared with what it stands for.
+-- The bits of the table, each compared with its byte.
 use Rattle.std.proofs.Common.{◌≡◌, ℕ, zero, suc, ◌/◌, ◌%◌, ◌^◌, Bool, true, ◌&&◌, not, nat_eq}
 use Rattle.std.proofs.Common.{slice_index_or, bit_and, refl}
 use Rattle.std.proofs.lemmas.Bool.Decides.{Decides-below_and}

@@ -1,4 +1,4 @@
--- Each turn writes a string behind a space.
+-- Each turn writes a string after a space.
 use Rattle.std.proofs.Common.{ℕ, List, [], ◌∷◌, ◌++◌, IsOk, refl, sym, ap, ◌∙◌, subst, rules}
 use Rattle.std.proofs.lemmas.Grind.{put_two}
 use Rattle.std.proofs.lemmas.List.{append-nil}

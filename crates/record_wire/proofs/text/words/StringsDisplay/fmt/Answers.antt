@@ -1,4 +1,4 @@
--- The first string, and those behind it.
+-- The first string, and those after it.
 use Rattle.std.proofs.Common.{IsOk, sym, ap, ◌∙◌, subst, rules, []}
 use Rattle.std.proofs.lemmas.Grind.{put_two}
 use Rattle.std.specs.Fmt.{HasWritten}
