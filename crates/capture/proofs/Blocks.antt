@@ -28,7 +28,7 @@ module _ (order : Order) (code n : ℕ) where
   tells_later bytes value other m is differs (later other' m' is' some differs' rest) =
       subst (λ k. Tells (drop (option_end k) bytes) value) (sym is'.length_ ∙ is.length_) rest
 
-  -- the same of the bytes after an option as the code takes them
+  -- what the code reads from the bytes after an option
   pub tells_behind : (bytes value : List ℕ) (other m most : ℕ) → IsOption order bytes other m → other ≢ 0
       → ((other ≡ code) × (m ≡ n) → ⊥) → length (drop (option_end m) bytes) ≤ most
       → Tells (take most (drop (option_end m) bytes)) value ↔ Tells bytes value

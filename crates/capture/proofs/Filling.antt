@@ -118,7 +118,7 @@ reads_fits all octets left n reads fits = (
   omega (arith, ap length reads.front, length-take n all, fits),
 )
 
--- where so many bytes are there, these are all that were read
+-- where this many bytes are there, these are all that were read
 pub reads_whole : (all octets : List ℕ) (left : Option (List ℕ)) (n : ℕ) → Reads all left octets n
     → n ≤ length octets → Reads all left octets (length octets)
 reads_whole all octets left n reads fits =

@@ -73,7 +73,7 @@ takes-none old octets count same = (
 
 -- ---- bytes that are passed over
 
--- so many of the bytes are still to be passed over
+-- this many of the bytes are still to be passed over
 pub record SkipsSoFar (old new : Option (List ℕ)) (count missing : ℕ) : Type 0 where
   pub passed : List ℕ
   pub consumed : Consumes old new passed

@@ -27,14 +27,14 @@ next_date d =
     else if nat_lt d.month 12 then date d.year (d.month + 1) 1
     else date (d.year + 1) 1 1
 
--- the date so many days after 1970-01-01
+-- the date this many days after 1970-01-01
 unfoldable pub date_of : ℕ → Date
 date_of zero = date 1970 1 1
 date_of (suc days) = next_date (date_of days)
 
 -- ---- how many days pass: what private functions answer
 
--- in the first months of a year, so many of them
+-- in the first months of a year, this many of them
 unfoldable pub days_of_months : ℕ → ℕ → ℕ
 days_of_months year zero = 0
 days_of_months year (suc months) = days_of_months year months + month_days year (suc months)
@@ -42,7 +42,7 @@ days_of_months year (suc months) = days_of_months year months + month_days year 
 abbrev pub year_days : ℕ → ℕ
 year_days year = if is_leap year then 366 else 365
 
--- in the years from 1970 on, so many of them
+-- in the years from 1970 on, this many of them
 unfoldable pub days_of_years : ℕ → ℕ
 days_of_years zero = 0
 days_of_years (suc years) = days_of_years years + year_days (1970 + years)

@@ -103,7 +103,7 @@ pub record IsRecordHeader (order : Order) (bytes : List ℕ) (r : RecordHeader) 
   pub captured_len_ : r.captured_len ≡ number_in order captured_len_field bytes
   pub original_len_ : r.original_len ≡ number_in order original_len_field bytes
 
--- The grammar of a record of at most so many bytes, in a file with a header.
+-- The grammar of a record of at most this many bytes, in a file with a header.
 pub record IsRecord (most : ℕ) (h : FileHeader) (bytes : List ℕ) (p : PacketValue) : Type 0 where
   pub head : RecordHeader
   pub is_head : IsRecordHeader h.order (take 16 bytes) head
@@ -115,13 +115,13 @@ pub record IsRecord (most : ℕ) (h : FileHeader) (bytes : List ℕ) (p : Packet
   pub original_len_ : p.original_len ≡ head.original_len
   pub octets_ : p.octets ≡ part bytes 16 (16 + head.captured_len)
 
--- the bytes begin with a whole record of at most so many bytes, by the length that its header tells
+-- the bytes begin with a whole record of at most this many bytes, by the length that its header tells
 pub record ShowsRecord (most : ℕ) (order : Order) (bytes : List ℕ) : Type 0 where
   pub head : Reaches original_len_field bytes
   pub few : number_in order captured_len_field bytes ≤ most
   pub whole : 16 + number_in order captured_len_field bytes ≤ length bytes
 
--- what ends a file that goes on with these bytes, and so with no record of at most so many bytes
+-- what ends a file that goes on with these bytes, and so with no record of at most this many bytes
 pub data RecordEnds (most : ℕ) (h : FileHeader) (bytes : List ℕ) : Ending → Type 0 where
   whole_ : bytes ≡ [] → RecordEnds most h bytes Whole
   head_cut : bytes ≢ [] → length bytes < 16 → RecordEnds most h bytes Cut

@@ -162,18 +162,18 @@ link_type_field = field 8 10
 abbrev pub snap_len_field : Field
 snap_len_field = field 12 16
 
--- the bytes of an option whose value has so many, which is padded to four
+-- the bytes of an option whose value has this many, which is padded to four
 abbrev pub option_end : ℕ → ℕ
 option_end n = 4 + (n + 3) / 4 * 4
 
--- the bytes begin with an option of a code, whose value has so many bytes
+-- the bytes begin with an option of a code, whose value has this many bytes
 pub record IsOption (order : Order) (bytes : List ℕ) (code n : ℕ) : Type 0 where
   pub there : 4 ≤ length bytes
   pub code_ : number_in order (field 0 2) bytes ≡ code
   pub length_ : number_in order (field 2 4) bytes ≡ n
   pub whole : option_end n ≤ length bytes
 
--- The first option of a code, with a value of so many bytes, has this value; option 0 ends the list, and so does one
+-- The first option of a code, with a value of this many bytes, has this value; option 0 ends the list, and so does one
 -- that is cut short.
 pub data TellsOption (order : Order) (code n : ℕ) : List ℕ → List ℕ → Type 0 where
   here : {bytes value : List ℕ} → IsOption order bytes code n → value ≡ part bytes 4 (4 + n)
@@ -232,7 +232,7 @@ pub record IsTimed (order : Order) (interfaces : List Interface) (place : ℕ) (
   pub original_len_ : p.original_len ≡ number_in order original_len_field bytes
   pub octets_ : p.octets ≡ part bytes 28 (28 + number_in order captured_len_field bytes)
 
--- the bytes that are kept of a packet, where an interface keeps so many, or all for 0
+-- the bytes that are kept of a packet, where an interface keeps this many, or all for 0
 abbrev pub kept_len : ℕ → ℕ → ℕ
 kept_len most original = if most == 0 then original else min most original
 
@@ -273,7 +273,7 @@ RefusesTimed order interfaces place bytes (refusal.CapturedLength n) =
     × (n ≡ number_in order captured_len_field bytes) × (length bytes < 32 + n)
 RefusesTimed order interfaces place bytes _ = ⊥
 
--- the same of a simple packet
+-- what is told of another simple packet
 abbrev pub RefusesSimple : Order → List Interface → List ℕ → Refusal → Type 0
 RefusesSimple order interfaces bytes refusal.Short = length bytes < 16
 RefusesSimple order interfaces bytes (refusal.Interface n) =

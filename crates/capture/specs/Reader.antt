@@ -5,13 +5,13 @@ use Rattle.std.specs.Io.KnownBytes.{Consumes, Keeps, IsAtEnd}
 use Rattle.capture.specs.declared.ending.Fault.{Fault}
 use denote.Ref.{Bor}
 
--- bytes were taken off what a reader had left, at most so many, and fewer only at its end
+-- bytes were taken off what a reader had left, at most this many, and fewer only at its end
 pub record Takes (old new : Option (List ℕ)) (taken : List ℕ) (most : ℕ) : Type 0 where
   pub consumed : Consumes old new taken
   pub few : length taken ≤ most
   pub ended : length taken < most → OnSome old (IsAtEnd new)
 
--- what was at hand of so many bytes was taken off what a reader had left; these are all where it has ended
+-- what was at hand of this many bytes was taken off what a reader had left; these are all where it has ended
 pub record TakesPart (old new : Option (List ℕ)) (before after_ : List ℕ) (missing : ℕ) (ended : Bool) : Type 0 where
   pub taken : List ℕ
   pub appended : after_ ≡ before ++ taken
@@ -19,12 +19,12 @@ pub record TakesPart (old new : Option (List ℕ)) (before after_ : List ℕ) (m
   pub few : length taken ≤ missing
   pub all : ended ≡ true → length taken < missing → OnSome old (IsAtEnd new)
 
--- so many bytes were read of what was left, or all where there are fewer
+-- this many bytes were read of what was left, or all where there are fewer
 pub record Reads (left : List ℕ) (now : Option (List ℕ)) (taken : List ℕ) (most : ℕ) : Type 0 where
   pub front : taken ≡ take most left
   pub rest : now ≡ Some (drop most left)
 
--- bytes were passed over: so many, or fewer at the reader's end
+-- bytes were passed over: this many, or fewer at the reader's end
 pub record Skips (old new : Option (List ℕ)) (count : ℕ) (whole : Bool) : Type 0 where
   pub passed : List ℕ
   pub consumed : Consumes old new passed

@@ -1,4 +1,4 @@
--- What packets, headers and descriptions print: what they are, and then their fields by name.
+-- How packets, headers and descriptions print: what they are, and then their fields by name.
 use Rattle.std.specs.Prelude.{List, ℕ, [], ◌∷◌, Option, None, Some, codes, decimal}
 use Rattle.std.specs.Fmt.{signed_decimal}
 use Rattle.wirebase.specs.Display.{pieces}

@@ -19,7 +19,7 @@ nanos_of t = t.seconds * 1000000000 + t.nanoseconds
 abbrev pub value_of : Time → TimeValue
 value_of t = time_value (nanos_of t) t.digits
 
--- a time of so many nanoseconds, told to so many digits
+-- a time of this many nanoseconds, told to this many digits
 pub record IsTime (t : Time) (nanoseconds digits : ℕ) : Type 0 where
   pub sum_ : t.seconds * 1000000000 + t.nanoseconds ≡ nanoseconds
   pub part_ : t.nanoseconds < 1000000000
@@ -34,7 +34,7 @@ time_of parts = record { seconds = parts.0; nanoseconds = parts.1; digits = 0 }
 unfoldable pub units : ℕ → ℕ
 units resolution = if nat_lt resolution 128 then 10 ^ resolution else 2 ^ (resolution - 128)
 
--- the whole nanoseconds in so many units of a resolution
+-- the whole nanoseconds in this many units of a resolution
 abbrev pub nanoseconds_of : ℕ → ℕ → ℕ
 nanoseconds_of resolution ticks = ticks * 1000000000 / units resolution
 

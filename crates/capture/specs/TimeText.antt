@@ -25,7 +25,7 @@ nine_digits n =
     n / 100000000 % 10 ∷ n / 10000000 % 10 ∷ n / 1000000 % 10 ∷ n / 100000 % 10 ∷ n / 10000 % 10 ∷ n / 1000 % 10
     ∷ n / 100 % 10 ∷ n / 10 % 10 ∷ n % 10 ∷ []
 
--- the first of them, so many, after a point; nothing where there are none
+-- the first of them, this many, after a point; nothing where there are none
 abbrev pub fraction_text : ℕ → ℕ → List ℕ
 fraction_text digits nanoseconds =
     if digits == 0 then [] else codes "." ++ flat_map decimal (take digits (nine_digits nanoseconds))

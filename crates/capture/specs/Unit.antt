@@ -42,7 +42,7 @@ block_form = record {
   IsRead = λ h. IsRead h.kind;
 }
 
--- what ends a capture that goes on with these bytes, and so with no record or block whose head has so many
+-- what ends a capture that goes on with these bytes, and so with no record or block whose head has this many
 pub data UnitEnds {H : Type 0} (n : ℕ) (form : Form H) (order : Order) (all : List ℕ) (ending : Ending) : Type 0 where
   none : all ≡ [] → ending ≡ Whole → UnitEnds n form order all ending
   no_head : form.HeadEnds order (take n all) ending → UnitEnds n form order all ending

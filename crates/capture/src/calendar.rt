@@ -4,7 +4,7 @@ ghost use Rattle.std.specs.Prelude.{◌≡◌, ℕ, ◌+◌, ◌<◌, ◌≤◌}
 ghost use Rattle.capture.specs.Calendar.{date, date_of as date_after, days_of_months, days_of_years};
 ghost use Rattle.capture.specs.Calendar.{is_leap as is_leap_year, month_days as days_in_month, year_days};
 
-// The calendar begins anew after so many years, of so many days.
+// The calendar repeats after this many years, which have this many days.
 const CYCLE_YEARS: u64 = 400;
 
 const CYCLE_DAYS: u64 = 146_097;
@@ -20,7 +20,7 @@ pub struct Date {
     pub day: u64,
 }
 
-/// The date so many days after 1970-01-01.
+/// The date this many days after 1970-01-01.
 pub fn date_of(days: u64) -> Date
     ensures date { result ≡ date_after days }
     ensures least { 1970 ≤ result.year }
@@ -31,8 +31,8 @@ pub fn date_of(days: u64) -> Date
     date_in_year(year, day - days_in_years(years))
 }
 
-// How many years from 1970 on pass whole in so many days. A year has 365 days at least, and fewer than a year's are
-// those of the leap days.
+// The number of whole years from 1970 on in this many days. A year has at least 365 days, and the leap days of that
+// many years are fewer than a year has.
 fn years_in(days: u64) -> u64
     requires { days < 146097 }
     ensures least { days_of_years result ≤ days }
@@ -47,7 +47,7 @@ fn years_in(days: u64) -> u64
     }
 }
 
-// How many days so many years from 1970 on have.
+// The number of days in this many years from 1970 on.
 fn days_in_years(years: u64) -> u64
     requires { years ≤ 401 }
     ensures { result ≡ days_of_years years }
@@ -56,7 +56,7 @@ fn days_in_years(years: u64) -> u64
     365 * years + last / 4 - last / 100 + last / 400 - 477
 }
 
-// The date so many days after a year's first.
+// The date this many days after the first of a year.
 fn date_in_year(year: u64, days: u64) -> Date
     requires { days < year_days year }
     ensures year { result.year ≡ year }
@@ -81,7 +81,7 @@ fn date_in_year(year: u64, days: u64) -> Date
     }
 }
 
-// How many days a month has.
+// The number of days of a month.
 fn month_days(year: u64, month: u64) -> u64
     ensures { result ≡ days_in_month year month }
 {

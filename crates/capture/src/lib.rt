@@ -1,4 +1,4 @@
-//! Capture files: what a pcap or a pcapng file holds, read as records in bounded memory.
+//! Capture files: pcap and pcapng, read as records in bounded memory.
 #![tactic(auto)]
 
 pub mod calendar;

@@ -1,4 +1,4 @@
-//! The order of the bytes of a number.
+//! The byte order of numbers.
 
 ghost use Rattle.std.specs.Prelude.{◌≡◌, ◌≤◌, ◌+◌, length};
 ghost use Rattle.wirebase.specs.Bytes.{part};
@@ -7,17 +7,17 @@ ghost use Rattle.capture.specs.Order.{number, signed_number};
 use byteorder::{BigEndian, ByteOrder, LittleEndian};
 use wirebase::{Field, Octets};
 
-/// The order in which the machine that wrote a file keeps the bytes of a number.
+/// The byte order of the machine that wrote a file.
 #[derive(Debug, PartialEq, Eq, Clone, Copy)]
 pub enum Order {
-    /// The highest byte first.
+    /// Big-endian: the highest byte first.
     Big,
-    /// The lowest byte first.
+    /// Little-endian: the lowest byte first.
     Little,
 }
 
 impl Order {
-    /// The number in a field of two bytes. Requires that they are there.
+    /// The number in a field of two bytes. Requires at least two bytes.
     pub fn u16_at(self, octets: &[u8], field: Field) -> u16
         requires two { field.end ≡ field.start + 2 }
         requires room { field.end ≤ length octets.now }
@@ -30,7 +30,7 @@ impl Order {
         }
     }
 
-    /// The number in a field of four bytes. Requires that they are there.
+    /// The number in a field of four bytes. Requires at least four bytes.
     #[inline]
     pub fn u32_at(self, octets: &[u8], field: Field) -> u32
         requires four { field.end ≡ field.start + 4 }
@@ -44,7 +44,7 @@ impl Order {
         }
     }
 
-    /// The signed number in the first eight bytes. Requires that they are there.
+    /// The signed number in the first eight bytes. Requires at least eight bytes.
     pub fn i64_of(self, octets: &[u8]) -> i64
         requires { 8 ≤ length octets.now }
         ensures { result ≡ signed_number self octets.now }

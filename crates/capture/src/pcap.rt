@@ -36,13 +36,13 @@ mod field {
     pub const ORIGINAL_LEN: Field = 12..16;
 }
 
-/// The bytes of a file's header.
+/// The length of a file's header in bytes.
 pub const FILE_HEADER_LEN: usize = field::LINK_TYPE.end;
 
-/// The bytes of a record's header.
+/// The length of a record's header in bytes.
 pub const RECORD_HEADER_LEN: usize = field::ORIGINAL_LEN.end;
 
-/// What the fractions of the seconds count.
+/// The unit of the fractions of seconds.
 #[derive(Debug, PartialEq, Eq, Clone, Copy)]
 pub enum Precision {
     /// Microseconds.
@@ -54,17 +54,17 @@ pub enum Precision {
 /// The header of a file.
 #[derive(Debug, PartialEq, Eq, Clone, Copy)]
 pub struct FileHeader {
-    /// The order of the bytes of the numbers after the magic number.
+    /// The byte order of the numbers after the magic number.
     pub order: Order,
-    /// What the fractions of the seconds count.
+    /// The unit of the fractions of seconds.
     pub precision: Precision,
     /// The type of the link that each packet was captured on.
     pub link_type: u16,
 }
 
 impl FileHeader {
-    /// The header at the front of the octets, of version 2.4. Refused where they begin with no magic number
-    /// (`NotACapture`), are fewer than 24 (`Cut`), or are of another version (`Version`).
+    /// Parses the header at the start of the octets, of version 2.4. Refused where they do not begin with a magic
+    /// number (`NotACapture`), are fewer than 24 (`Cut`), or are of another version (`Version`).
     pub fn parse(octets: &[u8]) -> Result<FileHeader, Ending>
         ensures sound { IfOk result (λ h. IsFileHeader octets.now h) }
         ensures complete { (h : Header) → IsFileHeader octets.now h
@@ -88,7 +88,7 @@ impl FileHeader {
     }
 }
 
-// The order and the precision that the magic number tells.
+// The byte order and the precision of a magic number.
 fn magic(octets: &[u8]) -> Option<(Order, Precision)>
     ensures some { IfSome result (λ told. HasMagic octets.now told.0 told.1) }
     ensures none { IsNone result → FileEnds octets.now Ending.NotACapture }
@@ -110,16 +110,16 @@ fn magic(octets: &[u8]) -> Option<(Order, Precision)>
 pub struct RecordHeader {
     /// The whole seconds since 1970-01-01 00:00:00 UTC.
     pub seconds: u32,
-    /// The microseconds or nanoseconds past them.
+    /// The microseconds or nanoseconds after them.
     pub fraction: u32,
-    /// The bytes of the packet that the file keeps.
+    /// The number of bytes of the packet in the file.
     pub captured_len: u32,
-    /// The bytes that the packet had.
+    /// The packet's length in bytes.
     pub original_len: u32,
 }
 
 impl RecordHeader {
-    /// The header at the front of the octets. Requires at least 16 bytes.
+    /// Parses the header at the start of the octets. Requires at least 16 bytes.
     pub fn parse(order: Order, octets: &[u8]) -> RecordHeader
         requires { 16 ≤ length octets.now }
         ensures { IsRecordHeader order octets.now result }

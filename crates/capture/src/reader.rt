@@ -1,4 +1,4 @@
-//! Bytes of an input, so many at a time.
+//! Reading of an input in blocks of bounded size.
 
 ghost use Rattle.std.specs.Prelude.{◌≡◌, ◌≤◌, ◌-◌, ◌++◌, ◌⊎◌, ℕ, List, [], IfOk, IfErr, IfSome, OnOk, length};
 ghost use Rattle.std.specs.Borrow.{sem};
@@ -9,7 +9,7 @@ ghost use Rattle.capture.specs.Reader.{Takes, TakesPart, Skips, SkipsPart, LookK
 use crate::ending::Fault;
 use std::io::{BufRead, ErrorKind};
 
-/// Reads until there are so many octets, or the input has ended. It doesn't look at the input where there are as many.
+/// Reads until there are this many octets, or the input has ended. Does not read where there are enough already.
 pub fn fill<R: BufRead>(input: &mut R, octets: &mut Vec<u8>, count: usize) -> Result<(), Fault>
     requires { length octets.old.items ≤ count }
     ensures fills { OnOk result ((taken : List ℕ) × (octets.new.items ≡ octets.old.items ++ taken)
@@ -29,7 +29,7 @@ pub fn fill<R: BufRead>(input: &mut R, octets: &mut Vec<u8>, count: usize) -> Re
     Err(Fault::Read)
 }
 
-// Takes what is at hand of so many octets, and returns whether these are all or the input has ended.
+// Takes buffered octets up to this many, and returns whether these are all or the input has ended.
 fn take_part<R: BufRead>(input: &mut R, octets: &mut Vec<u8>, missing: usize) -> Result<bool, Fault>
     ensures part { IfOk result (λ ended. TakesPart (R.remaining input.old) (R.remaining input.new)
         octets.old.items octets.new.items missing ended) }
@@ -47,7 +47,7 @@ fn take_part<R: BufRead>(input: &mut R, octets: &mut Vec<u8>, missing: usize) ->
     Ok(ended)
 }
 
-/// Passes over so many octets, or over all where there are fewer, and returns whether there were as many.
+/// Passes over this many octets, or over all where there are fewer, and returns whether there were enough.
 pub fn skip<R: BufRead>(input: &mut R, count: usize) -> Result<bool, Fault>
     ensures skips { IfOk result (λ whole. Skips (R.remaining input.old) (R.remaining input.new) count whole) }
     ensures fault { IfErr result (λ fault. fault ≡ Fault.Read) }
@@ -63,8 +63,7 @@ pub fn skip<R: BufRead>(input: &mut R, count: usize) -> Result<bool, Fault>
     Err(Fault::Read)
 }
 
-// Passes over what is at hand of so many octets; answers how many these are, and whether they are all or the input has
-// ended.
+// Passes over buffered octets up to this many; returns their number, and whether they are all or the input has ended.
 fn skip_part<R: BufRead>(input: &mut R, missing: usize) -> Result<(usize, bool), Fault>
     ensures part { IfOk result (λ answer. SkipsPart (R.remaining input.old) (R.remaining input.new) missing
         answer.0 answer.1) }
@@ -79,7 +78,7 @@ fn skip_part<R: BufRead>(input: &mut R, missing: usize) -> Result<(usize, bool),
     Ok((count, count == missing || len == 0))
 }
 
-/// What the input's buffer shows, or none where the reading of more was interrupted, so that it is to be tried again.
+/// The octets in the input's buffer, or none where the read was interrupted and is to be tried again.
 pub fn look<R: BufRead>(input: &mut R) -> Result<Option<&[u8]>, Fault>
     ensures front { IfSome (R.remaining input.old) (λ xs. IfOk result (λ shown. IfSome shown (λ s.
         StartsWith xs s.now))) }

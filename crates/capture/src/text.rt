@@ -1,4 +1,4 @@
-//! What packets, headers and descriptions print: what they are, and then their fields by name.
+//! How packets, headers and descriptions print: what they are, and then their fields by name.
 
 ghost use Rattle.std.specs.Prelude.{Some};
 ghost use Rattle.capture.specs.Text.{order_text, precision_text, told_text, record_text, next_text, packet_text};

@@ -33,9 +33,9 @@ const NANO_DIGITS: u8 = 9;
 pub struct Time {
     /// The whole seconds.
     pub seconds: u64,
-    /// The nanoseconds past them, fewer than 1,000,000,000.
+    /// The nanoseconds after them, fewer than 1,000,000,000.
     pub nanoseconds: u32,
-    /// To how many decimal digits of a second its file tells it, 0 to 9: 6 where the file counts microseconds.
+    /// The number of decimal digits of a second in its file, 0 to 9: 6 where the file counts microseconds.
     pub digits: u8,
 }
 
@@ -57,12 +57,12 @@ impl Time {
         }
     }
 
-    /// The time of so many units of a resolution, less what is below a nanosecond. A resolution below 128 is a number
-    /// of decimal digits, and one from 128 on is 128 more than a number of binary digits.
+    /// The time of this many units of a resolution, rounded down to nanoseconds. A resolution below 128 is a number of
+    /// decimal digits, and one from 128 on is 128 more than a number of binary digits.
     pub fn of_ticks(ticks: u64, resolution: u8) -> Time
         ensures { IsTime result (nanoseconds_of resolution ticks) (digits_of resolution) }
     {
-        // What nearly all captures count needs no more than 64 bits.
+        // 64 bits are enough for nearly all captures.
         match resolution {
             6 => Time::of_micros(ticks),
             9 => Time::of_nanos(ticks),
@@ -77,8 +77,8 @@ impl Time {
         self.seconds as u128 * NANOS + self.nanoseconds as u128
     }
 
-    // The time so many seconds later, or earlier where they are negative. One before 1970 is 1970-01-01, and the
-    // seconds are at most what 64 bits hold.
+    // The time this many seconds later, or earlier where they are negative. A time before 1970 becomes 1970-01-01, and
+    // the seconds are limited to 64 bits.
     #[inline]
     pub(crate) fn moved(self, seconds: i64) -> Time
         requires { self.nanoseconds < 1000000000 }
@@ -95,7 +95,7 @@ impl Time {
         }
     }
 
-    // The time of any number of seconds.
+    // The time moved by any number of seconds.
     fn shifted(self, seconds: i64) -> Time
         requires { self.nanoseconds < 1000000000 }
         ensures { IsTime result (moved seconds (nanos_of self)) self.digits }
@@ -106,7 +106,7 @@ impl Time {
         self.later(seconds as u64)
     }
 
-    // The time so many seconds later, whose seconds are at most what 64 bits hold.
+    // The time this many seconds later, where the seconds are limited to 64 bits.
     fn later(self, seconds: u64) -> Time
         requires { self.nanoseconds < 1000000000 }
         ensures { IsTime result (min (nanos_of self + seconds * 1000000000)
@@ -119,7 +119,7 @@ impl Time {
         }
     }
 
-    // The time so many seconds earlier, or 1970-01-01 where that is before it.
+    // The time this many seconds earlier, or 1970-01-01 where that is before it.
     fn earlier(self, seconds: u64) -> Time
         requires { self.nanoseconds < 1000000000 }
         ensures { IsTime result (nanos_of self - seconds * 1000000000) self.digits }
@@ -138,7 +138,7 @@ impl Time {
         }
     }
 
-    // The time of so many microseconds.
+    // The time of this many microseconds.
     fn of_micros(micros: u64) -> Time
         ensures { IsTime result (micros * 1000) 6 }
     {
@@ -149,7 +149,7 @@ impl Time {
         }
     }
 
-    // The time of so many nanoseconds that 64 bits hold.
+    // The time of a number of nanoseconds that 64 bits hold.
     fn of_nanos(nanos: u64) -> Time
         ensures { IsTime result nanos 9 }
     {
@@ -160,7 +160,7 @@ impl Time {
         }
     }
 
-    // The time of so many nanoseconds, told to so many digits.
+    // The time of this many nanoseconds, with this many digits.
     fn of_nanoseconds(nanoseconds: u128, digits: u8) -> Time
         requires { nanoseconds < 2 ^ 64 * 1000000000 }
         ensures { IsTime result nanoseconds digits }
@@ -173,8 +173,8 @@ impl Time {
     }
 }
 
-// The parts of a time that is moved by any seconds, out of the way of nearly all captures, whose times are not moved.
-// They are two numbers, since a time of three would go through memory in each capture.
+// The parts of a time that is moved. A function of its own, since nearly all captures move no times. It returns two
+// numbers, since a time of three would go through memory in each capture.
 #[inline(never)]
 fn moved_parts(seconds: u64, nanoseconds: u32, by: i64) -> (u64, u32)
     requires { nanoseconds < 1000000000 }
@@ -262,14 +262,14 @@ impl From<Time> for Duration {
     }
 }
 
-// The digits of a second that a resolution tells.
+// The number of digits of a second in a resolution.
 fn digits(resolution: u8) -> u8
     ensures { result ≡ digits_of resolution }
 {
     (resolution % 128).min(NANO_DIGITS)
 }
 
-// The whole nanoseconds in so many units of a resolution.
+// The whole nanoseconds in this many units of a resolution.
 fn nanoseconds(ticks: u64, resolution: u8) -> u128
     ensures value { result ≡ nanoseconds_of resolution ticks }
     ensures small { result < 2 ^ 64 * 1000000000 }

@@ -1,4 +1,4 @@
-//! The records and blocks of an input: taken in one step where its buffer shows the whole of one, else read in parts.
+//! The records and blocks of an input: taken in one step where its buffer has the whole of one, else read in parts.
 
 ghost use Rattle.std.specs.Prelude.{◌≡◌, ◌≤◌, ◌↔◌, ◌⊎◌, ℕ, List, IfOk, IfErr, IsTrue, OnOk, length, take};
 ghost use Rattle.capture.specs.Reader.{Reads};
@@ -16,7 +16,7 @@ pub trait UnitHead: Copy + Drop {
     /// What a head of this kind is, and says.
     ghost form: { Form Self };
 
-    /// How many bytes it has.
+    /// Its length in bytes.
     const LEN: usize;
 
     /// The head at the front of the octets. Refused where the capture ends at it.
@@ -32,7 +32,7 @@ pub trait UnitHead: Copy + Drop {
         requires { form.unit_len self.now ≤ usize.MAX }
         ensures { result ≡ form.unit_len self.now };
 
-    /// Whether these are read, and not passed over.
+    /// Whether such records or blocks are read, and not passed over.
     fn is_read(&self) -> bool
         ensures { IsTrue result ↔ form.IsRead self.now };
 }
@@ -48,7 +48,7 @@ pub enum Taken<H> {
     Ended(Ending),
 }
 
-/// Reads the octets of the next record or block, of which some may be read, or passes over it.
+/// Reads the octets of the next record or block, of which some may have been read, or passes over it.
 #[inline]
 pub fn read_unit<R: BufRead, H: UnitHead>(
     input: &mut R,

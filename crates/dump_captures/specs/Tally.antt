@@ -46,7 +46,7 @@ empty = record {
   beyond = 0;
 }
 
--- so many more, up to the greatest number of 64 bits
+-- this many more, up to the greatest number of 64 bits
 abbrev pub more_by : ℕ → ℕ → ℕ
 more_by count n = min (n + count) (2 ^ 64 - 1)
 
@@ -99,6 +99,6 @@ counted_as (Listed kind) link octets t = record t { rows = changed_at (kind_plac
 counted_as (Refused kind reason) link octets t =
     record t { rows = changed_at (kind_place kind) (with_refused reason octets) t.rows }
 
--- a packet more, on this link and of so many captured bytes
+-- a packet more, on this link and of this many captured bytes
 abbrev pub counted : Outcome → ℕ → ℕ → TallyValue → TallyValue
 counted outcome link octets t = counted_as outcome link octets (record t { packets = one_more t.packets })

@@ -17,7 +17,7 @@ time_of_day_text seconds nanoseconds =
     codes "T" ++ last_digits 2 (seconds / 3600 % 24) ++ codes ":" ++ last_digits 2 (seconds / 60 % 60) ++ codes ":"
     ++ last_digits 2 (seconds % 60) ++ codes "." ++ last_digits 9 nanoseconds ++ codes "Z"
 
--- the time so many seconds and nanoseconds after 1970-01-01T00:00:00Z
+-- the time this many seconds and nanoseconds after 1970-01-01T00:00:00Z
 unfoldable pub time_text : ℕ → ℕ → List ℕ
 time_text seconds nanoseconds = date_text (date_of (seconds / 86400)) ++ time_of_day_text seconds nanoseconds
 

@@ -48,7 +48,7 @@ impl Row {
         }
     }
 
-    // The numbers with one more that was listed, of so many captured bytes.
+    // The numbers with one more that was listed, of this many captured bytes.
     fn with_listed(self, octets: u64) -> Row
         ensures { result ≡ with_listed octets self }
     {
@@ -116,7 +116,7 @@ impl Tally {
         }
     }
 
-    /// Counts a packet of this link, of which so many bytes were captured.
+    /// Counts a packet of this link, of which this many bytes were captured.
     pub fn count(&mut self, outcome: Outcome, link_type: u16, octets: u64)
         ensures { tally_of self.new ≡ counted outcome link_type octets (tally_of self.old) }
     {

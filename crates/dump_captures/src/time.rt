@@ -38,8 +38,9 @@ impl Clock {
         Clock::at(0)
     }
 
-    /// Writes the time so many seconds and nanoseconds after 1970-01-01T00:00:00Z, as `2024-05-01T12:34:56.000000000Z`.
-    /// A year above 9999 has more than four digits. Of nanoseconds the last nine digits are written.
+    /// Writes the time this many seconds and nanoseconds after 1970-01-01T00:00:00Z, as
+    /// `2024-05-01T12:34:56.000000000Z`. A year above 9999 has more than four digits. Of nanoseconds the last nine
+    /// digits are written.
     pub fn write<W: Write>(
         &mut self,
         output: &mut W,

@@ -19,7 +19,7 @@ pub record IsFresh (line : Line) : Type 0 where
 pub record Takes (old new : Line) (octets : List ℕ) : Type 0 where
   pub shape : (rest : List ℕ) → shape_from old (octets ++ rest) ≡ shape_from new rest
 
--- octets after which a word begins: so many words, whatever follows, and no CR at the end
+-- octets after which a word begins: this many words, whatever follows, and no CR at the end
 pub record IsFront (front : List ℕ) (n : ℕ) : Type 0 where
   pub words : List (List ℕ)
   pub count : length words ≡ n

@@ -92,7 +92,7 @@ message_of client id (message.Decline server address) =
 message_of client id (message.Release server address) =
     sent client.address id type_of.Release address None (Some server)
 
--- a packet, and zeros after it up to so many bytes
+-- a packet, and zeros after it up to this many bytes
 abbrev pub padded : ℕ → Value → List ℕ
 padded min_len v = text v ++ replicate (min_len - text_len v) 0
 

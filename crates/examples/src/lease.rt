@@ -245,7 +245,7 @@ impl<'a> Client<'a> {
     }
 }
 
-// Writes a packet over the front of the octets, with zeros after it up to so many bytes.
+// Writes a packet over the front of the octets, with zeros after it up to this many bytes.
 fn write_padded(repr: &Repr<'_>, min_len: usize, out: &mut [u8]) -> Option<usize>
     requires short { AllShort (options_of (packet_value repr.now)) }
     requires small { text_len (packet_value repr.now) ≤ 600 }

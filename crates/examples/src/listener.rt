@@ -35,7 +35,7 @@ const SOURCE_LEN: usize = 16;
 /// 5.1.10).
 pub const MAX_SOURCES: usize = 89;
 
-// The bytes of a record of so many sources.
+// The bytes of a record of this many sources.
 const MAX_RECORD_LEN: usize = 1_444;
 
 // A code with this bit has an exponent and a mantissa: one without it is a number of milliseconds.

@@ -6,7 +6,7 @@ use Rattle.wirebase.specs.declared.ip.IpProtocol.{IpProtocol}
 use Rattle.frame_wire.specs.declared.datagram.Addresses.{Addresses}
 use Rattle.frame_wire.specs.declared.datagram.Addresses.TheVariants.{V4, V6}
 
--- what a checksum counts before a payload of so many bytes (RFC 768, RFC 8200 section 8.1)
+-- what a checksum counts before a payload of this many bytes (RFC 768, RFC 8200 section 8.1)
 abbrev pub sum_before : Addresses → IpProtocol → ℕ → ℕ
 sum_before (V4 src dst) protocol bytes = pseudo_sum_v4 src dst protocol bytes
 sum_before (V6 src dst) protocol bytes = pseudo_sum src dst protocol bytes

@@ -57,7 +57,7 @@ RefusesSession bytes (SessionCode n) =
 RefusesSession bytes Protocol = IsSession bytes × IsProtocolCut (drop 6 bytes)
 RefusesSession bytes Tag = ⊥
 
--- of a frame that has a header of so many bytes and nothing that could be wrong in it
+-- of a frame that has a header of this many bytes and nothing that could be wrong in it
 abbrev pub RefusesPlain : ℕ → List ℕ → Refusal → Type 0
 RefusesPlain size bytes Short = length bytes < size
 RefusesPlain size bytes _ = ⊥

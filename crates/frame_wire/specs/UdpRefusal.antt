@@ -1,4 +1,4 @@
--- Why octets are no UDP datagram that is read: the check that fails first.
+-- Why octets are refused as a UDP datagram: the check that fails first.
 use Rattle.std.specs.Prelude.{◌≡◌, ◌≢◌, ℕ, ◌<◌, ◌≤◌, true, List, [], ◌∷◌, codes, decimal, length}
 use Rattle.wirebase.specs.Bytes.{number_of}
 use Rattle.wirebase.specs.Capabilities.{is_verified}

@@ -37,7 +37,7 @@ pub use vlans::{VlanTag, VlanTags};
 /// ```
 #[derive(Debug, PartialEq, Eq, Clone, Copy)]
 pub enum Link {
-    /// The loopback of BSD: an address family, in the order of bytes of the machine or of the network.
+    /// The loopback of BSD: an address family, in host or network byte order.
     Null,
     /// Ethernet II.
     Ethernet,
@@ -45,7 +45,7 @@ pub enum Link {
     Ppp,
     /// A session of PPP over Ethernet (RFC 2516).
     PppEther,
-    /// IP without a header of a link.
+    /// IP without a link header.
     Raw,
     /// Linux cooked capture, version 1.
     LinuxSll,
@@ -54,10 +54,9 @@ pub enum Link {
 }
 
 impl Link {
-    /// The link of a link type of a capture file, by the registry of link types of pcap and pcapng, or None where its
-    /// frames are not read. These are read: 0 and 108 (NULL and LOOP); 1 (ETHERNET); 9 and 50 (PPP and PPP_HDLC); 12,
-    /// 14, 101, 228 and 229 (RAW by two older numbers, RAW, IPV4 and IPV6); 51 (PPP_ETHER); 113 (LINUX_SLL); and 276
-    /// (LINUX_SLL2).
+    /// The link of a capture file's link type, by the registry of link types of pcap and pcapng; None where its frames
+    /// are not read. Read are 0 and 108 (NULL and LOOP); 1 (ETHERNET); 9 and 50 (PPP and PPP_HDLC); 12, 14, 101, 228
+    /// and 229 (RAW by two older numbers, RAW, IPV4 and IPV6); 51 (PPP_ETHER); 113 (LINUX_SLL); and 276 (LINUX_SLL2).
     pub fn of(link_type: u16) -> Option<Link>
         ensures { result ≡ link_of link_type }
     {
@@ -73,8 +72,8 @@ impl Link {
         }
     }
 
-    /// The frame in these octets. Refused where its headers are cut short, and where a session is of another version
-    /// or code than data has.
+    /// The frame in these octets. Refused where its headers are cut short, and where a PPPoE session packet has another
+    /// version, type or code than data.
     #[inline]
     pub fn frame(self, octets: &[u8]) -> Result<Frame<'_>>
         ensures sound { IfOk result (λ f. IsFrame self octets.now (value_of f)) }
@@ -92,7 +91,7 @@ impl Link {
     }
 }
 
-/// The network that a frame is of.
+/// The network protocol of a frame.
 #[derive(Debug, PartialEq, Eq, Clone, Copy)]
 pub enum Network {
     /// IPv4.
@@ -127,7 +126,7 @@ pub struct Frame<'a> {
     pub payload: &'a [u8],
 }
 
-// A payload by its EtherType, after as many tags as there are.
+// A payload by its EtherType, after its VLAN tags.
 #[derive(Debug, PartialEq, Eq, Clone, Copy)]
 struct Typed<'a> {
     kind: u16,
@@ -136,7 +135,7 @@ struct Typed<'a> {
 }
 
 impl Frame<'_> {
-    /// How many VLAN tags the frame has.
+    /// The number of VLAN tags of the frame.
     pub fn vlans(&self) -> usize
         ensures { result ≡ length (value_of self.now).tags / 4 }
     {
@@ -152,7 +151,7 @@ impl Frame<'_> {
     }
 }
 
-// The octets from a place on. Requires that they reach it.
+// The octets from this place to the end. Requires that the place is not past the end.
 #[tactic(auto, using(std::proofs::lemmas::List::take_all))]
 pub(crate) fn behind(octets: &[u8], place: usize) -> &[u8]
     requires { place ≤ length octets.now }
@@ -254,7 +253,7 @@ fn ppp(octets: &[u8]) -> Result<Frame<'_>>
     protocol(octets, &[])
 }
 
-// What a payload of a type is. Refused where a session's protocol is cut short.
+// The payload of an EtherType. Refused where a session's protocol is cut short.
 fn payload_of<'a>(typed: Typed<'a>) -> Result<Frame<'a>>
     ensures sound { IfOk result (λ f. IsPayload (typed_of typed.entry).type (typed_of typed.entry).tags
         (typed_of typed.entry).payload (value_of f)) }
@@ -302,7 +301,7 @@ fn read_typed(kind: u16, octets: &[u8]) -> Result<Frame<'_>>
     payload_of(typed)
 }
 
-// The data of a PPPoE session. Refused where its headers are cut short or say that it is none.
+// The data of a PPPoE session. Refused where its headers are cut short or say that it is not data.
 fn session(octets: &[u8]) -> Result<Frame<'_>>
     ensures sound { IfOk result (λ f. IsSession octets.now × IsProtocol (drop 6 octets.now) [] (value_of f)) }
     ensures complete { (v : FrameValue) → IsSession octets.now × IsProtocol (drop 6 octets.now) [] v
@@ -314,7 +313,7 @@ fn session(octets: &[u8]) -> Result<Frame<'_>>
     protocol(behind(octets, 6), &[])
 }
 
-// A datagram without a header of a link. Refused where there is nothing.
+// A datagram without a link header. Refused where there are no octets.
 fn raw(octets: &[u8]) -> Result<Frame<'_>>
     ensures sound { IfOk result (λ f. IsRaw octets.now (value_of f)) }
     ensures cut { IfErr result (λ _. length octets.now < 1) }

@@ -41,7 +41,7 @@ mod field {
     pub const PAYLOAD: usize = 8;
 }
 
-/// The bytes of the header.
+/// The length of the header in bytes.
 pub const HEADER_LEN: usize = field::PAYLOAD;
 
 /// A view of the octets of a UDP datagram.
@@ -71,8 +71,8 @@ impl<T: Octets> UdpPacket<T> {
         UdpPacket { buffer }
     }
 
-    /// The view of these octets, where they begin with a whole datagram; refused where they don't. On refusal the
-    /// buffer is dropped: to keep a `&mut [u8]`, call `new_unchecked` and then `check_len`.
+    /// The view of these octets. Refused where they don't begin with a whole datagram. On refusal the buffer is
+    /// dropped: to keep a `&mut [u8]`, call `new_unchecked` and then `check_len`.
     pub fn new_checked(buffer: T) -> Result<UdpPacket<T>>
         ensures accepts { IsOk result ↔ BeginsWhole (T.bytes buffer) }
         ensures buffer { IfOk result (λ view. inner view ≡ buffer) }
@@ -82,8 +82,8 @@ impl<T: Octets> UdpPacket<T> {
         Ok(packet)
     }
 
-    /// Accepts octets of 8 bytes and more that hold the whole datagram by its length, which counts the header too.
-    /// Then each accessor may be called.
+    /// Accepts 8 or more octets that hold the whole datagram by its length field, which counts the header too. Then
+    /// each accessor may be called.
     pub fn check_len(&self) -> Result<()>
         ensures accepts { IsOk result ↔ BeginsWhole (T.bytes (inner self.now)) }
     {
@@ -117,14 +117,14 @@ impl<T: Octets> UdpPacket<T> {
         None
     }
 
-    /// What the view was made from, as it is now.
+    /// The buffer that the view was made from, in its present state.
     pub fn into_inner(self) -> T
         ensures { result ≡ inner self }
     {
         self.buffer
     }
 
-    /// The port of the sender, or 0 where it has none. Requires at least 2 bytes.
+    /// The source port, or 0 for none. Requires at least 2 bytes.
     pub fn src_port(&self) -> u16
         requires { Reaches src_port_field (T.bytes (inner self.now)) }
         ensures { result ≡ number_of src_port_field (T.bytes (inner self.now)) }
@@ -132,7 +132,7 @@ impl<T: Octets> UdpPacket<T> {
         self.buffer.u16_at(field::SRC_PORT)
     }
 
-    /// The port of the receiver. Requires at least 4 bytes.
+    /// The destination port. Requires at least 4 bytes.
     pub fn dst_port(&self) -> u16
         requires { Reaches dst_port_field (T.bytes (inner self.now)) }
         ensures { result ≡ number_of dst_port_field (T.bytes (inner self.now)) }
@@ -140,7 +140,7 @@ impl<T: Octets> UdpPacket<T> {
         self.buffer.u16_at(field::DST_PORT)
     }
 
-    /// The bytes of header and data. Requires at least 6 bytes.
+    /// The length of header and data in bytes. Requires at least 6 bytes.
     pub fn len(&self) -> u16
         requires { Reaches len_field (T.bytes (inner self.now)) }
         ensures { result ≡ len_in (T.bytes (inner self.now)) }
@@ -157,7 +157,7 @@ impl<T: Octets> UdpPacket<T> {
     }
 
     /// Whether the checksum is that of the datagram with the pseudo header of these addresses. A checksum of 0 means
-    /// that there is none (RFC 768), and is no exception here: the answer is then almost always false. Requires a whole
+    /// that there is none (RFC 768), but is not excepted here: the answer is then almost always false. Requires a whole
     /// datagram.
     #[tactic(auto, using(wirebase::proofs::PseudoSeals::pseudo_seals))]
     pub fn verify_checksum(&self, addresses: &Addresses) -> bool
@@ -171,7 +171,7 @@ impl<T: Octets> UdpPacket<T> {
 }
 
 impl<'a> UdpPacket<&'a [u8]> {
-    /// The data, for as long as the octets live. Requires a whole datagram.
+    /// The data, borrowed for as long as the octets are. Requires a whole datagram.
     #[tactic(auto, using(wirebase::proofs::Pieces::pieces), unfolding(wirebase::specs::Bytes::part))]
     pub fn payload(&self) -> &'a [u8]
         requires { BeginsWhole (view_octets self.now) }
@@ -184,7 +184,7 @@ impl<'a> UdpPacket<&'a [u8]> {
 }
 
 impl<T: OctetsMut> UdpPacket<T> {
-    /// Writes the port of the sender. Requires at least 2 bytes.
+    /// Writes the source port. Requires at least 2 bytes.
     pub fn set_src_port(&mut self, value: u16)
         requires { Reaches src_port_field (T.bytes (inner self.old)) }
         ensures writes { Sets T.bytes T.put self.old self.new src_port_field (big_bytes 2 value) }
@@ -193,7 +193,7 @@ impl<T: OctetsMut> UdpPacket<T> {
         self.buffer.set_u16(field::SRC_PORT, value);
     }
 
-    /// Writes the port of the receiver. Requires at least 4 bytes.
+    /// Writes the destination port. Requires at least 4 bytes.
     pub fn set_dst_port(&mut self, value: u16)
         requires { Reaches dst_port_field (T.bytes (inner self.old)) }
         ensures writes { Sets T.bytes T.put self.old self.new dst_port_field (big_bytes 2 value) }
@@ -202,7 +202,7 @@ impl<T: OctetsMut> UdpPacket<T> {
         self.buffer.set_u16(field::DST_PORT, value);
     }
 
-    /// Writes the bytes of header and data. Requires at least 6 bytes.
+    /// Writes the length of header and data in bytes. Requires at least 6 bytes.
     pub fn set_len(&mut self, value: u16)
         requires { Reaches len_field (T.bytes (inner self.old)) }
         ensures writes { Sets T.bytes T.put self.old self.new len_field (big_bytes 2 value) }
@@ -220,7 +220,7 @@ impl<T: OctetsMut> UdpPacket<T> {
         self.buffer.set_u16(field::CHECKSUM, value);
     }
 
-    /// Lends the data for writing; the header stays. Requires a whole datagram.
+    /// The data, for writing; the header is not changed. Requires a whole datagram.
     pub fn payload_mut(&mut self) -> &mut [u8]
         requires { BeginsWhole (T.bytes (inner self.old)) }
         ensures* lends { sem 𝓛 (Lends (the_row T.row) (Array byte 0) self.entry result
@@ -260,36 +260,36 @@ impl<T: Octets> Eq for UdpPacket<T> {
     ghost laws = { Prim.search (comparing, rules) };
 }
 
-/// Why octets are no UDP datagram that is read: the check that fails first.
+/// Why octets are refused as a UDP datagram: the check that fails first.
 #[derive(Debug, PartialEq, Eq, Clone, Copy)]
 pub enum Refusal {
     /// Fewer than 8 bytes.
     Short,
-    /// The length field is below 8, the length of the header: this many bytes.
+    /// The length field is below 8, the length of the header; this is its value.
     Length(u16),
-    /// Fewer bytes than the length field says: it says this many.
+    /// Fewer bytes than the length field says; this is its value.
     Cut(u16),
-    /// The port of the receiver is 0.
+    /// The destination port is 0.
     Port,
     /// There is no checksum over IPv6, which requires one (RFC 8200 section 8.1).
     NoChecksum,
-    /// The checksum does not hold.
+    /// The checksum is wrong.
     Checksum,
 }
 
 /// The ports of a datagram.
 #[derive(Debug, PartialEq, Eq, Clone, Copy)]
 pub struct UdpRepr {
-    /// The port of the sender, or 0 where it has none.
+    /// The source port, or 0 for none.
     pub src_port: u16,
-    /// The port of the receiver, which is not 0.
+    /// The destination port, which is not 0.
     pub dst_port: u16,
 }
 
 impl UdpRepr {
-    /// The ports of the datagram at the front of the octets. Refused where that is not whole, is to port 0, and where
-    /// `checksum_caps.udp` has the checksum verified and it does not hold. A checksum of 0 says that there is none:
-    /// where it is verified, it need not be there over IPv4 (RFC 768), and has to over IPv6 (RFC 8200 section 8.1).
+    /// The ports of the datagram at the start of the octets. Refused where it is not whole, where its destination port
+    /// is 0, and where `checksum_caps.udp` has the checksum verified and it is wrong. A checksum of 0 means that there
+    /// is none: where checksums are verified, IPv4 allows that (RFC 768), and IPv6 does not (RFC 8200 section 8.1).
     pub fn parse(
         packet: &UdpPacket<&[u8]>,
         addresses: &Addresses,
@@ -306,7 +306,7 @@ impl UdpRepr {
         UdpRepr::read(packet, addresses, checksum_caps)
     }
 
-    // The ports of the datagram at the front of the octets.
+    // The ports of the datagram at the start of the octets.
     fn read(
         packet: &UdpPacket<&[u8]>,
         addresses: &Addresses,
@@ -377,10 +377,10 @@ impl UdpRepr {
         }
     }
 
-    /// Writes the datagram of this payload over the front of the octets, with its checksum where `checksum_caps.udp`
-    /// has it computed, and else with 0 for none, which no receiver accepts over IPv6; what follows it is kept. A
-    /// checksum of 0 is written as 0xffff, which is the same sum (RFC 768). It takes 8 bytes and the payload: requires
-    /// that the octets have them, and that they are at most 65,535.
+    /// Writes the datagram of this payload at the start of the octets, with its checksum where `checksum_caps.udp` has
+    /// it computed, and else with 0 for none, which no receiver accepts over IPv6; what follows it is kept. A checksum
+    /// of 0 is written as 0xffff, which is the same sum (RFC 768). Requires that the octets have room for 8 bytes and
+    /// the payload, and that these are at most 65,535 bytes.
     ///
     /// ```
     /// use frame_wire::{Addresses, UdpRepr};

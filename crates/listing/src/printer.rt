@@ -131,7 +131,7 @@ impl Value for &[u8] {
     }
 }
 
-// Writes the digits of so many octets at the most.
+// Writes the digits of this many octets at the most.
 fn write_digits<W: Write>(output: &mut W, octets: &[u8]) -> io::Result<()>
     requires { length octets.now ≤ OCTETS }
     ensures { OnOk result (Gains (W.contents output.old) (W.contents output.new)

@@ -23,7 +23,7 @@ use Rattle.wirebase.specs.Format.{Format, RoundTrips}
 use Rattle.wirebase.specs.Icmp.{type_field, code_field, checksum_field, header, data_in}
 
 -- the errors of one protocol: the numbers of their types, what they may quote and how many bytes of it, who takes care
--- of the checksum, and the sum of the pseudo header of an error of so many bytes
+-- of the checksum, and the sum of the pseudo header of an error of this many bytes
 pub record Protocol (K : Type 0) : Type 1 where
   pub number : K → ℕ
   pub IsQuoted : List ℕ → Type 0

@@ -30,7 +30,7 @@ pub record IsPacketFront (bytes : List ℕ) : Type 0 where
   pub version : slice_index bytes 0 / 16 ≡ 6
   pub header : 40 ≤ length bytes
 
--- the sum of the pseudo header of an error of so many bytes (RFC 4443 section 2.3, RFC 8200 section 8.1)
+-- the sum of the pseudo header of an error of this many bytes (RFC 4443 section 2.3, RFC 8200 section 8.1)
 abbrev pub extra_sum : Ipv6Address → Ipv6Address → ℕ → ℕ
 extra_sum source destination n = pseudo_sum source destination Icmpv6 (n % 2 ^ 32)
 

@@ -166,7 +166,7 @@ at_test true upper map more m rest e =
     (refl, sym (ap (λ (q : MapValue × List ℕ). q.0) p), ap (λ (q : MapValue × List ℕ). q.1) p)
 at_test false upper map more m rest e = cc e
 
--- a map of so many bytes fits
+-- a map of this many bytes fits
 abbrev fits : ℕ → List ℕ → Bool
 fits n rest = leb 1 n && leb n 32 && leb n (length rest)
 

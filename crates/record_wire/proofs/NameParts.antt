@@ -17,7 +17,7 @@ use Rattle.record_wire.specs.NameParts.{AreInFront}
 use Rattle.record_wire.specs.Names.{Names, most_pointers}
 use Rattle.record_wire.proofs.LabelLists.{drop_seam, written_more, each_more, name_of}
 
--- what follows so many bytes, as a range up to the end
+-- what follows this many bytes, as a range up to the end
 pub drop_whole : (n : ℕ) (xs : List ℕ) → take (length xs - n) (drop n xs) ≡ drop n xs
 drop_whole n xs = take_all (length xs - n) (drop n xs) (omega (arith, length-drop n xs))
 
@@ -178,8 +178,8 @@ steps_of_name text message labels name =
 
 -- ---- the name so far
 
--- The octets are those of the labels that were read, after so many pointers. The labels of the name are these, and then
--- those that come from the text that is left, with these bytes of the message open.
+-- The octets are those of the labels that were read, after this many pointers. The labels of the name are these, and
+-- then those that come from the text that is left, with these bytes of the message open.
 pub record IsReadTo (text message octets left reach : List ℕ) (pointers : ℕ) : Type 0 where
   pub steps : ℕ
   pub done : List (List ℕ)

@@ -1,4 +1,4 @@
--- Why a text is that of no name.
+-- Why a text is no name.
 use Rattle.std.proofs.Common.{◌≡◌, ◌≢◌, ℕ, zero, suc, ◌+◌, ◌<◌, ◌≤◌, List, [], ◌∷◌, ◌++◌, length, Option, None, Some}
 use Rattle.std.proofs.Common.{refl, sym, ap, ◌∙◌, inl, inr, arith, codes, length-append}
 use Rattle.std.proofs.lemmas.Bool.{cases_lt}

@@ -7,7 +7,7 @@ use Rattle.dns_wire.specs.declared.dns.part.Front.TheVariants.{Label, Pointer, E
 use Rattle.record_wire.specs.Labels.{wire, written_all}
 use Rattle.record_wire.specs.Names.{Names}
 
--- whole labels are at the front of a text, and take so many bytes
+-- whole labels are at the front of a text, and take this many bytes
 pub record AreInFront (text : List ℕ) (len : ℕ) : Type 0 where
   pub labels : List (List ℕ)
   pub rest : List ℕ
@@ -15,7 +15,7 @@ pub record AreInFront (text : List ℕ) (len : ℕ) : Type 0 where
   pub is : text ≡ written_all labels ++ rest
   pub count : length (written_all labels) ≡ len
 
--- a label after so many bytes would end where no name has room for byte 0
+-- a label after this many bytes would end where no name has room for byte 0
 abbrev pub EndsTooFar : ℕ → Front → Type 0
 EndsTooFar len (Label bytes rest) = 255 ≤ len + (1 + length bytes.now)
 EndsTooFar len (Pointer target) = Unit {0}

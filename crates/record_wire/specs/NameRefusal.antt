@@ -13,9 +13,9 @@ abbrev pub PointsTo : List ℕ → ℕ → Type 0
 PointsTo text place =
     (x : ℕ) × (y : ℕ) × (rest : List ℕ) × (text ≡ x ∷ y ∷ rest) × (192 ≤ x) × (place ≡ 256 * (x % 64) + y)
 
--- Reading a name comes to what is left of it, after labels of so many octets and so many pointers, while these bytes of
--- the message are open: it begins with the text and all the message; a label is passed over where byte 0 has room after
--- it; a pointer leads to an open byte, and leaves those before it open.
+-- Reading a name comes to what is left of it, after labels of this many octets and this many pointers, while these
+-- bytes of the message are open: it begins with the text and all the message; a label is passed over where byte 0 has
+-- room after it; a pointer leads to an open byte, and leaves those before it open.
 pub data ComesTo (text message : List ℕ) : ℕ → ℕ → List ℕ → List ℕ → Type 0 where
   begins : ComesTo text message 0 0 text message
   passes : {left : List ℕ} {all : ℕ} (octets pointers : ℕ) (bytes rest opened : List ℕ)

@@ -1,4 +1,4 @@
--- Why the data of a record is not laid out as its type has it: the check that fails first.
+-- Why data is refused: the check that fails first.
 use Rattle.std.specs.Prelude.{◌≡◌, ◌≢◌, ℕ, ◌<◌, ◌≤◌, List, [], ◌∷◌, ◌++◌, length, drop, codes, decimal, flat_map}
 use Rattle.std.specs.Prelude.{true, Option}
 use Rattle.wirebase.specs.Display.{pieces}

@@ -1,4 +1,4 @@
--- Why octets begin with no question or record: the check that fails first.
+-- Why questions and records are refused: the check that fails first.
 use Rattle.std.specs.Prelude.{◌≡◌, ℕ, ◌<◌, ◌≤◌, ◌⊎◌, List, [], ◌∷◌, ◌++◌, length, drop, codes, decimal}
 use Rattle.std.specs.List.{AllByRecursion}
 use Rattle.wirebase.specs.Bytes.{Reaches}

@@ -1,4 +1,4 @@
--- Why a text is that of no name: the check that fails first.
+-- Why texts of names are refused: the check that fails first.
 use Rattle.std.specs.Prelude.{◌≡◌, ◌≢◌, ℕ, ◌<◌, ◌≤◌, List, [], ◌∷◌, ◌++◌, length, codes, decimal}
 use Rattle.std.specs.List.{AllByRecursion}
 use Rattle.wirebase.specs.Display.{pieces}

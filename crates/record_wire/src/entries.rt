@@ -1,4 +1,4 @@
-//! What follows the header of a message, in order (RFC 1035 section 4.1).
+//! The questions and records after a message's header, in order (RFC 1035 section 4.1).
 
 ghost use Rattle.std.specs.Prelude.{◌≡◌, ◌↔◌, true, ℕ, List, IfOk, IsOkAnd, IfSome, IsSome, IsNone};
 ghost use Rattle.dns_wire.specs.DnsPacket.{view_octets, header};
@@ -66,9 +66,9 @@ impl fmt::Display for Entry<'_> {
     }
 }
 
-/// The questions and the records of a message in turn, as many as its header counts: each one while they read, one
-/// refusal where there is none, and then the end for good. After a refusal, [`Entries::refusal`] gives the reason, and
-/// [`Entries::rest`] the bytes that were refused.
+/// The questions and the records of a message in turn, as many as its header counts. At octets that do not begin with
+/// the next entry it returns one refusal, and then always None. After a refusal, [`Entries::refusal`] gives the reason,
+/// and [`Entries::rest`] the bytes that were refused.
 ///
 /// ```
 /// use record_wire::{Entries, Entry};
@@ -84,16 +84,16 @@ impl fmt::Display for Entry<'_> {
 /// ```
 #[derive(Debug, Clone, Drop)]
 pub struct Entries<'a> {
-    // How many there are up to the end of each section.
+    // The number of entries up to the end of each section.
     questions: u32,
     answers: u32,
     authorities: u32,
     all: u32,
-    // How many were given.
+    // The number of entries that were returned.
     taken: u32,
     // Whether the next one was refused.
     is_refused: bool,
-    // The bytes after those that were given.
+    // The bytes after the entries that were returned.
     bytes: &'a [u8],
 }
 
@@ -130,9 +130,9 @@ impl<'a> Model for Entries<'a> {
 impl<'a> Entries<'a> {
     ghost use Rattle.record_wire.specs.Entries.{all_of, is_left};
 
-    /// The questions and the records of this message. Requires at least 12 bytes, as `Packet::new_checked` sees to. The
-    /// entries keep parts of the octets, so the view is one of a slice: over a buffer of one's own, a `Vec<u8>` or an
-    /// array, it is `Packet::new_checked(&buffer[..])`.
+    /// The questions and the records of this message. Requires at least 12 bytes, which `Packet::new_checked` verifies.
+    /// The entries borrow the octets, so the view must be of a slice: for a `Vec<u8>` or an array,
+    /// `Packet::new_checked(&buffer[..])`.
     pub fn new(packet: &Packet<&'a [u8]>) -> Entries<'a>
         requires { Reaches header (view_octets packet.now) }
         ensures { result ≡ all_of (view_octets packet.entry.now) }
@@ -151,8 +151,7 @@ impl<'a> Entries<'a> {
         }
     }
 
-    /// Where an entry was refused: its section, and why none begins there, by the check that fails first. None while
-    /// none was refused.
+    /// The refused entry: its section, and why none begins there, by the check that fails first. None before a refusal.
     pub fn refusal(&self) -> Option<(Section, Refusal)>
         ensures place { IfSome result (λ why. why.0 ≡ section_at self.now.ends self.now.taken) }
         ensures told { IfSome result (λ why. RefusesEntry why.0 self.now.bytes why.1) }
@@ -166,8 +165,8 @@ impl<'a> Entries<'a> {
         Some((section, refusal))
     }
 
-    /// The bytes after the entries that were given: where the next one begins, or the one that was refused. After the
-    /// last entry it is what follows the message's records.
+    /// The bytes after the entries that were returned: where the next one begins, or the one that was refused. After
+    /// the last entry, the bytes after the message's records.
     pub fn rest(&self) -> &'a [u8]
         ensures { result.now ≡ self.now.bytes }
     {
@@ -181,7 +180,7 @@ impl<'a> Entries<'a> {
         !self.is_refused && self.taken < self.all
     }
 
-    // The section of the entry after those that were given.
+    // The section of the next entry.
     fn section(&self) -> Section
         ensures { result ≡ section_at self.now.ends self.now.taken }
     {

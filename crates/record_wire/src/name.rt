@@ -34,8 +34,8 @@ use wirebase::{Error, Result};
 /// The most octets that a name has (RFC 1035 section 2.3.4).
 pub const MAX_NAME_LEN: usize = 255;
 
-/// The most pointers that a name is followed after. A name of 255 octets has 127 labels at most, so after more pointers
-/// one leads to no label of its own: no encoder writes such a chain, and each turn of it costs time.
+/// The most pointers that are followed in a name. A name of 255 octets has 127 labels at most, so with more pointers
+/// one leads to no label of its own: no encoder writes such a chain, and each step costs time.
 pub const MAX_POINTERS: usize = 127;
 
 /// A whole name, by its octets: each label of 1 to 63 bytes after its length, and then byte 0; 255 octets at most.
@@ -58,8 +58,8 @@ impl Name {
     ghost use Rattle.record_wire.specs.Name.{labels_of};
     ghost use Rattle.record_wire.specs.NameText.{IsNameText, name_text};
 
-    /// The name that begins in `bytes`, a part of the message or not, and goes on where its pointers lead in the
-    /// message. Refused where there is none, where it has more than 255 octets, and where it goes on after more than
+    /// The name that begins in `bytes`, a part of the message or not, and continues where its pointers lead in the
+    /// message. Refused where it is malformed, where it has more than 255 octets, and where it has more than
     /// [`MAX_POINTERS`] pointers.
     pub fn read<'a>(packet: &Packet<&'a [u8]>, bytes: &'a [u8]) -> Result<Name>
         ensures sound { IfOk result (λ name.
@@ -90,8 +90,8 @@ impl Name {
 
     /// The name of this text: labels with dots between them, a last dot allowed, and a dot alone for the root. A
     /// visible character is written as itself, but `"`, `$`, `(`, `)`, `.`, `;`, `@` and `\` follow a backslash; three
-    /// digits after a backslash are the number of a byte. Refused where the text is none, where a label is empty or has
-    /// more than 63 bytes, and where the name has more than 255 octets: [`Name::from_text_refusal`] says why.
+    /// digits after a backslash are the number of a byte. Refused where the text is malformed, where a label is empty
+    /// or has more than 63 bytes, and where the name has more than 255 octets: [`Name::from_text_refusal`] says why.
     pub fn from_text(text: &[u8]) -> Result<Name>
         ensures sound { IfOk result (λ name. IsNameText text.now (labels_of name)) }
         ensures complete { (labels : List (List ℕ)) → IsNameText text.now labels

@@ -1,4 +1,4 @@
-//! The data of resource records by their type (RFC 1035 sections 3.3 and 3.4, RFC 2782, RFC 3596), and of the types in
+//! The data of resource records by their type (RFC 1035 sections 3.3 and 3.4, RFC 2782, RFC 3596), and of all types in
 //! which a receiver expects compressed names (RFC 3597 section 4, RFC 6762 section 18.14).
 
 pub mod fields;
@@ -106,18 +106,18 @@ pub struct Authority<'a> {
     pub mailbox: &'a [u8],
     /// The zone's version.
     pub serial: u32,
-    /// How long a copy is good before it is looked after.
+    /// The time after which a copy is refreshed.
     pub refresh: u32,
-    /// How long to wait where that failed.
+    /// The time after which a failed refresh is tried again.
     pub retry: u32,
-    /// How long a copy is good at the most.
+    /// The time for which a copy is valid at most.
     pub expire: u32,
-    /// The least time to live of the zone's records; of answers that there is none (RFC 2308 section 4).
+    /// The least time to live of the zone's records; for negative answers (RFC 2308 section 4).
     pub minimum: u32,
 }
 
-/// Addresses as addresses, numbers by their names, names and strings by their length; of fields around names all but
-/// the names as a zone file has them.
+/// Addresses print as addresses, numbers by their names, names and strings by their length; of fields around names all
+/// but the names print as in a zone file.
 impl fmt::Display for RData<'_> {
     ghost use Rattle.std.specs.Prelude.{Some};
     ghost use Rattle.record_wire.specs.RecordDisplay.{rdata_display};
@@ -175,7 +175,7 @@ impl fmt::Display for Authority<'_> {
     }
 }
 
-/// How the data of a type is laid out: what contracts say of data names it, and no call takes or gives it.
+/// The layout of a type's data: for contracts only, no call takes or returns it.
 #[derive(Debug, PartialEq, Eq, Clone, Copy)]
 pub enum Layout {
     /// An IPv4 address.
@@ -220,8 +220,8 @@ impl<'a> RData<'a> {
     }
 }
 
-// How the data of this type and class is laid out. Inlined, where a caller goes by the layout at once, one jump finds
-// both.
+// The layout of the data of this type and class. Inlined: a caller that branches on the layout at once needs one jump
+// for both.
 #[inline(always)]
 fn find_layout(type_: Type, class: u16) -> Layout
     ensures { result ≡ layout_of type_ class }
@@ -380,7 +380,7 @@ fn read_strings(octets: &[u8]) -> Result<RData<'_>>
     Ok(RData::Txt(octets))
 }
 
-// These types are rare: apart, their fields cost the others nothing.
+// These types are rare: in a function of their own, their fields cost the others nothing.
 #[inline(never)]
 fn read_fields(form: Form, octets: &[u8]) -> Result<RData<'_>>
     ensures sound { IfOk result (λ read. IsFieldsData form octets.now (rdata_of read)) }

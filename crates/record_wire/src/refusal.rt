@@ -1,4 +1,4 @@
-//! Why octets begin with no question or record: the check that fails first.
+//! Why questions and records are refused: the check that fails first.
 
 ghost use Rattle.std.specs.Prelude.{List, ℕ, ◌≡◌};
 ghost use Rattle.dns_wire.specs.DnsPart.{IsSplit};
@@ -8,12 +8,12 @@ ghost use Rattle.record_wire.specs.RecordRefusal.{IsNoPart};
 use dns_wire::message::{Front, read_front};
 use std::fmt;
 
-// The first byte of a label is its length, below this; that of a pointer is the other or above.
+// The first byte of a label is its length, below this; that of a pointer is this other number or above.
 const LABEL_END: u8 = 0x40;
 
 const POINTER: u8 = 0xc0;
 
-/// Why octets begin with no name of one part: labels of 1 to 63 bytes, and then byte 0 or a pointer.
+/// Why octets do not begin with a name of one part: labels of 1 to 63 bytes, and then byte 0 or a pointer.
 #[derive(Debug, PartialEq, Eq, Clone, Copy)]
 pub enum PartRefusal {
     /// The octets end before the name does.
@@ -22,8 +22,7 @@ pub enum PartRefusal {
     LabelType(u8),
 }
 
-/// Why octets begin with no question that [`crate::Question::parse`] reads, or with no record that
-/// [`crate::Record::parse`] reads: the check that fails first.
+/// Why [`crate::Question::parse`] or [`crate::Record::parse`] refuses octets: the check that fails first.
 #[derive(Debug, PartialEq, Eq, Clone, Copy)]
 pub enum Refusal {
     /// There is no name.
@@ -67,7 +66,7 @@ impl fmt::Display for Refusal {
     }
 }
 
-/// Why a text that begins with no name of one part does not.
+/// Why a text does not begin with a name of one part.
 pub(crate) fn why_no_part(text: &[u8]) -> PartRefusal
     requires { (name rest : List ℕ) → IsSplit text.now name rest → ⊥ }
     ensures { IsNoPart text.now result }

@@ -131,13 +131,13 @@ pub struct AuthorityText {
     pub mailbox: Name,
     /// The zone's version.
     pub serial: u32,
-    /// How long a copy is good before it is looked after.
+    /// The time after which a copy is refreshed.
     pub refresh: u32,
-    /// How long to wait where that failed.
+    /// The time after which a failed refresh is tried again.
     pub retry: u32,
-    /// How long a copy is good at the most.
+    /// The time for which a copy is valid at most.
     pub expire: u32,
-    /// The least time to live of the zone's records; of answers that there is none (RFC 2308 section 4).
+    /// The least time to live of the zone's records; for negative answers (RFC 2308 section 4).
     pub minimum: u32,
 }
 

@@ -56,7 +56,7 @@ impl Pool {
         Ok(Pool { octets })
     }
 
-    /// So many bytes of the pool, at most 65,536, from a place on that the number gives.
+    /// This many bytes of the pool, at most 65,536, from a place on that the number gives.
     pub fn part(&self, number: u64, len: usize) -> &[u8]
         ensures { length result.now ≤ len }
     {

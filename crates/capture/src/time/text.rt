@@ -103,7 +103,7 @@ fn nine_digits(nanoseconds: u32) -> [u8; 9]
     ]
 }
 
-// The first of nine digits, so many, or all where that is more.
+// The first of nine digits, this many, or all where that is more.
 fn first_digits(all: &[u8; 9], count: u8) -> &[u8]
     ensures { result.now ≡ take count all.now }
 {

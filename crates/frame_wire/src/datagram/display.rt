@@ -9,7 +9,7 @@ ghost use Rattle.frame_wire.specs.DatagramDisplay.{extent_display, captured_disp
 use super::{Addresses, Captured, Datagram, Extent, Head, Refusal};
 use std::fmt;
 
-/// Where a datagram comes from and where it goes to, as `192.0.2.1 > 192.0.2.2`.
+/// The source and the destination, as `192.0.2.1 > 192.0.2.2`.
 impl fmt::Display for Addresses {
     ghost output = { λ addresses. Some (addresses_display addresses) };
 
@@ -21,7 +21,7 @@ impl fmt::Display for Addresses {
     }
 }
 
-/// What is known of a datagram: the fields of a fragment are printed only where there is an identification.
+/// The fields of a fragment are printed only where there is an identification.
 impl fmt::Display for Head {
     ghost output = { λ head. Some (head_display head) };
 
@@ -62,7 +62,7 @@ impl fmt::Display for Refusal {
     }
 }
 
-/// The addresses, the protocol, the hop limit, and the bytes of the payload.
+/// The addresses, the protocol, the hop limit, and the number of bytes of the payload.
 impl fmt::Display for Datagram<'_> {
     ghost output = { λ datagram. Some (datagram_display (value_of datagram)) };
 
@@ -78,7 +78,7 @@ impl fmt::Display for Datagram<'_> {
     }
 }
 
-/// How much is there.
+/// How much was captured.
 impl fmt::Display for Extent {
     ghost output = { λ extent. Some (extent_display extent) };
 
@@ -91,7 +91,7 @@ impl fmt::Display for Extent {
     }
 }
 
-/// The datagram, and how much of it is there.
+/// The datagram, and how much of it was captured.
 impl fmt::Display for Captured<'_> {
     ghost output = { λ captured. Some (captured_display (captured_of captured)) };
 

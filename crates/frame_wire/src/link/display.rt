@@ -37,7 +37,7 @@ impl fmt::Display for Network {
     }
 }
 
-/// The network, how many VLAN tags there are, and the bytes of the payload.
+/// The network, the number of VLAN tags, and the number of bytes of the payload.
 impl fmt::Display for Frame<'_> {
     ghost output = { λ frame. Some (frame_display (value_of frame)) };
 

@@ -6,7 +6,7 @@ ghost use Rattle.frame_wire.specs.LinkEthernet.{HasHeader, IsHeader};
 use super::Link;
 use wirebase::{EthernetAddress, Octets};
 
-// The bytes of the two addresses and of the type after them.
+// The bytes of the two addresses and the type.
 const HEADER_LEN: usize = 14;
 
 /// The header of a frame of Ethernet (IEEE 802.3 clause 3.1.1).
@@ -23,9 +23,9 @@ const HEADER_LEN: usize = 14;
 /// ```
 #[derive(Debug, PartialEq, Eq, Clone, Copy)]
 pub struct EthernetHeader {
-    /// Where the frame goes to.
+    /// The destination.
     pub destination: EthernetAddress,
-    /// Where it comes from.
+    /// The source.
     pub source: EthernetAddress,
     /// The number after the addresses. From 1,536 on it is an EtherType: that of the payload, or that of the outermost
     /// VLAN tag where the frame has tags. Up to 1,500 it is the length of a frame of IEEE 802.3, in bytes.
@@ -33,8 +33,8 @@ pub struct EthernetHeader {
 }
 
 impl Link {
-    /// The header of a frame of Ethernet, which has 14 bytes. None where the link is another one, and where the octets
-    /// are fewer; what follows the header is not looked at.
+    /// The Ethernet header of a frame, which has 14 bytes. None where the link is another one, and where the octets are
+    /// fewer; what follows the header is not looked at.
     pub fn ethernet(self, octets: &[u8]) -> Option<EthernetHeader>
         ensures header { IfSome result (λ header. IsHeader octets.now header) }
         ensures exact { IsSome result ↔ HasHeader self octets.now }

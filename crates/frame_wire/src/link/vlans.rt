@@ -1,4 +1,4 @@
-//! The VLAN tags of a frame in turn.
+//! Iteration over the VLAN tags of a frame.
 
 ghost use Rattle.std.specs.Prelude.{◌≡◌, List, length};
 ghost use Rattle.frame_wire.specs.Link.{value_of};
@@ -17,7 +17,7 @@ pub struct VlanTag {
     pub priority: u8,
     /// Whether the frame is among the first to be dropped (DEI).
     pub drop_eligible: bool,
-    /// The number of the VLAN, 0 to 4,095 (VID); 0 is none, and the tag has a priority alone.
+    /// The number of the VLAN, 0 to 4,095 (VID); 0 is no VLAN: the tag has a priority alone.
     pub number: u16,
 }
 
@@ -38,7 +38,7 @@ pub struct VlanTag {
 /// ```
 #[derive(Debug, Clone, Drop)]
 pub struct VlanTags<'a> {
-    // The octets after the tags that were given.
+    // The octets after the tags that were returned.
     left: &'a [u8],
 }
 

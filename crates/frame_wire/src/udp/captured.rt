@@ -22,7 +22,7 @@ use std::fmt;
 /// ```
 #[derive(Debug, PartialEq, Eq, Clone, Copy)]
 pub struct CapturedUdp<'a> {
-    /// The port of the sender, or 0 where it has none.
+    /// The source port, or 0 for none.
     pub src_port: u16,
     /// The port of the receiver.
     pub dst_port: u16,
@@ -33,10 +33,10 @@ pub struct CapturedUdp<'a> {
 }
 
 impl<'a> CapturedUdp<'a> {
-    /// The datagram at the front of the octets, as far as it is there; what follows it is no part. A whole one is what
+    /// The datagram at the start of the octets, whole or cut; what follows it is ignored. A whole one is what
     /// `UdpPacket::check_len` accepts. One that goes on past the octets has the data that are there, and the number of
     /// missing bytes. Refused with `Short` where fewer than 8 bytes are there, and with `Length` where the length is
-    /// below 8. No checksum is verified, which a datagram that is cut can't have; `UdpRepr::parse` verifies that of a
+    /// below 8. No checksum is verified, since that of a cut datagram can't be; `UdpRepr::parse` verifies that of a
     /// whole one.
     pub fn parse(octets: &'a [u8]) -> Result<CapturedUdp<'a>, Refusal>
         ensures sound { IfOk result (λ c. IsCaptured octets.now (captured_of c)) }

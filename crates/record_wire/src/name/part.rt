@@ -8,8 +8,8 @@ ghost use Rattle.record_wire.specs.NameParts.{AreInFront, EndsTooFar};
 use crate::name::MAX_NAME_LEN;
 use dns_wire::message::{Front, read_front};
 
-/// How many bytes the whole labels at the front of a text take, which are copied as one, and what follows them: a label
-/// too, where it would end after the most octets that the labels of a name have.
+/// The number of bytes of the whole labels at the start of a text, which are copied at once, and what follows them; a
+/// further label follows where it would exceed the most octets that the labels of a name have.
 #[inline]
 pub(super) fn read_labels(text: &[u8]) -> (usize, Front<'_>)
     ensures labels { AreInFront text.now result.0 }

@@ -1,4 +1,4 @@
-//! Why no name begins in octets: the check that fails first.
+//! Why names are refused: the check that fails first.
 
 ghost use Rattle.std.specs.Prelude.{◌≡◌, List, ℕ, IfOk, IfErr, IsOkAnd};
 ghost use Rattle.dns_wire.specs.DnsPacket.{view_octets};
@@ -16,10 +16,10 @@ use std::{fmt, result};
 pub enum NameRefusal {
     /// The name is cut, or has a label of another kind.
     Part(PartRefusal),
-    /// A pointer to this place leads nowhere or round: out of the message, or, after another pointer, not to below the
-    /// place that the one before it led to (RFC 1035 section 4.1.4).
+    /// A pointer to this place leads nowhere or in a circle: out of the message, or, after another pointer, not to
+    /// below the place that the one before it led to (RFC 1035 section 4.1.4).
     Pointer(usize),
-    /// The name follows more than [`crate::name::MAX_POINTERS`] pointers, with labels between them or not.
+    /// The name has more than [`crate::name::MAX_POINTERS`] pointers, with or without labels between them.
     TooManyPointers,
     /// The name has more than 255 octets (RFC 1035 section 2.3.4).
     TooLong,
@@ -48,8 +48,8 @@ impl Name {
     ghost use Rattle.record_wire.specs.Name.{labels_of};
     ghost use Rattle.record_wire.specs.Names.{Names};
 
-    /// The name, as [`Name::read`] reads it, or else why it refuses this, as [`Name::read_refusal`] tells it: the check
-    /// that fails first.
+    /// The name, as [`Name::read`] reads it, or why it is refused, as [`Name::read_refusal`] tells: the check that
+    /// fails first.
     pub fn read_or_refusal<'a>(
         packet: &Packet<&'a [u8]>,
         bytes: &'a [u8],

@@ -145,21 +145,22 @@ fn digit_value(digit: u8) -> u16
 // A bit for each byte, the first word's lowest for byte 0: whether it is visible and has no meaning of its own.
 const PLAIN: [u64; 4] = [0xf7ff_bcea_0000_0000, 0x7fff_ffff_efff_fffe, 0, 0];
 
-// Whether a byte is written as itself. A look-up, since a name's bytes are of no order that a processor could foresee.
+// Whether a byte is written as itself. A table: a branch for each byte would be mispredicted.
 fn is_plain(byte: u8) -> bool
     ensures { result ≡ (is_ascii_graphic byte && not (is_special byte)) }
 {
     PLAIN[(byte / 64) as usize] >> (byte % 64) & 1 == 1
 }
 
-// Whether a byte has a meaning of its own in a zone file.
+// Whether a byte has a special meaning in a zone file.
 fn is_special(byte: u8) -> bool
     ensures { result ≡ is_special byte }
 {
     matches!(byte, b'"' | b'$' | b'(' | b')' | b'.' | b';' | b'@' | b'\\')
 }
 
-// The most octets of text that are written at once, since each write costs a call, and the most that a character has.
+// The most octets of text that are written at once, since each write costs a call, and the most octets that a character
+// has.
 const PIECE_LEN: usize = 64;
 
 const CHARACTER_LEN: usize = 4;
@@ -190,8 +191,8 @@ pub(super) fn fmt_labels<W: fmt::Write>(f: &mut fmt::Formatter<W>, octets: &[u8]
     }
 }
 
-// Puts the text of a label after what waits, which has this length, and gives the length of what waits then. The length
-// is no part of the piece, so that it stays in a register.
+// Puts the text of a label after the bytes that wait, of which there are this many, and returns how many then wait.
+// That number is not a field of the piece, so that it stays in a register.
 fn put_label<W: fmt::Write>(
     f: &mut fmt::Formatter<W>,
     piece: &mut [u8; PIECE_LEN],
@@ -216,7 +217,7 @@ fn put_label<W: fmt::Write>(
     Ok(len)
 }
 
-// Writes what waits, where there is no room for the longest character after it.
+// Writes the bytes that wait, where the longest character does not fit after them.
 fn make_room<W: fmt::Write>(
     f: &mut fmt::Formatter<W>,
     piece: &[u8; PIECE_LEN],
@@ -233,7 +234,7 @@ fn make_room<W: fmt::Write>(
     Ok(0)
 }
 
-/// Writes what waits.
+/// Writes the bytes that wait.
 pub(crate) fn write_piece<W: fmt::Write>(f: &mut fmt::Formatter<W>, text: &[u8]) -> fmt::Result
     ensures { IsAscii text.now → WritesOnOk W.write_str_gives f.old result text.now f.new }
 {

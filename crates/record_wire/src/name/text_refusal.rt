@@ -1,4 +1,4 @@
-//! Why a text is that of no name: the check that fails first.
+//! Why texts of names are refused: the check that fails first.
 
 ghost use Rattle.std.specs.Prelude.{◌≡◌, ◌≢◌, ◌≤◌, codes, ℕ, List, None, length};
 ghost use Rattle.record_wire.specs.NameReading.{first_byte, IsSpelling};
@@ -11,7 +11,7 @@ use crate::name::text::{Behind, read_behind, read_byte, read_label};
 use arrayvec::ArrayVec;
 use std::fmt;
 
-/// Why [`crate::Name::from_text`] refuses a text, which it reads from its front on: the check that fails first.
+/// Why [`crate::Name::from_text`] refuses a text, which is read from its start: the check that fails first.
 #[derive(Debug, PartialEq, Eq, Clone, Copy)]
 pub enum NameTextRefusal {
     /// A label has no bytes: the text is empty or begins with a dot, or two dots are adjacent.
@@ -20,8 +20,8 @@ pub enum NameTextRefusal {
     LongLabel,
     /// The name has more than 255 octets (RFC 1035 section 2.3.4).
     TooLong,
-    /// A backslash with neither a visible character but a digit after it, nor three digits of a number up to 255 (RFC
-    /// 1035 section 5.1).
+    /// A backslash without a visible character after it, or with digits that are not three or above 255 (RFC 1035
+    /// section 5.1).
     Escape,
     /// This byte, which is itself only after a backslash, or not at all: it has a meaning of its own, or is not
     /// visible.
@@ -49,7 +49,7 @@ impl fmt::Display for NameTextRefusal {
     }
 }
 
-/// Why a text is that of no name.
+/// Why a text is no name.
 pub(super) fn why_no_text(text: &[u8]) -> NameTextRefusal
     requires root { text.now ≢ codes "." }
     requires none { (labels : List (List ℕ)) → IsNameText text.now labels → ⊥ }

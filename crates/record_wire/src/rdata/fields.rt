@@ -48,7 +48,7 @@ pub(super) mod field {
 /// length, and then byte 0 or a pointer into the message.
 #[derive(Debug, PartialEq, Eq, Clone, Copy)]
 pub struct Fields<'a> {
-    /// What is in front of the names.
+    /// The fields before the names.
     pub front: Front<'a>,
     /// The name, or the first of two: the mailbox that is responsible, of MINFO (RMAILBX) and RP (mbox-dname); the
     /// domain of RFC 822, of PX (MAP822); the host, of AFSDB, RT and KX; the replacement, of NAPTR; the signer, of SIG;
@@ -57,7 +57,7 @@ pub struct Fields<'a> {
     /// The second name: of MINFO the mailbox for errors (EMAILBX), of RP the name that has the TXT records (txt-dname),
     /// of PX the domain of X.400 (MAPX400).
     pub second: Option<&'a [u8]>,
-    /// What follows the names.
+    /// The fields after the names.
     pub rest: Rest<'a>,
 }
 
@@ -95,12 +95,12 @@ pub struct Signed {
     pub labels: u8,
     /// The time to live of the records that are signed, in seconds.
     pub original_ttl: u32,
-    /// When it ceases to be good: the lower 32 bits of the seconds since 1970 began, which are compared by serial
-    /// number arithmetic (RFC 1982).
+    /// The end of its validity: the lower 32 bits of the seconds since 1970 began, which are compared by serial number
+    /// arithmetic (RFC 1982).
     pub expiration: u32,
-    /// Since when it is good, in the same form.
+    /// The start of its validity, in the same form.
     pub inception: u32,
-    /// Which key of the signer it was made by.
+    /// The key tag of the signer's key.
     pub key_tag: u16,
 }
 
@@ -120,15 +120,14 @@ pub enum Rest<'a> {
     Types(&'a [u8]),
 }
 
-/// How the data of a type with such fields is laid out: what contracts say of data names it, and no call takes or gives
-/// it.
+/// The layout of such a type's data: for contracts only, no call takes or returns it.
 #[derive(Debug, PartialEq, Eq, Clone, Copy)]
 pub struct Form {
-    /// What is in front of the names.
+    /// The fields before the names.
     pub front: FrontForm,
     /// Whether there are two names.
     pub has_two: bool,
-    /// What follows the names.
+    /// The fields after the names.
     pub rest: RestForm,
 }
 

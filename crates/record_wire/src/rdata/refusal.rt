@@ -1,4 +1,4 @@
-//! Why the data of a record is not laid out as its type has it: the check that fails first.
+//! Why data is refused: the check that fails first.
 
 ghost use Rattle.std.specs.Prelude.{◌≡◌, ◌↔◌, ◌≤◌, List, ℕ, length, drop, IfSome, IsNone};
 ghost use Rattle.dns_wire.specs.DnsName.{IsOnePart};
@@ -31,9 +31,9 @@ use std::fmt;
 /// ```
 #[derive(Debug, PartialEq, Eq, Clone, Copy)]
 pub enum DataRefusal {
-    /// An address that has another number of bytes than this: 4 of IPv4, 16 of IPv6.
+    /// An address of another length than this: 4 bytes for IPv4, 16 for IPv6.
     Address(usize),
-    /// Fewer bytes than the numbers in front of the name have: 2 of MX, AFSDB, RT, PX and KX, 4 of NAPTR, 6 of SRV, 18
+    /// Fewer bytes than the numbers in front of the name have: 2 for MX, AFSDB, RT, PX and KX, 4 of NAPTR, 6 of SRV, 18
     /// of SIG.
     Numbers,
     /// There is no name where one should begin; of two names, the first.
@@ -44,7 +44,7 @@ pub enum DataRefusal {
     SecondName(PartRefusal),
     /// After the names of SOA are fewer or more than the 20 bytes of its numbers.
     Times,
-    /// No bytes, where TXT has one string at least.
+    /// No bytes, where TXT has at least one string.
     NoString,
     /// A string of TXT or NAPTR has fewer bytes than the length in front of it says, or NAPTR has fewer than three.
     String,
@@ -161,7 +161,7 @@ fn why_no_name(octets: &[u8]) -> DataRefusal
     }
 }
 
-// Why they are not so many bytes of numbers and then one part of a name.
+// Why they are not this many bytes of numbers and then one part of a name.
 fn why_not_behind(octets: &[u8], len: usize) -> DataRefusal
     requires { len ≤ length octets.now → IsOnePart (drop len octets.now) → ⊥ }
     ensures { RefusesBehind len octets.now result }

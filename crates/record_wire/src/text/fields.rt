@@ -22,7 +22,7 @@ use std::{fmt, result};
 /// The fields of data with one name or two, with each name read.
 #[derive(PartialEq, Eq, Clone, Drop)]
 pub struct FieldsText<'a> {
-    /// What is in front of the names.
+    /// The fields before the names.
     pub front: Front<'a>,
     /// The name, or the first of two: the mailbox that is responsible, of MINFO (RMAILBX) and RP (mbox-dname); the
     /// domain of RFC 822, of PX (MAP822); the host, of AFSDB, RT and KX; the replacement, of NAPTR; the signer, of SIG;
@@ -31,7 +31,7 @@ pub struct FieldsText<'a> {
     /// The second name: of MINFO the mailbox for errors (EMAILBX), of RP the name that has the TXT records (txt-dname),
     /// of PX the domain of X.400 (MAPX400).
     pub second: Option<Name>,
-    /// What follows the names.
+    /// The fields after the names.
     pub rest: Rest<'a>,
 }
 

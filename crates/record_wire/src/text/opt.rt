@@ -9,7 +9,7 @@ ghost use Rattle.record_wire.specs.OptText.{opt_text, edns_flags_text, answer_te
 use crate::edns::{Edns, EdnsOption, EdnsOptions, OptionRefusal};
 use std::{fmt, result};
 
-/// What an OPT record says, as a comment of a zone file, in the manner of dig.
+/// An OPT record as a comment of a zone file, in the manner of dig.
 #[derive(Clone, Copy)]
 pub(super) struct Comment<'a>(pub(super) Edns<'a>);
 

@@ -136,7 +136,7 @@ pub fn add_icmpv4_error(error: &icmpv4_error::Repr<'_>, digest: &mut Digest) {
     digest.add_front(quoted);
 }
 
-/// Reads a message of ICMPv6 and takes it into the digest.
+/// Adds what an error of ICMPv6 says, and what it quotes.
 pub fn add_icmpv6_error(error: &icmpv6_error::Repr<'_>, digest: &mut Digest) {
     let icmpv6_error::Repr {
         kind,
@@ -178,7 +178,7 @@ pub fn add_ipv4_quote(quote: &Ipv4Quote<'_>, digest: &mut Digest) {
     digest.add_ends(payload);
 }
 
-/// Reads a message of ICMPv6 and takes it into the digest.
+/// Adds the packet that an error of ICMPv6 quotes.
 pub fn add_ipv6_quote(quote: &Ipv6Quote<'_>, digest: &mut Digest) {
     let Ipv6Quote {
         traffic_class,

@@ -45,7 +45,7 @@ struct Lengths {
     original: u32,
 }
 
-// The lengths of a frame where so many bytes are kept at most.
+// The lengths of a frame where this many bytes are kept at most.
 fn lengths_of(len: usize, most: u32) -> Lengths {
     let original = len.min(MOST_FRAME_LEN) as u32;
     Lengths {

@@ -16,7 +16,7 @@ use std::io::BufRead;
 // The port of servers of DNS.
 const DNS_PORT: u16 = 53;
 
-/// Reads a capture to its end, where it has at most so many records, and adds what it holds.
+/// Reads a capture to its end, where it has at most this many records, and adds what it holds.
 pub fn read<R: BufRead>(alloc: Global, input: &mut R, most: usize, digest: &mut Digest) {
     let mut capture = Capture::new(alloc);
     for _ in 0..most {

@@ -1,4 +1,4 @@
--- The leap days of so many years are fewer than a year has.
+-- The leap days of this many years are fewer than a year has.
 use Rattle.std.proofs.Common.{◌≡◌, ◌+◌, ◌-◌, ◌/◌, arith}
 use Rattle.capture.proofs.Calendars.{days_of_years-least, days_of_years-some, days_of_years-most}
 use Rattle.capture.proofs.calendar.years_in.Goals as goal

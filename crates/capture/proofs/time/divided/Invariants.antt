@@ -1,4 +1,4 @@
--- So many divisions are done.
+-- This many divisions are done.
 use Rattle.std.proofs.Common.{◌≡◌, ◌/◌, ◌^◌}
 use Rattle.capture.proofs.time.divided.Given as goal
 

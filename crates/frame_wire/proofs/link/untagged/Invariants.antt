@@ -1,4 +1,4 @@
--- So many bytes are tags.
+-- This many bytes are tags.
 use Rattle.std.proofs.Common.{◌-◌, length}
 use Rattle.frame_wire.proofs.Tags.{SoFar}
 use Rattle.frame_wire.proofs.link.untagged.Given as goal

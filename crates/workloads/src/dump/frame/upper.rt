@@ -70,7 +70,7 @@ fn seal(octets: &mut [u8], protocol: u8, addresses: &Addresses) {
     }
 }
 
-// Writes a datagram's header before a payload of so many bytes, and says how many both have.
+// Writes a datagram's header before a payload of this many bytes, and says how many both have.
 fn write_ports(octets: &mut [u8], from: u16, to: u16, payload_len: usize) -> usize {
     let room = octets.len().saturating_sub(UDP_HEADER_LEN);
     let len = UDP_HEADER_LEN + payload_len.min(room);

@@ -1,4 +1,4 @@
--- So many digits are printed.
+-- This many digits are printed.
 use Rattle.std.proofs.Common.{decimal, flat_map, take}
 use Rattle.std.specs.Fmt.{HasWritten, IsPlainFormatter}
 use Rattle.capture.proofs.time.text.fmt_digits.Given as goal
