@@ -19,7 +19,7 @@ pub trait UnitHead: Copy + Drop {
     /// Its length in bytes.
     const LEN: usize;
 
-    /// The head at the front of the octets. Refused where the capture ends at it.
+    /// The head at the start of the octets. Refused where the capture ends at it.
     fn of(order: Order, octets: &[u8]) -> Result<Self, Ending>
         ensures sound { IfOk result (λ h. form.IsHead order octets.now h) }
         ensures there { OnOk result (LEN ≤ length octets.now) }

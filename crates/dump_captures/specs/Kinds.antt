@@ -48,7 +48,7 @@ abbrev pub kind_of_udp : Bool → Option (ℕ × ℕ) → Option Kind
 kind_of_udp is_v4 None = Some kind.Frame
 kind_of_udp is_v4 (Some ports) = kind_of_ports is_v4 ports
 
--- after a header of IPv6 that was not passed it can't be told either
+-- after an IPv6 header that was not passed it can't be told either
 abbrev pub kind_behind : Bool → Option Kind
 kind_behind is_v4 = if is_v4 then None else Some kind.Frame
 

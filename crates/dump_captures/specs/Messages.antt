@@ -91,7 +91,7 @@ Icmp6Prints source destination octets =
 
 -- ---- what is sent by UDP
 
--- a datagram of UDP prints what its payload does, or is refused
+-- a UDP datagram prints what its payload does, or is refused
 pub data UdpPrints (addresses : Addresses) (octets : List ℕ) (Prints : List ℕ → List ℕ → Option Reason → Type 0)
     (text : List ℕ) (why : Option Reason) : Type 0 where
   opens : (r : UdpRepr) → IsDatagram (all_of Both) addresses octets r
@@ -104,7 +104,7 @@ abbrev pub DhcpPrints : List ℕ → List ℕ → Option Reason → Type 0
 DhcpPrints octets =
     ListsOrRefuses (IsPacket octets) (Indents dhcp_listing) (dhcp_refusals.Refuses octets) refusal.Dhcp
 
--- after a message of DNS, why it is not listed to its end
+-- after a DNS message, why it is not listed to its end
 abbrev pub end_text : Option Unread → List ℕ
 end_text None = []
 end_text (Some unread) = refusal_text (refusal.Dns unread)

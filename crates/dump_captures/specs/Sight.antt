@@ -130,7 +130,7 @@ abbrev pub told : List ℕ → Addresses → IpProtocol → Option (ℕ × ℕ) 
 told tags addresses protocol ports counted r =
     sight_by (kind_of (is_v4 addresses) protocol ports) (refused_headers tags (Some addresses) ports counted r)
 
--- the front of a datagram, as far as the capture has it
+-- the start of a datagram, as far as the capture has it
 abbrev pub told_front : List ℕ → DatagramValue → Reason → Refusal → SightValue
 told_front tags d = told tags d.addresses d.protocol (ports_in d.protocol d.payload)
 
@@ -140,11 +140,11 @@ head_of (datagram.Cut head) = Some head
 head_of (datagram.Fragment head) = Some head
 head_of _ = None
 
--- the ports after a header of IPv4; a fragment that is not the first begins with none
+-- the ports after an IPv4 header; a fragment that is not the first begins with none
 abbrev pub ports_behind : List ℕ → Head → Option (ℕ × ℕ)
 ports_behind bytes h = if h.frag_offset == 0 then ports_in h.protocol (drop (header_len_in bytes) bytes) else None
 
--- By the front that there is; or else by what is told where there is none.
+-- By the start that there is; or else by what is told where there is none.
 pub data IsRefused4 (tags bytes : List ℕ) (counted : Reason) (r : Refusal) (s : SightValue) : Type 0 where
   by_front : (c : CapturedValue) → IsCaptured4 bytes c → s ≡ told_front tags c.datagram counted r
       → IsRefused4 tags bytes counted r s

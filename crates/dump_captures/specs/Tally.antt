@@ -1,4 +1,4 @@
--- How many packets a capture has of which kind, and what became of them.
+-- The number of packets of each kind in a capture, and their outcomes.
 use Rattle.std.specs.Prelude.{ℕ, zero, suc, ◌+◌, ◌-◌, ◌^◌, ◌==◌, ◌||◌, nat_lt, min, Bool, false, if◌then◌else◌}
 use Rattle.std.specs.Prelude.{List, [], ◌∷◌, length}
 use Rattle.dump_captures.specs.Kinds.{kind_place, reason_place}

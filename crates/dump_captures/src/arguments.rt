@@ -15,50 +15,50 @@ use std::env::Args;
 /// What the program is asked to do.
 #[derive(Drop)]
 pub enum Task {
-    /// To say what it does.
+    /// To print the help.
     Help,
     /// To print the captures of these files, or of standard input where there are none.
     Dump(Options, Vec<String>),
-    /// Nothing that it knows.
+    /// Something unknown.
     Unknown(Wrong),
 }
 
-/// What is wrong about the arguments.
+/// What is wrong with the arguments.
 #[derive(Drop)]
 pub enum Wrong {
-    /// This is no option.
+    /// This is not an option.
     UnknownOption(String),
-    /// This item of a list after `--only` is no kind.
+    /// This item of a list after `--only` is not a kind.
     UnknownKind(String),
     /// No list follows `--only`.
     MissingList,
-    /// One of them is no text, and so none was read.
+    /// An argument is not UTF-8, and so none was read.
     NotText,
 }
 
 // The arguments so far.
 #[derive(Drop)]
 struct Reading {
-    // What they choose.
+    // The options so far.
     options: Options,
     files: Vec<String>,
-    // Whether the next argument is a list of names.
+    // Whether the next argument is a list of kinds.
     wants_kinds: bool,
-    // Whether all further ones are files.
+    // Whether all further arguments are files.
     wants_files: bool,
 }
 
-// What an argument tells.
+// The effect of an argument.
 #[derive(Drop)]
 enum Step {
-    // That more of them are read.
+    // More arguments are read.
     More,
     // The task.
     Help,
     Unknown(Wrong),
 }
 
-/// The task of these arguments, of which the first is the program's name.
+/// The task of these arguments, the first of which is the program's name.
 pub fn read_task(alloc: Global, arguments: Args) -> Result<Task, Fault>
     ensures task { IfOk result (λ task. task_value task
         ≡ task_of (map string_bytes (drop 1 (into_iter_items arguments)))) }
@@ -91,7 +91,7 @@ impl Reading {
         }
     }
 
-    // The task where no further argument comes.
+    // The task where no further argument follows.
     fn task(self) -> Task
         ensures { task_value result ≡ at_end (more (reading_of self)) }
     {
@@ -169,7 +169,7 @@ fn copy_of(alloc: Global, text: &str) -> Result<String, Fault>
     Ok(copy)
 }
 
-// Whether an argument begins with a hyphen, and is not that alone.
+// Whether an argument begins with a hyphen, and is not a hyphen alone.
 fn is_option(word: &str) -> bool
     ensures { result ≡ is_option word.now }
 {
@@ -177,7 +177,7 @@ fn is_option(word: &str) -> bool
     octets.len() > 1 && octets[0] == b'-'
 }
 
-/// The packets that a list of names chooses, with commas between them; or else the first that is no name.
+/// The packets that a list of names chooses, separated by commas; or else the first item that is no name.
 pub fn read_only(list: &str) -> Result<Only, &str>
     ensures only { IfOk result (λ only. only_of list.now ≡ Ok only) }
     ensures wrong { IfErr result (λ name. only_of list.now ≡ Err name.now) }
@@ -192,7 +192,7 @@ pub fn read_only(list: &str) -> Result<Only, &str>
     Ok(only)
 }
 
-// These packets and those of a name: of a kind, or with hop-by-hop options.
+// These packets and those of a name: of a kind, or those with hop-by-hop options.
 fn with_name(only: Only, name: &str) -> Option<Only>
     ensures { result ≡ with_name name.now only }
 {

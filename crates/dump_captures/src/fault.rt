@@ -1,4 +1,4 @@
-//! What ends the printing of a capture before the capture ends.
+//! Faults: what ends the printing of a capture before the capture ends.
 
 ghost use Rattle.std.specs.IoError.{error_kind};
 ghost use Rattle.std.specs.Prelude.{◌≡◌};
@@ -7,7 +7,7 @@ ghost use Rattle.dump_captures.specs.Fault.{fault_of, fault_of_capture};
 use std::io;
 use std::io::ErrorKind;
 
-/// What ends the printing of a capture before the capture ends.
+/// Faults: what ends the printing of a capture before the capture ends.
 #[derive(Debug, PartialEq, Eq, Clone, Copy)]
 pub enum Fault {
     /// The input could not be read.
@@ -20,7 +20,7 @@ pub enum Fault {
     Memory,
 }
 
-/// What could not be written, or kept before it is written.
+/// An error of writing, or of memory for what is to be written.
 impl From<io::Error> for Fault {
     ghost from_gives = { λ error fault. fault ≡ fault_of (error_kind error) };
 
@@ -35,7 +35,7 @@ impl From<io::Error> for Fault {
     }
 }
 
-/// What could not be read.
+/// An error of reading.
 impl From<capture::Fault> for Fault {
     ghost from_gives = { λ cause fault. fault ≡ fault_of_capture cause };
 

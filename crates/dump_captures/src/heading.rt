@@ -22,7 +22,7 @@ use std::io;
 use std::io::Write;
 use wirebase::{Field, Ipv4Address, Ipv6Address, Octets};
 
-// The bytes of a VLAN tag, and those of them with the VLAN's number.
+// The length of a VLAN tag, and of its part with the VLAN's number, in bytes.
 const TAG_LEN: usize = 4;
 
 const VLAN: Field = 0..2;
@@ -49,7 +49,7 @@ pub fn show_heading<W: Write>(
     line(output, headers.kind.name())
 }
 
-// Prints when a packet was captured, where that is told.
+// Prints the time at which a packet was captured, where it is known.
 fn show_time<W: Write>(output: &mut W, clock: &mut Clock, time: Option<Time>) -> io::Result<()>
     requires { IfSome time (λ time. time.nanoseconds < 1000000000) }
     ensures { OnOk result (Gains (W.contents output.old) (W.contents output.new)
@@ -61,7 +61,7 @@ fn show_time<W: Write>(output: &mut W, clock: &mut Clock, time: Option<Time>) ->
     }
 }
 
-// Prints from where a packet comes and to where it goes, as far as that is known.
+// Prints the source and the destination of a packet, as far as they are known.
 fn show_addresses<W: Write>(
     output: &mut W,
     addresses: Option<Addresses>,

@@ -1,9 +1,9 @@
-//! What the program says of itself.
+//! The help of the program.
 
 /// The usage, for a wrong argument.
 pub const USAGE: &str = "usage: pcapdump [--only KIND,..] [--count] [--help] [FILE..]";
 
-/// What is told of lists after `--only` that have something else.
+/// The text for lists after `--only` that have an unknown item.
 pub const KINDS: &str = "icmp4, igmp, icmp6, dns, mdns, dhcp, frame and hbh";
 
 /// The text below the usage where help is asked for. The script `pcapdump` has a copy of it, since it answers before

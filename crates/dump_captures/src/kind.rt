@@ -3,28 +3,28 @@
 ghost use Rattle.std.specs.Prelude.{◌≡◌, ◌<◌};
 ghost use Rattle.dump_captures.specs.Kinds.{kind_text, kind_place, reason_text, reason_place};
 
-/// How many kinds there are.
+/// The number of kinds.
 pub const KINDS: usize = 7;
 
-/// How many reasons there are.
+/// The number of reasons.
 pub const REASONS: usize = 8;
 
 /// The kinds of control packets.
 #[derive(Debug, PartialEq, Eq, Clone, Copy)]
 pub enum Kind {
-    /// A message of ICMPv4.
+    /// An ICMPv4 message.
     Icmp4,
-    /// A message of IGMP.
+    /// An IGMP message.
     Igmp,
-    /// A message of ICMPv6, of which neighbor discovery and multicast listener discovery are parts.
+    /// An ICMPv6 message, of which neighbor discovery and multicast listener discovery are parts.
     Icmp6,
-    /// A message of DNS.
+    /// A DNS message.
     Dns,
     /// A message of multicast DNS.
     Mdns,
-    /// A packet of DHCP.
+    /// A DHCP packet.
     Dhcp,
-    /// What can't be read so far that one could tell.
+    /// A packet whose kind can't be told, since too little of it can be read.
     Frame,
 }
 
@@ -44,7 +44,7 @@ impl Kind {
         }
     }
 
-    /// The place in tables, from 0 on.
+    /// The index in tables, from 0 on.
     pub fn place(self) -> usize
         ensures value { result ≡ kind_place self }
         ensures bound { result < 7 }
@@ -64,19 +64,19 @@ impl Kind {
 /// Why a control packet is refused.
 #[derive(Debug, PartialEq, Eq, Clone, Copy)]
 pub enum Reason {
-    /// It ends before it should, and the capture kept less of it than there was.
+    /// It ends too early, and the capture kept only a part of it.
     Cut,
     /// It is a fragment of a datagram.
     Fragment,
-    /// There are fewer bytes than a header's own length, or than the message's header takes.
+    /// Fewer bytes than a header's own length says, or than the message's header has.
     Short,
     /// Its checksum is wrong.
     Checksum,
-    /// Its type is not read.
+    /// Its type is not supported.
     UnknownType,
-    /// An error of ICMP does not quote the front of a datagram.
+    /// The quote in an ICMP error is not the start of a datagram.
     Quote,
-    /// A name of a DNS message does not read.
+    /// A name of a DNS message is malformed.
     Name,
     /// Its format refuses it for another reason.
     Malformed,
@@ -99,7 +99,7 @@ impl Reason {
         }
     }
 
-    /// The place in tables, from 0 on.
+    /// The index in tables, from 0 on.
     pub fn place(self) -> usize
         ensures value { result ≡ reason_place self }
         ensures bound { result < 8 }

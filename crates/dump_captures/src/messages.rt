@@ -1,4 +1,4 @@
-//! What a control packet prints below its heading, each line after two spaces.
+//! The lines of a control packet below its heading, each after two spaces.
 
 #![tactic(auto, using(listing::proofs::Printing::gained, listing::proofs::Printing::gains_both))]
 

@@ -1,4 +1,4 @@
-//! What is printed of a capture.
+//! Options: what is printed of a capture.
 
 ghost use Rattle.std.specs.Prelude.{◌≡◌};
 ghost use Rattle.dump_captures.specs.Dump.{is_chosen};
@@ -10,7 +10,7 @@ use crate::sight::Headers;
 /// Which control packets are chosen.
 #[derive(Debug, PartialEq, Eq, Clone, Copy)]
 pub struct Only {
-    /// Those of each kind, by its place.
+    /// Those of each kind, by its index.
     pub kinds: [bool; KINDS],
     /// Those that have hop-by-hop options.
     pub hop_by_hop: bool,
@@ -37,7 +37,7 @@ impl Only {
     }
 }
 
-/// What is printed of a capture.
+/// Options: what is printed of a capture.
 #[derive(Debug, PartialEq, Eq, Clone, Copy)]
 pub struct Options {
     /// The packets that are chosen.

@@ -27,7 +27,7 @@ use std::io::{BufReader, BufWriter, Read, Write};
 // The bytes of the buffers of input and output.
 const BUFFER_LEN: usize = 65_536;
 
-/// What a dump of a capture told.
+/// The result of the dump of a capture.
 #[derive(Drop)]
 pub struct Report<W> {
     /// What ends the capture.
@@ -131,7 +131,7 @@ fn write_out_before_wait<R: Read, W: Write>(
     Ok(())
 }
 
-/// Prints a packet, and returns what became of it. Requires that the record's time is in order.
+/// Prints a packet, and returns its outcome. Requires that the record's time is in order.
 pub fn show_packet<W: Write>(
     options: &Options,
     output: &mut W,
@@ -188,7 +188,7 @@ fn count_alone(page: &mut Page, headers: &Headers<'_>) -> Result<Outcome, Fault>
     Ok(outcome(headers.kind, why))
 }
 
-// What becomes of a control packet.
+// The outcome for a control packet.
 fn outcome(kind: Kind, why: Option<Reason>) -> Outcome
     ensures { result ≡ outcome_of kind why }
 {

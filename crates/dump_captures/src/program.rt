@@ -14,8 +14,8 @@ use std::rt::Files;
 use std::str::from_utf8;
 use std::{env, fs, io};
 
-// The statuses: all was read; a capture ends within a record, or goes on with none; an argument, a file's name or a
-// file is wrong; reading, writing or memory failed.
+// The exit statuses: all was read; a capture ends within a record, or its continuation is not one; an argument, a
+// file's name or a file is wrong; reading, writing or memory failed.
 const WHOLE: u8 = 0;
 
 const BROKEN: u8 = 1;
@@ -39,7 +39,7 @@ impl<R: Read> Read for Watched<R> {
         match self.input.read(buf) {
             Ok(count) => Ok(count),
             Err(error) => {
-                // By the kind the reader knows whether to try again.
+                // The reader knows by the error's kind whether to try again.
                 let kind = error.kind();
                 self.error = Some(error);
                 Err(io::Error::from(kind))
@@ -73,7 +73,7 @@ fn print_help(rt: &impl Print) -> u8 {
     }
 }
 
-// Prints the captures of these files, and returns the status, the greatest that holds.
+// Prints the captures of these files, and returns the highest of their statuses.
 fn dump_all(
     rt: &(impl Files + Input + Print + AllocGlobal),
     options: &Options,
@@ -84,7 +84,7 @@ fn dump_all(
     };
     let mut status = WHOLE;
     let answer = dump_each(rt, options, files, &mut output, &mut status);
-    // What a fault has left in the buffer was to be written before it.
+    // What a fault left in the buffer precedes the fault's message.
     let flushed = output.flush();
     match (answer, flushed) {
         (Ok(()), Ok(())) => status,
@@ -93,8 +93,8 @@ fn dump_all(
     }
 }
 
-// Prints the captures of these files, and where packets are only counted their table at the end, with one line for all
-// of them. The status counts what became of each file, also where a fault ends it all.
+// Prints the captures of these files, and where packets are only counted the table at the end, with one line for all
+// files. The status covers each file, also where a fault ends the program.
 fn dump_each<W: Write>(
     rt: &(impl Files + Input + Print + AllocGlobal),
     options: &Options,
@@ -122,7 +122,7 @@ fn dump_each<W: Write>(
     Ok(())
 }
 
-// Prints the capture of a file, and returns the status. A fault of the output or of memory ends it all.
+// Prints the capture of a file, and returns the status. A fault of the output or of memory ends the program.
 fn dump_file<W: Write>(
     rt: &(impl Files + Input + Print + AllocGlobal),
     options: &Options,
@@ -172,7 +172,7 @@ fn dump_input<R: Read + Drop, W: Write>(
     (answer, input.error)
 }
 
-// Opens a file. A folder can be opened too, but not read.
+// Opens a file. A directory can be opened too, but not read.
 fn open<R: Files>(rt: &R, file: &str) -> io::Result<R::File> {
     if fs::metadata(rt, file)?.is_dir() {
         return Err(io::Error::from(io::ErrorKind::IsADirectory));
@@ -180,7 +180,7 @@ fn open<R: Files>(rt: &R, file: &str) -> io::Result<R::File> {
     fs::open(rt, file)
 }
 
-// The name of all these captures together, which one alone has.
+// The name of all these captures together; only a single capture has one.
 fn name_of_all(files: &[String]) -> Option<&str> {
     match files {
         [] => Some("-"),
@@ -189,7 +189,7 @@ fn name_of_all(files: &[String]) -> Option<&str> {
     }
 }
 
-// Says how many packets a capture had, or all of them where they have no name.
+// Prints the number of packets of a capture, or of all captures where they have no name.
 fn report_counts(
     rt: &(impl Print + AllocGlobal),
     name: Option<&str>,
@@ -206,7 +206,7 @@ fn report_counts(
     Ok(())
 }
 
-// Says what ended a capture if it did not end after a whole record, and returns the status.
+// Prints what ended a capture if it did not end after a whole record, and returns the status.
 fn report_ending(rt: &impl Print, file: &str, ending: Ending, packets: u64) -> u8 {
     let status = match ending {
         Ending::Whole => return WHOLE,
@@ -220,7 +220,7 @@ fn report_ending(rt: &impl Print, file: &str, ending: Ending, packets: u64) -> u
     status
 }
 
-// Says that an input could not be read on, and why, and returns the status.
+// Prints that an input could not be read further, and why, and returns the status.
 fn report_unread(rt: &impl Print, file: &str, error: Option<io::Error>, packets: u64) -> u8 {
     let Some(error) = error else {
         let _ = eprintln!(rt; "pcapdump: {file}: reading failed");
@@ -233,7 +233,7 @@ fn report_unread(rt: &impl Print, file: &str, error: Option<io::Error>, packets:
     FAILED
 }
 
-// Says what is wrong about the arguments, and how the program is called, and returns the status.
+// Prints what is wrong with the arguments, and the usage, and returns the status.
 fn report_wrong(rt: &impl Print, wrong: &Wrong) -> u8 {
     let _ = match wrong {
         Wrong::UnknownOption(word) => {
@@ -250,7 +250,7 @@ fn report_wrong(rt: &impl Print, wrong: &Wrong) -> u8 {
     WRONG
 }
 
-// Says what ended the program, and returns the status. Where nobody reads on, that is no fault.
+// Prints what ended the program, and returns the status. A closed output is not a fault.
 fn report_fault(rt: &impl Print, fault: Fault) -> u8 {
     let what = match fault {
         Fault::Closed => return WHOLE,

@@ -16,30 +16,30 @@ use quote_wire::{icmpv4_error, icmpv6_error};
 use record_wire::TextRefusal;
 use std::fmt;
 
-/// Why a control packet is refused, as the library tells it that reads such packets.
+/// Why a control packet is refused, as the library that reads it tells.
 #[derive(Debug, PartialEq, Eq, Clone, Copy)]
 pub enum Refusal {
     /// The frame of the link is refused.
     Frame(link::Refusal),
-    /// The datagram of IP is.
+    /// The IP datagram is refused.
     Datagram(frame_wire::Refusal),
-    /// The datagram of UDP is.
+    /// The UDP datagram is refused.
     Udp(udp::Refusal),
-    /// The message of ICMPv4 is.
+    /// The ICMPv4 message is refused.
     Icmp4(Icmpv4Refusal),
-    /// The message of IGMP is.
+    /// The IGMP message is refused.
     Igmp(igmp::Refusal),
-    /// The message of ICMPv6 is.
+    /// The ICMPv6 message is refused.
     Icmp6(Icmpv6Refusal),
-    /// The packet of DHCP is.
+    /// The DHCP packet is refused.
     Dhcp(dhcpv4::Refusal),
-    /// The message of DNS is not listed to its end.
+    /// The DNS message is not listed to its end.
     Dns(Unread),
 }
 
 impl Refusal {
-    /// The reason under which the packet is counted. What ends too early was cut where the capture kept less of the
-    /// packet than there was.
+    /// The reason under which the packet is counted. A packet that ends too early counts as cut where the capture kept
+    /// only a part of it.
     pub fn reason(self, is_cut: bool) -> Reason
         ensures { result ≡ reason_of is_cut self }
     {
@@ -56,7 +56,7 @@ impl Refusal {
     }
 }
 
-// Of what ends too early.
+// The reason for a packet that ends too early.
 fn early(is_cut: bool) -> Reason
     ensures { result ≡ early is_cut }
 {

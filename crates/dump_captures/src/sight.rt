@@ -20,7 +20,7 @@ use wirebase::{IpProtocol, Ipv4Packet};
 /// What the headers of a packet tell.
 #[derive(Debug, PartialEq, Eq, Clone, Copy)]
 pub enum Sight<'a> {
-    /// The frame is of a link that is not read.
+    /// The frame is of an unsupported link.
     Unread,
     /// The packet is of another protocol.
     Other,
@@ -41,7 +41,7 @@ pub struct Headers<'a> {
     pub hop_by_hop: Option<&'a [u8]>,
     /// The kind.
     pub kind: Kind,
-    /// What is to be read.
+    /// The payload to read.
     pub content: Content<'a>,
 }
 
@@ -50,11 +50,11 @@ pub struct Headers<'a> {
 pub enum Content<'a> {
     /// A payload, between two addresses.
     Whole(Addresses, &'a [u8]),
-    /// None: the packet is counted under this reason, and is refused so.
+    /// No payload: the packet is refused and counted under this reason.
     Refused(Reason, Refusal),
 }
 
-/// What the headers of a packet tell, which a capture has these octets of.
+/// What the headers of a packet tell, of which the capture has these octets.
 pub fn look<'a>(captured: &Record, octets: &'a [u8]) -> Sight<'a>
     ensures { IsSight (packet_of captured.now octets.now) (sight_of result) }
 {
@@ -70,7 +70,7 @@ pub fn look<'a>(captured: &Record, octets: &'a [u8]) -> Sight<'a>
     }
 }
 
-// What the headers tell that a frame holds.
+// What the headers in a frame tell.
 fn look_into<'a>(captured: &Record, octets: &[u8], frame: &Frame<'a>) -> Sight<'a>
     ensures { IsFrameSight (packet_of captured.now octets.now) (frame_of frame.now) (sight_of result) }
 {
@@ -95,7 +95,7 @@ fn look_into<'a>(captured: &Record, octets: &[u8], frame: &Frame<'a>) -> Sight<'
     }
 }
 
-// The kind of a datagram of this protocol, over IPv4 or not; None where it is of another protocol.
+// The kind of a datagram of this protocol, over IPv4 or not; None for other protocols.
 fn kind_of(is_v4: bool, protocol: IpProtocol, ports: Option<(u16, u16)>) -> Option<Kind>
     ensures { result ≡ kind_of is_v4 protocol ports }
 {
@@ -113,7 +113,7 @@ fn kind_of(is_v4: bool, protocol: IpProtocol, ports: Option<(u16, u16)>) -> Opti
     }
 }
 
-// The kind of a datagram of UDP between these ports.
+// The kind of a UDP datagram between these ports.
 fn kind_by_ports(is_v4: bool, source: u16, destination: u16) -> Option<Kind>
     ensures { result ≡ kind_of_ports is_v4 (source, destination) }
 {
@@ -128,7 +128,7 @@ fn kind_by_ports(is_v4: bool, source: u16, destination: u16) -> Option<Kind>
     }
 }
 
-// What a whole datagram is.
+// What a whole datagram holds.
 fn whole<'a>(tags: &'a [u8], datagram: &Datagram<'a>) -> Sight<'a>
     ensures { sight_of result ≡ datagram_sight tags.now (datagram_of datagram.now) }
 {
@@ -146,7 +146,7 @@ fn whole<'a>(tags: &'a [u8], datagram: &Datagram<'a>) -> Sight<'a>
     })
 }
 
-// What is to be read of a whole datagram of a kind.
+// The payload to read in a whole datagram of a kind.
 fn content_by<'a>(kind: Kind, datagram: &Datagram<'a>) -> Content<'a>
     ensures { content_of result ≡ content_by kind datagram.now.addresses datagram.now.payload.now }
 {
@@ -156,14 +156,14 @@ fn content_by<'a>(kind: Kind, datagram: &Datagram<'a>) -> Content<'a>
     }
 }
 
-// Whether the capture kept less of a packet than there was.
+// Whether the capture kept only a part of a packet.
 fn is_cut(captured: &Record, octets: &[u8]) -> bool
     ensures { result ≡ is_cut (packet_of captured.now octets.now) }
 {
     (octets.len() as u64) < captured.original_len as u64
 }
 
-// A packet of which nothing is known but its VLAN tags.
+// A packet of which only the VLAN tags are known.
 fn untold(tags: &[u8], reason: Reason, refusal: Refusal) -> Sight<'_>
     ensures { sight_of result ≡ untold tags.now reason refusal }
 {
@@ -177,7 +177,7 @@ fn untold(tags: &[u8], reason: Reason, refusal: Refusal) -> Sight<'_>
     })
 }
 
-// A datagram that is refused, of which this is known.
+// A refused datagram, of which this is known.
 fn told<'a>(
     tags: &'a [u8],
     addresses: Addresses,
@@ -201,7 +201,7 @@ fn told<'a>(
     })
 }
 
-// A datagram that is refused, of which the front is there.
+// A refused datagram, of which the start is known.
 fn told_front<'a>(
     tags: &'a [u8],
     front: &Datagram<'_>,
@@ -221,7 +221,7 @@ fn told_front<'a>(
     )
 }
 
-// What a datagram of IPv4 is that is refused, as far as it is there.
+// What is known of a refused IPv4 datagram, as far as it was captured.
 fn refused_v4<'a>(tags: &'a [u8], octets: &[u8], reason: Reason, refusal: Refusal) -> Sight<'a>
     ensures { IsRefused4 tags.now octets.now reason refusal (sight_of result) }
 {
@@ -237,7 +237,7 @@ fn refused_v4<'a>(tags: &'a [u8], octets: &[u8], reason: Reason, refusal: Refusa
     }
 }
 
-// The ports after a header of IPv4; a fragment that is not the first begins with none.
+// The ports after an IPv4 header; a fragment that is not the first begins with none.
 fn ports_behind(octets: &[u8], head: &Head) -> Option<(u16, u16)>
     ensures { result ≡ ports_behind octets.now head.now }
 {
@@ -259,7 +259,7 @@ fn behind_header(octets: &[u8]) -> &[u8]
     octets.get(header_len..).unwrap_or(&[])
 }
 
-// What a datagram of IPv6 is that is refused, as far as it is there.
+// What is known of a refused IPv6 datagram, as far as it was captured.
 fn refused_v6<'a>(tags: &'a [u8], octets: &[u8], reason: Reason, refusal: Refusal) -> Sight<'a>
     ensures { IsRefused6 tags.now octets.now reason refusal (sight_of result) }
 {
@@ -272,7 +272,7 @@ fn refused_v6<'a>(tags: &'a [u8], octets: &[u8], reason: Reason, refusal: Refusa
     }
 }
 
-// What is told of a datagram that has no front.
+// What is known of a datagram whose start was not captured.
 fn head_of(refusal: frame_wire::Refusal) -> Option<Head>
     ensures { result ≡ head_of refusal }
 {

@@ -48,7 +48,7 @@ pub fn write_summary<W: Write>(output: &mut W, tally: &Tally) -> io::Result<()>
     write_further(output, tally.beyond, " of other links")
 }
 
-// How many were listed.
+// The number of listed packets.
 fn listed(tally: &Tally) -> u64
     ensures { result ≡ listed_in (tally_of tally.now) }
 {
@@ -59,7 +59,7 @@ fn listed(tally: &Tally) -> u64
     count
 }
 
-// How many were refused for a reason.
+// The number of packets refused for a reason.
 fn refused(tally: &Tally, reason: Reason) -> u64
     ensures { result ≡ refused_for (tally_of tally.now) reason }
 {
@@ -70,7 +70,7 @@ fn refused(tally: &Tally, reason: Reason) -> u64
     count
 }
 
-// How many were refused for any.
+// The number of packets refused for any reason.
 fn all_refused(tally: &Tally) -> u64
     ensures { result ≡ refused_in (tally_of tally.now) }
 {
@@ -81,7 +81,7 @@ fn all_refused(tally: &Tally) -> u64
     count
 }
 
-// For which reasons packets were refused, in brackets.
+// The reasons for which packets were refused, in brackets.
 fn write_reasons<W: Write>(output: &mut W, tally: &Tally) -> io::Result<()>
     ensures { OnOk result (Gains (W.contents output.old) (W.contents output.new)
         (reasons_text (tally_of tally.now))) }
@@ -135,7 +135,7 @@ fn write_count<W: Write>(output: &mut W, count: u64, reason: Reason) -> io::Resu
     reason.name().write_to(output)
 }
 
-// How many frames are of each link that is not read.
+// The number of frames of each unsupported link.
 fn write_links<W: Write>(output: &mut W, links: &[UnreadLink]) -> io::Result<()>
     ensures { OnOk result (Gains (W.contents output.old) (W.contents output.new)
         (links_text links.now)) }
@@ -156,7 +156,7 @@ fn write_link<W: Write>(output: &mut W, link: &UnreadLink) -> io::Result<()>
     link.link_type.write_to(output)
 }
 
-// A further number and what it counts, where there is any.
+// A further number and what it counts, where it is not 0.
 fn write_further<W: Write>(output: &mut W, count: u64, what: &str) -> io::Result<()>
     ensures { OnOk result (Gains (W.contents output.old) (W.contents output.new)
         (further_text count what.now)) }

@@ -18,7 +18,7 @@ use std::io::Write;
 const HEAD: &[u8] =
     b"kind\tlisted\tcut\tfragment\tshort\tchecksum\ttype\tquote\tname\tmalformed\toctets\n";
 
-/// Prints the table of counts: a row for each kind of which packets may be chosen.
+/// Prints the table of counts: a row for each kind of packets that may be chosen.
 pub fn show_table<W: Write>(output: &mut W, only: &Only, tally: &Tally) -> io::Result<()>
     ensures { OnOk result (Gains (W.contents output.old) (W.contents output.new)
         (table_text only.now (tally_of tally.now))) }

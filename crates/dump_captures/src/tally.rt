@@ -1,4 +1,4 @@
-//! How many packets a capture has of which kind, and what became of them.
+//! The number of packets of each kind in a capture, and their outcomes.
 
 ghost use Rattle.std.specs.Prelude.{◌≡◌, ◌<◌, IfSome, IsNone, length, false, take, get_or};
 ghost use Rattle.dump_captures.specs.Tally.{tally_of, counted, empty, no_row, with_listed, with_refused, with_unread};
@@ -7,13 +7,13 @@ ghost use Rattle.dump_captures.specs.Tally.{changed_at, one_more, has_link, no_l
 use crate::kind::{KINDS, Kind, REASONS, Reason};
 use arrayvec::ArrayVec;
 
-/// How many links that are not read are counted by their number.
+/// The number of unsupported links that are counted by their number.
 pub const MOST_LINKS: usize = 16;
 
-/// What became of a packet.
+/// The outcome for a packet.
 #[derive(Debug, PartialEq, Eq, Clone, Copy)]
 pub enum Outcome {
-    /// Its frame is of a link that is not read.
+    /// Its frame is of an unsupported link.
     Unread,
     /// It is of another protocol.
     Other,
@@ -21,18 +21,18 @@ pub enum Outcome {
     Passed,
     /// It is a control packet of this kind, and was listed.
     Listed(Kind),
-    /// It is one that was refused.
+    /// It is a control packet of this kind, and was refused for this reason.
     Refused(Kind, Reason),
 }
 
 /// The control packets of one kind.
 #[derive(Debug, PartialEq, Eq, Clone, Copy)]
 pub struct Row {
-    /// How many were listed.
+    /// The number of listed packets.
     pub listed: u64,
-    /// How many were refused, for each reason, by its place.
+    /// The number of refused packets, for each reason, by its index.
     pub refused: [u64; REASONS],
-    /// The bytes of them that were captured.
+    /// The number of their bytes that were captured.
     pub octets: u64,
 }
 
@@ -75,29 +75,29 @@ impl Row {
     }
 }
 
-/// The frames of a link that is not read.
+/// The frames of an unsupported link.
 #[derive(Debug, PartialEq, Eq, Clone, Copy, Default)]
 pub struct UnreadLink {
     /// The number of the link.
     pub link_type: u16,
-    /// How many there are.
+    /// The number of frames.
     pub frames: u64,
 }
 
-/// How many packets there are. No number counts above the greatest of 64 bits.
+/// The numbers of packets. Each number stops at the greatest of 64 bits.
 #[derive(Drop)]
 pub struct Tally {
     /// All packets.
     pub packets: u64,
-    /// Those of another protocol.
+    /// Packets of other protocols.
     pub other: u64,
     /// The control packets that are not chosen.
     pub passed: u64,
-    /// The control packets of each kind, by its place.
+    /// The control packets of each kind, by its index.
     pub rows: [Row; KINDS],
-    /// The frames of links that are not read, of the first 16 such links.
+    /// The frames of unsupported links, of the first 16 such links.
     pub links: ArrayVec<UnreadLink, MOST_LINKS>,
-    /// Those of further links.
+    /// The frames of further links.
     pub beyond: u64,
 }
 
@@ -155,7 +155,7 @@ impl Tally {
     }
 }
 
-// Counts a frame of the link at a place.
+// Counts a frame of the link at an index.
 fn count_at(links: &mut [UnreadLink], place: usize)
     requires { place < length links.old }
     ensures { links.new ≡ changed_at place (λ l. record l { frames = one_more l.frames }) links.old }
@@ -163,7 +163,7 @@ fn count_at(links: &mut [UnreadLink], place: usize)
     links[place].frames = links[place].frames.saturating_add(1);
 }
 
-// The place of the first of these links that has this number.
+// The index of the first of these links that has this number.
 fn place_of(links: &[UnreadLink], link_type: u16) -> Option<usize>
     ensures found { IfSome result (λ place. (place < length links.now)
         × ((get_or links.now place no_link).link_type ≡ link_type)

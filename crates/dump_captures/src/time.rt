@@ -14,19 +14,19 @@ use std::io::Write;
 
 const DAY_SECONDS: u64 = 86_400;
 
-// How long the text of a date is whose year has four digits, and that of the time after it.
+// The length of the text of a date whose year has four digits, and of the time after it.
 const DATE_LEN: usize = 10;
 
 const TIME_LEN: usize = 20;
 
-/// Writes times, most of which are of one day with the one before.
+/// Writes times, most of which are on the same day as the one before.
 #[derive(Drop)]
 pub struct Clock {
     // A day, counted from 1970-01-01.
     day: u64,
-    // Its year without the last four digits.
+    // The year without its last four digits.
     ten_thousands: u64,
-    // The last four digits of its year, its month and its day.
+    // The last four digits of the year, the month and the day.
     date: [u8; DATE_LEN],
     pub ghost year: { ten_thousands ≡ (date_after day).year / 10000 },
     pub ghost kept: { date ≡ kept_text (date_after day) },
@@ -39,8 +39,8 @@ impl Clock {
     }
 
     /// Writes the time this many seconds and nanoseconds after 1970-01-01T00:00:00Z, as
-    /// `2024-05-01T12:34:56.000000000Z`. A year above 9999 has more than four digits. Of nanoseconds the last nine
-    /// digits are written.
+    /// `2024-05-01T12:34:56.000000000Z`. A year above 9999 has more than four digits. Nanoseconds are written by their
+    /// last nine digits.
     pub fn write<W: Write>(
         &mut self,
         output: &mut W,
@@ -59,7 +59,7 @@ impl Clock {
         output.write_all(&text)
     }
 
-    // Keeps the date of this day in the place of another's.
+    // Keeps the date of this day instead of another's.
     fn turn_to(&mut self, day: u64)
         ensures { self.new.day ≡ day }
     {

@@ -40,7 +40,7 @@ strip_last-append octet (x ∷ xs) y ys =
     strip_last-more octet x (xs ++ (y ∷ ys)) (length xs + length ys) (omega (arith, length-append xs (y ∷ ys)))
     ∙ ap (λ l. x ∷ l) (strip_last-append octet xs y ys)
 
--- where there is none, nothing is dropped
+-- where there is no CR, nothing is dropped
 pub strip_last-free : (octet : ℕ) (xs : List ℕ) → All (λ x. x ≢ octet) xs → strip_last octet xs ≡ xs
 strip_last-free octet [] free = refl
 strip_last-free octet (x ∷ []) free = rw (ne_eqb x octet (All-head (λ x. x ≢ octet) x [] free)) refl

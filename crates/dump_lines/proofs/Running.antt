@@ -139,7 +139,7 @@ module _ (all : List ℕ) (left : Option (List ℕ)) (known : Bool) (before now 
       ) in
       (so_far.known_is ∙ ap are_known (sym all_done), rw all_done printed)
 
--- the same where what there was may not be known
+-- a run where what there was may not be known
 pub run-more : (first left after_ before now then_ : Option (List ℕ)) (known is : Bool)
     → IfSome first (λ all. SoFar all left known before now)
     → IfSome left (λ octets. ShowsFirst octets after_ now then_ (Some is))

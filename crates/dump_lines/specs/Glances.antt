@@ -1,4 +1,4 @@
--- What one look at an input tells of its next line.
+-- What one look at an input finds of its next line.
 use Rattle.std.specs.Prelude.{◌≡◌, ◌≢◌, ℕ, Bool, List, [], Option, None, Some}
 use Rattle.std.specs.Io.BufRead.{strip_last, take_through, drop_through}
 use Rattle.dump_lines.specs.Listing.{Shape, LinePrints, is_known, line_shape}

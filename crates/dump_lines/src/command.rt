@@ -1,4 +1,4 @@
-//! How a packet is read: by the word before it.
+//! The commands: how the word before a packet tells to read it.
 
 ghost use Rattle.std.specs.Prelude.{◌≡◌, OnOk, map};
 ghost use Rattle.listing.specs.Output.{GainsSome};
@@ -16,26 +16,26 @@ use listing::question::show_question;
 use std::io;
 use std::io::Write;
 
-/// How a packet is read.
+/// The way in which a packet is read.
 #[derive(Clone, Copy)]
 pub enum Command {
     /// As the options of a hop-by-hop header of IPv6.
     Hbh,
-    /// As a message of ICMPv4.
+    /// As an ICMPv4 message.
     Icmp4,
-    /// As a message of IGMP.
+    /// As an IGMP message.
     Igmp,
-    /// As a message of ICMPv6 from one address to another.
+    /// As an ICMPv6 message from one address to another.
     Icmp6([u8; 16], [u8; 16]),
     /// As a message of multicast listener discovery.
     Mld,
     /// As an option of neighbor discovery.
     Ndopt,
-    /// As a packet of DHCP.
+    /// As a DHCP packet.
     Dhcp,
     /// As a question of DNS.
     Question,
-    /// As a message of DNS, by the walk over the name that begins at this offset.
+    /// As a DNS message, by the walk over the name that begins at this offset.
     Name(usize),
 }
 
@@ -43,7 +43,7 @@ impl Command {
     ghost use Rattle.dump_lines.specs.Listing.{command_alone, command_of};
     ghost use Rattle.dump_lines.specs.Listing.{reads, PacketPrints};
 
-    /// The command of a word and the words between it and the packet, or None where there is none.
+    /// The command of a word and of the words between it and the packet; None where there is no such command.
     pub fn of(word: &[u8], arguments: &[&[u8]]) -> Option<Command>
         ensures { result ≡ command_of word.now (map (λ argument. argument.now) arguments.now) }
     {
@@ -57,7 +57,7 @@ impl Command {
         }
     }
 
-    // The command of a word alone.
+    // The command of a word without further words.
     fn alone(word: &[u8]) -> Option<Command>
         ensures { result ≡ command_alone word.now }
     {
@@ -80,7 +80,7 @@ impl Command {
         }
     }
 
-    /// Whether the command reads these octets, if only to refuse them: an offset may not be past their end.
+    /// Whether the command can read these octets, even if it then refuses them: an offset may not be past their end.
     pub fn reads(self, packet: &[u8]) -> bool
         ensures { result ≡ reads self packet.now }
     {
@@ -90,7 +90,7 @@ impl Command {
         }
     }
 
-    /// Prints what a packet holds, read so.
+    /// Prints what a packet holds, read by this command.
     pub fn show<W: Write>(self, output: &mut W, packet: &[u8]) -> io::Result<()>
         ensures { OnOk result (GainsSome (W.contents output.old) (W.contents output.new)
             (PacketPrints self packet.now)) }

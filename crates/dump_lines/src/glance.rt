@@ -11,12 +11,12 @@ use crate::shape::Shape;
 use std::alloc::Global;
 use std::io::BufRead;
 
-/// What a look at an input tells of its next line.
+/// What a look at an input finds of its next line.
 #[derive(Clone, Copy)]
 pub enum Glance<'a> {
-    /// The line was at hand whole, has this shape, and is taken.
+    /// The line was buffered as a whole, has this shape, and is taken.
     Line(Shape<'a>),
-    /// Not all of it is at hand, and nothing is taken.
+    /// Not all of it is buffered, and nothing is taken.
     Part,
     /// There is no line.
     End,

@@ -15,7 +15,7 @@ use std::io::Write;
 
 /// Prints what a line holds, and returns whether its shape is known.
 ///
-/// It is a command, the words for that, and a packet. A line without a word prints nothing.
+/// A line is a command, the command's further words, and a packet. A line without a word prints nothing.
 pub fn show_line<W: Write>(
     alloc: Global,
     room: &mut Vec<u8>,

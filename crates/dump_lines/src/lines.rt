@@ -14,10 +14,10 @@ use crate::reading::{Line, read_line};
 use std::alloc::Global;
 use std::io::{BufReader, BufWriter, Read, Write};
 
-/// Prints what each line of the input holds; true where each line had a known shape.
+/// Prints what each line of the input holds; returns true where each line had a known shape.
 ///
-/// What was printed is written out before more of the input is waited for, and before a fault is answered, as far as
-/// the output takes it.
+/// Output is written out before more of the input is waited for, and before a fault is returned, as far as the output
+/// takes it.
 pub fn run<R: Read + Drop, W: Write + Drop>(
     alloc: Global,
     input: R,
@@ -54,7 +54,7 @@ pub fn run_onto<R: Read + Drop, W: Write + Drop>(
     }
 }
 
-// Prints what each line holds, and writes out what was printed, also where a fault ends that.
+// Prints what each line holds, and then writes out the output, also after a fault.
 fn show_flushed<R: Read, W: Write>(
     alloc: Global,
     input: &mut BufReader<R>,
@@ -74,7 +74,7 @@ fn show_flushed<R: Read, W: Write>(
     }
 }
 
-// Prints what each line holds; true where each line had a known shape.
+// Prints what each line holds; returns true where each line had a known shape.
 fn show_lines<R: Read, W: Write>(
     alloc: Global,
     input: &mut BufReader<R>,
@@ -99,8 +99,8 @@ fn show_lines<R: Read, W: Write>(
     Err(Fault::Read)
 }
 
-// Prints what the next line holds, and returns whether its shape is known, or None where there is no line. What is kept
-// of a line that is not at hand whole is kept in `line`, and the packet of one that is in `room`.
+// Prints what the next line holds, and returns whether its shape is known, or None where there is no line. `line` keeps
+// a line that is not buffered as a whole, and `room` the packet of one that is.
 #[tactic(auto, using(crate::proofs::Running::gains_behind))]
 fn show_next<R: Read, W: Write>(
     alloc: Global,
@@ -147,7 +147,7 @@ fn show_part<R: Read, W: Write>(
     Ok(Some(known))
 }
 
-// Writes out what was printed, where the next look at an input has to wait for more of it.
+// Writes out the output, where the next look at an input has to wait for more of it.
 #[tactic(auto, using(listing::proofs::Printing::gains_none))]
 fn write_out_before_wait<R: Read, W: Write>(
     input: &BufReader<R>,
@@ -171,7 +171,7 @@ fn write_out<W: Write>(output: &mut W) -> Result<(), Fault>
     }
 }
 
-/// The exit status of a run's answer.
+/// The exit status for the result of a run.
 pub fn status(answer: &Result<bool, Fault>) -> u8
     ensures { result ≡ status_of answer.now }
 {

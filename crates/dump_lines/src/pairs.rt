@@ -1,11 +1,12 @@
-//! The octets that hexadecimal digits spell. No step branches by a digit, so that many are turned at once.
+//! Octets from hexadecimal digits, two for each. Nothing branches by a digit, so that many digits are converted at
+//! once.
 
 ghost use Rattle.std.specs.Prelude.{◌≡◌, ◌*◌, ◌/◌, ◌<◌, ◌≤◌, Some, length, take, true};
 ghost use Rattle.std.specs.List.{AllPass, list_all};
 ghost use Rattle.hex.specs.Hex.{hex_digit_value, is_hex_digit};
 ghost use Rattle.dump_lines.specs.Words.{spelled_by};
 
-/// Whether each is a digit of either case.
+/// Whether all are hexadecimal digits, of either case.
 pub fn are_digits(text: &[u8]) -> bool
     ensures { result ≡ list_all is_hex_digit text.now }
 {
@@ -43,7 +44,8 @@ pub fn decode(text: &[u8], octets: &mut [u8])
     }
 }
 
-// What is taken of each octet of a word of digits: the bits of its value, and the bit of a letter, moved to the lowest.
+// The bits that are kept of each octet of a word of digits: those of its value, and the bit of a letter, moved to the
+// lowest.
 const VALUES: u64 = 0x0f0f_0f0f_0f0f_0f0f;
 
 const LETTERS: u64 = 0x0101_0101_0101_0101;
@@ -51,8 +53,8 @@ const LETTERS: u64 = 0x0101_0101_0101_0101;
 // Every other octet of a word.
 const OCTETS: u64 = 0x00ff_00ff_00ff_00ff;
 
-// The octets that eight digits spell, the first of them in the lowest octet of a word. Each step is of the whole word,
-// so that one instruction does for all digits what `digit_value` does for one.
+// The octets that eight digits spell, where the first digit is the lowest octet of a word. Each step is on the whole
+// word, so that one instruction does for all digits what `digit_value` does for one.
 #[inline(always)]
 fn decode_word(digits: &[u8; 8]) -> [u8; 4]
     requires { AllPass is_hex_digit digits.now }
@@ -60,14 +62,14 @@ fn decode_word(digits: &[u8; 8]) -> [u8; 4]
 {
     let word = u64::from_le_bytes(*digits);
     let values = (word & VALUES) + 9 * ((word / 64) & LETTERS);
-    // Each value with the next is an octet, of which every other one is of a pair. These are then moved together.
+    // Each value and the next make an octet; every other octet is kept, and these are moved together.
     let octets = (16 * values + values / 256) & OCTETS;
     let pairs = octets + octets / 256;
     let whole = (pairs % 65_536 + pairs / (1 << 32) * 65_536) % (1 << 32);
     (whole as u32).to_le_bytes()
 }
 
-/// The octets that digits spell, at the front of a room for them.
+/// Writes the octets that digits spell into a buffer for them.
 pub fn decode_front(text: &[u8], room: &mut [u8])
     requires even { length text.now ≡ 2 * (length text.now / 2) }
     requires room { length text.now / 2 ≤ length room.old }

@@ -1,7 +1,7 @@
 //! Lines of an input, read in bounded memory.
 //!
-//! What is kept of a line are its words, each with one space after it but the last. A line with a word too long or too
-//! many words is bad whatever follows, so that nothing more of it is kept.
+//! Of a line its words are kept, each with one space after it but the last. A line with a word too long or too many
+//! words is bad whatever follows, so that nothing more of it is kept.
 
 ghost use Rattle.std.specs.Prelude.{◌≡◌, ◌≢◌, ◌≤◌, ◌⊎◌, ℕ, All, IfOk, IfErr, IfSome, OnSome, List, [], length, take};
 ghost use Rattle.std.specs.Prelude.{◌↔◌, IsOk, Option};
@@ -23,7 +23,7 @@ use std::io::{BufRead, ErrorKind};
 pub struct Line {
     // Its words, each with one space after it but the last.
     octets: Vec<u8>,
-    // Where the last of them begins.
+    // The offset of the last word.
     start: usize,
     // The number of octets before that one.
     words: usize,
@@ -100,7 +100,7 @@ impl Line {
         if self.is_bad {
             return Ok(());
         }
-        // A CR may still be the line's end.
+        // A CR may still be at the line's end.
         if part.len() > MOST_OCTETS + 1 - (self.octets.as_slice().len() - self.start) {
             self.is_bad = true;
             return Ok(());
@@ -131,7 +131,7 @@ pub fn read_line<R: BufRead>(input: &mut R, line: &mut Line) -> Result<bool, Fau
     Err(Fault::Read)
 }
 
-/// A read that was interrupted is tried again, and no other that failed.
+/// A read that was interrupted is tried again; any other failure is a fault.
 pub fn try_again(error: &io::Error) -> Result<(), Fault>
     ensures again { IsOk result ↔ (error_kind error.now ≡ ErrorKind.Interrupted) }
     ensures fault { IfErr result (λ fault. fault ≡ Fault.Read) }
@@ -143,7 +143,7 @@ pub fn try_again(error: &io::Error) -> Result<(), Fault>
     }
 }
 
-// Takes spaces and what is at hand of a word after them; answers how many octets were taken, and whether the line or
+// Takes spaces and what is buffered of a word after them; returns the number of octets taken, and whether the line or
 // the input has ended.
 fn take_part<R: BufRead>(input: &mut R, line: &mut Line) -> Result<(usize, bool), Fault>
     requires { IsKept line.old }
@@ -181,8 +181,8 @@ fn take_shown(line: &mut Line, shown: &[u8]) -> Result<(usize, bool), Fault>
     Ok((end, shown.is_empty()))
 }
 
-// Takes the spaces in front and the word after them, or all that a bad line has at hand, and returns how many octets
-// these are.
+// Takes the spaces in front and the word after them, or all that is buffered of a bad line, and returns the number of
+// octets.
 fn take_front(line: &mut Line, shown: &[u8]) -> Result<usize, Fault>
     requires { IsKept line.old }
     ensures kept { IfOk result (λ _. IsKept line.new) }
@@ -192,7 +192,7 @@ fn take_front(line: &mut Line, shown: &[u8]) -> Result<usize, Fault>
     ensures fault { IfErr result (λ fault. fault ≡ Fault.Memory) }
 {
     if line.is_bad {
-        // Whatever follows, the line stays as it is.
+        // The line is as it was, whatever follows.
         return Ok(len_before(shown, b'\n'));
     }
     let spaces = spaces_len(shown);
@@ -202,7 +202,7 @@ fn take_front(line: &mut Line, shown: &[u8]) -> Result<usize, Fault>
     Ok(end)
 }
 
-// How many octets are in front of the first space or LF.
+// The number of octets before the first space or LF.
 fn word_len(octets: &[u8]) -> usize
     ensures bound { result ≤ length octets.now }
     ensures no_space { All (λ octet. octet ≢ 32) (take result octets.now) }

@@ -4,11 +4,11 @@ ghost use Rattle.std.specs.Prelude.{◌≡◌, ◌≢◌, ◌<◌, ◌≤◌, �
 
 use memchr::{memchr, memchr2};
 
-// How many spaces are looked at in one step.
+// The number of spaces that are looked at in one step.
 const STEP: usize = 16;
 
-/// How many spaces are in front. The first ones are looked at one by one, since most words have one before them.
-// Inlined, since each word of a line asks.
+/// The number of leading spaces. The first ones are looked at one by one, since most words have one before them.
+// Inlined, since it is called for each word of a line.
 #[inline(always)]
 pub fn spaces_len(octets: &[u8]) -> usize
     ensures bound { result ≤ length octets.now }
@@ -26,7 +26,7 @@ pub fn spaces_len(octets: &[u8]) -> usize
     octets.len()
 }
 
-// The end of a run of spaces, by whole steps as far as these are spaces.
+// The number of leading spaces, by whole steps as far as these are spaces.
 #[inline(never)]
 fn many_spaces_len(octets: &[u8]) -> usize
     ensures bound { result ≤ length octets.now }
@@ -40,7 +40,7 @@ fn many_spaces_len(octets: &[u8]) -> usize
     len
 }
 
-// How many octets are in the whole steps in front that are spaces alone.
+// The number of octets in the leading steps that are spaces alone.
 fn steps_of_spaces(octets: &[u8]) -> usize
     ensures bound { result ≤ length octets.now }
     ensures spaces { All (λ octet. octet ≡ 32) (take result octets.now) }
@@ -67,7 +67,7 @@ fn has_other(octets: &[u8]) -> bool
     found
 }
 
-/// How many octets are in front of the first that is this one.
+/// The number of octets before the first one of this value.
 pub fn len_before(octets: &[u8], wanted: u8) -> usize
     ensures bound { result ≤ length octets.now }
     ensures free { All (λ octet. octet ≢ wanted) (take result octets.now) }
@@ -76,7 +76,7 @@ pub fn len_before(octets: &[u8], wanted: u8) -> usize
     memchr(wanted, octets).unwrap_or(octets.len())
 }
 
-/// How many octets are in front of the first that is one of these two.
+/// The number of octets before the first one of these two values.
 pub fn len_before_either(octets: &[u8], first: u8, second: u8) -> usize
     ensures bound { result ≤ length octets.now }
     ensures no_first { All (λ octet. octet ≢ first) (take result octets.now) }

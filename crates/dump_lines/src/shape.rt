@@ -1,4 +1,4 @@
-//! The shape of a line: a command and a packet, or nothing that is known.
+//! The shape of a line: a command and a packet, nothing, or no known shape.
 
 ghost use Rattle.std.specs.Prelude.{◌≡◌, IfOk, IfErr, map, true};
 ghost use Rattle.std.specs.Io.BufRead.{strip_last};
@@ -19,7 +19,7 @@ pub enum Shape<'a> {
     Blank,
     /// A command and a packet.
     Packet(Command, &'a [u8]),
-    /// None that is known.
+    /// No known shape.
     Bad,
 }
 

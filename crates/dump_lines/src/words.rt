@@ -12,19 +12,19 @@ use crate::pairs::{are_digits, decode, decode_front};
 use crate::search::{len_before, spaces_len};
 use std::alloc::Global;
 
-/// The most words of a line: a command, two for that, and a packet.
+/// The most words of a line: a command, two further words, and a packet.
 pub const MOST_WORDS: usize = 4;
 
 /// The most octets of a word.
 pub const MOST_OCTETS: usize = 131_070;
 
-// The greatest offset in a packet.
+// The largest offset in a packet.
 const MOST_OFFSET: usize = 65_535;
 
 // The fewest digits of a packet.
 const FEWEST_DIGITS: usize = 2;
 
-// The digits of an address.
+// The number of digits of an address.
 const ADDRESS_DIGITS: usize = 32;
 
 /// The first word of a text, empty where there is none, and what follows it.
@@ -77,7 +77,7 @@ fn grow(alloc: Global, room: &mut Vec<u8>, count: usize) -> Result<(), Fault>
     if room.len() >= count {
         return Ok(());
     }
-    // What was held is given back first.
+    // The old buffer is freed first.
     *room = Vec::new(alloc);
     let Ok(octets) = vec![in alloc; 0u8; count] else {
         return Err(Fault::Memory);
@@ -99,8 +99,7 @@ fn is_even_length(count: usize) -> bool
     (count % 2 == 0) & (count >= FEWEST_DIGITS) & (count <= MOST_OCTETS)
 }
 
-/// The 16 octets of an address of IPv6, from 32 hexadecimal digits of either case; None where a word is anything
-/// else.
+/// The 16 octets of an IPv6 address, from 32 hexadecimal digits of either case; None where a word is anything else.
 pub fn read_address(text: &[u8]) -> Option<[u8; 16]>
     ensures { result ≡ address_of text.now }
 {
@@ -112,8 +111,8 @@ pub fn read_address(text: &[u8]) -> Option<[u8; 16]>
     Some(octets)
 }
 
-/// An offset in a packet, from decimal digits alone, leading zeros or not; None where a word is anything else, or
-/// the offset greater than any packet is long.
+/// An offset in a packet, in decimal digits, with or without leading zeros; None where a word is anything else, or
+/// where the offset is larger than the longest packet.
 pub fn read_offset(text: &[u8]) -> Option<usize>
     ensures { result ≡ offset_of text.now }
 {

@@ -47,7 +47,7 @@ message-len client id (message.Rebind address) few = omega (arith, list-len clie
 message-len client id (message.Decline server address) few = omega arith
 message-len client id (message.Release server address) few = omega arith
 
--- a text and another one, written over the front of these bytes
+-- a text and another one, written to the start of these bytes
 pub laid : (a z old : List ℕ) (len n : ℕ) → length a ≡ len → len ≤ n
     → take len (a ++ drop len old) ++ (z ++ drop (n - len) (drop len (a ++ drop len old))) ≡ (a ++ z) ++ drop n old
 laid a z old len n e room =

@@ -18,7 +18,7 @@ says_one message asked name r t u a b =
     let e = same_test a.same b.same (AreSameName message r.name name) a.same_ b.same_ in
     a.is ∙ (ap (λ same. said_of same asked name r) e ∙ sym b.is)
 
--- there is one record at the front of bytes
+-- there is one record at the start of bytes
 abbrev pub IsOnly : List ℕ → RecordValue → List ℕ → Type 0
 IsOnly bytes r rest = (other : RecordValue) (others : List ℕ) → IsRecord bytes other others
     → (r ≡ other) × (rest ≡ others)

@@ -12,7 +12,7 @@ use Rattle.control_wire.specs.NdiscBlocks.{IsBlock, AreBlocks, ends, goes_on, sk
 use Rattle.control_wire.specs.NdiscPrefixInformationType.{PrefixInformation}
 use Rattle.examples.specs.Router.{TellPrefixes}
 
--- there is one block at the front of bytes
+-- there is one block at the start of bytes
 units_at : (block rest : List ℕ) → IsBlock block → units_in (block ++ rest) ≡ units_in block
 units_at block rest b = get_or-append block rest 0 1 (omega (arith, b.begins.whole.fixed))
 

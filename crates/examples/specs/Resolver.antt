@@ -118,7 +118,7 @@ Tells message id name asked (Failed code) = IsFailure message id name asked code
 
 -- ---- its answers
 
--- what is still to be read: this many records are at the front of the bytes, and a name's addresses are sought
+-- what is still to be read: this many records are at the start of the bytes, and a name's addresses are sought
 pub record Search : Type 0 where
   pub name : List ℕ
   pub left : ℕ

@@ -27,7 +27,7 @@ source_in bytes = slice_index (bytes_of ipv4.src_addr_field bytes) 0
 abbrev pub destination_in : List ℕ → ℕ
 destination_in bytes = slice_index (bytes_of ipv4.dst_addr_field bytes) 0
 
--- it is itself an error of ICMP: of type 3, 4, 5, 11 or 12 (RFC 792)
+-- it is itself an ICMP error: of type 3, 4, 5, 11 or 12 (RFC 792)
 abbrev pub IsError : List ℕ → Type 0
 IsError bytes =
     (protocol_of (byte_of ipv4.protocol_field bytes) ≡ Icmp)
@@ -71,7 +71,7 @@ error_len bytes = 8 + min (ipv4.total_len_in bytes) 548
 
 -- ---- over IPv6
 
--- it is itself an error of ICMPv6, whose types are those below 128, or a redirect
+-- it is itself an ICMPv6 error, whose types are those below 128, or a redirect
 abbrev pub IsErrorV6 : List ℕ → Type 0
 IsErrorV6 bytes =
     (protocol_of (byte_of ipv6.next_header_field bytes) ≡ Icmpv6)

@@ -1,5 +1,5 @@
-//! A host that leases its address: the messages that a client of DHCP sends, and what it takes from a server's answers
-//! (RFC 2131 section 4.4). When a message is sent, and to whom, is the caller's.
+//! A host that leases its address: the messages that a DHCP client sends, and what it takes from a server's answers
+//! (RFC 2131 section 4.4). When and to whom a message is sent is decided by the caller.
 
 ghost use Rattle.std.specs.Prelude.{◌≡◌, ◌≤◌, ◌↔◌, length, take, drop, IsTrue, IfSome, IsSome, IsSomeAnd, None};
 ghost use Rattle.std.specs.Option.{option_map, option_or};
@@ -19,56 +19,56 @@ use control_wire::dhcpv4::{
 };
 use control_wire::{EthernetAddress, Ipv4Address};
 
-/// A client, and how it has its messages.
+/// A client, and the form of its messages.
 #[derive(Debug, Clone, Copy)]
 pub struct Client<'a> {
-    /// Its address on the network, by which servers know it too (option 61).
+    /// Its hardware address, by which servers know it too (option 61).
     pub address: EthernetAddress,
-    /// Whether servers are to answer to everyone: they send to an address that the client doesn't have yet, and a
-    /// client on a UDP socket doesn't get that (RFC 2131 section 4.1).
+    /// Whether servers are to broadcast their answers: otherwise they send to an address that the client doesn't have
+    /// yet, and a client on a UDP socket doesn't receive that (RFC 2131 section 4.1).
     pub broadcast: bool,
     /// The kinds of option that it requests (option 55), at most 255.
     pub requested: &'a [u8],
-    /// The bytes that a message has at least. Some relays and servers drop messages of fewer than 300 (RFC 1542
-    /// section 2.1); with 0 none is added.
+    /// The least length of a message in bytes. Some relays and servers drop messages of fewer than 300 (RFC 1542
+    /// section 2.1); 0 adds no padding.
     pub min_len: usize,
 }
 
 /// A message that a client sends (RFC 2131 sections 4.3.6 and 4.4).
 #[derive(Debug, PartialEq, Eq, Clone, Copy)]
 pub enum Message {
-    /// It looks for servers; to everyone.
+    /// It looks for servers; broadcast.
     Discover,
-    /// It requests the address that a server offered, in the exchange of the offer; to everyone.
+    /// It requests the address that a server offered, in the exchange of the offer; broadcast.
     Select {
         /// The server.
         server: Ipv4Address,
         /// The address.
         address: Ipv4Address,
     },
-    /// After a restart it requests the address that it had; to everyone.
+    /// After a restart it requests its former address; broadcast.
     Reboot {
         /// The address.
         address: Ipv4Address,
     },
-    /// It requests more time for its address; to the server that leased it.
+    /// It requests more time for its address; sent to the server that leased it.
     Renew {
         /// The address.
         address: Ipv4Address,
     },
-    /// A request to every server, where that server didn't answer (rebinding).
+    /// It requests more time, after that server didn't answer; broadcast.
     Rebind {
         /// The address.
         address: Ipv4Address,
     },
-    /// The address that it was leased is in use; to everyone.
+    /// The leased address is in use; broadcast.
     Decline {
         /// The server that leased it.
         server: Ipv4Address,
         /// The address.
         address: Ipv4Address,
     },
-    /// It gives its address back; to the server that leased it.
+    /// It gives its address back; sent to the server that leased it.
     Release {
         /// The server.
         server: Ipv4Address,
@@ -77,7 +77,7 @@ pub enum Message {
     },
 }
 
-/// What a client is given. Times are in seconds from when the client asked; what the server didn't say is None.
+/// What a client is given. Times are in seconds from the client's request; None where the server didn't say.
 #[derive(Debug, Drop)]
 pub struct Lease {
     /// The client's address, not 0.0.0.0.
@@ -86,32 +86,32 @@ pub struct Lease {
     pub server: Ipv4Address,
     /// The mask of the subnet.
     pub subnet_mask: Option<Ipv4Address>,
-    /// The router of the subnet that the server names first.
+    /// The first router of the subnet that the server names.
     pub router: Option<Ipv4Address>,
     /// The DNS servers, the first ones.
     pub dns_servers: Option<ArrayVec<Ipv4Address, MAX_DNS_SERVER_COUNT>>,
     /// How long the address may be used.
     pub lease_duration: Option<u32>,
-    /// When the client is to ask this server for more time.
+    /// When the client is to ask this server for more time (T1).
     pub renew_duration: Option<u32>,
-    /// When it is to ask any server.
+    /// When the client is to ask any server (T2).
     pub rebind_duration: Option<u32>,
 }
 
 /// What a server's message says to a client.
 #[derive(Debug, Drop)]
 pub enum Answer {
-    /// This lease is offered.
+    /// The lease is offered.
     Offer(Lease),
-    /// This lease is the client's.
+    /// The lease is granted.
     Ack(Lease),
-    /// This server refuses what was requested: the client begins anew.
+    /// The server refuses the request: the client starts again.
     Nak(Ipv4Address),
 }
 
-/// Writes a client's message over the front of the octets, with zeros after it up to `min_len`, and says how many bytes
-/// it takes. None exactly where they have no room; then they are as they were. Requires that the client requests at
-/// most 255 kinds of option.
+/// Writes a client's message to the start of the octets, with zeros after it up to `min_len`, and returns its length in
+/// bytes. None exactly where they have no room; then they are unchanged. Requires that the client requests at most 255
+/// kinds of option.
 pub fn write(
     message: &Message,
     transaction_id: u32,
@@ -245,7 +245,7 @@ impl<'a> Client<'a> {
     }
 }
 
-// Writes a packet over the front of the octets, with zeros after it up to this many bytes.
+// Writes a packet to the start of the octets, with zeros after it up to this many bytes.
 fn write_padded(repr: &Repr<'_>, min_len: usize, out: &mut [u8]) -> Option<usize>
     requires short { AllShort (options_of (packet_value repr.now)) }
     requires small { text_len (packet_value repr.now) ≤ 600 }
@@ -280,9 +280,9 @@ fn write_whole(repr: &Repr<'_>, out: &mut [u8])
     }
 }
 
-/// What a server's message says to this client in an exchange. None exactly where the octets are no offer,
-/// acknowledgement or refusal in this exchange for this client, where they do not say which server they are from, and
-/// where they give 0.0.0.0.
+/// What a server's message says to this client in an exchange. None exactly where the octets are not an offer,
+/// acknowledgement or refusal in this exchange for this client, where they do not name their server, and where they
+/// give 0.0.0.0.
 pub fn read_answer(octets: &[u8], transaction_id: u32, client: EthernetAddress) -> Option<Answer>
     ensures told { IfSome result (λ told.
         Answers octets.now transaction_id (ethernet_of client) (answer_of told)) }
@@ -349,7 +349,8 @@ fn given(repr: Repr<'_>, server: Ipv4Address, router: Option<Ipv4Address>) -> Le
     }
 }
 
-// The first address of the last option that has routers: where there are several, the value of the packet has none.
+// The first address of the last option that has routers: where there are several such options, the value of the packet
+// has none.
 fn first_router(options: OptionsIter<'_>) -> Option<Ipv4Address>
     ensures { option_map octets_of result ≡ last_of (said 3 first_in) options.entry }
 {

@@ -20,19 +20,18 @@ use control_wire::{
     ChecksumCapabilities, Duration, IpProtocol, Ipv6Address, icmpv6, ipv6ext_header, ipv6hbh,
 };
 
-// Where reports are sent, ff02::16 (RFC 3810 section 5.2.14).
+// The destination of reports, ff02::16 (RFC 3810 section 5.2.14).
 const REPORTS_TO: [u8; 16] = [0xff, 0x02, 0, 0, 0, 0, 0, 0, 0, 0, 0, 0, 0, 0, 0, 0x16];
 
 // The hop limit of a query (RFC 3810 section 5.1.14).
 const HOP_LIMIT: u8 = 1;
 
-// The bytes of a record before its sources, and of a source.
+// The bytes of a record before its sources, and of one source.
 const RECORD_LEN: usize = 20;
 
 const SOURCE_LEN: usize = 16;
 
-/// The sources that a query can name to be answered: as many as a query on an Ethernet has room for (RFC 3810 section
-/// 5.1.10).
+/// The most sources of a query that is answered: as many as fit in a query on an Ethernet (RFC 3810 section 5.1.10).
 pub const MAX_SOURCES: usize = 89;
 
 // The bytes of a record of this many sources.
@@ -41,7 +40,7 @@ const MAX_RECORD_LEN: usize = 1_444;
 // A code with this bit has an exponent and a mantissa: one without it is a number of milliseconds.
 const FLOATING: u16 = 0x8000;
 
-/// The record of a group that the host listens to, from whatever source (RFC 3810 section 5.2.12).
+/// The record of a group that the host listens to, from any source (RFC 3810 section 5.2.12).
 pub fn listens(group_addr: Ipv6Address) -> AddressRecordRepr<'static>
     ensures { value_of result ≡ address_record RecordType.ModeIsExclude 0 0 group_addr [] }
 {
@@ -62,8 +61,8 @@ pub fn leaves(group_addr: Ipv6Address) -> AddressRecordRepr<'static>
     AddressRecordRepr::new(RecordType::ChangeToInclude, group_addr)
 }
 
-/// Writes the report of these records from the host's address over the front of the octets, and says how many bytes it
-/// takes: 8, and 20 for each record. None exactly where the octets have no room; then they are as they were. Requires
+/// Writes the report of these records from the host's address to the start of the octets, and returns its length in
+/// bytes: 8, and 20 for each record. None exactly where the octets have no room; then they are as they were. Requires
 /// records of multicast groups, and at most 65,535 of them.
 pub fn report(own: &Ipv6Address, records: &[AddressRecordRepr<'_>], out: &mut [u8]) -> Option<usize>
     requires groups { AreGroups (values_of records.now) }
@@ -77,7 +76,7 @@ pub fn report(own: &Ipv6Address, records: &[AddressRecordRepr<'_>], out: &mut [u
     write(mld::Repr::ReportRecordReprs(records), own, out)
 }
 
-// Writes a report over the front of the octets, and says how many bytes it takes.
+// Writes a report to the start of the octets, and returns its length in bytes.
 fn write(message: mld::Repr<'_>, own: &Ipv6Address, out: &mut [u8]) -> Option<usize>
     requires can_emit { (octets : List ℕ) → length octets ≡ text_len (content_of message)
         → CanEmit (content_of message) octets }
@@ -102,19 +101,19 @@ fn write(message: mld::Repr<'_>, own: &Ipv6Address, out: &mut [u8]) -> Option<us
 /// A report that answers a query.
 #[derive(Debug, PartialEq, Eq, Clone, Copy)]
 pub struct Response {
-    /// The longest time that it may wait: a host picks one at random up to it (RFC 3810 section 6.2).
+    /// The longest time that it may wait: a host picks a time at random up to it (RFC 3810 section 6.2).
     pub max_delay: Duration,
-    /// The bytes that it takes.
+    /// The length in bytes.
     pub len: usize,
 }
 
-/// Writes the report that answers a query over the front of the octets. The query came from `querier` with this hop
-/// limit and went to `asked`; the host listens to the groups of the records. A query for all groups is answered by
-/// those records, one for a group by the record of the group, and one for sources of a group by a record of these
-/// sources, from which the host listens, too (RFC 3810 sections 5.1.9 and 6.3). None exactly where the octets are no
-/// valid query (RFC 3810 section 6.2), where the host doesn't listen to what it asks for, where it names more than 89
-/// sources, or where the report has no room; then it is as it was. That the query came with a router alert is the
-/// caller's to see. Requires records of multicast groups, and at most 65,535 of them.
+/// Writes the report that answers a query to the start of the octets. The query came from `querier` with this hop limit
+/// and went to `asked`; the host listens to the groups of the records. A query for all groups is answered by those
+/// records, one for a group by the record of the group, and one for sources of a group by a record of these sources,
+/// from which the host listens, too (RFC 3810 sections 5.1.9 and 6.3). None exactly where the octets are no valid query
+/// (RFC 3810 section 6.2), where the host doesn't listen to what it asks for, where it names more than 89 sources, or
+/// where the report has no room; then it is unchanged. The caller checks that the query came with a router alert.
+/// Requires records of multicast groups, and at most 65,535 of them.
 pub fn answer(
     querier: &Ipv6Address,
     asked: &Ipv6Address,
@@ -314,7 +313,7 @@ fn write_head(head: &AddressRecordRepr<'_>, out: &mut [u8])
     head.emit_into(out);
 }
 
-/// The time that a maximum response code means, at most 8,387,584 ms (RFC 3810 section 5.1.3).
+/// The time of a maximum response code, at most 8,387,584 ms (RFC 3810 section 5.1.3).
 #[tactic(auto, using(crate::proofs::Listeners::reading))]
 pub fn max_response_delay(code: u16) -> Duration
     ensures { micros_of result ≡ 1000 * delay_millis code }

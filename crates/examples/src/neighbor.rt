@@ -24,11 +24,11 @@ use control_wire::{
     RawHardwareAddress,
 };
 
-// The hop limit of every message: one that was forwarded has less (RFC 4861 section 11.2).
+// The hop limit of every message: a forwarded one has less (RFC 4861 section 11.2).
 const HOP_LIMIT: u8 = 255;
 
-/// The solicited-node address of an address, `ff02::1:ff00:0/104` and the last three octets: who may have the address
-/// listens there (RFC 4291 section 2.7.1).
+/// The solicited-node address of an address, `ff02::1:ff00:0/104` and the address's last three octets, where its owner
+/// listens (RFC 4291 section 2.7.1).
 pub fn solicited_node(address: &Ipv6Address) -> Ipv6Address
     ensures { octets_in result ≡ solicited_node_prefix ++ drop 13 (octets_in address.now) }
 {
@@ -45,8 +45,8 @@ fn is_solicited_node(address: &Ipv6Address) -> bool
     address.octets()[..13] == [0xff, 0x02, 0, 0, 0, 0, 0, 0, 0, 0, 0, 1, 0xff]
 }
 
-/// Writes the solicitation of the neighbor that has the address `target` over the front of the octets, and says how
-/// many bytes it takes, 32. It goes from this host's address to `destination`: to `solicited_node(target)`, or to the
+/// Writes the solicitation of the neighbor that has the address `target` to the start of the octets, and returns its
+/// length in bytes, 32. It goes from this host's address to `destination`: to `solicited_node(target)`, or to the
 /// target itself to see whether it is still there (RFC 4861 sections 4.3, 7.2.2 and 7.3.3). From `::`, by which a host
 /// sees whether an address is free, it does not tell `lladdr` and takes 24 bytes (RFC 4862 section 5.4.2). None where
 /// the octets have no room; then they are as they were.
@@ -72,7 +72,7 @@ pub fn solicit(
     write(&message, own, destination, out)
 }
 
-// The address on the link that a sender tells: none from `::`.
+// The link-layer address that a sender tells: none from `::`.
 pub(crate) fn sender(own: &Ipv6Address, lladdr: EthernetAddress) -> Option<RawHardwareAddress>
     ensures { IsSender own.now (octets_of (ethernet_of lladdr)) (link_of result) }
 {
@@ -83,7 +83,7 @@ pub(crate) fn sender(own: &Ipv6Address, lladdr: EthernetAddress) -> Option<RawHa
     }
 }
 
-// Writes a message over the front of the octets, and says how many bytes it takes.
+// Writes a message to the start of the octets, and returns its length in bytes.
 pub(crate) fn write(
     message: &ndisc::Repr<'_>,
     source: &Ipv6Address,
@@ -113,18 +113,18 @@ pub(crate) fn write(
 /// An answer to a solicitation.
 #[derive(Debug, PartialEq, Eq, Clone, Copy)]
 pub struct Reply {
-    /// Whom it goes to.
+    /// The destination.
     pub destination: Ipv6Address,
-    /// The bytes that it takes.
+    /// The length in bytes.
     pub len: usize,
 }
 
-/// Writes the advertisement that answers a solicitation for this host's address `own` over the front of the reply,
-/// and says how many bytes it takes, 32, and whom it goes to. The solicitation came from `peer` and went to `asked`.
-/// The answer goes to `peer`, with the flags SOLICITED and OVERRIDE; where that is `::`, whose sender sees whether the
+/// Writes the advertisement that answers a solicitation for this host's address `own` to the start of the reply, and
+/// returns its length in bytes, 32, and whom it goes to. The solicitation came from `peer` and went to `asked`. The
+/// answer goes to `peer`, with the flags SOLICITED and OVERRIDE; where that is `::`, whose sender sees whether the
 /// address is free, to all nodes with OVERRIDE alone (RFC 4861 section 7.2.4). It tells `lladdr`. None exactly where
-/// the octets are no valid solicitation for `own`, or where the reply has no room; then it is as it was. An address
-/// that a host does not have yet is not answered for: `solicits` says that another host is after it.
+/// the octets are no valid solicitation for `own`, or where the reply has no room; then it is as it was. A host does
+/// not answer for an address that it does not have yet: `solicits` tells that another host wants it.
 pub fn answer(
     peer: &Ipv6Address,
     asked: &Ipv6Address,
@@ -164,8 +164,8 @@ pub fn answer(
 }
 
 /// Whether the octets are a valid solicitation for the address `own`, which came from `peer` with this hop limit and
-/// went to `asked` (RFC 4861 section 7.1.1). One from `::` for an address that this host is after, too, says that two
-/// hosts are (RFC 4862 section 5.4.3).
+/// went to `asked` (RFC 4861 section 7.1.1). One from `::` for an address that this host wants too means that two hosts
+/// want it (RFC 4862 section 5.4.3).
 pub fn solicits(
     peer: &Ipv6Address,
     asked: &Ipv6Address,
@@ -237,7 +237,7 @@ pub struct NeighborInformation {
     pub addr: Ipv6Address,
     /// Whether it is a router, was asked, and takes the place of what is known of the address.
     pub flags: NeighborFlags,
-    /// Its address on the link.
+    /// Its link-layer address.
     pub lladdr: Option<RawHardwareAddress>,
 }
 

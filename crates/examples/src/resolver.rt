@@ -31,7 +31,7 @@ pub enum Address {
     V6(Ipv6Address),
 }
 
-/// An address of a name, and for how many seconds it may be kept.
+/// An address of a name, and the number of seconds for which it may be kept.
 #[derive(Debug, PartialEq, Eq, Clone, Copy)]
 pub struct AddressRecord {
     /// The address.
@@ -40,8 +40,8 @@ pub struct AddressRecord {
     pub ttl: u32,
 }
 
-/// Writes the query for the records of a type at the name of a text over the front of the octets, and says how many
-/// bytes it takes: none where they have no room. Refused where the text is no name (RFC 1035 section 5.1).
+/// Writes the query for the records of a type at the name of a text to the start of the octets, and returns its length
+/// in bytes: None where they have no room. Refused where the text is no name (RFC 1035 section 5.1).
 pub fn query_text(
     transaction_id: u16,
     text: &[u8],
@@ -61,7 +61,7 @@ pub fn query_text(
     Ok(query(transaction_id, name.octets(), type_, out))
 }
 
-/// Writes the query for the records of a type at a name over the front of the octets, and says how many bytes it takes.
+/// Writes the query for the records of a type at a name to the start of the octets, and returns its length in bytes.
 /// None exactly where they have no room; then they are as they were. Requires a name of at most 255 bytes (RFC 1035
 /// section 2.3.4).
 pub fn query(transaction_id: u16, name: &[u8], type_: Type, out: &mut [u8]) -> Option<usize>
@@ -92,10 +92,10 @@ pub fn query(transaction_id: u16, name: &[u8], type_: Type, out: &mut [u8]) -> O
     Some(len)
 }
 
-/// What is left to read of a response's answers, and the name whose addresses are sought in it.
+/// The part of a response's answers that is still to be read, and the name whose addresses are sought in it.
 #[derive(Clone, Copy)]
 pub struct Answers<'a> {
-    /// The whole response, into which its names' pointers lead.
+    /// The whole response, for the pointers of its names.
     pub message: &'a [u8],
     /// The name, in the form that is written in a message.
     pub name: &'a [u8],
@@ -103,7 +103,7 @@ pub struct Answers<'a> {
     pub type_: Type,
     /// The number of records that are left.
     pub left: u16,
-    /// The bytes that they begin in.
+    /// The bytes from the next record on.
     pub bytes: &'a [u8],
 }
 
@@ -112,11 +112,11 @@ pub struct Answers<'a> {
 pub enum Response<'a> {
     /// The query succeeded, and these are all answers.
     Whole(Answers<'a>),
-    /// The query succeeded, and these are as many answers as a datagram had room for: all are got over TCP (RFC 1035
+    /// The query succeeded, and these are as many answers as a datagram had room for: TCP gives all of them (RFC 1035
     /// section 4.2, RFC 7766 section 5).
     Truncated(Answers<'a>),
-    /// The query failed: there is no such name (`NXDomain`), or the server has a fault (`ServFail`), won't answer
-    /// (`Refused`), ..
+    /// The query failed: there is no such name (`NXDomain`), or the server has a fault (`ServFail`), refuses
+    /// (`Refused`), or another code.
     Failed(Rcode),
 }
 
@@ -195,8 +195,8 @@ fn after_question<'a>(message: &'a [u8], name: &'a [u8], type_: Type) -> Option<
     Some(rest)
 }
 
-/// The next address of the name, of the type that was asked, and what is left to read after it. None where no record
-/// has another up to the first that can't be read. An alias counts for the records after it.
+/// The next address of the name, of the type that was asked for, and what is left to read after it. None where there is
+/// no further one, up to the first record that can't be read. An alias counts for the records after it.
 pub fn next_address(answers: Answers<'_>) -> Option<(AddressRecord, Answers<'_>)>
     ensures found { IfSome result (λ next. Finds answers.entry.message.now answers.entry.type_
         next.0 (search_of next.1) (search_of answers.entry)) }
@@ -237,14 +237,14 @@ pub fn next_address(answers: Answers<'_>) -> Option<(AddressRecord, Answers<'_>)
     None
 }
 
-/// What a record says to who seeks a name's addresses: one of them, or for which name to go on.
+/// What a record gives in a search for a name's addresses: an address, or the name to continue with.
 #[derive(Clone, Copy)]
 enum Turn<'a> {
     Found(AddressRecord),
     Sought(&'a [u8]),
 }
 
-// What the record says.
+// What the record gives.
 fn read_turn<'a>(
     packet: &Packet<&'a [u8]>,
     record: &Record<'a>,
@@ -291,7 +291,7 @@ pub fn same_name<'a>(packet: &Packet<&'a [u8]>, a: &'a [u8], b: &'a [u8]) -> boo
     is_end(right.next())
 }
 
-// Whether a walk gave this label, in either case.
+// Whether a walk returned this label, in either case.
 fn is_label(answer: Option<Result<&[u8]>>, bytes: &[u8]) -> bool
     ensures { IsTrue result ↔ GivesLabel (answer_of answer.entry) bytes.now }
 {
@@ -302,7 +302,7 @@ fn is_label(answer: Option<Result<&[u8]>>, bytes: &[u8]) -> bool
     }
 }
 
-// Whether a walk came to its end.
+// Whether a walk ended.
 fn is_end(answer: Option<Result<&[u8]>>) -> bool
     ensures { IsTrue result ↔ (answer_of answer.entry ≡ ending) }
 {

@@ -22,11 +22,11 @@ use control_wire::{
 // The bytes of an advertisement before its options (RFC 4861 section 4.2).
 const HEADER_LEN: usize = 16;
 
-// The bytes of a unit of an option's length.
+// The unit of an option's length in bytes.
 const UNIT: usize = 8;
 
 /// Writes the solicitation of the routers of the link, which goes from this host's address to all of them, `ff02::2`,
-/// and says how many bytes it takes, 16. From `::` it does not tell `lladdr` and takes 8 bytes (RFC 4861 sections 4.1
+/// and returns its length in bytes, 16. From `::` it does not tell `lladdr` and takes 8 bytes (RFC 4861 sections 4.1
 /// and 6.3.7). None where the octets have no room; then they are as they were.
 pub fn solicit(own: &Ipv6Address, lladdr: EthernetAddress, out: &mut [u8]) -> Option<usize>
     ensures sent { IfSome result (λ n. IsSolicitation own.now (octets_of (ethernet_of lladdr))
@@ -50,15 +50,15 @@ pub struct RouterInformation {
     pub hop_limit: u8,
     /// What is to be had by DHCPv6: addresses, or other configuration.
     pub flags: RouterFlags,
-    /// For how long it is a default router, in whole seconds; zero where it is none.
+    /// The time for which it is a default router, in whole seconds; zero where it is none.
     pub lifetime: Duration,
-    /// For how long a neighbor counts as reachable, in whole milliseconds; zero where it is not told.
+    /// The time for which a neighbor counts as reachable, in whole milliseconds; zero where it is not told.
     pub reachable_time: Duration,
     /// The time between solicitations, in whole milliseconds; zero where it is not told.
     pub retrans_time: Duration,
-    /// The router's address on the link.
+    /// The router's link-layer address.
     pub lladdr: Option<RawHardwareAddress>,
-    /// The greatest packet of the link, in bytes.
+    /// The MTU of the link, in bytes.
     pub mtu: Option<u32>,
 }
 
@@ -126,9 +126,9 @@ pub fn options(advertisement: &[u8]) -> &[u8]
     }
 }
 
-/// The first prefix that options tell, and the options after it: by one call after another every prefix of the link
-/// (RFC 4861 section 6.3.4), of which `is_valid_prefix_info` says whether a host makes itself an address. None at the
-/// end. The options are those of a valid advertisement.
+/// The first prefix among the options, and the options after it: repeated calls give every prefix of the link (RFC 4861
+/// section 6.3.4), and `is_valid_prefix_info` tells whether a host forms an address from one. None at the end. The
+/// options are those of a valid advertisement.
 pub fn next_prefix(options: &[u8]) -> Option<(PrefixInformation, &[u8])>
     ensures first { (prefixes : List PrefixValue) → TellPrefixes options.now prefixes
         → IfSome result (λ next. (more : List PrefixValue)
@@ -146,7 +146,7 @@ pub fn next_prefix(options: &[u8]) -> Option<(PrefixInformation, &[u8])>
     None
 }
 
-// The block at the front, and what follows it. None where the octets don't begin with a block.
+// The block at the start, and what follows it. None where the octets don't begin with a block.
 fn split_block(octets: &[u8]) -> Option<(&[u8], &[u8])>
     ensures sound { IfSome result (λ parts. IsBlock parts.0.now
         × (octets.now ≡ parts.0.now ++ parts.1.now)) }

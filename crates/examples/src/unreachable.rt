@@ -1,7 +1,7 @@
 //! The errors that a host or a router sends about a datagram: over IPv4 (RFC 792) and over IPv6 (RFC 4443 section 3).
-//! Each quotes the datagram's own bytes, as much of it as it may. None is sent about an error, about what did not come
-//! from one host, or about what went to many (RFC 1122 section 3.2.2, RFC 4443 section 2.4); that it went to many on
-//! the link, or to a broadcast address of a network, and how often errors are sent, is the caller's to see.
+//! Each quotes as many of the datagram's own bytes as it may. None is sent about an error, about what did not come from
+//! one host, or about what went to many (RFC 1122 section 3.2.2, RFC 4443 section 2.4); the caller sees to link-layer
+//! broadcasts and multicasts, to broadcast addresses of a network, and to the rate of errors.
 
 ghost use Rattle.std.specs.Prelude.{◌≡◌, ◌+◌, ◌≤◌, ◌↔◌, length, take, drop, min, IsTrue, IfSome, IsSome, None};
 ghost use Rattle.control_wire.specs.Capabilities.{all_of};
@@ -37,9 +37,9 @@ const IPV4_HEADER_LEN: u8 = 20;
 
 const IPV6_HEADER_LEN: usize = 40;
 
-/// Writes the error that no one listens at the port of a datagram of IPv4 over the front of the octets, and says how
-/// many bytes it takes: 8, and as many as it quotes of the datagram, at most 548. It goes to the datagram's source.
-/// None exactly where no error may be sent about it, or where the octets have no room; then they are as they were.
+/// Writes the error that no one listens at the port of an IPv4 datagram to the start of the octets, and returns its
+/// length in bytes: 8, and as many as it quotes of the datagram, at most 548. It goes to the datagram's source. None
+/// exactly where no error may be sent about it, or where the octets have no room; then they are as they were.
 pub fn port_unreachable(datagram: &[u8], out: &mut [u8]) -> Option<usize>
     ensures tells { IfSome result (λ n. MayTell datagram.now
         × (take n out.new ≡ port_unreachable_text datagram.now)) }
@@ -106,7 +106,7 @@ fn tell(
     write(&error, out)
 }
 
-// Writes an error over the front of the octets.
+// Writes an error to the start of the octets.
 fn write(error: &icmpv4_error::Repr<'_>, out: &mut [u8]) -> Option<usize>
     ensures written { IfSome result (λ n. take n out.new
         ≡ packet_text (protocol (all_of Both)) (value_of error.now)) }
@@ -146,7 +146,7 @@ fn quotable(datagram: &[u8]) -> Option<&[u8]>
     Some(&datagram[..packet.total_len() as usize])
 }
 
-// Whether a whole packet is an error of ICMP.
+// Whether a whole packet is an ICMP error.
 fn is_error(packet: &Ipv4Packet<&[u8]>) -> bool
     requires { ipv4.BeginsWhole (ipv4.view_octets packet.now) }
     ensures { IsTrue result ↔ IsError (ipv4.view_octets packet.now) }
@@ -159,8 +159,8 @@ fn is_error(packet: &Ipv4Packet<&[u8]>) -> bool
     }
 }
 
-/// Writes the error that no one listens at the port of a packet of IPv6 over the front of the octets, and says how many
-/// bytes it takes: 8, and as many as it quotes of the packet, at most 1,232. It goes from the address of this host to
+/// Writes the error that no one listens at the port of an IPv6 packet to the start of the octets, and returns its
+/// length in bytes: 8, and as many as it quotes of the packet, at most 1,232. It goes from the address of this host to
 /// the packet's source. None exactly where no error may be sent about it, or where the octets have no room; then they
 /// are as they were.
 pub fn port_unreachable_v6(own: &Ipv6Address, packet: &[u8], out: &mut [u8]) -> Option<usize>
@@ -243,7 +243,7 @@ fn tell_v6(
     write_v6(&error, own, &source, out)
 }
 
-// Writes an error from this host over the front of the octets.
+// Writes an error from this host to the start of the octets.
 fn write_v6(
     error: &icmpv6_error::Repr<'_>,
     own: &Ipv6Address,

@@ -70,7 +70,7 @@ pub record BeginsWhole (bytes : List ℕ) : Type 0 where
   pub order : 8 ≤ len_in bytes
   pub total : len_in bytes ≤ length bytes
 
--- the datagram at the front of the bytes carries its checksum
+-- the datagram at the start of the bytes carries its checksum
 abbrev pub IsVerified : Addresses → List ℕ → Type 0
 IsVerified addresses bytes = IsGood (bytes_of (whole_field bytes) bytes) (sum_before addresses Udp (len_in bytes))
 

@@ -81,7 +81,7 @@ format capabilities addresses = record {
   IsCut = λ v. ⊥;
 }
 
--- The octets after a datagram is written over `old`: it is at the front, and what followed it is kept. Its checksum
+-- The octets after a datagram is written over `old`: it is at the start, and what followed it is kept. Its checksum
 -- holds where it is computed, and is not 0. Where there is just the datagram's length, it is all that is left. A
 -- canonical value is read back, whatever follows the datagram.
 pub record Emits (capabilities : ChecksumCapabilities) (addresses : Addresses) (v : UdpValue) (old new : List ℕ)

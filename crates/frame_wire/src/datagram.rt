@@ -139,9 +139,9 @@ const IPV4_HEADER_LEN: usize = 20;
 const FRAGMENT_HEADER_LEN: usize = 8;
 
 impl<'a> Datagram<'a> {
-    /// The datagram of IPv4 at the start of the octets, by its total length; what follows it, such as padding, is
-    /// ignored. The header's checksum is not verified, since machines that leave it to their network cards capture
-    /// packets without one; a receive path calls `Ipv4Packet::verify_checksum` too.
+    /// The IPv4 datagram at the start of the octets, by its total length; what follows it, such as padding, is ignored.
+    /// The header's checksum is not verified, since machines that leave it to their network cards capture packets
+    /// without one; a receive path calls `Ipv4Packet::verify_checksum` too.
     #[inline]
     pub fn parse_v4(octets: &'a [u8]) -> Result<Datagram<'a>, Refusal>
         ensures sound { IfOk result (λ d. IsDatagram4 octets.now (value_of d)) }
@@ -171,10 +171,10 @@ impl<'a> Datagram<'a> {
         })
     }
 
-    /// The datagram of IPv6 at the start of the octets, by its payload length; what follows it is ignored. Its
-    /// hop-by-hop, destination and routing headers are passed, and the options of a hop-by-hop header directly after
-    /// the fixed one are kept. The header of an atomic fragment (RFC 6946 section 2), at offset 0 with no more
-    /// fragments after it, is passed too; every other fragment is refused, and so is a jumbogram.
+    /// The IPv6 datagram at the start of the octets, by its payload length; what follows it is ignored. Its hop-by-hop,
+    /// destination and routing headers are passed, and the options of a hop-by-hop header directly after the fixed one
+    /// are kept. The header of an atomic fragment (RFC 6946 section 2), at offset 0 with no more fragments after it, is
+    /// passed too; every other fragment is refused, and so is a jumbogram.
     pub fn parse_v6(octets: &'a [u8]) -> Result<Datagram<'a>, Refusal>
         ensures sound { IfOk result (λ d. IsDatagram6 octets.now (value_of d)) }
         ensures refuses { IfErr result (λ refusal. Refuses6 octets.now refusal) }
@@ -268,7 +268,7 @@ fn read_v6<'a>(octets: &[u8], behind: &'a [u8]) -> Result<Datagram<'a>, Refusal>
     })
 }
 
-// Why the headers of IPv6 lead to no payload: one is cut, or none is counted, since the length is in the first.
+// Why the IPv6 headers lead to no payload: one is cut, or none is counted, since the length is in the first.
 #[inline(never)]
 fn torn_v6(octets: &[u8], behind: &[u8], protocol: IpProtocol) -> Refusal
     requires fixed { 40 ≤ length octets.now }

@@ -358,7 +358,7 @@ impl UdpRepr {
         Some(Refusal::Checksum)
     }
 
-    /// The ports of the datagram at the front of the octets, as [`UdpRepr::parse`] reads them, or else why it refuses
+    /// The ports of the datagram at the start of the octets, as [`UdpRepr::parse`] reads them, or else why it refuses
     /// them, as [`UdpRepr::refusal`] tells it: the check that fails first.
     pub fn parse_or_refusal(
         packet: &UdpPacket<&[u8]>,

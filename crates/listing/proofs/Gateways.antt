@@ -1,4 +1,4 @@
--- Addresses of IPv4 as their octets with dots between them.
+-- IPv4 addresses as their octets with dots between them.
 use Rattle.std.proofs.Common.{◌≡◌, codes, decimal, append_assoc, append-nil}
 use Rattle.std.specs.List.{join_by}
 use Rattle.wirebase.specs.Ipv4.{address_text, octets_of}

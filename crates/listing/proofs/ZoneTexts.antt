@@ -40,7 +40,7 @@ test_none : (b : Bool) (x y : List ℕ) → cond b (string_then x y) None ≡ No
 test_none true x y e = cc e
 test_none false x y e = refl
 
--- the string at the front of strings, and those after it
+-- the string at the start of strings, and those after it
 pub record IsFirstString (octets string rest : List ℕ) : Type 0 where
   pub whole : octets ≡ written string ++ rest
   pub fewer : length rest < length octets

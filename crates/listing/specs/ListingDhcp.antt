@@ -1,4 +1,4 @@
--- What a packet of DHCP prints: its fields in turn.
+-- What a DHCP packet prints: its fields in turn.
 use Rattle.std.specs.Prelude.{ℕ, List, [], ◌∷◌, ◌++◌, flat_map, codes, decimal}
 use Rattle.wirebase.specs.Ethernet.{Ethernet, octets_of}
 use Rattle.wirebase.specs.Ipv4.{address_text}

@@ -1,4 +1,4 @@
--- What a message of ICMPv4 prints.
+-- What an ICMPv4 message prints.
 use Rattle.std.specs.Prelude.{ℕ, List, ◌++◌, codes, decimal}
 use Rattle.wirebase.specs.Capabilities.{all_of}
 use Rattle.wirebase.specs.Ip.{protocol_number}

@@ -1,4 +1,4 @@
--- What an error of ICMPv4 prints, each line after a margin.
+-- What an ICMPv4 error prints, each line after a margin.
 use Rattle.std.specs.Prelude.{◌≡◌, ℕ, ◌/◌, ◌^◌, List, [], ◌++◌, codes, decimal}
 use Rattle.std.specs.List.{join_by}
 use Rattle.wirebase.specs.ByteWriter.{be32}

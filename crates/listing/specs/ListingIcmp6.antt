@@ -1,4 +1,4 @@
--- What a message of ICMPv6 prints.
+-- What an ICMPv6 message prints.
 use Rattle.std.specs.Prelude.{◌≡◌, ℕ, List, ◌++◌, codes, decimal}
 use Rattle.wirebase.specs.Capabilities.{all_of}
 use Rattle.wirebase.specs.Ipv6Address.{octets_of}

@@ -1,4 +1,4 @@
--- What an error of ICMPv6 prints, each line after a margin.
+-- What an ICMPv6 error prints, each line after a margin.
 use Rattle.std.specs.Prelude.{◌≡◌, ℕ, List, [], ◌++◌, codes, decimal}
 use Rattle.quote_wire.specs.Error.{ErrorValue}
 use Rattle.quote_wire.specs.Quote.{IsIpv6Quote}

@@ -1,4 +1,4 @@
--- What a message of IGMP prints.
+-- What an IGMP message prints.
 use Rattle.std.specs.Prelude.{ℕ, List, ◌++◌, codes}
 use Rattle.wirebase.specs.Ipv4.{address_text}
 use Rattle.icmp4_wire.specs.Igmp.{IsMessage}

@@ -1,4 +1,4 @@
--- How a header of IPv6 is listed as the part of a value.
+-- How an IPv6 header is listed as the part of a value.
 use Rattle.std.specs.Prelude.{ℕ, List, ◌++◌, codes, decimal}
 use Rattle.wirebase.specs.Ip.{protocol_number}
 use Rattle.wirebase.specs.Ipv6Address.{octets_of}

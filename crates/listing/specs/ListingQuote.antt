@@ -1,4 +1,4 @@
--- What errors of ICMP print of themselves, and of the datagram that they quote, each line after a margin.
+-- What ICMP errors print of themselves, and of the datagram that they quote, each line after a margin.
 use Rattle.std.specs.Prelude.{ℕ, ◌==◌, if◌then◌else◌, List, ◌++◌, Option, None, Some, codes, decimal}
 use Rattle.wirebase.specs.Ip.{protocol_number}
 use Rattle.wirebase.specs.Ipv4 as ipv4

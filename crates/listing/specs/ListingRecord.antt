@@ -83,7 +83,7 @@ section_text Answer = codes "answer"
 section_text Authority = codes "authority"
 section_text Additional = codes "additional"
 
--- the front of a line, and its end
+-- the start of a line, and its end
 unfoldable pub line_front : List ℕ → Section → List ℕ → List ℕ
 line_front margin section owner = margin ++ section_text section ++ codes "=" ++ owner
 

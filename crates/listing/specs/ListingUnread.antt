@@ -1,4 +1,4 @@
--- What tells why a message of DNS is not listed to its end.
+-- What tells why a DNS message is not listed to its end.
 use Rattle.std.specs.Prelude.{ℕ, List, [], ◌∷◌, codes}
 use Rattle.wirebase.specs.Display.{pieces}
 use Rattle.record_wire.specs.NameRefusal.{name_refusal_display}

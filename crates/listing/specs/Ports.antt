@@ -1,4 +1,4 @@
--- The ports at the front of a header of UDP (RFC 768) and of TCP (RFC 9293 section 3.1).
+-- The ports at the start of a header of UDP (RFC 768) and of TCP (RFC 9293 section 3.1).
 --
 --  0                   1                   2                   3
 --  0 1 2 3 4 5 6 7 8 9 0 1 2 3 4 5 6 7 8 9 0 1 2 3 4 5 6 7 8 9 0 1

@@ -1,4 +1,4 @@
-//! Packets of DHCP.
+//! DHCP packets.
 
 #![tactic(auto, using(crate::proofs::Printing::gains_both))]
 
@@ -18,7 +18,7 @@ use std::io;
 use std::io::Write;
 use wirebase::{EthernetAddress, Ipv4Address};
 
-/// Prints what a packet says.
+/// Prints the fields of a packet.
 pub fn show_dhcp<W: Write>(output: &mut W, packet: &[u8]) -> io::Result<()>
     ensures { OnOk result (GainsSome (W.contents output.old) (W.contents output.new)
         (DhcpPrints packet.now)) }

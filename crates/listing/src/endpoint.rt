@@ -1,4 +1,4 @@
-//! Where packets come from and go to: addresses, and ports where there are any.
+//! The source or destination of a packet: an address, and a port where there is one.
 
 #![tactic(auto, using(crate::proofs::Printing::gained, crate::proofs::Printing::gains_both))]
 
@@ -15,7 +15,7 @@ use std::io;
 use std::io::Write;
 use wirebase::{Ipv4Address, Ipv6Address};
 
-// How many octets the text of an endpoint takes at the most, and some beyond.
+// The size of a buffer for the text of an endpoint, a few octets more than the longest.
 const ROOM: usize = 64;
 
 /// Writes an address of IPv4, and its port where there is one, as `192.0.2.1:53`.
@@ -47,8 +47,8 @@ fn put_v4(room: &mut [u8; ROOM], address: Ipv4Address, port: Option<u16>) -> usi
     }
 }
 
-/// Writes an address of IPv6, as `2001:db8::1`, and in brackets where a port follows it, as `[2001:db8::1]:53` (RFC
-/// 5952 sections 4 and 6).
+/// Writes an IPv6 address, as `2001:db8::1`, and in brackets where a port follows it, as `[2001:db8::1]:53` (RFC 5952
+/// sections 4 and 6).
 pub fn write_v6<W: Write>(output: &mut W, address: Ipv6Address, port: Option<u16>) -> io::Result<()>
     ensures { OnOk result (Gains (W.contents output.old) (W.contents output.new)
         (v6_text address port)) }

@@ -1,4 +1,4 @@
-//! Messages of ICMPv4.
+//! ICMPv4 messages.
 
 #![tactic(auto, using(crate::proofs::Printing::gains_both))]
 
@@ -57,8 +57,8 @@ pub fn show_message<W: Write>(output: &mut W, message: &Repr<'_>) -> io::Result<
     }
 }
 
-/// Prints a message that was read, each line after two spaces. The page has room for what is indented; of an echo most
-/// is data, which is written at once.
+/// Prints a message that was read, each line after two spaces. The page is a buffer for text that is indented; the
+/// data, most of an echo, is written at once.
 pub fn show_indented<W: Write>(
     output: &mut W,
     page: &mut Page,

@@ -1,4 +1,4 @@
-//! Errors of ICMPv4, with what they quote.
+//! ICMPv4 errors, with what they quote.
 
 #![tactic(auto, using(crate::proofs::Printing::gains_both))]
 
@@ -16,7 +16,7 @@ use std::io;
 use std::io::Write;
 use wirebase::Ipv4Address;
 
-/// Prints an error and what it quotes, each line after a margin. Requires that it quotes the front of a datagram, as
+/// Prints an error and what it quotes, each line after a margin. Requires that it quotes the start of a datagram, as
 /// each error does that `Repr::parse` gives.
 pub fn show_error<W: Write>(output: &mut W, margin: &str, error: &Repr<'_>) -> io::Result<()>
     requires { IsDatagram error.now.quoted.now }
@@ -24,7 +24,7 @@ pub fn show_error<W: Write>(output: &mut W, margin: &str, error: &Repr<'_>) -> i
         (Icmp4ErrorPrints margin.now (value_of error.now))) }
 {
     let Ok(quote) = Ipv4Quote::parse(error.quoted) else {
-        // The front of a datagram is never refused.
+        // The start of a datagram is never refused.
         return Ok(());
     };
     show_quoting(output, margin, error, &quote)

@@ -1,4 +1,4 @@
-//! Messages of ICMPv6.
+//! ICMPv6 messages.
 
 #![tactic(auto, using(crate::proofs::Printing::gains_both))]
 
@@ -93,7 +93,7 @@ pub fn show_message<W: Write>(output: &mut W, message: &Repr<'_>) -> io::Result<
     }
 }
 
-/// Prints a message that was read, each line after two spaces. The page has room for what is indented.
+/// Prints a message that was read, each line after two spaces. The page is a buffer for text that is indented.
 pub fn show_indented<W: Write>(
     output: &mut W,
     page: &mut Page,

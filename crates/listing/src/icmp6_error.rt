@@ -1,4 +1,4 @@
-//! Errors of ICMPv6, with what they quote.
+//! ICMPv6 errors, with what they quote.
 
 #![tactic(auto, using(crate::proofs::Printing::gains_both))]
 
@@ -14,7 +14,7 @@ use quote_wire::quote::Ipv6Quote;
 use std::io;
 use std::io::Write;
 
-/// Prints an error and what it quotes, each line after a margin. Requires that it quotes the front of a packet, as each
+/// Prints an error and what it quotes, each line after a margin. Requires that it quotes the start of a packet, as each
 /// error does that `Repr::parse` gives.
 pub fn show_error<W: Write>(output: &mut W, margin: &str, error: &Repr<'_>) -> io::Result<()>
     requires { IsPacketFront error.now.quoted.now }
@@ -22,7 +22,7 @@ pub fn show_error<W: Write>(output: &mut W, margin: &str, error: &Repr<'_>) -> i
         (Icmp6ErrorPrints margin.now (value_of error.now))) }
 {
     let Ok(quote) = Ipv6Quote::parse(error.quoted) else {
-        // The front of a packet is never refused.
+        // The start of a packet is never refused.
         return Ok(());
     };
     show_quoting(output, margin, error, &quote)

@@ -1,4 +1,4 @@
-//! Messages of IGMP.
+//! IGMP messages.
 
 #![tactic(auto, using(crate::proofs::Printing::gains_both))]
 

@@ -1,4 +1,4 @@
-//! Addresses and headers of IPv6, which occur in messages of several formats.
+//! Addresses and IPv6 headers, which occur in messages of several formats.
 
 #![tactic(auto, using(crate::proofs::Printing::gains_both))]
 

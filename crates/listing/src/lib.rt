@@ -1,6 +1,6 @@
 //! Listings: what packets hold, printed a name or a field a line, after `name=`.
 //!
-//! Each `show_` prints what the grammar reads in some octets, or `refused` where it reads nothing.
+//! Each `show_` function prints what the grammar reads in some octets, or `refused` where it reads nothing.
 #![tactic(auto)]
 
 pub mod dhcp;

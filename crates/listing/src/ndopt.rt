@@ -15,7 +15,7 @@ use std::io;
 use std::io::Write;
 use wirebase::Result;
 
-/// Prints the option at the front of the octets.
+/// Prints the option at the start of the octets.
 pub fn show_ndopt<W: Write>(output: &mut W, packet: &[u8]) -> io::Result<()>
     ensures { OnOk result (GainsSome (W.contents output.old) (W.contents output.new)
         (NdoptPrints packet.now)) }
@@ -26,7 +26,7 @@ pub fn show_ndopt<W: Write>(output: &mut W, packet: &[u8]) -> io::Result<()>
     show_option(output, &option)
 }
 
-// The option at the front of the octets.
+// The option at the start of the octets.
 fn read(packet: &[u8]) -> Result<Repr<'_>>
     ensures sound { IfOk result (λ option. BeginsWith packet.now (value_of option)) }
     ensures refuses { IsErr result → (value : OptionValue) → BeginsWith packet.now value → ⊥ }
@@ -104,7 +104,7 @@ pub fn show_prefix<W: Write>(
     part_field(output, part, "prefix", prefix.prefix)
 }
 
-/// Prints a redirected packet, as a part whose name and a dot are `part`, and the same of its header.
+/// Prints a redirected packet and its header, as a part whose name and a dot are `part`.
 pub fn show_redirected<W: Write>(
     output: &mut W,
     header_part: &str,

@@ -14,7 +14,7 @@ use std::io::Write;
 /// The text before each line of an indented text.
 pub const MARGIN: &str = "  ";
 
-/// A text that is put together before it is written. It takes each write as one: a `Vec` takes it in a loop.
+/// A text that is put together before it is written. It takes each write at once, where a `Vec` takes it in a loop.
 #[derive(Drop)]
 pub struct Page {
     octets: Vec<u8>,
@@ -23,7 +23,7 @@ pub struct Page {
 impl Page {
     ghost use Rattle.listing.specs.Page.{text_of};
 
-    /// A page without a text.
+    /// An empty page.
     pub fn new(alloc: Global) -> Page
         ensures { text_of result ≡ [] }
     {
@@ -32,7 +32,7 @@ impl Page {
         }
     }
 
-    /// Takes the text away; the room that it had stays.
+    /// Removes the text; the memory is kept.
     pub fn clear(&mut self)
         ensures text { text_of self.new ≡ [] }
     {
@@ -82,7 +82,7 @@ pub fn write_indented<W: Write>(output: &mut W, text: &[u8]) -> io::Result<()>
     Ok(())
 }
 
-// How many octets the first line of a text has.
+// The number of octets of the first line of a text.
 fn line_len(text: &[u8]) -> usize
     requires { 0 < length text.now }
     ensures bound { result ≤ length text.now }

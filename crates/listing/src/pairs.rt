@@ -1,4 +1,4 @@
-//! Octets as hexadecimal digits, two for each. No step branches by a digit, so that many are turned at once.
+//! Octets as hexadecimal digits, two for each. Nothing branches by a digit, so that many are converted at once.
 
 ghost use Rattle.std.specs.Prelude.{◌≡◌, ◌*◌, ◌<◌, length, slice_index};
 ghost use Rattle.hex.specs.Hex.{encode_lower, lower_digits};

@@ -1,4 +1,4 @@
-//! What each value is printed with: names and fields, one a line.
+//! Printing of values: names and fields, one a line.
 
 #![tactic(auto, using(crate::proofs::Printing::gained, crate::proofs::Printing::gains_both))]
 
@@ -21,7 +21,7 @@ pub trait Value: Drop {
     /// What the value is printed as.
     ghost text: { Self → List ℕ };
 
-    /// Writes the value as it is printed, without a line's end.
+    /// Writes the value as it is printed, without a newline.
     fn write_to<W: Write>(self, output: &mut W) -> io::Result<()>
         ensures { OnOk result (Gains (W.contents output.old) (W.contents output.new) (text self)) };
 }
@@ -111,7 +111,7 @@ impl<V: Value> Value for Option<V> {
     }
 }
 
-// How many octets are turned into digits at a time, and the digits of these.
+// The number of octets that are converted to digits at a time, and the digits of these.
 const OCTETS: usize = 64;
 
 const DIGITS: usize = 2 * OCTETS;
@@ -131,7 +131,7 @@ impl Value for &[u8] {
     }
 }
 
-// Writes the digits of this many octets at the most.
+// Writes the digits of at most this many octets.
 fn write_digits<W: Write>(output: &mut W, octets: &[u8]) -> io::Result<()>
     requires { length octets.now ≤ OCTETS }
     ensures { OnOk result (Gains (W.contents output.old) (W.contents output.new)
@@ -143,7 +143,7 @@ fn write_digits<W: Write>(output: &mut W, octets: &[u8]) -> io::Result<()>
     output.write_all(digits)
 }
 
-/// Prints a line of its own: a variant's name, a value that has none, or an answer that is no value.
+/// Prints a line of its own: a variant's name, a value without a name, or a result that is no value.
 pub fn line<V: Value, W: Write>(output: &mut W, value: V) -> io::Result<()>
     ensures { OnOk result (Gains (W.contents output.old) (W.contents output.new)
         (line_text (V.text value))) }
@@ -152,8 +152,8 @@ pub fn line<V: Value, W: Write>(output: &mut W, value: V) -> io::Result<()>
     output.write_all(b"\n")
 }
 
-/// Prints a field, or a variant with one unnamed value, as `name=value`. Most callers know the name, so that inlined it
-/// is copied without a call.
+/// Prints a field, or a variant with one unnamed value, as `name=value`. Inlined: most callers know the name, and copy
+/// it without a call.
 #[inline(always)]
 pub fn field<V: Value, W: Write>(output: &mut W, name: &str, value: V) -> io::Result<()>
     ensures { OnOk result (Gains (W.contents output.old) (W.contents output.new)

@@ -1,4 +1,4 @@
-//! What errors of ICMP print of themselves, and of the datagram that they quote.
+//! What ICMP errors print of themselves, and of the datagram that they quote.
 
 #![tactic(auto, using(crate::proofs::Printing::gains_both))]
 
@@ -29,7 +29,7 @@ pub(crate) fn show_head<W: Write>(
     part_field(output, margin, "code", code)
 }
 
-/// Prints what an error of ICMPv4 quotes, each line after a margin.
+/// Prints what an ICMPv4 error quotes, each line after a margin.
 pub fn show_ipv4_quote<W: Write>(
     output: &mut W,
     margin: &str,
@@ -67,7 +67,7 @@ fn show_ipv4_path<W: Write>(output: &mut W, margin: &str, quote: &Ipv4Quote<'_>)
     quoted_field(output, margin, "dst_addr", quote.dst_addr)
 }
 
-// The ports of what is quoted; a fragment that is not the first begins with no header.
+// The ports in a quote; a fragment that is not the first begins with no header.
 fn ipv4_ports_of(quote: &Ipv4Quote<'_>) -> Option<(u16, u16)>
     ensures { result ≡ ipv4_ports quote.now }
 {
@@ -78,7 +78,7 @@ fn ipv4_ports_of(quote: &Ipv4Quote<'_>) -> Option<(u16, u16)>
     }
 }
 
-/// Prints what an error of ICMPv6 quotes, each line after a margin.
+/// Prints what an ICMPv6 error quotes, each line after a margin.
 pub fn show_ipv6_quote<W: Write>(
     output: &mut W,
     margin: &str,
@@ -128,7 +128,7 @@ fn show_ports<W: Write>(output: &mut W, margin: &str, ports: Option<(u16, u16)>)
     }
 }
 
-// Prints a field of what is quoted.
+// Prints a field of a quote.
 fn quoted_field<V: Value, W: Write>(
     output: &mut W,
     margin: &str,

@@ -1,4 +1,4 @@
--- The errors of ICMPv6 are a protocol's: their types have one number each, and the front of a packet is cut to one.
+-- The ICMPv6 errors are a protocol's: their types have one number each, and the start of a packet is cut to one.
 use Rattle.std.proofs.Common.{◌≡◌, ℕ, List, [], ◌∷◌, take, refl, arith}
 use Rattle.std.proofs.lemmas.List.{length-take}
 use Rattle.wirebase.specs.declared.capabilities.ChecksumCapabilities.{ChecksumCapabilities}

@@ -27,7 +27,7 @@ kind_number kind.Redirect = 5
 kind_number kind.TimeExceeded = 11
 kind_number kind.ParamProblem = 12
 
--- The front of an IPv4 datagram: its header, of version 4 and 20 bytes or more by its own length, and 8 bytes or more
+-- The start of an IPv4 datagram: its header, of version 4 and 20 bytes or more by its own length, and 8 bytes or more
 -- after it, whatever its total length says (RFC 792).
 pub record IsDatagram (bytes : List ℕ) : Type 0 where
   pub version : byte_of ihl_field bytes / 16 ≡ 4

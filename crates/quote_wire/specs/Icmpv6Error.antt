@@ -25,7 +25,7 @@ kind_number kind.PktTooBig = 2
 kind_number kind.TimeExceeded = 3
 kind_number kind.ParamProblem = 4
 
--- the front of an IPv6 packet: its header, of version 6, whatever its payload length says
+-- the start of an IPv6 packet: its header, of version 6, whatever its payload length says
 pub record IsPacketFront (bytes : List ℕ) : Type 0 where
   pub version : slice_index bytes 0 / 16 ≡ 6
   pub header : 40 ≤ length bytes

@@ -118,7 +118,7 @@ pub struct Repr<'a> {
 
 impl<'a> Repr<'a> {
     /// The error in the octets. Refused where they are fewer than 8, where their checksum is to be verified and is
-    /// wrong, where the type is not that of an error, and where what follows the header is not the front of an IPv4
+    /// wrong, where the type is not that of an error, and where what follows the header is not the start of an IPv4
     /// datagram: a header of version 4 and of 20 bytes or more by its own length, and 8 bytes or more after it. The
     /// datagram's total length is not looked at.
     pub fn parse(octets: &'a [u8], checksum_caps: &ChecksumCapabilities) -> Result<Repr<'a>>

@@ -1,5 +1,4 @@
-//! Whole messages of ICMP: errors with what they quote, whole or cut short, and messages of every other type that is
-//! read.
+//! Whole ICMP messages: errors with what they quote, whole or cut short, and messages of every other type that is read.
 
 mod icmpv4;
 mod icmpv6;

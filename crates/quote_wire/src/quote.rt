@@ -61,7 +61,7 @@ pub struct Ipv4Quote<'a> {
 }
 
 impl<'a> Ipv4Quote<'a> {
-    /// The quote in these octets, which are `icmpv4_error::Repr::quoted`. Refused where they are not the front of a
+    /// The quote in these octets, which are `icmpv4_error::Repr::quoted`. Refused where they are not the start of a
     /// datagram of version 4: a header of 20 bytes or more by its own length, and 8 bytes or more after it.
     pub fn parse(octets: &'a [u8]) -> Result<Ipv4Quote<'a>>
         ensures accepts { IsOk result ↔ IsDatagram octets.now }

@@ -1,4 +1,4 @@
--- What is in turn at the front of octets: as many turns as octets are enough.
+-- What is in turn at the start of octets: as many turns as octets are enough.
 use Rattle.std.proofs.Common.{◌≡◌, ℕ, zero, suc, ◌<◌, ◌≤◌, List, [], ◌∷◌, length, Option}
 use Rattle.std.proofs.Common.{None, Some, refl, sym, ap, ◌∙◌}
 use Rattle.std.proofs.Common.{arith}
@@ -10,7 +10,7 @@ use Rattle.record_wire.specs.Ahead.{then_more, ahead_up_to, ahead}
 abbrev pub Shrinks : {V : Type 0} → (List ℕ → Option (V × List ℕ)) → Type 0
 Shrinks {V} first = (octets rest : List ℕ) (v : V) → first octets ≡ Some (v, rest) → length rest < length octets
 
--- how the front came about
+-- how the start came about
 pub data Front {V : Type 0} (first : List ℕ → Option (V × List ℕ)) (octets : List ℕ) : Type 0 where
   none : first octets ≡ None → Front first octets
   one : (v : V) (rest : List ℕ) → first octets ≡ Some (v, rest) → Front first octets

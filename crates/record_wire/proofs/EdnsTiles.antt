@@ -11,7 +11,7 @@ use Rattle.record_wire.specs.Edns.{RefusesOption, option_at, why_none, answer_by
 use Rattle.record_wire.proofs.Characters.{both}
 use Rattle.record_wire.proofs.Ahead.{Shrinks, none, one, front, ahead_none, ahead_some}
 
--- ---- an option at the front
+-- ---- an option at the start
 
 abbrev the_option : List ℕ → OptionValue
 the_option bytes = record { code = number_of code_field bytes; data_ = take (option_len bytes) (drop 4 bytes) }
@@ -70,7 +70,7 @@ pub option_shrinks : (bytes rest : List ℕ) (option : OptionValue) → IsOption
 option_shrinks bytes rest option is =
     omega (arith, is.reaches, ap length is.rest_, length-drop (option_len bytes) (drop 4 bytes), length-drop 4 bytes)
 
--- ---- why none is at the front
+-- ---- why none is at the start
 
 why_at : (enough : Bool) → enough ≡ true → cond enough refusal.Data refusal.Fields ≡ refusal.Data
 why_at enough e = rw e refl

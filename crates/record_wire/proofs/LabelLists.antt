@@ -11,7 +11,7 @@ use Rattle.dns_wire.specs.DnsName.{IsLabel, written}
 use Rattle.record_wire.specs.Labels.{first_label, by_first, labels_up_to, labels_in, written_all, wire, AreOfName}
 use Rattle.record_wire.proofs.Characters.{both}
 
--- the label at the front
+-- the label at the start
 pub record IsFirst (octets label rest : List ℕ) : Type 0 where
   pub one : IsLabel label
   pub whole : octets ≡ written label ++ rest
@@ -78,7 +78,7 @@ first_shorter_label octets label rest e =
 
 -- ---- all labels
 
--- how the front came about
+-- how the start came about
 data Front (octets : List ℕ) : Type 0 where
   none : first_label octets ≡ None → Front octets
   one : (label rest : List ℕ) → first_label octets ≡ Some (label, rest) → Front octets

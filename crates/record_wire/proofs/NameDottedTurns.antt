@@ -44,7 +44,7 @@ piece_copied room label ahead part at n fits long within front is =
 
 -- ---- the text so far
 
--- The room's front has the labels that were read, each before a dot.
+-- The buffer's front has the labels that were read, each before a dot.
 pub record IsPutTo (text message left reach room : List ℕ) (at dots pointers : ℕ) : Type 0 where
   pub whole_ : length room ≡ 256
   pub octets : List ℕ

@@ -21,7 +21,7 @@ use Rattle.record_wire.proofs.LabelLists.{drop_seam, written_more, each_more, na
 pub drop_whole : (n : ℕ) (xs : List ℕ) → take (length xs - n) (drop n xs) ≡ drop n xs
 drop_whole n xs = take_all (length xs - n) (drop n xs) (omega (arith, length-drop n xs))
 
--- ---- labels at the front of a text
+-- ---- labels at the start of a text
 
 pub none_in_front : (text : List ℕ) → AreInFront text 0
 none_in_front text = record { labels = []; rest = text; each = tt; is = refl; count = refl }

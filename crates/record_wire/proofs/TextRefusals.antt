@@ -22,7 +22,7 @@ none_begins text e = λ byte character rest is whole.
 
 -- ---- labels
 
--- the characters at the front of a text, as many as there are
+-- the characters at the start of a text, as many as there are
 abbrev Spelling : List ℕ → Type 0
 Spelling text = (label : List ℕ) × (rest : List ℕ) × IsSpelling text label rest
 

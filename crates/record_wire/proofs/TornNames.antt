@@ -96,7 +96,7 @@ torn_cut (x ∷ xs) e far = elim (chosen (eqb x 0) _ _ torn (sym e)) [
   ]
 ]
 
--- what is refused after labels is refused from their front on
+-- what is refused after labels is refused from their start on
 each_both : (done labels : List (List ℕ)) → AllByRecursion IsLabel done → AllByRecursion IsLabel labels
     → AllByRecursion IsLabel (done ++ labels)
 each_both [] labels each more = more

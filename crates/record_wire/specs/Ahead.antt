@@ -1,4 +1,4 @@
--- What is in turn at the front of octets, as it is computed: what the models of iterators are.
+-- What is in turn at the start of octets, as it is computed: what the models of iterators are.
 use Rattle.std.specs.Prelude.{◌≡◌, ℕ, zero, suc, List, [], ◌∷◌, length, Option, None, Some}
 use Rattle.std.specs.Borrow.{Bor}
 
@@ -6,7 +6,7 @@ abbrev pub then_more : {V : Type 0} → Option (V × List ℕ) → (List ℕ →
 then_more None go = []
 then_more (Some (v, rest)) go = v ∷ go rest
 
--- in at most this many turns, where `first` gives what is at the front of octets, and what follows it
+-- in at most this many turns, where `first` gives what is at the start of octets, and what follows it
 unfoldable pub ahead_up_to : {V : Type 0} → (List ℕ → Option (V × List ℕ)) → ℕ → List ℕ → List V
 ahead_up_to first zero octets = []
 ahead_up_to first (suc most) octets = then_more (first octets) (ahead_up_to first most)

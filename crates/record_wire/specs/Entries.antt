@@ -88,7 +88,7 @@ pub record IsSettled (left : Left) : Type 0 where
   pub most : left.taken ≤ left.ends.all
   pub none : left.refused ≡ true → HasEntry (section_at left.ends left.taken) left.bytes → ⊥
 
--- the next entry is at the front of the bytes
+-- the next entry is at the start of the bytes
 pub record IsNext (old : Left) (e : EntryValue) (new : Left) : Type 0 where
   pub unbroken : old.refused ≡ false
   pub some : old.taken < old.ends.all
@@ -97,7 +97,7 @@ pub record IsNext (old : Left) (e : EntryValue) (new : Left) : Type 0 where
   pub taken_ : new.taken ≡ old.taken + 1
   pub refused_ : new.refused ≡ false
 
--- an entry is left, and none is at the front of the bytes; none is left then, and the bytes stay
+-- an entry is left, and none is at the start of the bytes; none is left then, and the bytes stay
 pub record IsBroken (old new : Left) : Type 0 where
   pub unbroken : old.refused ≡ false
   pub some : old.taken < old.ends.all

@@ -108,7 +108,7 @@ signature_in bytes = record {
   key_tag = number_of key_tag_field bytes;
 }
 
--- three strings are at the front of the bytes: flags, services and a regular expression (RFC 3403 section 4.1)
+-- three strings are at the start of the bytes: flags, services and a regular expression (RFC 3403 section 4.1)
 pub record AreThree (bytes strings rest : List ℕ) : Type 0 where
   pub flags : List ℕ
   pub services : List ℕ
@@ -135,7 +135,7 @@ pub record IsSignature (bytes : List ℕ) (value : FrontValue) (rest : List ℕ)
   pub is : value ≡ signs (signature_in bytes)
   pub rest_ : rest ≡ drop 18 bytes
 
--- these fields are at the front of the bytes, and then a rest
+-- these fields are at the start of the bytes, and then a rest
 abbrev pub IsFront : FrontForm → List ℕ → FrontValue → List ℕ → Type 0
 IsFront front_form.Nothing bytes value rest = (value ≡ no_front) × (rest ≡ bytes)
 IsFront front_form.Number bytes value rest = IsNumber bytes value rest

@@ -18,7 +18,7 @@ pub record AreOfName (labels : List (List ℕ)) : Type 0 where
 
 -- ---- the labels in octets, as they are computed
 
--- the label at the front of octets, and what follows it
+-- the label at the start of octets, and what follows it
 abbrev pub first_label : List ℕ → Option (List ℕ × List ℕ)
 first_label [] = None
 first_label (n ∷ rest) =
@@ -28,7 +28,7 @@ abbrev pub by_first : Option (List ℕ × List ℕ) → (List ℕ → List (List
 by_first None go = []
 by_first (Some (label, rest)) go = label ∷ go rest
 
--- the labels at the front of octets, this many at most
+-- the labels at the start of octets, this many at most
 unfoldable pub labels_up_to : ℕ → List ℕ → List (List ℕ)
 labels_up_to zero octets = []
 labels_up_to (suc most) octets = by_first (first_label octets) (labels_up_to most)

@@ -7,7 +7,7 @@ use Rattle.dns_wire.specs.declared.dns.part.Front.TheVariants.{Label, Pointer, E
 use Rattle.record_wire.specs.Labels.{wire, written_all}
 use Rattle.record_wire.specs.Names.{Names}
 
--- whole labels are at the front of a text, and take this many bytes
+-- whole labels are at the start of a text, and take this many bytes
 pub record AreInFront (text : List ℕ) (len : ℕ) : Type 0 where
   pub labels : List (List ℕ)
   pub rest : List ℕ
@@ -28,7 +28,7 @@ pub record AreNamed (text message octets : List ℕ) : Type 0 where
   pub names_ : Names message text labels
   pub written_ : octets ≡ wire labels
 
--- these bytes are at the front of a text
+-- these bytes are at the start of a text
 pub record StandInFront (bytes text : List ℕ) : Type 0 where
   pub rest : List ℕ
   pub is : text ≡ bytes ++ rest

@@ -1,4 +1,4 @@
--- Text that is written by the piece: what a formatter wrote, and what waits at the front of a piece.
+-- Text that is written by the piece: what a formatter wrote, and what waits at the start of a piece.
 use Rattle.std.specs.Prelude.{◌≡◌, ℕ, List, ◌++◌, IfOk, Result, take}
 use Rattle.std.specs.Fmt.{HasWritten, IsPlainFormatter}
 use Rattle.std.specs.Str.{IsAscii}

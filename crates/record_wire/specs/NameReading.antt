@@ -1,4 +1,4 @@
--- The characters at the front of a text, as they are computed: what private functions answer.
+-- The characters at the start of a text, as they are computed: what private functions answer.
 use Rattle.std.specs.Prelude.{◌≡◌, ℕ, ◌+◌, ◌-◌, ◌*◌, ◌==◌, ◌&&◌, not, nat_lt, if◌then◌else◌, List, [], ◌∷◌}
 use Rattle.std.specs.Prelude.{Option, None, Some}
 use Rattle.std.specs.Char.{is_ascii_graphic, is_ascii_digit}
@@ -77,7 +77,7 @@ abbrev pub seen_label : Option (Bor (List ℕ) × Bor (List ℕ)) → Option (Li
 seen_label None = None
 seen_label (Some (label, rest)) = Some (label.now, rest.now)
 
--- the characters at the front of a text, as many as there are
+-- the characters at the start of a text, as many as there are
 pub record IsSpelling (text bytes rest : List ℕ) : Type 0 where
   pub spells : Spells text bytes rest
   pub no_more : first_byte rest ≡ None

@@ -15,7 +15,7 @@ use Rattle.record_wire.specs.declared.refusal.Refusal.TheVariants as refusal
 
 -- ---- names of one part
 
--- whole labels are at the front of a text, and then this
+-- whole labels are at the start of a text, and then this
 pub record Behind (text left : List ℕ) : Type 0 where
   pub labels : List (List ℕ)
   pub each : AllByRecursion IsLabel labels

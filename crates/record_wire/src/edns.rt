@@ -249,8 +249,8 @@ impl fmt::Display for OptionRefusal {
     }
 }
 
-/// The options in the data of an OPT record in turn: each one while they read, one refusal where there is no whole
-/// option, which says why, as [`EdnsOption::refusal`] does, and then the end for good.
+/// The options in the data of an OPT record in turn. At octets that do not begin with a whole option it returns one
+/// refusal, the one that [`EdnsOption::refusal`] gives, and then always None.
 ///
 /// ```
 /// use record_wire::{EdnsOptions, OptionRefusal};

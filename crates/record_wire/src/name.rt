@@ -108,7 +108,7 @@ impl Name {
         Ok(Name { octets })
     }
 
-    /// Why [`Name::from_text`] refuses this text, which it reads from its front on, by the check that fails first; None
+    /// Why [`Name::from_text`] refuses this text, which it reads from its start on, by the check that fails first; None
     /// where it is that of a name.
     ///
     /// ```

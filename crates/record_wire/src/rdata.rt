@@ -414,7 +414,7 @@ fn are_strings(octets: &[u8]) -> bool
     true
 }
 
-// What follows the string at the front of octets. None where there is no whole string.
+// What follows the string at the start of octets. None where there is no whole string.
 fn behind_string(octets: &[u8]) -> Option<&[u8]>
     ensures { seen_rest result ≡ string_rest octets.now }
 {

@@ -32,7 +32,7 @@ impl<'a> Model for TxtStrings<'a> {
 }
 
 impl<'a> TxtStrings<'a> {
-    /// The strings in these octets, from their front on.
+    /// The strings in these octets, from their start on.
     pub fn new(octets: &'a [u8]) -> TxtStrings<'a>
         ensures strings { AreStringsAhead octets.entry.now result }
         ensures unique { (others : List (List ℕ)) → AreStringsAhead octets.entry.now others
@@ -62,7 +62,7 @@ impl<'a> Iterator for TxtStrings<'a> {
     }
 }
 
-// The string at the front of octets, and what follows it. None where there is no whole string.
+// The string at the start of octets, and what follows it. None where there is no whole string.
 fn split_string(octets: &[u8]) -> Option<(&[u8], &[u8])>
     ensures { seen_label result ≡ first_string octets.now }
 {

@@ -15,7 +15,7 @@ const CHAIN_EVERY: u32 = 64;
 
 const CAPTURE_EVERY: u32 = 16;
 
-/// Reads packets of all kinds, in each round others, and gives a digest of what was read.
+/// Reads packets of all kinds, in each round others, and returns a digest of what was read.
 // Apart from the other jobs: inlined beside them, its code decides which registers theirs have.
 #[inline(never)]
 pub fn digest(alloc: Global, seed: u64, rounds: u32) -> io::Result<u64> {

@@ -12,13 +12,13 @@ pub mod since_start;
 
 use byteorder::{ByteOrder, LittleEndian};
 
-// How far the digest is turned before a word is added to it.
+// The rotation of the digest before a word is added to it.
 const TURN: u32 = 5;
 
 // The digest of a missing value: no number of 32 bits.
 const MISSING: u64 = 0x1_0000_0000;
 
-// The bytes that are added of the front of data.
+// The number of leading bytes that are added of data.
 const FRONT_LEN: usize = 64;
 
 /// What was digested so far.

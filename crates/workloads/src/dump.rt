@@ -14,7 +14,7 @@ use std::io::{self, BufReader};
 // The bytes of a buffer that many records do not fit.
 const SHORT_BUFFER_LEN: usize = 512;
 
-/// Writes a capture in each round, another each time, reads it, and gives a digest of what was read.
+/// Writes a capture in each round, another each time, reads it, and returns a digest of what was read.
 // Apart from the other jobs: inlined beside them, its code decides which registers theirs have.
 #[inline(never)]
 pub fn digest(alloc: Global, seed: u64, rounds: u32) -> io::Result<u64> {

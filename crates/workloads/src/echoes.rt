@@ -25,7 +25,7 @@ const COMMON_LEN: u32 = 1_344;
 
 const LONG_LEN: usize = 65_507;
 
-// How often an echo has as much data as IPv4 carries.
+// How often an echo has as much data as IPv4 can carry.
 const LONG_EVERY: u32 = 1_024;
 
 // The lengths of what has a checksum: a header, a header with options, a segment, and packets of links.
@@ -49,7 +49,7 @@ const KINDS_V6: [icmpv6_error::Kind; 4] = [
 // The buffers of a host.
 #[derive(Drop)]
 struct Buffers {
-    // A datagram of IPv4 and a packet of IPv6, about which errors are sent.
+    // A datagram of IPv4 and an IPv6 packet, about which errors are sent.
     datagram: [u8; PACKET_LEN],
     packet: [u8; PACKET_LEN],
     // What a peer sends, and what the host answers.
@@ -57,7 +57,7 @@ struct Buffers {
     reply: [u8; PACKET_LEN],
 }
 
-/// Answers echoes and sends errors, each round others, and gives a digest of what was read and written.
+/// Answers echoes and sends errors, each round others, and returns a digest of what was read and written.
 pub fn digest(alloc: Global, seed: u64, rounds: u32) -> io::Result<u64> {
     let mut random = Random::new(seed);
     let pool = Pool::new(alloc, &mut random)?;
@@ -271,8 +271,8 @@ fn write_packet(number: u64, packet: &mut [u8])
     BigEndian::write_u64(&mut packet[40..48], number.wrapping_mul(5));
 }
 
-// Sends an error about a datagram, and reads it both with the bytes that it quotes and what they hold, and with
-// the header that they have.
+// Sends an error about a datagram, and reads it twice: with the quoted bytes and the fields in these, and with the
+// quoted header alone.
 fn send_error(number: u64, datagram: &[u8], reply: &mut [u8], digest: &mut Digest) {
     let caps = ChecksumCapabilities::default();
     let error = icmpv4_error::Repr {
@@ -303,7 +303,7 @@ fn send_error(number: u64, datagram: &[u8], reply: &mut [u8], digest: &mut Diges
     }
 }
 
-// An error about a packet of IPv6.
+// An error about an IPv6 packet.
 fn send_error_v6(number: u64, quoted: &[u8], reply: &mut [u8], digest: &mut Digest) {
     let caps = ChecksumCapabilities::default();
     let own = address(number);

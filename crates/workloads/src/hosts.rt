@@ -39,7 +39,7 @@ const SOURCE_LEN: usize = 16;
 // a label of security, a request of rate, a trace, MPL, a long packet and a home address.
 const OTHER_OPTIONS: [u8; 8] = [0x63, 0x04, 0x07, 0x26, 0x31, 0x6d, 0xc2, 0xc9];
 
-/// Exchanges messages, in each round others, and gives a digest of what was read and written.
+/// Exchanges messages, in each round others, and returns a digest of what was read and written.
 pub fn digest(alloc: Global, seed: u64, rounds: u32) -> io::Result<u64> {
     let mut random = Random::new(seed);
     let pool = Pool::new(alloc, &mut random)?;

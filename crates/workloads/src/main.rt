@@ -60,7 +60,7 @@ impl Job {
         }
     }
 
-    // How many rounds a measurement has where no word says it, each on other input.
+    // The number of rounds of a measurement where none is given, each on other input.
     fn rounds(self) -> u32 {
         match self {
             Job::Dump => 8_000,
@@ -72,7 +72,7 @@ impl Job {
         }
     }
 
-    // Does the job, and gives a digest of its results.
+    // Does the job, and returns a digest of its results.
     fn digest(self, alloc: Global, seed: u64, rounds: u32) -> io::Result<u64> {
         match self {
             Job::Dump => dump::digest(alloc, seed, rounds),

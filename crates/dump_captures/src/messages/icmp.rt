@@ -1,4 +1,4 @@
-//! Messages of ICMP of both families, and of IGMP.
+//! ICMP messages of both families, and of IGMP.
 
 #![tactic(auto, using(listing::proofs::Printing::gained, listing::proofs::Printing::gains_both))]
 
@@ -17,7 +17,7 @@ use quote_wire::message::{Icmpv4Message, Icmpv6Message};
 use std::io::Write;
 use wirebase::{ChecksumCapabilities, Ipv6Address};
 
-/// Prints a message of ICMPv4.
+/// Prints an ICMPv4 message.
 pub fn show_icmp4<W: Write>(
     output: &mut W,
     page: &mut Page,
@@ -39,7 +39,7 @@ pub fn show_icmp4<W: Write>(
     }
 }
 
-/// Prints a message of IGMP.
+/// Prints an IGMP message.
 pub fn show_igmp<W: Write>(
     output: &mut W,
     page: &mut Page,
@@ -58,7 +58,7 @@ pub fn show_igmp<W: Write>(
     }
 }
 
-/// Prints a message of ICMPv6 from one address to another.
+/// Prints an ICMPv6 message from one address to another.
 pub fn show_icmp6<W: Write>(
     output: &mut W,
     page: &mut Page,

@@ -1,4 +1,4 @@
-//! What is sent by UDP: messages of DNS, and packets of DHCP.
+//! Messages over UDP: DNS and DHCP.
 
 #![tactic(auto, using(listing::proofs::Printing::gained, listing::proofs::Printing::gains_both))]
 
@@ -24,7 +24,7 @@ use listing::page::{MARGIN, Page};
 use std::io::Write;
 use wirebase::ChecksumCapabilities;
 
-/// Prints a message of DNS, multicast or not, that a datagram of UDP holds.
+/// Prints a DNS message, multicast or not, that a UDP datagram holds.
 pub fn show_dns<W: Write>(
     output: &mut W,
     addresses: &Addresses,
@@ -40,7 +40,7 @@ pub fn show_dns<W: Write>(
     }
 }
 
-/// Prints a packet of DHCP that a datagram of UDP holds.
+/// Prints a DHCP packet that a UDP datagram holds.
 pub fn show_dhcp<W: Write>(
     output: &mut W,
     page: &mut Page,

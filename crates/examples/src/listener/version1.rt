@@ -10,7 +10,7 @@ use super::HOP_LIMIT;
 use control_wire::icmpv6::{Message, Packet};
 use control_wire::{Duration, IPV6_LINK_LOCAL_ALL_ROUTERS, Ipv6Address};
 
-/// The bytes of each message.
+/// The length of each message in bytes.
 pub const MESSAGE_LEN: usize = 24;
 
 // The types of a report and of a done message (RFC 2710 section 3.1).
@@ -18,7 +18,7 @@ const REPORT: u8 = 131;
 
 const DONE: u8 = 132;
 
-/// Writes the report by which a host says that it listens to a group over the front of the octets, to be sent to that
+/// Writes the report by which a host says that it listens to a group to the start of the octets, to be sent to that
 /// group (RFC 2710 section 4). None exactly where they are fewer than 24; then they are as they were.
 pub fn report(own: &Ipv6Address, group_addr: &Ipv6Address, out: &mut [u8]) -> Option<usize>
     ensures reports { IfSome result (λ n. IsMessage 131 own.now group_addr.now group_addr.now (take n out.new)) }
@@ -74,7 +74,7 @@ pub fn max_delay(
     Some(Duration::from_millis(packet.max_resp_code() as u64))
 }
 
-// Writes a message of this type about a group over the front of the octets.
+// Writes a message of this type about a group to the start of the octets.
 fn write(
     kind: u8,
     own: &Ipv6Address,

@@ -34,7 +34,7 @@ pub struct Captured<'a> {
 }
 
 impl<'a> Captured<'a> {
-    /// The datagram of IPv4 at the start of the octets, whole or cut. A whole one is read as `Datagram::parse_v4` reads
+    /// The IPv4 datagram at the start of the octets, whole or cut. A whole one is read as `Datagram::parse_v4` reads
     /// it. One that goes on past the octets has the payload that is there, and the number of missing bytes. One with a
     /// total length of 0 ends with the octets. Refused with `Cut` where the header itself, with its options, is cut,
     /// and where `Datagram::parse_v4` refuses for another reason; a fragment is a `Fragment`, also where it is cut.
@@ -68,7 +68,7 @@ impl<'a> Captured<'a> {
         }
     }
 
-    /// The datagram of IPv6 at the start of the octets, whole or cut. A whole one is read as `Datagram::parse_v6` reads
+    /// The IPv6 datagram at the start of the octets, whole or cut. A whole one is read as `Datagram::parse_v6` reads
     /// it. One that goes on past the octets has the payload that is there, and the number of missing bytes. Refused
     /// with `Cut` where a header that extends IPv6 is cut, and where `Datagram::parse_v6` refuses for another reason; a
     /// fragment is a `Fragment`, also where it is cut.
@@ -87,7 +87,7 @@ impl<'a> Captured<'a> {
     }
 }
 
-// A datagram of IPv4 of which all octets after the header are payload.
+// An IPv4 datagram of which all octets after the header are payload.
 fn open_v4<'a>(octets: &'a [u8], head: Head) -> Result<Datagram<'a>, Refusal>
     requires opening { IsOpening4 octets.now }
     requires head { IsHead4 octets.now head }
@@ -111,7 +111,7 @@ fn open_v4<'a>(octets: &'a [u8], head: Head) -> Result<Datagram<'a>, Refusal>
     })
 }
 
-// A datagram of IPv6 that lacks some of its bytes.
+// An IPv6 datagram that lacks some of its bytes.
 fn cut_v6<'a>(octets: &'a [u8], head: Head) -> Result<Captured<'a>, Refusal>
     requires header { HasHeader6 octets.now }
     requires cut { length octets.now < total_len6 octets.now }

@@ -23,8 +23,8 @@ const OCTETS: &[u8; 1024] = b"\
     224.225.226.227.228.229.230.231.232.233.234.235.236.237.238.239.\
     240.241.242.243.244.245.246.247.248.249.250.251.252.253.254.255.";
 
-/// Puts a number of one octet after the first octets of a room, and a dot, and returns where they end. Four octets are
-/// copied, since a length that the compiler knows costs less: what follows the answer has no meaning.
+/// Puts a number of one octet and a dot after the first octets of a buffer, and returns the end. Four octets are
+/// copied, since a copy of constant length is cheaper: what follows the end has no meaning.
 #[inline(always)]
 pub fn put_octet(room: &mut [u8; ROOM], at: usize, number: u8) -> usize
     requires { at ≤ 56 }
@@ -44,7 +44,7 @@ fn digits_and_dots(number: u8) -> [u8; 4]
     [OCTETS[at], OCTETS[at + 1], OCTETS[at + 2], OCTETS[at + 3]]
 }
 
-// How many digits a number has, without a branch.
+// The number of digits of a number, without a branch.
 fn count(number: u8) -> usize
     ensures value { result ≡ length (decimal number) }
     ensures bound { result ≤ 3 }
@@ -52,7 +52,7 @@ fn count(number: u8) -> usize
     1 + (number >= 10) as usize + (number >= 100) as usize
 }
 
-/// Puts a port after the first octets of a room, and returns where it ends.
+/// Puts a port after the first octets of a buffer, and returns the end.
 pub fn put_port(room: &mut [u8; ROOM], at: usize, port: u16) -> usize
     requires { at ≤ 56 }
     ensures text { take result room.new ≡ take at room.old ++ decimal port }
@@ -66,8 +66,8 @@ pub fn put_port(room: &mut [u8; ROOM], at: usize, port: u16) -> usize
     ones + 1
 }
 
-// Puts the last digit of a number after that of its tenth, at `at`, or over it where the tenth is 0. Returns the place
-// of the digit.
+// Puts the last digit of a number after that of its tenth, at `at`, or in its place where the tenth is 0. Returns the
+// place of the digit.
 #[inline(always)]
 fn next_digit(room: &mut [u8; ROOM], at: usize, number: u16) -> usize
     requires { at ≤ 62 }

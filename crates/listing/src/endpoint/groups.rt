@@ -29,8 +29,8 @@ fn group(high: u8, low: u8) -> u16
     u16::from(high) * 256 + u16::from(low)
 }
 
-/// Puts the text of groups after the first octets of a room, and returns where it ends: the first longest run of two
-/// zeros or more is `::`.
+/// Puts the text of groups after the first octets of a buffer, and returns its end: the first longest run of two zeros
+/// or more is `::`.
 pub fn put_address(room: &mut [u8; ROOM], at: usize, groups: &[u16; 8]) -> usize
     requires { at ≤ 8 }
     ensures text { take result room.new ≡ take at room.old ++ hex_groups_text groups.now }
@@ -45,7 +45,7 @@ pub fn put_address(room: &mut [u8; ROOM], at: usize, groups: &[u16; 8]) -> usize
     put_groups(room, behind, &groups[start + len..])
 }
 
-// Where the first longest run of zeros starts, and how many they are.
+// The start and the length of the first longest run of zeros.
 fn longest_run(groups: &[u16; 8]) -> (usize, usize)
     ensures start { result.0 ≡ (longest_zero_run groups.now).0 }
     ensures len { result.1 ≡ (longest_zero_run groups.now).1 }
@@ -96,8 +96,8 @@ fn put_group(room: &mut [u8; ROOM], at: usize, group: u16) -> usize
     last + 2
 }
 
-// Puts the last digit of a number after that of its sixteenth, at `at`, or over it where the sixteenth is 0. Returns
-// the place of the digit.
+// Puts the last digit of a number after that of its sixteenth, at `at`, or in its place where the sixteenth is 0.
+// Returns the place of the digit.
 #[inline(always)]
 fn next_digit(room: &mut [u8; ROOM], at: usize, number: u16) -> usize
     requires { at ≤ 62 }

@@ -20,8 +20,8 @@ use record_wire::{FieldsText, NameRefusal};
 use std::io;
 use std::io::Write;
 
-/// Writes the line of a record up to its end, where the names in its data read; else nothing, and it answers why the
-/// first that does not read is refused.
+/// Writes the line of a record up to its end, where the names in its data read; else nothing, and returns why the first
+/// name that does not read is refused.
 pub fn show_data<'a, W: Write>(
     output: &mut W,
     packet: &Packet<&'a [u8]>,
@@ -163,7 +163,7 @@ fn show_authority<'a, W: Write>(
     Ok(None)
 }
 
-// Prints by way of record_wire's text, which is slower, since these types are rare.
+// Printed as record_wire's text, which is slower, since these types are rare.
 fn show_fields<'a, W: Write>(
     output: &mut W,
     packet: &Packet<&'a [u8]>,

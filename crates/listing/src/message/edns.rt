@@ -18,7 +18,7 @@ use record_wire::{Edns, EdnsOption, EdnsOptions, Record, TextRefusal};
 use std::io;
 use std::io::Write;
 
-/// Prints an OPT record, which says this, up to an option that is cut.
+/// Prints an OPT record with these fields, up to an option that is cut.
 pub fn show_opt<'a, W: Write>(
     output: &mut W,
     margin: &str,
@@ -39,7 +39,7 @@ pub fn show_opt<'a, W: Write>(
     show_options(output, margin, edns.options())
 }
 
-// Prints what the record says of its sender.
+// Prints the fields about the sender.
 fn show_sender<W: Write>(output: &mut W, margin: &str, edns: &Edns<'_>) -> io::Result<()>
     ensures { OnOk result (Gains (W.contents output.old) (W.contents output.new)
         (sender_listing margin.now (edns_of edns.now))) }

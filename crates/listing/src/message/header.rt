@@ -56,7 +56,7 @@ impl Value for FlagNames {
     }
 }
 
-// Puts the names, each with a comma after it, at the room's front, and returns where they end.
+// Puts the names, each with a comma after it, at the start of the buffer, and returns their end.
 fn put_names(word: u16, room: &mut [u8; NAMES_LEN]) -> usize
     ensures fits { result ≤ 21 }
     ensures puts { take result room.new ≡ each_behind (names_set flag_names word) }

@@ -15,11 +15,11 @@ use record_wire::{Name, NameRefusal};
 use std::io;
 use std::io::Write;
 
-/// The text of a name, with its last dot; the root is a dot. It is large, so it is made first and then filled where it
-/// stays.
+/// The text of a name, with its last dot; the root is a dot. It is large, so it is made empty first and then filled in
+/// its place.
 #[derive(Drop)]
 pub struct NameText {
-    // Most names have no byte that needs a backslash; their text is at the front of this buffer.
+    // Most names have no byte that needs a backslash; their text is at the start of this buffer.
     room: [u8; ROOM_LEN],
     len: usize,
     // A name of another text.

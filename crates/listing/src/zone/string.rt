@@ -28,7 +28,7 @@ pub fn strings<W: Write>(output: &mut W, octets: &[u8]) -> io::Result<()>
     Ok(())
 }
 
-// The string at the front of octets, and what follows it. None where there is no whole string.
+// The string at the start of octets, and what follows it. None where there is no whole string.
 fn split_string(octets: &[u8]) -> Option<(&[u8], &[u8])>
     ensures { seen_label result ≡ first_string octets.now }
 {
@@ -67,7 +67,7 @@ fn behind(string: &[u8], place: usize) -> &[u8]
     &string[place + 1..]
 }
 
-// How many bytes at the front are written as themselves.
+// The number of leading bytes that are written as themselves.
 fn plain_len(string: &[u8]) -> usize
     ensures fits { result ≤ length string.now }
     ensures plain { flat_map string_character (take result string.now) ≡ take result string.now }

@@ -51,7 +51,7 @@ impl Ipv6Quote<'_> {
     }
 }
 
-// The check that fails first in octets that are not the front of an IPv4 datagram.
+// The check that fails first in octets that are not the start of an IPv4 datagram.
 pub(crate) fn why_no_datagram(octets: &[u8]) -> Refusal
     requires { IsDatagram octets.now → ⊥ }
     ensures { RefusesIpv4 octets.now result }
@@ -74,7 +74,7 @@ pub(crate) fn why_no_datagram(octets: &[u8]) -> Refusal
     Refusal::Data
 }
 
-// The check that fails first in octets that do not begin with a header of IPv6.
+// The check that fails first in octets that do not begin with an IPv6 header.
 pub(crate) fn why_no_packet(octets: &[u8]) -> Refusal
     requires { IsPacketFront octets.now → ⊥ }
     ensures { RefusesIpv6 octets.now result }

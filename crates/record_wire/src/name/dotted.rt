@@ -21,7 +21,7 @@ const MOST: usize = 254;
 const PIECE: usize = 16;
 
 /// Puts the text of the name that begins in `bytes`, and goes on where its pointers lead in the message, into the
-/// room's front, each label before a dot, or a dot alone for the root, and returns its length. None where no name is
+/// buffer's front, each label before a dot, or a dot alone for the root, and returns its length. None where no name is
 /// read, and where a byte of a label is not a letter, a digit, `-` or `_`, since its text may need a backslash then.
 pub fn put_dotted<'a>(
     room: &mut [u8; ROOM_LEN],
@@ -88,8 +88,8 @@ fn put_text(room: &mut [u8; ROOM_LEN], message: &[u8], bytes: &[u8]) -> Option<u
     }
 }
 
-// Puts a label and a dot after the first octets of a room, `at` of them, and returns how many there are then. The label
-// is at the front of `ahead`. None where a name has no room for them.
+// Puts a label and a dot after the first octets of a buffer, `at` of them, and returns how many there are then. The
+// label is at the start of `ahead`. None where a name has no room for them.
 #[inline(always)]
 fn put_label(room: &mut [u8; ROOM_LEN], at: usize, label: &[u8], ahead: &[u8]) -> Option<usize>
     requires place { at ≤ 254 }

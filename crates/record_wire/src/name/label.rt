@@ -14,7 +14,7 @@ use wirebase::{Error, Result};
 /// The most bytes that a label has (RFC 1035 section 2.3.4).
 pub(super) const MAX_LABEL_LEN: usize = 63;
 
-/// The label at the front of octets, and what follows it. None at byte 0, and where there is no whole label.
+/// The label at the start of octets, and what follows it. None at byte 0, and where there is no whole label.
 pub(super) fn split_label(octets: &[u8]) -> Option<(&[u8], &[u8])>
     ensures { seen_label result ≡ first_label octets.now }
 {
@@ -44,7 +44,7 @@ impl<'a> Model for Labels<'a> {
 }
 
 impl<'a> Labels<'a> {
-    // The labels at the front of these octets.
+    // The labels at the start of these octets.
     pub(super) fn new(octets: &'a [u8]) -> Labels<'a>
         ensures { result ≡ labels_in octets.entry.now }
     {

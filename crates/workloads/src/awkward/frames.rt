@@ -73,7 +73,7 @@ fn parse_frame(octets: &[u8], digest: &mut Digest) {
     }
 }
 
-// Reads a datagram of UDP.
+// Reads a UDP datagram.
 fn parse_udp(octets: &[u8], digest: &mut Digest) {
     let Ok(packet) = UdpPacket::new_checked(octets) else {
         digest.add(2);
@@ -122,7 +122,7 @@ fn read_blocks<R: BufRead>(alloc: Global, input: &mut R, digest: &mut Digest) {
     }
 }
 
-// Writes a capture, and says how many bytes it takes.
+// Writes a capture, and returns its length in bytes.
 #[allow(clippy::manual_memcpy)] // of this form the bounds need no proof file
 fn write_capture(number: u64, octets: &mut [u8]) -> usize {
     const FRONT: [u8; 48] = [

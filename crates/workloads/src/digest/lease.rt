@@ -1,4 +1,4 @@
-//! Adds what messages of DHCP say.
+//! Adds what DHCP messages say.
 
 use crate::digest::Digest;
 use crate::digest::ip::add_ipv4_address;

@@ -4,12 +4,12 @@ use crate::dump::frame::{self, MOST_FRAME_LEN, Sources};
 use crate::random::Random;
 use std::io;
 
-// The records of a file, at least, and how many more there may be.
+// The least number of records of a file, and how many more there may be.
 const LEAST_RECORDS: u32 = 100;
 
 const MORE_RECORDS: u32 = 101;
 
-// The bytes of a packet that a capture keeps, at least: of a few long packets fewer are kept than there were.
+// The least number of bytes of a packet that a capture keeps: a few long packets are cut.
 const LEAST_KEPT: u32 = 1_100;
 
 // How often a block that is passed over comes between the packets.

@@ -1,4 +1,4 @@
--- The datagram is at the front, with its checksum or without.
+-- The datagram is at the start, with its checksum or without.
 use Rattle.std.proofs.Common.{sym, ◌∙◌}
 use Rattle.frame_wire.proofs.UdpFormat.{sealed_emits, unsealed_emits}
 use Rattle.frame_wire.proofs.udp.UdpRepr.emit_into.Goals as goal

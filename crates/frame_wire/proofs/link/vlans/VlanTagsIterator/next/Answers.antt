@@ -1,4 +1,4 @@
--- The tag at the front is given.
+-- The tag at the start is given.
 use Rattle.std.proofs.Common.{ℕ, ◌∷◌, List, drop, ap, sym, ◌∙◌}
 use Rattle.frame_wire.specs.LinkVlans.{tags_in}
 use Rattle.frame_wire.specs.declared.link.vlans.VlanTag.{VlanTag}
