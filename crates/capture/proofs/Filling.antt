@@ -90,7 +90,7 @@ nothing_read : (all : List ℕ) (old : Option (List ℕ)) (done : ℕ) → Reads
 nothing_read all old done reads =
     reads.rest ∙ ap Some (ap (λ l. l ++ drop done all) reads.front ∙ take-append-drop done all)
 
--- a buffer that shows nothing tells the end
+-- an empty buffer means the end
 pub shown_none : (all : List ℕ) (old : Option (List ℕ)) (done : ℕ) → Reads all old [] done → (shown : List ℕ)
     → IfSome old (λ xs. length shown ≡ 0 → xs ≡ []) → length shown ≡ 0 → all ≡ []
 shown_none all old done reads shown end =

@@ -83,7 +83,7 @@ file_ends old all octets front left start e other reads ending is =
 
 -- ---- how far a call of `next` came
 
--- what is held from here on was held from the first on
+-- what is established from here on was established from the first on
 pub record SoFar (before now : State) (all : List ℕ) (left : Option (List ℕ)) : Type 0 where
   pub rest : List ℕ
   pub left_ : left ≡ Some rest

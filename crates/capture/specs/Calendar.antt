@@ -4,11 +4,11 @@ use Rattle.capture.specs.declared.calendar.Date.{Date}
 
 -- ---- tables
 
--- a leap year: each fourth year, but of the full hundreds only each fourth
+-- a leap year: every fourth year, but of the centuries only every fourth
 abbrev pub is_leap : ℕ → Bool
 is_leap year = (year % 4 == 0) && (not (year % 100 == 0) || (year % 400 == 0))
 
--- how many days a month has
+-- the number of days of a month
 unfoldable pub month_days : ℕ → ℕ → ℕ
 month_days year month =
     if month == 2 then (if is_leap year then 29 else 28)
@@ -32,9 +32,9 @@ unfoldable pub date_of : ℕ → Date
 date_of zero = date 1970 1 1
 date_of (suc days) = next_date (date_of days)
 
--- ---- how many days pass: what private functions answer
+-- ---- the number of days that pass: the results of private functions
 
--- in the first months of a year, this many of them
+-- in this many first months of a year
 unfoldable pub days_of_months : ℕ → ℕ → ℕ
 days_of_months year zero = 0
 days_of_months year (suc months) = days_of_months year months + month_days year (suc months)
@@ -42,7 +42,7 @@ days_of_months year (suc months) = days_of_months year months + month_days year 
 abbrev pub year_days : ℕ → ℕ
 year_days year = if is_leap year then 366 else 365
 
--- in the years from 1970 on, this many of them
+-- in this many years from 1970 on
 unfoldable pub days_of_years : ℕ → ℕ
 days_of_years zero = 0
 days_of_years (suc years) = days_of_years years + year_days (1970 + years)

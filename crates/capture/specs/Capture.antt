@@ -41,7 +41,7 @@ state s is = record { stage = s; interfaces = is }
 
 -- ---- one block
 
--- The bytes are a block, in a section of an order with interfaces: what it leaves, and the packet that it holds.
+-- The bytes are a block, in a section of a byte order with interfaces: what it leaves, and the packet that it holds.
 pub data IsBlock (section : Order) (interfaces : List Interface) (bytes : List ℕ) (new : State)
     (packet : Option PacketValue) : Type 0 where
   passed : (h : Head) → IsHead section (take 12 bytes) h → length bytes ≡ h.total_len → (IsRead h.kind → ⊥)
@@ -107,7 +107,7 @@ pub data Ends (s : State) (bytes : List ℕ) (ending : Ending) : Type 0 where
   no_block : (section : Order) → s.stage ≡ stage.Section section → BlockEnds section s.interfaces bytes ending
       → Ends s bytes ending
 
--- These bytes show the next packet's record or block as a whole, and the blocks before it; at the start nothing is
+-- These bytes have the next packet's record or block as a whole, and the blocks before it; at the start nothing is
 -- known of what comes, and after the end nothing is read.
 abbrev pub ShowsNext : Stage → List ℕ → Type 0
 ShowsNext stage.Start shown = ⊥
@@ -154,8 +154,8 @@ packet_of r octets = record {
   octets = octets;
 }
 
--- What a call of `next` says of all bytes that were left, where `left` are left after it: the first packet that they
--- hold, or what ends them where they hold none.
+-- What a call of `next` tells of all bytes that were left, where `left` are left after it: the first packet in them, or
+-- what ends them where there is none.
 abbrev pub GivesNext : State → List ℕ → Next → List ℕ → State → Option (List ℕ) → Type 0
 GivesNext old bytes (next.Record r) octets new left =
     (rest : List ℕ) × (left ≡ Some rest) × ((packets : List PacketValue) (ending : Ending)

@@ -1,4 +1,4 @@
--- Numbers in the order of bytes of the machine that wrote a file.
+-- Numbers in the byte order of the machine that wrote a file.
 use Rattle.std.specs.Int.{w64, cast_signed}
 use Rattle.std.specs.Prelude.{ℕ, ◌-◌, ℤ, List}
 use Rattle.byteorder.specs.Endian.{big_number, little_number}

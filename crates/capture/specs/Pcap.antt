@@ -53,14 +53,14 @@ minor_field = field 6 8
 abbrev pub link_type_field : Field
 link_type_field = field 20 24
 
--- the magic number, its highest byte first, of each order of bytes and precision of times
+-- the magic number, its highest byte first, of each byte order and precision of times
 abbrev pub magic_of : Order → Precision → ℕ
 magic_of Big Micro = 0xa1b2c3d4
 magic_of Big Nano = 0xa1b23c4d
 magic_of Little Micro = 0xd4c3b2a1
 magic_of Little Nano = 0x4d3cb2a1
 
--- the bytes begin with the magic number of an order and a precision
+-- the bytes begin with the magic number of a byte order and a precision
 pub record HasMagic (bytes : List ℕ) (order : Order) (precision : Precision) : Type 0 where
   pub there : Reaches magic_field bytes
   pub magic : number_in Big magic_field bytes ≡ magic_of order precision

@@ -113,7 +113,7 @@ pub record IsHead (section : Order) (bytes : List ℕ) (h : Head) : Type 0 where
   pub length_ : IsLength h.total_len
   pub small : IsRead h.kind → h.total_len ≤ 524288
 
--- what is told of other bytes, twelve or more: a section header's order is none, or the length is no block's
+-- what is told of other bytes, twelve or more: a section header has no byte order, or the length is not that of a block
 abbrev pub RefusesHead : Order → List ℕ → Refusal → Type 0
 RefusesHead section bytes refusal.ByteOrder = (order : Order) → HasOrder section bytes order → ⊥
 RefusesHead section bytes (refusal.Length n) =

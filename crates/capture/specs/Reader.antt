@@ -1,4 +1,4 @@
--- What is read of an input.
+-- Reading from an input.
 use Rattle.std.specs.Prelude.{◌≡◌, ℕ, Bool, true, false, ◌<◌, ◌≤◌, List, ◌++◌, length, take, drop, Option, Some, OnSome}
 use Rattle.std.specs.Prelude.{IfSome, Result, IfOk}
 use Rattle.std.specs.Io.KnownBytes.{Consumes, Keeps, IsAtEnd}
@@ -39,7 +39,7 @@ pub record SkipsPart (old new : Option (List ℕ)) (missing count : ℕ) (ended 
   pub few : count ≤ missing
   pub all : ended ≡ true → count < missing → OnSome old (IsAtEnd new)
 
--- a look at the buffer kept the bytes that are known, and what it showed may be consumed
+-- a look at the buffer kept the known bytes, and those that it showed may be consumed
 abbrev pub LookKeeps : Option (List ℕ) → Option (List ℕ) → Option ℕ → Result (Option (Bor (List ℕ))) Fault → Type 0
 LookKeeps old new limit r =
     Keeps old new × IfSome old (λ _. IfOk r (λ shown. IfSome shown (λ s. IfSome limit (λ n. length s.now ≤ n))))

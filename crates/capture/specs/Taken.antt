@@ -1,4 +1,4 @@
--- What the parts of the reader answer, beside what their bytes are.
+-- The results of the parts of the reader, other than their bytes.
 use Rattle.std.specs.Prelude.{◌≡◌, ℕ, ◌<◌, ◌≤◌, ◌⊎◌, List, [], ◌∷◌, ◌++◌, length, take, Option, None, Some}
 use Rattle.capture.specs.Capture.{State, state, IsBlock, BlockEnds, Refused, IsUnit, Ends, most_octets, most_interfaces}
 use Rattle.capture.specs.Packet.{packet_in, IsPlace}

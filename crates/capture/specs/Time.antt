@@ -1,10 +1,10 @@
--- The time of a packet, as the number of nanoseconds since 1970-01-01 00:00:00 UTC, and what it is told in.
+-- The time of a packet: the number of nanoseconds since 1970-01-01 00:00:00 UTC, and its digits.
 use Rattle.std.specs.Prelude.{◌≡◌, ℕ, ◌+◌, ◌-◌, ◌*◌, ◌/◌, ◌%◌, ◌^◌, ◌<◌, min, ℤ, pos, negsuc, nat_lt, if◌then◌else◌}
 use Rattle.capture.specs.declared.pcap.Precision.{Precision}
 use Rattle.capture.specs.declared.pcap.Precision.TheVariants.{Micro, Nano}
 use Rattle.capture.specs.declared.time.Time.{Time}
 
--- a time by its content: its nanoseconds, and to how many digits of a second its file tells it
+-- a time by its content: its nanoseconds, and the number of digits of a second in its file
 pub record TimeValue : Type 0 where
   pub nanoseconds : ℕ
   pub digits : ℕ
@@ -25,7 +25,7 @@ pub record IsTime (t : Time) (nanoseconds digits : ℕ) : Type 0 where
   pub part_ : t.nanoseconds < 1000000000
   pub digits_ : t.digits ≡ digits
 
--- the time of these seconds and nanoseconds, told to no digits
+-- the time of these seconds and nanoseconds, without digits
 abbrev pub time_of : ℕ × ℕ → Time
 time_of parts = record { seconds = parts.0; nanoseconds = parts.1; digits = 0 }
 
@@ -56,7 +56,7 @@ abbrev pub fraction_of : Precision → ℕ → ℕ
 fraction_of Micro fraction = fraction * 1000
 fraction_of Nano fraction = fraction
 
--- the digits of such a fraction
+-- the number of digits of such a fraction
 abbrev pub digits_in : Precision → ℕ
 digits_in Micro = 6
 digits_in Nano = 9

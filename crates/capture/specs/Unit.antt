@@ -11,8 +11,8 @@ use Rattle.capture.specs.declared.pcapng.Head.{Head}
 use Rattle.capture.specs.declared.unit.Taken.{Taken}
 use Rattle.capture.specs.declared.unit.Taken.TheVariants as taken
 
--- what a kind of head is: which bytes are one, what ends a capture that goes on with none, how many bytes a record or
--- block has after which of them, and which of these are read
+-- a kind of head: which bytes are a head, what ends a capture that goes on without one, the length in bytes of a record
+-- or block, the length of its head, and which ones are read
 pub record Form (H : Type 0) : Type 1 where
   pub IsHead : Order → List ℕ → H → Type 0
   pub HeadEnds : Order → List ℕ → Ending → Type 0

@@ -5,7 +5,7 @@ use Rattle.std.specs.declared.io.ErrorKind.TheVariants.{BrokenPipe, OutOfMemory}
 use Rattle.dump_captures.specs.Fault.{fault_of}
 use Rattle.dump_captures.specs.declared.fault.Fault.TheVariants.{Write}
 
--- of any other kind than the two that are told apart
+-- a kind other than the two that are distinguished
 pub fault_of-other : (kind : ErrorKind) → (kind ≡ BrokenPipe → ⊥) → (kind ≡ OutOfMemory → ⊥) → Write ≡ fault_of kind
 unfolding fault_of
 fault_of-other BrokenPipe pipe memory = absurd (pipe refl)

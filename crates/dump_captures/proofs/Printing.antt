@@ -13,7 +13,7 @@ pub page_text : (old new text : List ℕ) → old ≡ [] → Gains (Some old) (S
 page_text old new text none gains = rw none at gains.appends
 
 module _ {E : Type 0} (a b : Option (List ℕ)) (r : Result (Option Reason) E) where
-  -- one text is gained, with one answer
+  -- one text is written, with one result
   pub gained_one : (Prints : List ℕ → Option Reason → Type 0) (text : List ℕ) (known : Option Reason)
       → Prints text known → IfOk r (λ why. Gains a b text × (why ≡ known))
       → IfOk r (λ why. GainsSome a b (λ t. Prints t why))
@@ -24,7 +24,7 @@ module _ {E : Type 0} (a b : Option (List ℕ)) (r : Result (Option Reason) E) w
         | Err e ↦ λ gains. tt
       ]
 
-  -- a text that is of one kind is of another too
+  -- a text of one kind is of another kind too
   pub gained_other : (Prints Other : List ℕ → Option Reason → Type 0)
       → ((text : List ℕ) (why : Option Reason) → Prints text why → Other text why)
       → IfOk r (λ why. GainsSome a b (λ t. Prints t why)) → IfOk r (λ why. GainsSome a b (λ t. Other t why))
@@ -70,7 +70,7 @@ module _ {E : Type 0} (a b : Option (List ℕ)) (r : Result (Option Reason) E) w
       gained_one (ListsOrRefuses IsValue Prints Refuses of) (refusal_text (of refusal))
       (Some (reason_of false (of refusal))) (refuses refusal none told (refl, refl))
 
--- what holds of an answer that is no fault is another fact of it
+-- a fact that holds of a result that is no fault implies another fact of it
 pub if_ok : {A E : Type 0} (Holds Other : A → Type 0) (r : Result A E) → ((answer : A) → Holds answer → Other answer)
     → IfOk r Holds → IfOk r Other
 if_ok Holds Other (Ok answer) other holds = other answer holds

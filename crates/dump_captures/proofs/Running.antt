@@ -15,8 +15,8 @@ use Rattle.dump_captures.specs.Tally.{TallyValue, counted}
 use Rattle.dump_captures.specs.declared.options.Options.{Options}
 use Rattle.dump_captures.specs.declared.tally.Outcome.{Outcome}
 
--- How far a run has come, with `rest` left of all that there was: it has printed a text, and whatever the packets print
--- that the rest holds, all prints that after it.
+-- How far a run has come, with `rest` left of the input: it has printed a text, and together with what the packets of
+-- `rest` print this is what all packets print.
 pub record SoFar (options : Options) (all : List ℕ) (left : Option (List ℕ)) (s : State) (n : ℕ)
     (first tally : TallyValue) (before now : Option (List ℕ)) : Type 0 where
   pub rest : List ℕ
@@ -87,7 +87,7 @@ module _ (options : Options) (all : List ℕ) (left : Option (List ℕ)) (s : St
         so_far.gains,
       )
 
--- ---- the same of an input of which it may not be known what is left
+-- ---- an input whose rest may not be known
 
 -- what was printed is written out, and then a packet more is read and printed
 pub run-more : (options : Options) (start left : Option (List ℕ)) (s : State) (n : ℕ) (first tally : TallyValue)

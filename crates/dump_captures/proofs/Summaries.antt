@@ -77,7 +77,7 @@ parts-more t reasons i d within =
     ap (flat_map (reason_parts t)) (take_more reasons i d within)
     ∙ flat_map-one (reason_parts t) (take i reasons) (get_or reasons i d)
 
--- a reason for which no packet was refused has none
+-- a reason for which no packet was refused has no part
 pub parts-none : (t : TallyValue) (reasons : List Reason) (i count : ℕ) (d : Reason) → i < length reasons
     → count ≡ refused_for t (get_or reasons i d) → count ≡ 0
     → parts_so_far t reasons (i + 1) ≡ parts_so_far t reasons i

@@ -29,7 +29,7 @@ changed_at-length place change [] = refl
 changed_at-length zero change (x ∷ xs) = refl
 changed_at-length (suc place) change (x ∷ xs) = ap (λ n. suc n) (changed_at-length place change xs)
 
--- a list that is lent whole, and written by another of its length, is that one
+-- a list that is borrowed whole, and overwritten by another of its length, is that one
 pub refill-whole : {A : Type 0} (xs ws : List A) → length ws ≡ length xs → refill (length xs) xs ws ≡ ws
 refill-whole xs ws same =
     take-append-le (length xs) ws _ (omega (arith, same)) ∙ take_all (length xs) ws (omega (arith, same))
@@ -44,7 +44,7 @@ with_refused-set r reason octets place count sum is within one more =
 
 -- ---- the place of a link
 
--- it is none of some links, and not the next one
+-- the index is not that of these links, and not the next one
 pub missing_more : (number : ℕ) (links : List UnreadLink) (i : ℕ) → i < length links
     → has_link number (take i links) ≡ false → ((get_or links i no_link).link_type ≡ number → ⊥)
     → has_link number (take (suc i) links) ≡ false
@@ -81,7 +81,7 @@ has_link-there number (l ∷ links) (suc place) within is =
       | false ↦ has_link-there number links place (omega (arith, within)) is
     ]
 
--- where it is at none, it comes after the others
+-- where its link has no index, it comes after the others
 pub one_more_of-missing : (number : ℕ) (links : List UnreadLink) → has_link number links ≡ false
     → one_more_of number links ≡ links ++ (record { link_type = number; frames = 1 } ∷ [])
 one_more_of-missing number [] none = refl

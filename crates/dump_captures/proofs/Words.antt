@@ -24,13 +24,13 @@ skipped it s len source count =
 abbrev pub read : List (List ℕ) → Reads
 read words = fold then_word (more nothing_read) words
 
--- those of a word more
+-- arguments with one more word
 pub words-more : (words : List (List ℕ)) (word : List ℕ) (r : ReadingValue) (next : Reads) → read words ≡ more r
     → next ≡ with_word word r → read (words ++ word ∷ []) ≡ next
 words-more words word r next so_far is =
     fold_push then_word (more nothing_read) words word ∙ ap (λ reads. then_word reads word) so_far ∙ sym is
 
--- where one tells the task, the further ones are not looked at
+-- where one decides the task, the further ones are not looked at
 fold-ends : (task : TaskValue) (words : List (List ℕ)) → fold then_word (ends task) words ≡ ends task
 fold-ends task [] = refl
 fold-ends task (word ∷ words) = fold-ends task words

@@ -21,6 +21,6 @@ time_of_day_text seconds nanoseconds =
 unfoldable pub time_text : ℕ → ℕ → List ℕ
 time_text seconds nanoseconds = date_text (date_of (seconds / 86400)) ++ time_of_day_text seconds nanoseconds
 
--- what is kept of a date: all of it but the digits of its year in front of the last four
+-- what is kept of a date: all of it but the digits of its year before the last four
 unfoldable pub kept_text : Date → List ℕ
 kept_text d = last_digits 4 d.year ++ month_and_day_text d

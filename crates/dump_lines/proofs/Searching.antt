@@ -1,4 +1,4 @@
--- Spaces in front of octets.
+-- Spaces before octets.
 use Rattle.std.proofs.Common.{◌≡◌, ℕ, ◌+◌, ◌*◌, ◌-◌, ◌<◌, Bool, true, false, List, All, length, take, drop}
 use Rattle.std.proofs.Common.{get_or, refl, arith}
 use Rattle.std.proofs.lemmas.Bool.{eqb-true, not-false}

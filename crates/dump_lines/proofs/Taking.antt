@@ -336,7 +336,7 @@ module _ (shown : List ℕ) (s n : ℕ) (in_shown : s ≤ length shown)
       let same : s + n - s ≡ n = omega arith in
       rw same (rw rest_is at free)
 
--- octets of a line in front of those at hand, whatever is consumed
+-- octets of a line before those at hand, whatever is consumed
 module _ (line new : Line) (shown : List ℕ) (n : ℕ) (within : n ≤ length shown) (takes : Takes line new (take n shown))
     (free : All (λ octet. octet ≢ 10) (take n shown)) (a b : Option (List ℕ)) where
   pub part_front : (empty : Bool) → empty ≡ (length shown == 0) → Consumes a b (take n shown)

@@ -95,7 +95,7 @@ same-address x y e =
     two ∙ ap (λ n. record { a = y.a; b = y.b; c = n; d = x.d }) c in
     three ∙ ap (λ n. record { a = y.a; b = y.b; c = y.c; d = n }) d
 
--- routers of the same octets are the same
+-- routers with equal octets are equal
 pub same-router : (x y : Option Ipv4Address) → option_map octets_of x ≡ option_map octets_of y → x ≡ y
 same-router None None e = refl
 same-router None (Some y) e = absurd (cc)

@@ -6,7 +6,7 @@ use Rattle.control_wire.specs.DnsNameWalk.{Coming, Walk, label, fault, ending, a
 use Rattle.control_wire.proofs.DnsNameLabels.{none_at_end, end_at_none, label_before, label_first, same_no_fault}
 use Rattle.examples.specs.Resolver.{lowered, GivesLabel}
 
--- labels that are the same are to come of both, and then the end
+-- labels that are equal in both names follow, and then the end
 pub record GiveSameName (left right : List Coming) : Type 0 where
   pub labels : List (List ℕ)
   pub others : List (List ℕ)

@@ -38,7 +38,7 @@ last_three octets whole =
     ∙ ap (λ (l : List ℕ). slice_index octets 14 ∷ l) (drop_more octets 15 0 (omega (arith, whole))
     ∙ ap (λ (l : List ℕ). slice_index octets 15 ∷ l) (drop_of_length-le octets {i = 16} (omega (arith, whole)))))
 
--- addresses on the link of the same bytes are the same
+-- link-layer addresses with equal bytes are equal
 some_bytes : Option (List ℕ) → List ℕ
 some_bytes None = []
 some_bytes (Some bytes) = bytes

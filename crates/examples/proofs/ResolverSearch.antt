@@ -11,7 +11,7 @@ same_test false false P a b = refl
 same_test true false P a b = sym (b.1 (a.0 refl))
 same_test false true P a b = a.1 (b.0 refl)
 
--- a record says one thing
+-- a record gives one thing
 pub says_one : (message : List ℕ) (asked : RecordType) (name : List ℕ) (r : RecordValue) (t u : TurnValue)
     → Says message asked name r t → Says message asked name r u → t ≡ u
 says_one message asked name r t u a b =
@@ -23,7 +23,7 @@ abbrev pub IsOnly : List ℕ → RecordValue → List ℕ → Type 0
 IsOnly bytes r rest = (other : RecordValue) (others : List ℕ) → IsRecord bytes other others
     → (r ≡ other) × (rest ≡ others)
 
--- what a search finds where its first record says for which name to go on
+-- what a search finds where its first record gives the name to continue with
 pub later_found : (message : List ℕ) (asked : RecordType) (address : AddressRecord) (after now : Search)
     (r : RecordValue) (name : List ℕ) (left : ℕ) (rest : List ℕ) → now.left ≡ left + 1 → IsOnly now.bytes r rest
     → Says message asked now.name r (sought name) → Finds message asked address after now

@@ -32,7 +32,7 @@ same_parts a b c d one two e =
       rests = sym (drop_at a b n left) ∙ ap (λ (l : List ℕ). drop n l) e ∙ drop_at c d n right;
     }
 
--- and it is not nothing
+-- and the bytes are not empty
 some_block : (block rest : List ℕ) → IsBlock block → [] ≡ block ++ rest → ⊥
 some_block block rest b e =
     omega (arith, ap (λ (l : List ℕ). length l) e, length-append block rest, b.begins.whole.fixed)

@@ -24,7 +24,7 @@ use Rattle.examples.specs.declared.lease.Message.TheVariants as message
 abbrev pub nowhere : Ipv4Address
 nowhere = record { a = 0; b = 0; c = 0; d = 0 }
 
--- a client, and how it has its messages
+-- a client, and the form of its messages
 pub record ClientValue : Type 0 where
   pub address : Ethernet
   pub broadcast : Bool
@@ -71,7 +71,7 @@ sent client id kind own address server = record {
   additional_options = [];
 }
 
--- a message that is to be answered: it says to whom the answer is to go, and which options the client requests
+-- a message that is to be answered: it says where the answer is to be sent, and which options the client requests
 abbrev pub asked : ClientValue → ℕ → MessageType → Ipv4Address → Option Ipv4Address → Option Ipv4Address → Value
 asked client id kind own address server =
     record (sent client.address id kind own address server) {
@@ -137,7 +137,7 @@ lease_of v server router = record {
   rebind_duration = v.rebind_duration;
 }
 
--- a lease is offered or granted, or a server refuses
+-- a lease is offered or granted, or the server refuses
 pub data AnswerValue : Type 0 where
   offer : LeaseValue → AnswerValue
   ack : LeaseValue → AnswerValue

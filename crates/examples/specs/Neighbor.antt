@@ -34,7 +34,7 @@ IsSolicitedNode address = take 13 (octets_of address) ≡ solicited_node_prefix
 
 -- ---- what a host sends
 
--- a sender tells its address on the link, but from :: (sections 4.1 and 4.3)
+-- a sender tells its link-layer address, except from :: (sections 4.1 and 4.3)
 pub record IsSender (own : Ipv6Address) (address : List ℕ) (told : Option (List ℕ)) : Type 0 where
   pub specified : (IsUnspecified own → ⊥) → told ≡ Some address
   pub unspecified : IsUnspecified own → told ≡ None

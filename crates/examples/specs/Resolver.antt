@@ -42,8 +42,8 @@ query_for id name asked = record {
 abbrev pub lowered : List (List ℕ) → List (List ℕ)
 lowered labels = map str_to_ascii_lowercase labels
 
--- Two names of a message are the same where their labels are, letters of ASCII in either case (RFC 1035 section 2.3.3,
--- RFC 4343).
+-- Two names of a message are equal where their labels are, letters of ASCII in either case (RFC 1035 section 2.3.3, RFC
+-- 4343).
 pub record AreSameName (message a b : List ℕ) : Type 0 where
   pub left : List (List ℕ)
   pub right : List (List ℕ)
@@ -78,7 +78,7 @@ pub record Responds (message : List ℕ) (id : ℕ) : Type 0 where
   pub standard : opcode_of (opcode_in (number_of flags_field message)) ≡ opcode.Query
   pub one_question : number_of question_count_field message ≡ 1
 
--- A message is the response to a query, and its question is that which was asked.
+-- A message is the response to a query, and its question is the one that was asked.
 pub record IsResponse (message : List ℕ) (id : ℕ) (name : List ℕ) (asked : RecordType) (rest : List ℕ) : Type 0 where
   pub whole : Reaches header message
   pub header_ : Responds message id
@@ -92,7 +92,7 @@ abbrev pub is_truncated : List ℕ → Bool
 is_truncated message = truncates (flags_in (number_of flags_field message))
 
 -- All that is to be read of the response to a query: as many records as it counts follow the question, and the
--- addresses of the name that was asked are sought, of the type that was asked.
+-- addresses of the type and the name that were asked for are sought.
 pub record AreAnswers (message : List ℕ) (id : ℕ) (name : List ℕ) (asked : RecordType) (answers : Answers)
     : Type 0 where
   pub response : IsResponse message id name asked answers.bytes.now
@@ -109,7 +109,7 @@ pub record IsFailure (message : List ℕ) (id : ℕ) (name : List ℕ) (asked : 
   pub code_ : code ≡ outcome message
   pub failed : code ≢ rcode.NoError
 
--- what a response tells: all answers, as many of them as there was room for, or how the query failed
+-- what a response tells: all answers, as many of them as fit, or how the query failed
 abbrev pub Tells : List ℕ → ℕ → List ℕ → RecordType → Response → Type 0
 Tells message id name asked (Whole answers) = AreAnswers message id name asked answers × IsFalse (is_truncated message)
 Tells message id name asked (Truncated answers) =
@@ -127,7 +127,7 @@ pub record Search : Type 0 where
 abbrev pub search_of : Answers → Search
 search_of answers = record { name = answers.name.now; left = answers.left; bytes = answers.bytes.now }
 
--- what a record says to who seeks a name's addresses: one of them, or for which name to go on
+-- what a record gives in a search for a name's addresses: an address, or the name to continue with
 pub data TurnValue : Type 0 where
   found : AddressRecord → TurnValue
   sought : List ℕ → TurnValue
@@ -136,14 +136,15 @@ abbrev pub turn_of : Turn → TurnValue
 turn_of (Found record_) = found record_
 turn_of (Sought name) = sought name.now
 
--- A record of the name says its address, where it has the type that was asked, or the name of which it is an alias.
+-- A record of the name gives its address, where it has the type that was asked for, or the name of which it is an
+-- alias.
 abbrev pub said : RecordType → List ℕ → ℕ → DataValue → TurnValue
 said kind.A name ttl (address4 address) = found (record { address = V4 address; ttl = ttl })
 said kind.Aaaa name ttl (address6 address) = found (record { address = V6 address; ttl = ttl })
 said asked name ttl (canonical_name alias_of) = sought alias_of
 said asked name ttl holds = sought name
 
--- one of another name says nothing
+-- a record of another name gives nothing
 abbrev pub said_of : Bool → RecordType → List ℕ → RecordValue → TurnValue
 said_of false asked name r = sought name
 said_of true asked name r = said asked name r.ttl r.holds
@@ -154,8 +155,8 @@ pub record Says (message : List ℕ) (asked : RecordType) (name : List ℕ) (r :
   pub same_ : IsTrue same ↔ AreSameName message r.name name
   pub is : turn ≡ said_of same asked name r
 
--- A search finds an address, and this is left to read after it: the first record says the address, or it says for which
--- name to go on, and the search for that name in the records after it finds the address.
+-- A search finds an address, and this is left to read after it: the first record gives the address, or it gives the
+-- name to continue with, and the search for that name in the records after it finds the address.
 pub data Finds (message : List ℕ) (asked : RecordType) (address : AddressRecord) (after : Search)
     : Search → Type 0 where
   here : {now : Search} (r : RecordValue) → now.left ≡ after.left + 1 → IsRecord now.bytes r after.bytes

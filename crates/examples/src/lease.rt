@@ -110,7 +110,7 @@ pub enum Answer {
 }
 
 /// Writes a client's message to the start of the octets, with zeros after it up to `min_len`, and returns its length in
-/// bytes. None exactly where they have no room; then they are unchanged. Requires that the client requests at most 255
+/// bytes. None exactly where they are too short; then they are unchanged. Requires that the client requests at most 255
 /// kinds of option.
 pub fn write(
     message: &Message,

@@ -62,7 +62,7 @@ pub fn leaves(group_addr: Ipv6Address) -> AddressRecordRepr<'static>
 }
 
 /// Writes the report of these records from the host's address to the start of the octets, and returns its length in
-/// bytes: 8, and 20 for each record. None exactly where the octets have no room; then they are as they were. Requires
+/// bytes: 8, and 20 for each record. None exactly where the octets are too short; then they are unchanged. Requires
 /// records of multicast groups, and at most 65,535 of them.
 pub fn report(own: &Ipv6Address, records: &[AddressRecordRepr<'_>], out: &mut [u8]) -> Option<usize>
     requires groups { AreGroups (values_of records.now) }

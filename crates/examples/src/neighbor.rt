@@ -48,8 +48,8 @@ fn is_solicited_node(address: &Ipv6Address) -> bool
 /// Writes the solicitation of the neighbor that has the address `target` to the start of the octets, and returns its
 /// length in bytes, 32. It goes from this host's address to `destination`: to `solicited_node(target)`, or to the
 /// target itself to see whether it is still there (RFC 4861 sections 4.3, 7.2.2 and 7.3.3). From `::`, by which a host
-/// sees whether an address is free, it does not tell `lladdr` and takes 24 bytes (RFC 4862 section 5.4.2). None where
-/// the octets have no room; then they are as they were.
+/// sees whether an address is free, it does not tell `lladdr` and has 24 bytes (RFC 4862 section 5.4.2). None where the
+/// octets are too short; then they are unchanged.
 pub fn solicit(
     own: &Ipv6Address,
     destination: &Ipv6Address,
@@ -120,10 +120,10 @@ pub struct Reply {
 }
 
 /// Writes the advertisement that answers a solicitation for this host's address `own` to the start of the reply, and
-/// returns its length in bytes, 32, and whom it goes to. The solicitation came from `peer` and went to `asked`. The
+/// returns its length in bytes, 32, and its destination. The solicitation came from `peer` and went to `asked`. The
 /// answer goes to `peer`, with the flags SOLICITED and OVERRIDE; where that is `::`, whose sender sees whether the
 /// address is free, to all nodes with OVERRIDE alone (RFC 4861 section 7.2.4). It tells `lladdr`. None exactly where
-/// the octets are no valid solicitation for `own`, or where the reply has no room; then it is as it was. A host does
+/// the octets are no valid solicitation for `own`, or where the reply is too short; then it is unchanged. A host does
 /// not answer for an address that it does not have yet: `solicits` tells that another host wants it.
 pub fn answer(
     peer: &Ipv6Address,

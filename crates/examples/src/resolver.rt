@@ -62,7 +62,7 @@ pub fn query_text(
 }
 
 /// Writes the query for the records of a type at a name to the start of the octets, and returns its length in bytes.
-/// None exactly where they have no room; then they are as they were. Requires a name of at most 255 bytes (RFC 1035
+/// None exactly where they are too short; then they are unchanged. Requires a name of at most 255 bytes (RFC 1035
 /// section 2.3.4).
 pub fn query(transaction_id: u16, name: &[u8], type_: Type, out: &mut [u8]) -> Option<usize>
     requires { length name.now ≤ 255 }

@@ -26,8 +26,8 @@ const HEADER_LEN: usize = 16;
 const UNIT: usize = 8;
 
 /// Writes the solicitation of the routers of the link, which goes from this host's address to all of them, `ff02::2`,
-/// and returns its length in bytes, 16. From `::` it does not tell `lladdr` and takes 8 bytes (RFC 4861 sections 4.1
-/// and 6.3.7). None where the octets have no room; then they are as they were.
+/// and returns its length in bytes, 16. From `::` it does not tell `lladdr` and has 8 bytes (RFC 4861 sections 4.1 and
+/// 6.3.7). None where the octets are too short; then they are unchanged.
 pub fn solicit(own: &Ipv6Address, lladdr: EthernetAddress, out: &mut [u8]) -> Option<usize>
     ensures sent { IfSome result (λ n. IsSolicitation own.now (octets_of (ethernet_of lladdr))
         (take n out.new)) }
@@ -46,9 +46,9 @@ pub fn solicit(own: &Ipv6Address, lladdr: EthernetAddress, out: &mut [u8]) -> Op
 /// What a router tells of itself and of the link (RFC 4861 section 4.2).
 #[derive(Debug, PartialEq, Eq, Clone, Copy)]
 pub struct RouterInformation {
-    /// The hop limit that hosts are to set, 0 where it is not told.
+    /// The hop limit that hosts are to set; 0 where it is not told.
     pub hop_limit: u8,
-    /// What is to be had by DHCPv6: addresses, or other configuration.
+    /// What is available by DHCPv6: addresses, or other configuration.
     pub flags: RouterFlags,
     /// The time for which it is a default router, in whole seconds; zero where it is none.
     pub lifetime: Duration,

@@ -39,7 +39,7 @@ const IPV6_HEADER_LEN: usize = 40;
 
 /// Writes the error that no one listens at the port of an IPv4 datagram to the start of the octets, and returns its
 /// length in bytes: 8, and as many as it quotes of the datagram, at most 548. It goes to the datagram's source. None
-/// exactly where no error may be sent about it, or where the octets have no room; then they are as they were.
+/// exactly where no error may be sent about it, or where the octets are too short; then they are unchanged.
 pub fn port_unreachable(datagram: &[u8], out: &mut [u8]) -> Option<usize>
     ensures tells { IfSome result (λ n. MayTell datagram.now
         × (take n out.new ≡ port_unreachable_text datagram.now)) }
@@ -161,8 +161,8 @@ fn is_error(packet: &Ipv4Packet<&[u8]>) -> bool
 
 /// Writes the error that no one listens at the port of an IPv6 packet to the start of the octets, and returns its
 /// length in bytes: 8, and as many as it quotes of the packet, at most 1,232. It goes from the address of this host to
-/// the packet's source. None exactly where no error may be sent about it, or where the octets have no room; then they
-/// are as they were.
+/// the packet's source. None exactly where no error may be sent about it, or where the octets are too short; then they
+/// are unchanged.
 pub fn port_unreachable_v6(own: &Ipv6Address, packet: &[u8], out: &mut [u8]) -> Option<usize>
     ensures tells { IfSome result (λ n. TellsV6
         (λ source. port_unreachable_v6_text own.now source packet.now) packet.now (take n out.new)) }

@@ -4,7 +4,7 @@ use Rattle.wirebase.specs.Ip.{protocol_of}
 use Rattle.wirebase.specs.declared.ip.IpProtocol.{IpProtocol}
 use Rattle.frame_wire.specs.Datagram.{EndsAt, options_of, Routes, Passes, past}
 
--- what the headers pass from here on, they pass from the first on
+-- headers that are passed from here on are passed from the first on
 pub record SoFar (first_ : IpProtocol) (all start : List ℕ) (p : IpProtocol) (rest destination : List ℕ) : Type 0 where
   pub passes : (q : IpProtocol) (payload final : List ℕ) → Passes p rest destination q payload final
       → Passes first_ all start q payload final
@@ -30,7 +30,7 @@ passes_at p p' bytes bytes' start start' q payload final e f g passes =
     subst (λ x. Passes x bytes' start' q payload final) e
     (subst (λ l. Passes p l start' q payload final) f (subst (λ l. Passes p bytes l q payload final) g passes))
 
--- the options are those of the same header
+-- the options are those of this header
 pub options_at : (p p' : IpProtocol) (header header' : List ℕ) (options : Option (List ℕ)) → p ≡ p' → header ≡ header'
     → options ≡ options_of p header → options ≡ options_of p' header'
 options_at p p' header header' options e f is =

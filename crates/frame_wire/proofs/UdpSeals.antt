@@ -28,7 +28,7 @@ never_zero-other : (n : ℕ) → n ≢ 0 → never_zero n ≡ n
 never_zero-other zero other = absurd (other refl)
 never_zero-other (suc n) other = refl
 
--- both forms are the same sum
+-- both forms are one sum
 fold-never_zero : (n checksum : ℕ) → n + checksum ≡ 65535 → fold (n + never_zero checksum) ≡ 65535
 fold-never_zero n zero e =
     fold_same 65535 (n + 65535) 1 (omega arith) (omega (arith, e)) ∙ fold_small 65535 (omega arith)

@@ -47,7 +47,7 @@ pub typed_cut : (octets : List ℕ) (place start kind : ℕ) (rest : List ℕ) (
 typed_cut octets place start kind rest t long e f is cut =
     (long, (t, tagged_at octets place start kind rest t e f is, cut))
 
--- what is not asked for holds
+-- what is not required holds
 pub unasked : {P : Type 0} (asked answer : Bool) → (answer ≡ asked) → answer ≡ false → asked ≡ true → P
 unasked asked answer e is_not is = let both : true ≡ false = sym is ∙ sym e ∙ is_not in cc
 

@@ -1,4 +1,4 @@
--- Datagrams as far as a capture has them: whole, cut at their end, or of no stated length.
+-- Datagrams as far as they were captured: whole, cut at their end, or of no stated length.
 use Rattle.std.specs.Prelude.{◌≡◌, ◌≢◌, ℕ, ◌+◌, ◌<◌, ◌≤◌, ◌⊎◌, List, length, drop}
 use Rattle.wirebase.specs.Ipv4 as ipv4
 use Rattle.wirebase.specs.declared.ip.IpProtocol.{IpProtocol}
@@ -55,7 +55,7 @@ RefusesOpen4 bytes (Fragment head) =
     IsOpening4 bytes × (ipv4.header_len_in bytes ≤ length bytes) × IsFragment4 bytes × IsHead4 bytes head
 RefusesOpen4 bytes _ = ⊥
 
--- what is told of other bytes: as of a whole datagram, but where the bytes end too early or state no length
+-- what is told of other bytes: as for a whole datagram, except where the bytes end too early or state no length
 abbrev pub RefusesCaptured4 : List ℕ → Refusal → Type 0
 RefusesCaptured4 bytes (TotalLen n) = Refuses4 bytes (TotalLen n) × (n ≢ 0)
 RefusesCaptured4 bytes (Cut head) = RefusesOpen4 bytes (Cut head)
@@ -71,7 +71,7 @@ pub data IsCaptured6 (bytes : List ℕ) (v : CapturedValue) : Type 0 where
   cut : (missing : ℕ) → HasHeader6 bytes → length bytes + missing ≡ total_len6 bytes → missing ≢ 0
       → IsHeaded6 bytes (drop 40 bytes) v.datagram → v.extent ≡ extent.Cut missing → IsCaptured6 bytes v
 
--- what is told of other bytes: as of a whole datagram, but where the bytes end too early
+-- what is told of other bytes: as for a whole datagram, except where the bytes end too early
 abbrev pub RefusesCaptured6 : List ℕ → Refusal → Type 0
 RefusesCaptured6 bytes (Cut head) =
     HasHeader6 bytes × (length bytes < total_len6 bytes) × IsHead6 bytes head

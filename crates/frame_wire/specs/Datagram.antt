@@ -45,7 +45,7 @@ pub record HasHeader4 (bytes : List ℕ) : Type 0 where
   pub least : 20 ≤ ipv4.header_len_in bytes
   pub order : ipv4.header_len_in bytes ≤ ipv4.total_len_in bytes
 
--- part of a datagram alone
+-- only a part of a datagram
 abbrev pub IsFragment4 : List ℕ → Type 0
 IsFragment4 bytes = (ipv4.more_frags_in bytes ≡ 1) ⊎ (ipv4.frag_offset_in bytes ≢ 0)
 
@@ -60,7 +60,7 @@ pub record IsHeaded4 (bytes : List ℕ) (v : DatagramValue) : Type 0 where
   pub hop_limit_ : v.hop_limit ≡ byte_of ipv4.time_to_live_field bytes
   pub hop_by_hop_ : v.hop_by_hop ≡ None
 
--- The grammar: the bytes begin with a whole datagram by its own lengths, and what follows it is no part.
+-- The grammar: the bytes begin with a whole datagram by its own lengths, and what follows it is ignored.
 pub record IsDatagram4 (bytes : List ℕ) (v : DatagramValue) : Type 0 where
   pub header : HasHeader4 bytes
   pub total : ipv4.total_len_in bytes ≤ length bytes
@@ -122,7 +122,7 @@ pub record HasAtomic (bytes : List ℕ) : Type 0 where
 abbrev pub IsPassed : IpProtocol → List ℕ → Type 0
 IsPassed p bytes = IsExtension p ⊎ ((p ≡ Ipv6Frag) × HasAtomic bytes)
 
--- where it ends
+-- the end of a header
 pub data EndsAt (p : IpProtocol) (bytes : List ℕ) (end : ℕ) : Type 0 where
   extension : IsExtension p → HasExtension bytes → end ≡ extension_end bytes → EndsAt p bytes end
   atomic : p ≡ Ipv6Frag → HasAtomic bytes → end ≡ 8 → EndsAt p bytes end
@@ -194,7 +194,7 @@ pub record IsHeaded6 (bytes behind : List ℕ) (v : DatagramValue) : Type 0 wher
   pub passed : IsExtension v.protocol → ⊥
   pub unfragmented : v.protocol ≢ Ipv6Frag
 
--- The grammar: the bytes begin with a whole datagram by its own length, and what follows it is no part.
+-- The grammar: the bytes begin with a whole datagram by its own length, and what follows it is ignored.
 pub record IsDatagram6 (bytes : List ℕ) (v : DatagramValue) : Type 0 where
   pub header : HasHeader6 bytes
   pub total : total_len6 bytes ≤ length bytes

@@ -74,7 +74,7 @@ pub record BeginsWhole (bytes : List ℕ) : Type 0 where
 abbrev pub IsVerified : Addresses → List ℕ → Type 0
 IsVerified addresses bytes = IsGood (bytes_of (whole_field bytes) bytes) (sum_before addresses Udp (len_in bytes))
 
--- a sum that holds and is not 0, which says that there is none (RFC 768)
+-- a checksum that holds and is not 0, which means that there is none (RFC 768)
 abbrev pub IsSealed : Addresses → List ℕ → Type 0
 IsSealed addresses bytes = (number_of checksum_field bytes ≢ 0) × IsVerified addresses bytes
 

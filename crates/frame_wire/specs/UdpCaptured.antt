@@ -1,4 +1,4 @@
--- UDP datagrams as far as a capture has them: whole, or cut at their end.
+-- UDP datagrams as far as they were captured: whole, or cut at their end.
 use Rattle.std.specs.Prelude.{◌≡◌, ◌≢◌, ℕ, ◌+◌, ◌≤◌, List, [], ◌∷◌, codes, decimal, length, drop}
 use Rattle.wirebase.specs.Bytes.{bytes_of, number_of}
 use Rattle.wirebase.specs.Display.{pieces}

@@ -35,7 +35,7 @@ datagram_fields v checksum =
 abbrev pub text : UdpValue → List ℕ
 text v = fields (datagram_fields v 0)
 
--- the number that is written for a checksum: for 0 its other form, since 0 says that there is none (RFC 768)
+-- the number that is written for a checksum: for 0 its other form, since 0 means that there is none (RFC 768)
 abbrev pub never_zero : ℕ → ℕ
 never_zero zero = 0xffff
 never_zero (suc n) = suc n
@@ -60,7 +60,7 @@ pub record Reads (capabilities : ChecksumCapabilities) (addresses : Addresses) (
   pub datagram : IsDatagram capabilities addresses bytes v.ports
   pub payload_ : v.payload ≡ bytes_of (payload_field bytes) bytes
 
--- a value that its own text gives back: it has a port to go to, and its length fits its field
+-- a value that its own text gives back: it has a destination port, and its length fits its field
 abbrev pub IsCanonical : UdpValue → Type 0
 IsCanonical v =
     (v.ports.src_port < 2 ^ 16) × (v.ports.dst_port < 2 ^ 16) × (v.ports.dst_port ≢ 0) × (text_len v ≤ 65535)
@@ -69,7 +69,7 @@ IsCanonical v =
 abbrev pub Fills : ChecksumCapabilities → Addresses → Type 0
 Fills capabilities addresses = capabilities.udp ≡ Rx → IsV4 addresses
 
--- the format; a value is its own normal form, and none is an exception
+-- the format; a value is its own normal form, without exception
 abbrev pub format : ChecksumCapabilities → Addresses → Format UdpValue
 format capabilities addresses = record {
   Reads = Reads capabilities addresses;

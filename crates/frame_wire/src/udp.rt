@@ -461,7 +461,7 @@ fn seal(octets: &mut [u8], addresses: &Addresses)
     }
 }
 
-// Whether the datagram has its checksum, or none where it need not.
+// Whether the datagram has its checksum, or needs none.
 fn has_checksum(packet: &UdpPacket<&[u8]>, addresses: &Addresses) -> bool
     requires { BeginsWhole (view_octets packet.now) }
     ensures { IsTrue result ↔ HasChecksum addresses.now (view_octets packet.now) }

@@ -32,7 +32,7 @@ digits_two n more few = ap length (two_alone n more few)
 pub digits_more_two : (n : ℕ) → 100 ≤ n → n < 2 ^ 64 → length (decimal n) ≡ length (decimal (n / 100)) + 2
 digits_more_two n more fits = ap length (two_behind n more fits) ∙ length-append _ _
 
--- two digits in front of others
+-- two digits before others
 pub two_put : (room two : List ℕ) (start : ℕ) → 2 ≤ start → start ≤ length room
     → drop (start - 2) (put_mid (start - 2) 2 room two) ≡ two ++ drop start room
 two_put room two start some within =

@@ -52,7 +52,7 @@ pub gained_as : {E : Type 0} (IsText IsOther : List ℕ → Type 0) (a b : Optio
 gained_as IsText IsOther a b (Ok x) other (text, is, gains) = (text, other text is, gains)
 gained_as IsText IsOther a b (Err e) other gains = tt
 
--- what is printed for octets that are a value, and for octets that are none
+-- what is printed for octets that are a value, and for octets that are not
 pub listed : {V : Type 0} {IsValue : V → Type 0} {a b : Option (List ℕ)} (listing : V → List ℕ) (value : V)
     → IsValue value → Gains a b (listing value)
     → GainsSome a b (IsListingOrRefused IsValue listing)
@@ -70,14 +70,14 @@ pub refused_on_ok : {V E : Type 0} {IsValue : V → Type 0} (listing : V → Lis
 refused_on_ok {IsValue = IsValue} listing a b r none gains =
     gained_text (IsListingOrRefused IsValue listing) (line (codes "refused")) a b r (inr (none, refl)) gains
 
--- a list that is printed in a loop: the listings of one element more than the first i
+-- a list that is printed in a loop: the listings of the first i elements and of one more
 pub one_more : {X : Type 0} (listing : X → List ℕ) (xs : List X) (i : ℕ) (d : X) → i < length xs
     → flat_map listing (take (i + 1) xs) ≡ flat_map listing (take i xs) ++ listing (get_or xs i d)
 one_more listing xs i d h =
     rw (take_more xs i d h, flat_map-append)
     (ap (λ more. flat_map listing (take i xs) ++ more) (append-nil _))
 
--- the same of each by its value
+-- each element of such a list, printed by its value
 pub one_more_listed : {X Y : Type 0} (value : X → Y) (listing : Y → List ℕ) (xs : List X) (i : ℕ) (d : X)
     → i < length xs
     → flat_map listing (map value (take (i + 1) xs)) ≡ flat_map listing (map value (take i xs))

@@ -1,4 +1,4 @@
--- What reads of a record, and what does not.
+-- Records that read, and records that do not.
 use Rattle.std.proofs.Common.{◌≡◌, ℕ, Bool, true, false, ◌&&◌, List, [], ◌∷◌, ◌++◌, Option, None, Some, codes}
 use Rattle.std.proofs.Common.{IfSome, IsSome, refl, sym, ◌∙◌, subst, arith}
 use Rattle.record_wire.specs.NameDotted.{dotted_text, AreUsual}
@@ -28,16 +28,16 @@ pub reads : (message bytes : List ℕ) (labels : List (List ℕ)) → Names mess
     → NameReads message bytes (whole_name labels)
 reads message bytes labels names = record { labels = labels; names_ = names; is = refl }
 
--- one that was not
+-- a name that was not read
 pub reads_none : (message bytes : List ℕ) → ((labels : List (List ℕ)) → Names message bytes labels → ⊥)
     → (text : List ℕ) → NameReads message bytes text → ⊥
 reads_none message bytes none text is = none is.labels is.names_
 
--- a name that reads is one
+-- a name that reads is a name
 pub reads_has : (message bytes text : List ℕ) → NameReads message bytes text → HasName bytes message
 reads_has message bytes text is = (is.labels, is.names_)
 
--- one whose text was put
+-- a name whose text was put
 pub reads_usual : (message bytes text : List ℕ) (labels : List (List ℕ)) → AreUsual bytes message labels
     → text ≡ dotted_text labels → NameReads message bytes text
 unfolding whole_name
@@ -79,7 +79,7 @@ module _ (margin : List ℕ) (is_multicast : Bool) (message : List ℕ) (section
     gains,
   )
 
-  -- one that reads, and the end of its line
+  -- a record that reads, and the end of its line
   pub record_listed : (a b c : Option (List ℕ))
       → GainsSome a b (λ text. LineShown (record_front margin is_multicast section r owner) message value text None)
       → Gains b c (line_end (is_multicast && flushes r.kind r.class) (codes "cache-flush"))
@@ -92,7 +92,7 @@ module _ (margin : List ℕ) (is_multicast : Bool) (message : List ℕ) (section
         end,
   )
 
--- data that are strings are whole ones
+-- data that are strings are whole strings
 pub has_strings : (layout : Layout) (bytes : List ℕ) (value : RDataValue) → IsLaidOut layout bytes value
     → HasStrings value
 has_strings layout.Ipv4 bytes value is = subst HasStrings (sym is.is) tt

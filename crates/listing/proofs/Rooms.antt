@@ -52,7 +52,7 @@ behind_others room before others whole at place digit here within is front =
     let kept : take place room ≡ before ++ others = rw here front in
     take_more_set room place digit within ∙ rw (kept, is) (simp append_assoc)
 
--- and one over a lone zero
+-- and a digit that replaces a single zero
 pub over_zero : (room before others whole : List ℕ) (at place none digit : ℕ) → place ≡ at → place < length room
     → others ≡ none ∷ [] → whole ≡ digit ∷ [] → take (at + 1) room ≡ before ++ others
     → take (place + 1) (set room place digit) ≡ before ++ whole
@@ -101,7 +101,7 @@ groups_end room front (group ∷ groups) end index all some within is =
     let whole = rw (take_all index (group ∷ groups) all, groups_colon group groups, ← append_assoc) at is in
     cut_last room (front ++ groups_text (group ∷ groups)) end 58 within whole
 
--- what is after a run is all that is left
+-- what follows a run is all that is left
 pub behind_run : (groups : List ℕ) (k : ℕ) → length groups ≡ 8 → take (8 - k) (drop k groups) ≡ drop k groups
 behind_run groups k eight = take_all (8 - k) (drop k groups) (omega (arith, length-drop k groups))
 

@@ -2,7 +2,7 @@
 use Rattle.std.specs.Prelude.{ℕ, ◌==◌, not, Bool, if◌then◌else◌, List, [], ◌∷◌, ◌++◌, codes, flat_map}
 use Rattle.std.specs.List.{list_all}
 
--- an octet in front of the first of some lines
+-- an octet before the first of some lines
 abbrev pub before_first : ℕ → List (List ℕ) → List (List ℕ)
 before_first octet [] = (octet ∷ []) ∷ []
 before_first octet (line ∷ rest) = (octet ∷ line) ∷ rest

@@ -4,7 +4,7 @@ use Rattle.icmp6_wire.specs.Mld.{IsMessage, MldValue, query, report, records}
 use Rattle.listing.specs.Layout.{line, field, octets_text, truth_text, IsListingOrRefused}
 use Rattle.listing.specs.ListingIpv6.{address_text}
 
--- no octets are read as a report by its records, so that none are printed
+-- no octets are read as a report by its records, so none are printed
 abbrev pub mld_listing : MldValue → List ℕ
 mld_listing (query code group flag qrv qqic sources d) =
     line (codes "Query")

@@ -1,4 +1,4 @@
--- The parts of a message's listing, as they are written: what private functions answer.
+-- The parts of a message's listing, as they are written: the results of private functions.
 use Rattle.std.specs.Prelude.{◌≡◌, ℕ, Bool, not, ◌&&◌, ◌||◌, ◌==◌, nat_le, if◌then◌else◌, List, [], ◌∷◌}
 use Rattle.std.specs.Prelude.{◌++◌, length, take, drop, flat_map, Option, None, Some, codes, decimal}
 use Rattle.std.specs.Borrow.{Bor}

@@ -1,4 +1,4 @@
--- What is in turn at the start of octets: as many turns as octets are enough.
+-- Items at the start of octets, one after another: as many steps as there are octets are enough.
 use Rattle.std.proofs.Common.{◌≡◌, ℕ, zero, suc, ◌<◌, ◌≤◌, List, [], ◌∷◌, length, Option}
 use Rattle.std.proofs.Common.{None, Some, refl, sym, ap, ◌∙◌}
 use Rattle.std.proofs.Common.{arith}
@@ -10,7 +10,7 @@ use Rattle.record_wire.specs.Ahead.{then_more, ahead_up_to, ahead}
 abbrev pub Shrinks : {V : Type 0} → (List ℕ → Option (V × List ℕ)) → Type 0
 Shrinks {V} first = (octets rest : List ℕ) (v : V) → first octets ≡ Some (v, rest) → length rest < length octets
 
--- how the start came about
+-- how the start was computed
 pub data Front {V : Type 0} (first : List ℕ → Option (V × List ℕ)) (octets : List ℕ) : Type 0 where
   none : first octets ≡ None → Front first octets
   one : (v : V) (rest : List ℕ) → first octets ≡ Some (v, rest) → Front first octets
@@ -44,7 +44,7 @@ no_octets first octets shrinks h = elim (front first octets) [
   | one v rest e ↦ absurd (omega (arith, h, shrinks octets rest v e))
 ]
 
--- as many turns as octets are enough
+-- as many steps as there are octets are enough
 pub enough : {V : Type 0} (first : List ℕ → Option (V × List ℕ)) → Shrinks first → (most more : ℕ) (octets : List ℕ)
     → length octets ≤ most → length octets ≤ more → ahead_up_to first most octets ≡ ahead_up_to first more octets
 enough first shrinks zero zero octets h k = refl
@@ -77,7 +77,7 @@ ahead_some first shrinks octets rest v e =
     ∙ ap (λ vs. v ∷ vs)
     (enough first shrinks (length octets) (length rest) rest (omega (arith, less)) (omega arith)))
 
--- each answer leaves fewer
+-- each item leaves fewer octets
 pub bytes_progress : (old new : List (List ℕ)) (bytes : Bor (List ℕ)) → old ≡ bytes.now ∷ new
     → MakesProgress {S = List (List ℕ)} {A = Bor (List ℕ)} (λ _. Unit {0}) (λ those. at_most (length those)) old
     (Some bytes) new

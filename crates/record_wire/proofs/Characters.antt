@@ -8,7 +8,7 @@ use Rattle.std.specs.Char.{is_ascii_graphic, is_ascii_digit}
 use Rattle.record_wire.specs.NameText.{IsCharacter, itself, quoted, numbered, is_special}
 use Rattle.record_wire.specs.NameReading.{first_byte, quoted_in, numbered_at, three_digits}
 
--- which way a test went
+-- which case a test took
 pub chosen : {A : Type 0} (b : Bool) (x y z : A) → cond b x y ≡ z → ((b ≡ true) × (x ≡ z)) ⊎ ((b ≡ false) × (y ≡ z))
 chosen true x y z e = inl (refl, e)
 chosen false x y z e = inr (refl, e)

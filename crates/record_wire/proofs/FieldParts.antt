@@ -1,4 +1,4 @@
--- The fields in front of names and after them.
+-- The fields before names and after them.
 use Rattle.std.proofs.Common.{◌≡◌, ℕ, ◌-◌, ◌<◌, ◌≤◌, ◌⊎◌, inl, inr, Bool, true, false, cond, leb, ◌&&◌}
 use Rattle.std.proofs.Common.{List, [], ◌∷◌, ◌++◌, length, take, drop, flat_map, Option, None, Some}
 use Rattle.std.proofs.Common.{refl, sym, ap, ◌∙◌, subst, arith, length-append, append_assoc}
@@ -70,7 +70,7 @@ three_strings bytes second third rest e f g =
       whole = whole ∙ ap (λ (l : List ℕ). l ++ rest) (sym front);
     }
 
--- ---- what is refused in front of a name
+-- ---- what is refused before a name
 
 pub refused_rule : (form : FrontForm) (bytes : List ℕ) → form ≡ front_form.Rule → 4 ≤ length bytes
     → ((value : FrontValue) (rest : List ℕ) → IsFront form bytes value rest → ⊥)
@@ -225,7 +225,7 @@ maps_after left m rest (n ∷ maps) e (good, each) whole =
     let f = sym e ∙ (ap first_map whole ∙ map_first n (flat_map map_bytes maps) good) in
     record { maps = maps; each = each; whole = same_rest (m, rest) (n, flat_map map_bytes maps) f }
 
--- octets are maps where those after the first one are, and the other way round
+-- octets are maps where those after the first one are, and conversely
 pub maps_behind : (left : List ℕ) (m : MapValue) (rest : List ℕ) → first_map left ≡ Some (m, rest)
     → (AreMaps rest → AreMaps left) × (AreMaps left → AreMaps rest) × (length rest < length left)
 maps_behind left m rest e =

@@ -78,7 +78,7 @@ first_shorter_label octets label rest e =
 
 -- ---- all labels
 
--- how the start came about
+-- how the start was computed
 data Front (octets : List ℕ) : Type 0 where
   none : first_label octets ≡ None → Front octets
   one : (label rest : List ℕ) → first_label octets ≡ Some (label, rest) → Front octets
@@ -104,7 +104,7 @@ no_octets : (octets : List ℕ) → length octets ≤ 0 → first_label octets �
 no_octets [] h = refl
 no_octets (x ∷ octets) h = absurd (omega arith)
 
--- as many turns as octets are enough
+-- as many steps as there are octets are enough
 enough : (most more : ℕ) (octets : List ℕ) → length octets ≤ most → length octets ≤ more
     → labels_up_to most octets ≡ labels_up_to more octets
 enough zero zero octets h k = refl

@@ -43,7 +43,7 @@ lower_octets : (octets : List ℕ) → wire (labels_in octets) ≡ octets
 lower_octets octets whole =
     ap (λ (o : List ℕ). map to_ascii_lowercase o) (sym whole) ∙ lower_wire (labels_in octets) (each_in octets)
 
--- two names have the same octets in lower case exactly where they have the same labels so
+-- two names have equal octets in lower case exactly where they have equal labels in lower case
 pub same_octets : (a b : List ℕ) → wire (labels_in a) ≡ a → wire (labels_in b) ≡ b
     → map to_ascii_lowercase a ≡ map to_ascii_lowercase b
     → lower_labels (labels_in a) ≡ lower_labels (labels_in b)

@@ -129,7 +129,7 @@ count_few (label ∷ labels) =
       count_by-le-length is_usual label,
     )
 
--- where all bytes of labels are usual, all but the dots are, and the other way round
+-- where all bytes of labels are usual, all but the dots are, and conversely
 usual_counted : (labels : List (List ℕ)) → are_usual labels ≡ true
     → count_by is_usual (dotted labels) + length labels ≡ length (dotted labels)
 usual_counted [] usual = refl
@@ -154,7 +154,7 @@ counted_usual (label ∷ labels) e =
     let more = counted_usual labels (omega (arith, e, ones, lens, few, rest)) in
     rw one more
 
--- the same of the start of a buffer
+-- usual bytes at the start of a buffer
 pub front_usual : (labels : List (List ℕ)) (room : List ℕ) (len count dots : ℕ) → length room ≡ 256 → len ≤ 255
     → take len room ≡ dotted labels → count ≡ count_by is_usual (take len room) → dots ≡ length labels
     → (count + dots ≡ len → are_usual labels ≡ true) × (are_usual labels ≡ true → count + dots ≡ len)

@@ -21,7 +21,7 @@ use Rattle.record_wire.proofs.NameParts.{no_name_far, no_name_torn, no_name_more
 
 -- ---- a label in its place
 
--- what is put in front of a place reaches up to it
+-- what is put before a place ends at that place
 copied : (room part : List ℕ) (at n len : ℕ) → at + n ≤ length room → length part ≡ n → len ≤ n
     → take (at + len) (put_mid at n room part) ≡ take at room ++ take len part
 copied room part at n len fits long within =
@@ -44,7 +44,7 @@ piece_copied room label ahead part at n fits long within front is =
 
 -- ---- the text so far
 
--- The buffer's front has the labels that were read, each before a dot.
+-- The start of the buffer has the labels that were read, each before a dot.
 pub record IsPutTo (text message left reach room : List ℕ) (at dots pointers : ℕ) : Type 0 where
   pub whole_ : length room ≡ 256
   pub octets : List ℕ
@@ -134,7 +134,7 @@ label_put text message left reach room next label rest at dots pointers end p e 
       counted = omega (arith, p.counted, ap length more, length-append (labels_in p.octets) (label ∷ []));
     }
 
--- ---- what has no such text
+-- ---- names without such a text
 
 pub none_of : (text message : List ℕ) → ((labels : List (List ℕ)) → AreUsual text message labels → ⊥)
     → IsSome {T = ℕ} None ↔ ((labels : List (List ℕ)) × AreUsual text message labels)

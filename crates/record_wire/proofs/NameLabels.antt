@@ -110,7 +110,7 @@ all_read text octets left label rest next so one spells ends e =
           ∙ (sym (written_more so.done label) ∙ ap written_all f.2));
     }
 
--- what a text of labels has where the labels before were read: a label, which is spelled, fits and goes on
+-- what a text has where the labels before were read: a label, which is spelled, fits and is followed by the rest
 pub record Next (octets left : List ℕ) (labels done : List (List ℕ)) : Type 0 where
   pub label : List ℕ
   pub more : List (List ℕ)
@@ -197,7 +197,7 @@ behind_labels : (text label : List ℕ) (labels : List (List ℕ)) → GoesOn te
 behind_labels text label labels (after, rest, e, s, goes) one =
     (after, ap behind_in e ∙ dot_behind after (spelled_some after label rest s one.0))
 
--- where the end is read no label is left, and where something else is read the text is none
+-- where the end is read no label is left, and where something else is read the text is malformed
 pub end_alone : (text : List ℕ) (labels : List (List ℕ)) → behind_in text ≡ at_end → GoesOn text labels
     → AllByRecursion IsLabel labels → labels ≡ []
 end_alone text [] e goes each = refl

@@ -65,7 +65,7 @@ behind_one_more text bytes rest len e =
     sym (drop-drop (1 + length bytes) len text)
     ∙ (ap (λ t. drop (1 + length bytes) t) w.is ∙ drop_at (length bytes ∷ bytes) rest (1 + length bytes) (omega arith))
 
--- ---- labels in front of what else comes
+-- ---- labels before what else comes
 
 before : (i n : ℕ) (labels more : List (List ℕ)) (ahead : List Coming) → Gives ahead more
     → Gives (in_window i n labels ++ ahead) (labels ++ more)
@@ -353,7 +353,7 @@ pointers_read text message octets left reach pointers so labels name =
       steps_of_name text message labels name,
     )
 
--- a pointer after as many as are followed is of no name that is read
+-- a pointer after as many as are followed belongs to no name that is read
 pub no_name_more : (text message octets left reach : List ℕ) (pointers target : ℕ)
     → IsReadTo text message octets left reach pointers
     → pointer target ≡ front_of left → target < length reach → pointers ≡ most_pointers
@@ -383,7 +383,7 @@ room_read text message octets left reach pointers so labels name fit =
       ap length so.written_,
     )
 
--- the same of labels that have no room
+-- labels that do not fit
 pub room_for_labels : (text message octets left reach : List ℕ) (pointers len : ℕ)
     → IsReadTo text message octets left reach pointers
     → AreInFront left len → (labels : List (List ℕ)) → IsName text message labels → AreOfName labels
@@ -394,7 +394,7 @@ room_for_labels text message octets left reach pointers len so front labels name
     room_read text message (octets ++ take len left) (drop len left) reach pointers next labels name fit in
     omega (arith, room, length-append octets (take len left))
 
--- a label that ends too far is of no name
+-- a label that ends too far belongs to no name
 pub no_name_long : (text message octets left reach bytes rest : List ℕ) (pointers len : ℕ)
     → IsReadTo text message octets left reach pointers → AreInFront left len
     → whole bytes rest ≡ front_of (drop len left)

@@ -1,4 +1,4 @@
--- Where reading a name comes to an end that is none.
+-- Where the reading of a name fails.
 use Rattle.std.proofs.Common.{◌≡◌, ℕ, ◌+◌, ◌<◌, ◌≤◌, inl, inr, List, [], ◌∷◌, ◌++◌}
 use Rattle.std.proofs.Common.{length, take, drop, refl, sym, ap, ◌∙◌}
 use Rattle.std.proofs.Common.{subst, arith}
@@ -102,7 +102,7 @@ module _ (text message octets left opened : List ℕ) (pointers len : ℕ)
         few = so.few;
       }
 
-  -- labels that have no room
+  -- labels that do not fit
   pub labels_long : 255 ≤ length octets + length (take len left) → RefusesName text message TooLong
   labels_long long =
       long_by text message left opened front.rest (length octets) pointers front.labels front.each front.is so.comes

@@ -1,4 +1,4 @@
--- What names a text has that is not the root's.
+-- The names of a text that is not the root's.
 use Rattle.std.proofs.Common.{◌≡◌, List, ℕ, [], ◌∷◌, codes}
 use Rattle.record_wire.specs.Labels.{written_all}
 use Rattle.record_wire.specs.NameText.{IsNameText}
@@ -9,7 +9,7 @@ pub no_labels : {A : Type 0} (text : List ℕ) (labels : List (List ℕ)) → (t
 no_labels text [] root none is = absurd (root is.is)
 no_labels text (label ∷ labels) root none is = absurd (none label labels is)
 
--- what the octets of a text are that is not the root's
+-- the octets of a text that is not the root's
 pub some_labels : (text octets : List ℕ) (labels : List (List ℕ)) → (text ≡ codes "." → ⊥)
     → ((label : List ℕ) (more : List (List ℕ)) → IsNameText text (label ∷ more)
     → octets ≡ written_all (label ∷ more)) → IsNameText text labels → octets ≡ written_all labels

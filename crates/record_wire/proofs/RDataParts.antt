@@ -55,7 +55,7 @@ test_none : (b : Bool) (x : List ℕ) → cond b (Some x) None ≡ None → b �
 test_none true x e = cc e
 test_none false x e = refl
 
--- octets are strings where those after the first one are, and the other way round
+-- octets are strings where those after the first one are, and conversely
 pub strings_behind : (left rest : List ℕ) → string_rest left ≡ Some rest
     → (AreStrings rest → AreStrings left) × (AreStrings left → AreStrings rest) × (length rest < length left)
 strings_behind [] rest e = cc e

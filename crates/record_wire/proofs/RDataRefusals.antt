@@ -17,7 +17,7 @@ use Rattle.record_wire.specs.declared.rdata.refusal.DataRefusal.{DataRefusal}
 use Rattle.record_wire.specs.declared.rdata.refusal.DataRefusal.TheVariants as refusal
 use Rattle.record_wire.proofs.RDataParts.{no_strings, string_before}
 
--- after whole strings one begins whose bytes are not all there
+-- after whole strings, one whose bytes are cut
 abbrev pub HasCutString : List ℕ → Type 0
 HasCutString bytes = (strings : List (List ℕ)) × (len : ℕ) × (rest : List ℕ)
     × (bytes ≡ flat_map written strings ++ len ∷ rest) × (length rest < len)

@@ -61,7 +61,7 @@ behind_one after r s rest more a b name = (
   a.rest_ ∙ sym b.rest_,
 )
 
--- ---- what begins with a name and has the fields after it
+-- ---- octets that begin with a name and have the fields after it
 
 pub question_here : (bytes name after : List ℕ) → IsSplit bytes name after → 4 ≤ length after → HasQuestion bytes
 question_here bytes name after split fits = (

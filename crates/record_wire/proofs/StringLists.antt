@@ -47,7 +47,7 @@ pub strings_shrink : Shrinks first_string
 strings_shrink octets rest string e =
     omega (arith, ap length (string_is octets string rest e), length-append (written string) rest)
 
--- no string at the start, and the other way round
+-- no string at the start, and conversely
 pub no_string : (octets : List ℕ) → first_string octets ≡ None → HasNoString octets
 no_string octets e string rest is = let f = ap first_string is ∙ string_first string rest in cc
 

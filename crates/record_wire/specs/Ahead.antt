@@ -1,4 +1,4 @@
--- What is in turn at the start of octets, as it is computed: what the models of iterators are.
+-- Items at the start of octets, one after another, as they are computed: the models of iterators.
 use Rattle.std.specs.Prelude.{◌≡◌, ℕ, zero, suc, List, [], ◌∷◌, length, Option, None, Some}
 use Rattle.std.specs.Borrow.{Bor}
 
@@ -6,16 +6,16 @@ abbrev pub then_more : {V : Type 0} → Option (V × List ℕ) → (List ℕ →
 then_more None go = []
 then_more (Some (v, rest)) go = v ∷ go rest
 
--- in at most this many turns, where `first` gives what is at the start of octets, and what follows it
+-- at most this many items, where `first` gives the item at the start of octets and the rest after it
 unfoldable pub ahead_up_to : {V : Type 0} → (List ℕ → Option (V × List ℕ)) → ℕ → List ℕ → List V
 ahead_up_to first zero octets = []
 ahead_up_to first (suc most) octets = then_more (first octets) (ahead_up_to first most)
 
--- each turn takes an octet at least
+-- each item takes at least one octet
 abbrev pub ahead : {V : Type 0} → (List ℕ → Option (V × List ℕ)) → List ℕ → List V
 ahead first octets = ahead_up_to first (length octets) octets
 
--- a call of `next` gives the first bytes and takes them off; where none are left it gives None, and none are left still
+-- a call of `next` returns the first item and removes it; where none is left it returns None, and none is left after it
 abbrev pub GivesBytes : List (List ℕ) → Option (Bor (List ℕ)) → List (List ℕ) → Type 0
 GivesBytes old None new = (old ≡ []) × (new ≡ [])
 GivesBytes old (Some bytes) new = old ≡ bytes.now ∷ new

@@ -23,9 +23,9 @@ use Rattle.record_wire.specs.declared.edns.EdnsOption.{EdnsOption}
 use Rattle.record_wire.specs.declared.edns.OptionRefusal.{OptionRefusal}
 use Rattle.record_wire.specs.declared.edns.OptionRefusal.TheVariants as refusal
 
--- ---- what the record says
+-- ---- the fields of the record
 
--- it by its content
+-- the fields by content
 pub record EdnsValue : Type 0 where
   pub payload_size : ℕ
   pub extended_rcode : ℕ
@@ -44,7 +44,7 @@ edns_of edns = record {
   options = edns.options.now;
 }
 
--- this is what the record says
+-- these are the fields of the record
 pub record IsEdns (r : RecordValue) (edns : EdnsValue) : Type 0 where
   pub payload_size_ : edns.payload_size ≡ r.class
   pub extended_rcode_ : edns.extended_rcode ≡ r.ttl / 0x1000000
@@ -76,7 +76,7 @@ option_of option = record { code = option.code; data_ = option.«data».now }
 abbrev pub option_len : List ℕ → ℕ
 option_len bytes = number_of option_length_field bytes
 
--- these bytes are an option, and then a rest
+-- these bytes are an option, followed by a rest
 pub record IsOption (bytes : List ℕ) (option : OptionValue) (rest : List ℕ) : Type 0 where
   pub reaches : Reaches option_length_field bytes
   pub code_ : option.code ≡ number_of code_field bytes
@@ -93,12 +93,12 @@ abbrev pub RefusesOption : List ℕ → OptionRefusal → Type 0
 RefusesOption bytes refusal.Fields = length bytes < 4
 RefusesOption bytes refusal.Data = Reaches option_length_field bytes × (length (drop 4 bytes) < option_len bytes)
 
--- an answer: an option, or why none follows
+-- what a call returns: an option, or why there is none
 abbrev pub Answer : Type 0
 Answer = Result OptionValue OptionRefusal
 
--- Options one after another up to the end of the bytes, or up to a place where there is none, which is answered by the
--- reason for that.
+-- Options one after another up to the end of the bytes, or up to a place where no option begins, which ends them with
+-- the reason.
 abbrev pub Tile : List ℕ → List Answer → Type 0
 Tile bytes [] = bytes ≡ []
 Tile bytes (Ok option ∷ answers) = (rest : List ℕ) × IsOption bytes option rest × Tile rest answers

@@ -34,7 +34,7 @@ ends_in message =
       all = authorities + number_of additional_count_field message;
     }
 
--- the section of the entry that follows n others
+-- the section of the entry after n others
 abbrev pub section_at : Ends → ℕ → Section
 section_at ends n =
     if nat_lt n ends.questions then Question
@@ -51,7 +51,7 @@ abbrev pub entry_of : Entry → EntryValue
 entry_of (entry.Question q) = question (question_of q)
 entry_of (entry.Record section r) = record_in section (record_of r)
 
--- these bytes are an entry of a section, and then a rest
+-- these bytes are an entry of a section, followed by a rest
 abbrev pub IsEntry : Section → List ℕ → EntryValue → List ℕ → Type 0
 IsEntry section bytes (question q) rest = (section ≡ Question) × IsQuestion bytes q rest
 IsEntry section bytes (record_in s r) rest = (section ≢ Question) × (s ≡ section) × IsRecord bytes r rest
@@ -65,7 +65,7 @@ abbrev pub RefusesEntry : Section → List ℕ → Refusal → Type 0
 RefusesEntry Question bytes why = RefusesQuestion bytes why
 RefusesEntry _ bytes why = RefusesRecord bytes why
 
--- how many entries were taken off, whether the next one was refused, and the bytes that the others begin in
+-- the number of entries that were returned, whether the next one was refused, and the bytes after them
 pub record Left : Type 0 where
   pub ends : Ends
   pub taken : ℕ
@@ -75,15 +75,15 @@ pub record Left : Type 0 where
 abbrev pub all_of : List ℕ → Left
 all_of message = record { ends = ends_in message; taken = 0; refused = false; bytes = payload_in message }
 
--- an entry is left where the header counts one more, and it was not refused
+-- a further entry is left where the header counts one more, and none was refused
 abbrev pub is_left : Left → Bool
 is_left left = not left.refused && nat_lt left.taken left.ends.all
 
--- how many are left
+-- the number of entries that are left
 abbrev pub are_left : Left → ℕ
 are_left left = if left.refused then 0 else left.ends.all - left.taken
 
--- no more were taken off than there are, and where one was refused none begins
+-- no more were returned than there are, and where one was refused none begins
 pub record IsSettled (left : Left) : Type 0 where
   pub most : left.taken ≤ left.ends.all
   pub none : left.refused ≡ true → HasEntry (section_at left.ends left.taken) left.bytes → ⊥
@@ -107,7 +107,7 @@ pub record IsBroken (old new : Left) : Type 0 where
   pub refused_ : new.refused ≡ true
   pub bytes_ : new.bytes ≡ old.bytes
 
--- A call gives the next entry and takes it off; where there is none it gives one refusal, and then the end for good.
+-- A call returns the next entry and removes it; where there is none it returns one refusal, and then always None.
 abbrev pub GivesEntry : Left → Option (Result Entry Error) → Left → Type 0
 GivesEntry old None new = ((old.refused ≡ true) ⊎ (old.taken ≡ old.ends.all)) × (new ≡ old)
 GivesEntry old (Some (Ok e)) new = IsNext old (entry_of e) new

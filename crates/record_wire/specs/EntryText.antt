@@ -40,7 +40,7 @@ entry_text_of (text.Record section read flushes_cache) = record_in section (reco
 
 -- ---- what is read, in a message
 
--- In multicast DNS the top bit of a class is no part of it.
+-- In multicast DNS the class is without its top bit.
 abbrev pub question_class : Bool → ℕ → ℕ
 question_class is_multicast class = if is_multicast then class_of class else class
 
@@ -64,7 +64,7 @@ IsEntryText is_multicast message (entries.record_in section r) value =
 
 -- ---- what is refused
 
--- the name of a question is none; a record has no text
+-- the name of a question is malformed; a record has no text
 abbrev pub RefusesEntryText : Bool → List ℕ → entries.EntryValue → TextRefusal → Type 0
 RefusesEntryText is_multicast message (entries.question q) (refusal.Owner why) = RefusesName q.name message why
 RefusesEntryText is_multicast message (entries.question q) _ = ⊥
@@ -73,7 +73,7 @@ RefusesEntryText is_multicast message (entries.record_in section r) why =
 
 -- ---- texts
 
--- what follows the line of an entry whose flag is set
+-- the mark after the line of an entry whose flag is set
 abbrev pub mark : Bool → List ℕ → List (List ℕ)
 mark is_set text = if is_set then text ∷ [] else []
 

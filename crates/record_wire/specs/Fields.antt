@@ -1,5 +1,5 @@
--- Data with fields in front of one or two names and after them: of MINFO (RFC 1035 section 3.3.7), RP, AFSDB and RT
--- (RFC 1183), PX (RFC 2163), KX (RFC 2230), SIG and NXT (RFC 2535), NAPTR (RFC 3403) and NSEC (RFC 4034 section 4).
+-- Data with fields before one or two names and after them: of MINFO (RFC 1035 section 3.3.7), RP, AFSDB and RT (RFC
+-- 1183), PX (RFC 2163), KX (RFC 2230), SIG and NXT (RFC 2535), NAPTR (RFC 3403) and NSEC (RFC 4034 section 4).
 use Rattle.std.specs.Prelude.{◌≡◌, ℕ, ◌≤◌, ◌<◌, ◌&&◌, nat_le, if◌then◌else◌, Bool, true, false, List, [], ◌∷◌, ◌++◌}
 use Rattle.std.specs.Prelude.{length, take, drop, slice_index, flat_map, Option, None, Some}
 use Rattle.std.specs.Borrow.{Bor}
@@ -64,7 +64,7 @@ fields_of fields = record {
   rest_ = rest_of fields.«rest»;
 }
 
--- ---- in front of the names
+-- ---- before the names
 
 abbrev pub number_field : Field
 number_field = field 0 2
@@ -96,7 +96,7 @@ inception_field = field 12 16
 abbrev pub key_tag_field : Field
 key_tag_field = field 16 18
 
--- what a signature is of (RFC 2535 section 4.1)
+-- what a signature covers (RFC 2535 section 4.1)
 abbrev pub signature_in : List ℕ → Signed
 signature_in bytes = record {
   covered = type_of (number_of covered_field bytes);
@@ -129,13 +129,13 @@ pub record IsRule (bytes : List ℕ) (value : FrontValue) (rest : List ℕ) : Ty
   pub three : AreThree (drop 4 bytes) strings rest
   pub is : value ≡ rule (number_of order_field bytes) (number_of preference_field bytes) strings
 
--- what a signature is of
+-- what a signature covers
 pub record IsSignature (bytes : List ℕ) (value : FrontValue) (rest : List ℕ) : Type 0 where
   pub reaches : 18 ≤ length bytes
   pub is : value ≡ signs (signature_in bytes)
   pub rest_ : rest ≡ drop 18 bytes
 
--- these fields are at the start of the bytes, and then a rest
+-- these fields are at the start of the bytes, followed by a rest
 abbrev pub IsFront : FrontForm → List ℕ → FrontValue → List ℕ → Type 0
 IsFront front_form.Nothing bytes value rest = (value ≡ no_front) × (rest ≡ bytes)
 IsFront front_form.Number bytes value rest = IsNumber bytes value rest
@@ -144,7 +144,7 @@ IsFront front_form.Signed bytes value rest = IsSignature bytes value rest
 
 -- ---- names
 
--- a second name, where there are two, and then a rest
+-- a second name, where there are two, followed by a rest
 abbrev pub IsSecond : Bool → List ℕ → Option (List ℕ) → List ℕ → Type 0
 IsSecond false bytes value rest = (value ≡ None) × (rest ≡ bytes)
 IsSecond true bytes value rest = (name : List ℕ) × (value ≡ Some name) × IsSplit bytes name rest
@@ -192,7 +192,7 @@ pub record IsFields (form : Form) (bytes : List ℕ) (value : FieldsValue) : Typ
   pub second_ : IsSecond form.has_two behind_first value.second behind_second
   pub rest_ : IsRest form.«rest» behind_second value.rest_
 
--- ---- as it is computed
+-- ---- as computed
 
 -- the first map, and what follows it
 abbrev pub first_map : List ℕ → Option (MapValue × List ℕ)

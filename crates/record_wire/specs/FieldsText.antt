@@ -1,4 +1,4 @@
--- Data with fields in front of one name or two and after them, whose names are read, and its text in a zone file.
+-- Data with fields before one name or two and after them, whose names are read, and its text in a zone file.
 use Rattle.std.specs.Prelude.{◌≡◌, ℕ, ◌+◌, ◌*◌, ◌/◌, ◌%◌, ◌==◌, if◌then◌else◌, ◌⊎◌, List, [], ◌∷◌, ◌++◌}
 use Rattle.std.specs.Prelude.{length, flat_map, codes, decimal, Option, None, Some}
 use Rattle.wirebase.specs.Display.{pieces}
@@ -70,7 +70,7 @@ signature_text s =
     ∷ codes " " ∷ decimal s.original_ttl ∷ codes " " ∷ decimal s.expiration
     ∷ codes " " ∷ decimal s.inception ∷ codes " " ∷ decimal s.key_tag ∷ [])
 
--- each field in front of the names, and a space after it
+-- each field before the names, and a space after it
 abbrev pub front_text : FrontValue → List ℕ
 front_text no_front = []
 front_text (numbered n) = pieces (decimal n ∷ codes " " ∷ [])
@@ -83,7 +83,7 @@ abbrev pub second_text : Option (List (List ℕ)) → List ℕ
 second_text None = []
 second_text (Some labels) = word (whole_name labels)
 
--- the type of a number after a space, where the least significant bit is set
+-- the type of this number after a space, where the least significant bit is set
 abbrev pub bit_text : ℕ → ℕ → List ℕ
 bit_text bits number = if bits % 2 == 0 then [] else word (type_display (type_of number))
 
@@ -91,7 +91,7 @@ bit_text bits number = if bits % 2 == 0 then [] else word (type_display (type_of
 abbrev pub number_at : ℕ → ℕ → ℕ
 number_at first i = (first + i) % 65536
 
--- the types of a byte, from that of its most significant bit on
+-- the types of a byte, beginning with its most significant bit
 unfoldable pub byte_text : ℕ → ℕ → List ℕ
 byte_text first byte =
     pieces (bit_text (byte / 128) first
@@ -103,7 +103,7 @@ byte_text first byte =
     ∷ bit_text (byte / 2) (number_at first 6)
     ∷ bit_text byte (number_at first 7) ∷ [])
 
--- the types of a map, from its first on
+-- the types of a map, beginning with its first bit
 unfoldable pub map_text : ℕ → List ℕ → List ℕ
 map_text first [] = []
 map_text first (byte ∷ rest) = byte_text first byte ++ map_text (number_at first 8) rest

@@ -16,7 +16,7 @@ pub record AreOfName (labels : List (List ℕ)) : Type 0 where
   pub each : AllByRecursion IsLabel labels
   pub fits : length (wire labels) ≤ 255
 
--- ---- the labels in octets, as they are computed
+-- ---- the labels in octets, as computed
 
 -- the label at the start of octets, and what follows it
 abbrev pub first_label : List ℕ → Option (List ℕ × List ℕ)
@@ -33,6 +33,6 @@ unfoldable pub labels_up_to : ℕ → List ℕ → List (List ℕ)
 labels_up_to zero octets = []
 labels_up_to (suc most) octets = by_first (first_label octets) (labels_up_to most)
 
--- each label takes an octet at least
+-- each label takes at least one octet
 abbrev pub labels_in : List ℕ → List (List ℕ)
 labels_in octets = labels_up_to (length octets) octets

@@ -1,4 +1,4 @@
--- A name as a value: what contracts see of it are its labels.
+-- A name as a value: contracts refer to its labels.
 use Rattle.std.specs.Prelude.{ℕ, List}
 use Rattle.record_wire.specs.Labels.{labels_in}
 use Rattle.record_wire.specs.declared.name.Name.{Name}

@@ -1,4 +1,4 @@
--- The parts of a name in a message, as they are read: what private functions answer.
+-- The parts of a name in a message, as they are read: the results of private functions.
 use Rattle.std.specs.Prelude.{◌≡◌, ℕ, ◌+◌, ◌≤◌, List, ◌++◌, length}
 use Rattle.std.specs.List.{AllByRecursion}
 use Rattle.dns_wire.specs.DnsName.{IsLabel}
@@ -7,7 +7,7 @@ use Rattle.dns_wire.specs.declared.dns.part.Front.TheVariants.{Label, Pointer, E
 use Rattle.record_wire.specs.Labels.{wire, written_all}
 use Rattle.record_wire.specs.Names.{Names}
 
--- whole labels are at the start of a text, and take this many bytes
+-- the text begins with whole labels, which take this many bytes
 pub record AreInFront (text : List ℕ) (len : ℕ) : Type 0 where
   pub labels : List (List ℕ)
   pub rest : List ℕ
@@ -15,7 +15,7 @@ pub record AreInFront (text : List ℕ) (len : ℕ) : Type 0 where
   pub is : text ≡ written_all labels ++ rest
   pub count : length (written_all labels) ≡ len
 
--- a label after this many bytes would end where no name has room for byte 0
+-- a label after this many bytes would leave no room in a name for byte 0
 abbrev pub EndsTooFar : ℕ → Front → Type 0
 EndsTooFar len (Label bytes rest) = 255 ≤ len + (1 + length bytes.now)
 EndsTooFar len (Pointer target) = Unit {0}
@@ -28,7 +28,7 @@ pub record AreNamed (text message octets : List ℕ) : Type 0 where
   pub names_ : Names message text labels
   pub written_ : octets ≡ wire labels
 
--- these bytes are at the start of a text
+-- the text begins with these bytes
 pub record StandInFront (bytes text : List ℕ) : Type 0 where
   pub rest : List ℕ
   pub is : text ≡ bytes ++ rest

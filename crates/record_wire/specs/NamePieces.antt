@@ -1,11 +1,12 @@
--- Text that is written by the piece: what a formatter wrote, and what waits at the start of a piece.
+-- Text that is written by the piece: what a formatter has written, and the bytes that wait in a piece.
 use Rattle.std.specs.Prelude.{◌≡◌, ℕ, List, ◌++◌, IfOk, Result, take}
 use Rattle.std.specs.Fmt.{HasWritten, IsPlainFormatter}
 use Rattle.std.specs.Str.{IsAscii}
 use Rattle.std.specs.declared.fmt.Error.{Error}
 use Rattle.std.specs.declared.fmt.Formatter.{Formatter}
 
--- A formatter and a piece took a text: what waited and the text are what was written and what waits now.
+-- A formatter and a piece took a text: the bytes that waited and the text are what was written and the bytes that now
+-- wait.
 pub record Takes {W : Type 0} (took : W → List ℕ → W → Type 0) (old : Formatter W) (waited text : List ℕ)
     (new : Formatter W) (waits : List ℕ) : Type 0 where
   pub written : List ℕ

@@ -1,4 +1,4 @@
--- The characters at the start of a text, as they are computed: what private functions answer.
+-- The characters at the start of a text, as computed: the results of private functions.
 use Rattle.std.specs.Prelude.{◌≡◌, ℕ, ◌+◌, ◌-◌, ◌*◌, ◌==◌, ◌&&◌, not, nat_lt, if◌then◌else◌, List, [], ◌∷◌}
 use Rattle.std.specs.Prelude.{Option, None, Some}
 use Rattle.std.specs.Char.{is_ascii_graphic, is_ascii_digit}
@@ -13,7 +13,7 @@ use Rattle.record_wire.specs.NameText.{is_special, Spells, IsTextOf}
 abbrev pub three_digits : ℕ → ℕ → ℕ → ℕ
 three_digits x y z = 100 * (x - 48) + 10 * (y - 48) + (z - 48)
 
--- the byte of a number of three digits, of which this is the first
+-- the byte of a number of three digits, beginning with this one
 abbrev pub numbered_at : ℕ → List ℕ → Option (ℕ × List ℕ)
 numbered_at x [] = None
 numbered_at x (y ∷ []) = None
@@ -68,7 +68,7 @@ abbrev pub seen_group : Option (ℕ × ℕ × ℕ × Bor (List ℕ)) → Option 
 seen_group None = None
 seen_group (Some (a, b, c, rest)) = Some (a, b, c, rest.now)
 
--- a pair seen without where the rest lies in memory
+-- a pair without the place of its rest in memory
 abbrev pub seen_byte : Option (ℕ × Bor (List ℕ)) → Option (ℕ × List ℕ)
 seen_byte None = None
 seen_byte (Some (byte, rest)) = Some (byte, rest.now)
@@ -82,7 +82,7 @@ pub record IsSpelling (text bytes rest : List ℕ) : Type 0 where
   pub spells : Spells text bytes rest
   pub no_more : first_byte rest ≡ None
 
--- the octets of the labels of a text, of which there is one at least
+-- the octets of the labels of a text, at least one
 pub record AreSpelled (text octets : List ℕ) : Type 0 where
   pub first : List ℕ
   pub more : List (List ℕ)

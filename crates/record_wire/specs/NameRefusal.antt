@@ -1,4 +1,4 @@
--- Why no name begins in a text that may go on in a message: the check that fails first.
+-- Why the name that begins in a text and may go on in a message is refused: the check that fails first.
 use Rattle.std.specs.Prelude.{◌≡◌, ℕ, ◌+◌, ◌*◌, ◌%◌, ◌<◌, ◌≤◌, List, [], ◌∷◌, ◌++◌, length, take, drop, codes, decimal}
 use Rattle.wirebase.specs.Display.{pieces}
 use Rattle.dns_wire.specs.DnsName.{IsLabel, written}
@@ -26,15 +26,15 @@ pub data ComesTo (text message : List ℕ) : ℕ → ℕ → List ℕ → List �
       → all ≡ pointers + 1 → all ≤ most_pointers → left ≡ drop place opened → below ≡ take place opened
       → ComesTo text message octets all left below
 
--- what is left of a name, and how reading came to it
+-- the rest of a name, and the state in which reading came to it
 pub record IsLeft (text message left : List ℕ) : Type 0 where
   pub octets : ℕ
   pub pointers : ℕ
   pub opened : List ℕ
   pub comes : ComesTo text message octets pointers left opened
 
--- Reading comes to octets that are cut, to a label of another kind, to a pointer to no open byte, to one pointer more
--- than are followed, or to a label with which the name has more than 255 octets.
+-- Reading comes to octets that are cut, to a label of another kind, to a pointer to a byte that is not open, to one
+-- pointer too many, or to a label with which the name has more than 255 octets.
 abbrev pub RefusesName : List ℕ → List ℕ → NameRefusal → Type 0
 RefusesName text message (refusal.Part part.Cut) = (left : List ℕ) × IsLeft text message left × IsCut left
 RefusesName text message (refusal.Part (part.LabelType n)) =

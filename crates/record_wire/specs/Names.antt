@@ -13,7 +13,7 @@ pub record IsFollowed (text message : List ℕ) (labels : List (List ℕ)) : Typ
   pub is : IsName text message labels
   pub few : length is.targets ≤ most_pointers
 
--- the same of a name of 255 octets at most
+-- a name of at most 255 octets
 pub record Names (message bytes : List ℕ) (labels : List (List ℕ)) : Type 0 where
   pub name_ : IsFollowed bytes message labels
   pub fits : AreOfName labels

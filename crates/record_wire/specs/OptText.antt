@@ -1,11 +1,11 @@
--- An OPT record as a line (RFC 6891 section 6.1): it is none of a zone file, so it is a comment there.
+-- An OPT record as a line (RFC 6891 section 6.1): it belongs to no zone, so it is a comment in a zone file.
 use Rattle.std.specs.Prelude.{ℕ, ◌/◌, ◌%◌, ◌==◌, nat_le, if◌then◌else◌, List, [], ◌∷◌, ◌++◌, flat_map}
 use Rattle.std.specs.Prelude.{Ok, Err, codes, decimal}
 use Rattle.wirebase.specs.Display.{pieces}
 use Rattle.record_wire.specs.Edns.{EdnsValue, Answer, answers_in}
 use Rattle.record_wire.specs.RecordDisplay.{option_display, option_refusal_display}
 
--- what a record of this class and time to live says, whose data are these bytes
+-- the fields of an OPT record with this class, time to live and data
 abbrev pub edns_by : ℕ → ℕ → List ℕ → EdnsValue
 edns_by class ttl bytes = record {
   payload_size = class;

@@ -26,7 +26,7 @@ use Rattle.record_wire.specs.declared.rdata.RData.TheVariants as rdata
 
 -- ---- layouts
 
--- fields in front of one name or two and after them
+-- fields before one name or two and after them
 abbrev pub form : FrontForm → Bool → RestForm → Layout
 form front has_two rest = layout.Fields (record { front = front; has_two = has_two; «rest» = rest })
 
@@ -65,7 +65,7 @@ layout_of (kind.Unknown n) class =
 
 -- ---- data
 
--- the fields of MX and SRV in front of the name, and those of SOA after the two names
+-- the fields of MX and SRV before the name, and those of SOA after the two names
 abbrev pub preference_field : Field
 preference_field = field 0 2
 

@@ -49,7 +49,7 @@ RefusesStrings bytes refusal.String =
     × (bytes ≡ flat_map written strings ++ len ∷ rest) × (length rest < len)
 RefusesStrings bytes _ = ⊥
 
--- the numbers in front of a name are cut; those of a rule are not followed by three strings
+-- the numbers before a name are cut; those of a rule are not followed by three strings
 abbrev pub RefusesFront : FrontForm → List ℕ → DataRefusal → Type 0
 RefusesFront front_form.Number bytes refusal.Numbers = length bytes < 2
 RefusesFront front_form.Rule bytes refusal.Numbers = length bytes < 4

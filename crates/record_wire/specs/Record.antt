@@ -31,7 +31,7 @@ pub record QuestionValue : Type 0 where
 abbrev pub question_of : Question → QuestionValue
 question_of question = record { name = question.name.now; kind = question.type_; class = question.class }
 
--- The grammar: these bytes are a name of one part, a type and a class, and then a rest.
+-- The grammar: these bytes are a name of one part, a type and a class, followed by a rest.
 pub record IsQuestion (bytes : List ℕ) (question : QuestionValue) (rest : List ℕ) : Type 0 where
   pub after : List ℕ
   pub name_ : IsOnePart question.name
@@ -74,7 +74,8 @@ pub record IsBehindName (after : List ℕ) (r : RecordValue) (rest : List ℕ) :
   pub data_is : r.data_ ≡ take (data_len after) (drop 10 after)
   pub rest_ : rest ≡ drop (data_len after) (drop 10 after)
 
--- The grammar: these bytes are a name of one part, what follows the name of this record, and then a rest.
+-- The grammar: these bytes are a name of one part, the fields after the name of this record, and its data, followed by
+-- a rest.
 pub record IsRecord (bytes : List ℕ) (r : RecordValue) (rest : List ℕ) : Type 0 where
   pub after : List ℕ
   pub name_ : IsOnePart r.name

@@ -15,7 +15,7 @@ use Rattle.record_wire.specs.declared.refusal.Refusal.TheVariants as refusal
 
 -- ---- names of one part
 
--- whole labels are at the start of a text, and then this
+-- a text begins with whole labels, followed by this
 pub record Behind (text left : List ℕ) : Type 0 where
   pub labels : List (List ℕ)
   pub each : AllByRecursion IsLabel labels
@@ -34,14 +34,15 @@ IsNoPart text (part.LabelType n) =
 
 -- ---- questions and records
 
--- the name is none, or what is after it is too short for a type and a class
+-- the name is malformed, or what follows it is too short for a type and a class
 abbrev pub RefusesQuestion : List ℕ → Refusal → Type 0
 RefusesQuestion bytes (refusal.Name why) = IsNoPart bytes why
 RefusesQuestion bytes refusal.Fields =
     (name : List ℕ) × (after : List ℕ) × IsSplit bytes name after × (length after < 4)
 RefusesQuestion bytes refusal.Data = ⊥
 
--- the name is none; what is after it is too short for the fields; what is after these is shorter than their length
+-- the name is malformed; what follows it is too short for the fields; what follows these is shorter than the length
+-- says
 abbrev pub RefusesRecord : List ℕ → Refusal → Type 0
 RefusesRecord bytes (refusal.Name why) = IsNoPart bytes why
 RefusesRecord bytes refusal.Fields =

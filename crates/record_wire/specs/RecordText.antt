@@ -151,7 +151,7 @@ RefusesNameIn message (rdata.strings bytes) why = ⊥
 RefusesNameIn message (rdata.fields those) why = RefusesNamesIn message those why
 RefusesNameIn message (rdata.other bytes) why = ⊥
 
--- the name is none; the data are none of their type and class; a name in these is none
+-- the name is malformed; the data are not those of their type and class; a name in these is malformed
 abbrev pub RefusesText : List ℕ → ℕ → RecordValue → TextRefusal → Type 0
 RefusesText message class r (refusal.Owner why) = RefusesName r.name message why
 RefusesText message class r (refusal.Data why) =
@@ -198,7 +198,7 @@ edns_with _ r _ = None
 abbrev pub edns_in : RecordTextValue → Option EdnsValue
 edns_in r = edns_with (is_opt r.kind) r r.data_
 
--- an OPT record is no line of a zone file
+-- an OPT record is not a line of a zone file
 abbrev pub opt_or_line : Option EdnsValue → RecordTextValue → List ℕ
 opt_or_line None r = zone_line r
 opt_or_line (Some edns) r = opt_text edns
@@ -206,7 +206,7 @@ opt_or_line (Some edns) r = opt_text edns
 abbrev pub record_text : RecordTextValue → List ℕ
 record_text r = opt_or_line (edns_in r) r
 
--- a question: as a record without its time and its data
+-- a question: a record without its time to live and its data
 abbrev pub question_text : List (List ℕ) → ℕ → RecordType → List ℕ
 question_text labels class kind =
     pieces (whole_name labels ∷ codes " " ∷ class_text class ∷ codes " " ∷ type_display kind ∷ [])

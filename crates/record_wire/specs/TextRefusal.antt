@@ -8,14 +8,14 @@ use Rattle.record_wire.specs.NameText.{IsCharacter, Spells, IsNameText}
 use Rattle.record_wire.specs.declared.name.text_refusal.NameTextRefusal.{NameTextRefusal}
 use Rattle.record_wire.specs.declared.name.text_refusal.NameTextRefusal.TheVariants as refusal
 
--- a text is these labels, each with a dot after it, and then more
+-- a text is these labels, each with a dot after it, followed by more
 abbrev pub Leads : List ℕ → List (List ℕ) → List ℕ → Type 0
 Leads text [] left = text ≡ left
 Leads text (label ∷ labels) left =
     (rest : List ℕ) × (after : List ℕ) × Spells text label rest × (rest ≡ codes "." ++ after)
     × (1 ≤ length after) × Leads after labels left
 
--- a text is whole labels with dots after them, the characters of one more label, and then a rest
+-- a text is whole labels with dots after them, the characters of one more label, and a rest
 pub record IsReadTo (text rest : List ℕ) : Type 0 where
   pub done : List (List ℕ)
   pub each : AllByRecursion IsLabel done

@@ -1,4 +1,4 @@
--- How a zone file has the parts of a record (RFC 1035 section 5.1, RFC 3597 section 5, RFC 4648 section 4).
+-- The parts of a record in a zone file (RFC 1035 section 5.1, RFC 3597 section 5, RFC 4648 section 4).
 use Rattle.std.specs.Prelude.{ℕ, ◌+◌, ◌-◌, ◌*◌, ◌/◌, ◌%◌, ◌==◌, ◌||◌, ◌&&◌, not, nat_le, Bool, if◌then◌else◌}
 use Rattle.std.specs.Prelude.{List, [], ◌∷◌, ◌++◌, length, flat_map, map, codes, decimal}
 use Rattle.wirebase.specs.Ethernet.{hex_byte}
@@ -53,7 +53,7 @@ generic_text bytes = codes "\\#" ++ word (decimal (length bytes)) ++ digits_word
 
 -- ---- bytes in base64 (RFC 4648 section 4)
 
--- the character of six bits; of 64, that of padding
+-- the character of six bits; for 64, that of padding
 unfoldable pub base64_digit : ℕ → ℕ
 base64_digit six =
     if nat_le six 25 then 65 + six
@@ -63,7 +63,7 @@ base64_digit six =
     else if six == 63 then 47
     else 61
 
--- three bytes as numbers of six bits, and the last one or two, with padding for those that are missing
+-- three bytes as numbers of six bits, and the last one or two bytes with padding
 abbrev pub sixes_of : List ℕ → List ℕ
 sixes_of [] = []
 sixes_of (a ∷ []) = a / 4 ∷ a % 4 * 16 ∷ 64 ∷ 64 ∷ []

@@ -17,7 +17,7 @@ use dns_wire::dns::{Type, split_name};
 use std::fmt;
 use wirebase::{Error, Ipv4Address, Ipv6Address, Octets, Result};
 
-// The data of MX and SRV in front of a name, and of SOA after two names.
+// The data of MX and SRV before a name, and of SOA after two names.
 mod field {
     use wirebase::Field;
 
@@ -246,7 +246,7 @@ fn find_layout(type_: Type, class: u16) -> Layout
     }
 }
 
-// The layout of fields in front of one name or two and after them.
+// The layout of fields before one name or two and after them.
 fn form(front: FrontForm, has_two: bool, rest: RestForm) -> Layout
     ensures { result ≡ form front has_two rest }
 {

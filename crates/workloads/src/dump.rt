@@ -11,11 +11,11 @@ use crate::responses::message::Letters;
 use std::alloc::Global;
 use std::io::{self, BufReader};
 
-// The bytes of a buffer that many records do not fit.
+// The size of a buffer that is too small for many records.
 const SHORT_BUFFER_LEN: usize = 512;
 
 /// Writes a capture in each round, another each time, reads it, and returns a digest of what was read.
-// Apart from the other jobs: inlined beside them, its code decides which registers theirs have.
+// Not inlined: beside the other jobs, this code would change the registers that theirs get.
 #[inline(never)]
 pub fn digest(alloc: Global, seed: u64, rounds: u32) -> io::Result<u64> {
     let mut random = Random::new(seed);

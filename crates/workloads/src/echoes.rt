@@ -31,7 +31,7 @@ const LONG_EVERY: u32 = 1_024;
 // The lengths of what has a checksum: a header, a header with options, a segment, and packets of links.
 const SUMMED_LENGTHS: [usize; 6] = [20, 40, 64, 576, 1_500, 9_000];
 
-// The kinds of error that are sent, of which `icmpv4` reads all but the last one.
+// The kinds of errors that are sent; `icmpv4` reads all but the last one.
 const KINDS: [icmpv4_error::Kind; 4] = [
     icmpv4_error::Kind::DstUnreachable,
     icmpv4_error::Kind::TimeExceeded,

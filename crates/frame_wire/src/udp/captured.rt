@@ -1,4 +1,4 @@
-//! UDP datagrams as far as a capture has them.
+//! UDP datagrams as far as they were captured.
 
 ghost use Rattle.std.specs.Prelude.{Some, IfOk, IfErr};
 ghost use Rattle.frame_wire.specs.UdpCaptured.{captured_of, IsCaptured, RefusesCaptured, captured_display};
@@ -24,11 +24,11 @@ use std::fmt;
 pub struct CapturedUdp<'a> {
     /// The source port, or 0 for none.
     pub src_port: u16,
-    /// The port of the receiver.
+    /// The destination port.
     pub dst_port: u16,
-    /// The data. They end early where the datagram is cut.
+    /// The data; they are cut where the datagram is.
     pub payload: &'a [u8],
-    /// How much of the datagram is there: `Whole` or `Cut`.
+    /// How much of the datagram was captured: `Whole` or `Cut`.
     pub extent: Extent,
 }
 
@@ -63,7 +63,7 @@ impl<'a> CapturedUdp<'a> {
     }
 }
 
-/// The ports, the bytes of the data that are there, and how much of the datagram that is.
+/// The ports, the number of captured bytes of data, and how much of the datagram was captured.
 impl fmt::Display for CapturedUdp<'_> {
     ghost output = { λ captured. Some (captured_display (captured_of captured)) };
 

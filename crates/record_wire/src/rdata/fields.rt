@@ -1,6 +1,6 @@
-//! Data with fields in front of one or two names and after them: of mailboxes, of hosts with a number, of rules for
-//! naming, of signatures and of the types that a name has (RFC 1035 section 3.3.7, RFC 1183, RFC 2163, RFC 2230, RFC
-//! 2535, RFC 3403, RFC 4034 section 4).
+//! Data with fields before one or two names and after them: of mailboxes, of hosts with a number, of rules for naming,
+//! of signatures and of the types that a name has (RFC 1035 section 3.3.7, RFC 1183, RFC 2163, RFC 2230, RFC 2535, RFC
+//! 3403, RFC 4034 section 4).
 
 ghost use Rattle.std.specs.Prelude.{◌≡◌, ◌↔◌, List, ℕ, Option, IfOk, IsOkAnd, IsTrue};
 ghost use Rattle.record_wire.specs.Fields.{FrontValue, RestValue, FieldsValue, front_of, rest_of, name_of};
@@ -13,7 +13,7 @@ use crate::rdata::behind_string;
 use dns_wire::dns::{Type, split_name};
 use wirebase::{Error, Octets, Result};
 
-// The fields in front of a name: the number of AFSDB, RT, KX and PX, those of NAPTR, and those of SIG.
+// The fields before a name: the number of AFSDB, RT, KX and PX, those of NAPTR, and those of SIG.
 pub(super) mod field {
     use wirebase::Field;
 
@@ -61,7 +61,7 @@ pub struct Fields<'a> {
     pub rest: Rest<'a>,
 }
 
-/// The fields in front of a name.
+/// The fields before a name.
 #[derive(Debug, PartialEq, Eq, Clone, Copy)]
 pub enum Front<'a> {
     /// None, of MINFO (RFC 1035 section 3.3.7), RP (RFC 1183 section 2.2), NXT (RFC 2535 section 5.2) and NSEC (RFC
@@ -131,7 +131,7 @@ pub struct Form {
     pub rest: RestForm,
 }
 
-/// How the fields in front of a name are laid out.
+/// How the fields before a name are laid out.
 #[derive(Debug, PartialEq, Eq, Clone, Copy)]
 pub enum FrontForm {
     /// None.
@@ -175,7 +175,7 @@ pub(super) fn read(form: Form, octets: &[u8]) -> Result<Fields<'_>>
     })
 }
 
-// The fields in front of a name, and what follows them.
+// The fields before a name, and what follows them.
 pub(super) fn split_front(form: FrontForm, octets: &[u8]) -> Result<(Front<'_>, &[u8])>
     ensures sound { IfOk result (λ split. IsFront form octets.now (front_of split.0) split.1.now) }
     ensures complete { (value : FrontValue) (rest : List ℕ) → IsFront form octets.now value rest

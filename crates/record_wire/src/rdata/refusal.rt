@@ -33,8 +33,8 @@ use std::fmt;
 pub enum DataRefusal {
     /// An address of another length than this: 4 bytes for IPv4, 16 for IPv6.
     Address(usize),
-    /// Fewer bytes than the numbers in front of the name have: 2 for MX, AFSDB, RT, PX and KX, 4 of NAPTR, 6 of SRV, 18
-    /// of SIG.
+    /// Fewer bytes than the numbers before the name have: 2 for MX, AFSDB, RT, PX and KX, 4 of NAPTR, 6 of SRV, 18 of
+    /// SIG.
     Numbers,
     /// There is no name where one should begin; of two names, the first.
     Name(PartRefusal),
@@ -46,7 +46,7 @@ pub enum DataRefusal {
     Times,
     /// No bytes, where TXT has at least one string.
     NoString,
-    /// A string of TXT or NAPTR has fewer bytes than the length in front of it says, or NAPTR has fewer than three.
+    /// A string of TXT or NAPTR has fewer bytes than the length before it says, or NAPTR has fewer than three.
     String,
     /// The types of NXT are not a map of up to 16 bytes whose first bit is clear, or those of NSEC not maps of 1 to 32
     /// bytes.
@@ -230,7 +230,7 @@ fn why_no_front(form: FrontForm, octets: &[u8]) -> DataRefusal
             }
             DataRefusal::String
         }
-        // Nothing in front of a name is not refused.
+        // Nothing before a name is not refused.
         FrontForm::Nothing | FrontForm::Number | FrontForm::Signed => DataRefusal::Numbers,
     }
 }

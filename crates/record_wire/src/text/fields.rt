@@ -1,5 +1,5 @@
-//! Data with fields in front of one name or two and after them, as a zone file has it (RFC 1035 section 5.1, RFC 1183,
-//! RFC 2163, RFC 2230, RFC 2535 section 7.2, RFC 3403 section 4.1, RFC 4034 sections 3.2 and 4.2).
+//! Data with fields before one name or two and after them, as a zone file has it (RFC 1035 section 5.1, RFC 1183, RFC
+//! 2163, RFC 2230, RFC 2535 section 7.2, RFC 3403 section 4.1, RFC 4034 sections 3.2 and 4.2).
 
 #![tactic(auto, unfolding(crate::specs::ZoneText::word))]
 

@@ -10,7 +10,7 @@ use std::fmt::Write;
 // The bytes of a message's header.
 const HEADER_LEN: usize = 12;
 
-// The labels of a name of 255 octets, of one byte each, and the bytes of one and of the pointer after it.
+// The labels of a name of 255 octets, of one byte each, and the bytes of one label and its pointer.
 const PIECES: usize = 127;
 
 const PIECE_LEN: usize = 4;
@@ -18,7 +18,7 @@ const PIECE_LEN: usize = 4;
 /// The bytes of a message with a name in pieces.
 pub const PIECES_LEN: usize = HEADER_LEN + PIECE_LEN * PIECES + 1;
 
-/// The bytes of a message of pointers, the most that a pointer reaches.
+/// The bytes of a message of pointers, the largest offset of a pointer.
 pub const CHAIN_LEN: usize = 16_384;
 
 // Adds the labels of the name that begins at a place of a message.
@@ -88,7 +88,8 @@ pub fn write_chain(message: &mut [u8]) {
     }
 }
 
-/// Reads the labels of a name after thousands of pointers, and a whole name after 127 at most, as many as are followed.
+/// Reads the labels of a name after thousands of pointers, and a whole name after at most 127, the most that are
+/// followed.
 pub fn read_chain(number: u64, message: &[u8], digest: &mut Digest) {
     let place = HEADER_LEN + 4 + 2 * (number % 8_000) as usize;
     add_labels(message, place, digest);

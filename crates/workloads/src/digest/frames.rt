@@ -49,7 +49,7 @@ pub fn add_datagram(datagram: &Datagram<'_>, digest: &mut Digest) {
         protocol,
         hop_limit,
         payload,
-        // The options of hop-by-hop headers, which the library of the start does not hand out.
+        // The options of hop-by-hop headers, which the library does not return at the start.
         ..
     } = datagram;
     match addresses {

@@ -45,7 +45,7 @@ struct Lengths {
     original: u32,
 }
 
-// The lengths of a frame where this many bytes are kept at most.
+// The captured lengths of a frame, where at most this many bytes are kept.
 fn lengths_of(len: usize, most: u32) -> Lengths {
     let original = len.min(MOST_FRAME_LEN) as u32;
     Lengths {
@@ -70,7 +70,7 @@ pub fn write_pcap(octets: &mut Vec<u8>, sources: &Sources, random: &mut Random) 
     Ok(())
 }
 
-/// Adds a pcapng file of some packets, and of some blocks that say something else.
+/// Adds a pcapng file of some packets, and of some blocks of other kinds.
 pub fn write_pcapng(
     octets: &mut Vec<u8>,
     sources: &Sources,

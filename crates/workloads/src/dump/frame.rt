@@ -10,7 +10,7 @@ use frame_wire::Addresses;
 /// The bytes of the longest frame.
 pub const MOST_FRAME_LEN: usize = 1_514;
 
-// The bytes of the shortest frame, without the checksum after it.
+// The bytes of the shortest frame, without its checksum.
 const LEAST_FRAME_LEN: usize = 60;
 
 // The bytes of the headers.

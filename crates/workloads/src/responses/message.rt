@@ -340,7 +340,7 @@ fn add_data<'a>(packet: &Packet<&'a [u8]>, data: &RData<'a>, digest: &mut Digest
         }
         RData::Soa(authority) => add_authority(packet, authority, digest),
         RData::Txt(strings) => digest.add_octets(strings),
-        // Others, and fields, which the library at the start does not have.
+        // Other data, and fields, which the library at the start does not have.
         _ => add_other(data, digest),
     }
 }

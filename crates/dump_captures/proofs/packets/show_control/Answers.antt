@@ -1,4 +1,4 @@
--- It is passed over, counted alone, or printed.
+-- The packet is passed over, only counted, or printed.
 use Rattle.std.proofs.Common.{◌≡◌, ℕ, [], List, ◌++◌, Option, refl, sym, ◌∙◌}
 use Rattle.capture.specs.Capture.{packet_of}
 use Rattle.listing.specs.Output.{GainsSome}

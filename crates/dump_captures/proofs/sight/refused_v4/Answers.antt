@@ -1,4 +1,4 @@
--- The start is there, or what is told of it, or nothing.
+-- The start is there, or what is known of it, or nothing.
 use Rattle.std.proofs.Common.{◌∙◌, sym}
 use Rattle.dump_captures.specs.Sight.IsRefused4.{by_front, by_head, by_none}
 use Rattle.dump_captures.proofs.sight.refused_v4.Goals as goal

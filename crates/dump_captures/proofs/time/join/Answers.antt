@@ -1,4 +1,4 @@
--- The date in front, and the time after it.
+-- The date first, and the time after it.
 use Rattle.std.proofs.Common.{refl}
 use Rattle.dump_captures.proofs.Times.{joined}
 use Rattle.dump_captures.proofs.time.join.Goals as goal

@@ -1,4 +1,4 @@
--- The numbers and a dot after each, of which the last is left out or gives way to a colon.
+-- The numbers with a dot after each; the last dot is left out or replaced by a colon.
 use Rattle.std.proofs.Common.{◌-◌, ◌∷◌, [], ◌++◌, ap, ◌∙◌, arith, append_assoc}
 use Rattle.std.proofs.lemmas.Grind.{take-set_at}
 use Rattle.wirebase.specs.Ipv4.{address_text}

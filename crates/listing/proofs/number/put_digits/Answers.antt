@@ -1,4 +1,4 @@
--- Each turn puts the last two digits of what is left in front of the others.
+-- Each turn puts the last two digits of what is left before the others.
 use Rattle.std.proofs.Common.{◌≡◌, ◌+◌, ◌-◌, refl, arith, append-nil, append_assoc}
 use Rattle.std.proofs.lemmas.Fmt.{decimal_digit}
 use Rattle.std.proofs.lemmas.List.{drop-set, drop_all}

@@ -1,4 +1,4 @@
--- A packet that is none is refused.
+-- A packet that is malformed is refused.
 use Rattle.std.proofs.Common.{inl, refl}
 use Rattle.capture.proofs.capture.Capture.take_packet.Goals as goal
 

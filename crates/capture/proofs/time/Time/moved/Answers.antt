@@ -1,4 +1,4 @@
--- No seconds move nothing.
+-- Moving by 0 seconds changes nothing.
 use Rattle.std.proofs.Common.{◌+◌, ◌*◌, ◌<◌, pos, refl, ap, sym, subst, ◌∙◌, arith, rules}
 use Rattle.std.proofs.lemmas.Int.{to_z-of_z}
 use Rattle.std.specs.Int.{w64, cast_signed}

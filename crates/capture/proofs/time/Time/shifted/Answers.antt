@@ -1,4 +1,4 @@
--- The sign tells which way it is.
+-- The sign gives the direction.
 use Rattle.std.proofs.Common.{◌≡◌, ℕ, ◌+◌, ◌-◌, ◌*◌, ◌%◌, min, ℤ, pos, negsuc, int_lt, unsigned_abs, true, false}
 use Rattle.std.proofs.Common.{ap, sym, subst, ◌∙◌, refl, arith, le-ltb, add-one}
 use Rattle.std.proofs.lemmas.Int.{to_z-of_z}

@@ -1,4 +1,4 @@
--- The date that is kept and the time after it, and in front of both the digits of a long year.
+-- The date that is kept and the time after it, and before both the digits of a long year.
 use Rattle.std.proofs.Common.{◌++◌, ap, ◌∙◌}
 use Rattle.listing.proofs.Printing.{gains_last, gained_on_ok}
 use Rattle.dump_captures.proofs.Times.{early, late}

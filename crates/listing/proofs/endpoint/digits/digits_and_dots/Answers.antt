@@ -1,4 +1,4 @@
--- The table, looked at in all its places.
+-- The table, compared in all its entries.
 use Rattle.std.proofs.Common.{◌≡◌, ℕ, zero, suc, ◌+◌, ◌*◌, Bool, true, ◌&&◌, List, [], ◌∷◌, ◌++◌, take}
 use Rattle.std.proofs.Common.{get_or, decimal, codes, refl}
 use Rattle.std.proofs.lemmas.Bool.Decides.{Decides-below_and}
@@ -8,7 +8,7 @@ use Rattle.std.specs.Fmt.{digits}
 use Rattle.listing.specs.declared.endpoint.digits.TheConstants.{OCTETS}
 use Rattle.listing.proofs.endpoint.digits.digits_and_dots.Goals as goal
 
--- what the table has for a number, and what it is to have
+-- the table's entry for a number, and the required entry
 abbrev found : ℕ → List ℕ
 found n =
     get_or OCTETS.now (4 * n) 0 ∷ get_or OCTETS.now (4 * n + 1) 0 ∷ get_or OCTETS.now (4 * n + 2) 0

@@ -1,4 +1,4 @@
--- After the digits of the tenth, or over the digit of a tenth that is 0.
+-- After the digits of the tenth, or in place of the digit of a tenth that is 0.
 use Rattle.std.proofs.Common.{◌≡◌, ◌+◌, ◌/◌, ◌%◌, ◌<◌, ◌≤◌, decimal, arith, refl, ⊎_elim}
 use Rattle.std.proofs.lemmas.Bool.{cases_lt, le-leb, lt-leb}
 use Rattle.std.proofs.lemmas.Fmt.{decimal_digit, decimal_step}

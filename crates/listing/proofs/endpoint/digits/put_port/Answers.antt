@@ -1,4 +1,4 @@
--- The first digit, and each further one after it or over it.
+-- The first digit, and each further one after it or in its place.
 use Rattle.std.proofs.Common.{◌≡◌, ◌+◌, ◌/◌, take, arith}
 use Rattle.std.proofs.lemmas.Fmt.{decimal_digit}
 use Rattle.std.proofs.lemmas.List.{take_more_set}

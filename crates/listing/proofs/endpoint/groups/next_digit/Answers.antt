@@ -1,4 +1,4 @@
--- After the digits of the sixteenth, or over the digit of a sixteenth that is 0.
+-- After the digits of the sixteenth, or in place of the digit of a sixteenth that is 0.
 use Rattle.std.proofs.Common.{◌≡◌, ◌/◌, ◌%◌, ◌<◌, ◌≤◌, arith, refl, ⊎_elim}
 use Rattle.std.proofs.lemmas.Bool.{cases_lt, le-leb, lt-leb}
 use Rattle.std.specs.Char.{digit_char}

@@ -1,4 +1,4 @@
--- The first digit, each further one after it or over it, and a colon.
+-- The first digit, each further one after it or in its place, and a colon.
 use Rattle.std.proofs.Common.{◌≡◌, ◌+◌, ◌/◌, ◌++◌, ◌∷◌, [], take, ap, ◌∙◌, arith, append_assoc}
 use Rattle.std.proofs.lemmas.Grind.{take-set_at}
 use Rattle.std.proofs.lemmas.List.{take_more_set}

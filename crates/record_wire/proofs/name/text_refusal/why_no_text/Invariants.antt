@@ -1,4 +1,4 @@
--- The labels in front of what is left were read.
+-- The labels before what is left were read.
 use Rattle.std.proofs.Common.{length}
 use Rattle.record_wire.proofs.NameLabels.{SoFar}
 use Rattle.record_wire.proofs.name.text_refusal.why_no_text.Given as goal
