@@ -36,7 +36,7 @@ pub struct Record {
     pub link_type: u16,
     /// The number of its bytes that are kept: at most `MOST_OCTETS`.
     pub captured_len: u32,
-    /// The packet's length in bytes.
+    /// The packet's original length in bytes.
     pub original_len: u32,
 }
 

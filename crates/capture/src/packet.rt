@@ -9,7 +9,7 @@ pub struct Packet {
     pub time: Option<Time>,
     /// The type of the link.
     pub link_type: u16,
-    /// The packet's length in bytes.
+    /// The packet's original length in bytes.
     pub original_len: u32,
     /// The offset of its bytes in the record or block.
     pub start: usize,

@@ -114,7 +114,7 @@ pub struct RecordHeader {
     pub fraction: u32,
     /// The number of bytes of the packet in the file.
     pub captured_len: u32,
-    /// The packet's length in bytes.
+    /// The packet's original length in bytes.
     pub original_len: u32,
 }
 

@@ -9,11 +9,11 @@ use crate::order::Order;
 use crate::reader::{fill, look, skip};
 use std::io::BufRead;
 
-/// What precedes a record or a block, and says how long it is.
+/// The head of a record or a block, which says how long that is.
 pub trait UnitHead: Copy + Drop {
     ghost LEN: { ℕ };
 
-    /// What a head of this kind is, and says.
+    /// The format of the heads of this kind.
     ghost form: { Form Self };
 
     /// Its length in bytes.

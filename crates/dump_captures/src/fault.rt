@@ -7,7 +7,7 @@ ghost use Rattle.dump_captures.specs.Fault.{fault_of, fault_of_capture};
 use std::io;
 use std::io::ErrorKind;
 
-/// Faults: what ends the printing of a capture before the capture ends.
+/// What ends the printing of a capture before the capture ends.
 #[derive(Debug, PartialEq, Eq, Clone, Copy)]
 pub enum Fault {
     /// The input could not be read.

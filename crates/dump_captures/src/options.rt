@@ -37,7 +37,7 @@ impl Only {
     }
 }
 
-/// Options: what is printed of a capture.
+/// What is printed of a capture.
 #[derive(Debug, PartialEq, Eq, Clone, Copy)]
 pub struct Options {
     /// The packets that are chosen.

@@ -100,7 +100,7 @@ impl Line {
         if self.is_bad {
             return Ok(());
         }
-        // A CR may still be at the line's end.
+        // A CR may still be the line's end.
         if part.len() > MOST_OCTETS + 1 - (self.octets.as_slice().len() - self.start) {
             self.is_bad = true;
             return Ok(());

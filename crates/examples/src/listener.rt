@@ -112,8 +112,8 @@ pub struct Response {
 /// records, one for a group by the record of the group, and one for sources of a group by a record of these sources,
 /// from which the host listens, too (RFC 3810 sections 5.1.9 and 6.3). None exactly where the octets are no valid query
 /// (RFC 3810 section 6.2), where the host doesn't listen to what it asks for, where it names more than 89 sources, or
-/// where the report has no room; then it is unchanged. The caller checks that the query came with a router alert.
-/// Requires records of multicast groups, and at most 65,535 of them.
+/// where the report is longer than its buffer; then it is unchanged. The caller checks that the query came with a
+/// router alert. Requires records of multicast groups, and at most 65,535 of them.
 pub fn answer(
     querier: &Ipv6Address,
     asked: &Ipv6Address,

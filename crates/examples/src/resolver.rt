@@ -41,7 +41,7 @@ pub struct AddressRecord {
 }
 
 /// Writes the query for the records of a type at the name of a text to the start of the octets, and returns its length
-/// in bytes: None where they have no room. Refused where the text is no name (RFC 1035 section 5.1).
+/// in bytes: None where they are too short. Refused where the text is no name (RFC 1035 section 5.1).
 pub fn query_text(
     transaction_id: u16,
     text: &[u8],

@@ -268,7 +268,8 @@ fn read_v6<'a>(octets: &[u8], behind: &'a [u8]) -> Result<Datagram<'a>, Refusal>
     })
 }
 
-// Why the IPv6 headers lead to no payload: one is cut, or none is counted, since the length is in the first.
+// Why the IPv6 headers lead to no payload: one is cut, or the payload length is 0 and a hop-by-hop header has the
+// length.
 #[inline(never)]
 fn torn_v6(octets: &[u8], behind: &[u8], protocol: IpProtocol) -> Refusal
     requires fixed { 40 ≤ length octets.now }
@@ -373,7 +374,7 @@ fn is_extension(protocol: IpProtocol) -> bool
         || protocol == IpProtocol::Ipv6Opts
 }
 
-// Whether this is a fragment header, or another that a part of a datagram follows.
+// Whether this is the protocol of a fragment header.
 fn is_fragment(protocol: IpProtocol) -> bool
     ensures { IsTrue result ↔ (protocol ≡ IpProtocol.Ipv6Frag) }
 {

@@ -1,4 +1,4 @@
-//! Addresses and IPv6 headers, which occur in messages of several formats.
+//! IPv6 addresses and headers, which occur in messages of several formats.
 
 #![tactic(auto, using(crate::proofs::Printing::gains_both))]
 

@@ -8,7 +8,7 @@ ghost use Rattle.record_wire.specs.RecordRefusal.{IsNoPart};
 use dns_wire::message::{Front, read_front};
 use std::fmt;
 
-// The first byte of a label is its length, below this; that of a pointer is this other number or above.
+// The first byte of a label is its length, below `LABEL_END`; the first byte of a pointer is `POINTER` or above.
 const LABEL_END: u8 = 0x40;
 
 const POINTER: u8 = 0xc0;

@@ -10,7 +10,7 @@ use control_wire::checksum;
 use std::alloc::Global;
 use std::io;
 
-// The number of times that a chain of pointers and a capture are read, which takes as long as that many packets.
+// A chain of pointers and a capture take as long as many packets, and are read once in this many rounds.
 const CHAIN_EVERY: u32 = 64;
 
 const CAPTURE_EVERY: u32 = 16;

@@ -1,4 +1,4 @@
-//! ICMP messages of both families, and of IGMP.
+//! ICMP messages of both families, and IGMP messages.
 
 #![tactic(auto, using(listing::proofs::Printing::gained, listing::proofs::Printing::gains_both))]
 

@@ -26,7 +26,7 @@ pub struct CapturedUdp<'a> {
     pub src_port: u16,
     /// The destination port.
     pub dst_port: u16,
-    /// The data; they are cut where the datagram is.
+    /// The data; cut where the datagram is.
     pub payload: &'a [u8],
     /// How much of the datagram was captured: `Whole` or `Cut`.
     pub extent: Extent,

@@ -15,8 +15,7 @@ use record_wire::{Name, NameRefusal};
 use std::io;
 use std::io::Write;
 
-/// The text of a name, with its last dot; the root is a dot. It is large, so it is made empty first and then filled in
-/// its place.
+/// The text of a name, with its last dot; the root is a dot. It is large, so it is created empty and filled in place.
 #[derive(Drop)]
 pub struct NameText {
     // Most names have no byte that needs a backslash; their text is at the start of this buffer.

@@ -8,8 +8,8 @@ ghost use Rattle.record_wire.specs.NameParts.{AreInFront, EndsTooFar};
 use crate::name::MAX_NAME_LEN;
 use dns_wire::message::{Front, read_front};
 
-/// The number of bytes of the whole labels at the start of a text, which are copied at once, and what follows them; a
-/// further label follows where it would exceed the most octets that the labels of a name have.
+/// The number of bytes of the whole labels at the start of a text, which are copied at once, and what follows them:
+/// also a label, where the labels with it would have more octets than a name has.
 #[inline]
 pub(super) fn read_labels(text: &[u8]) -> (usize, Front<'_>)
     ensures labels { AreInFront text.now result.0 }
