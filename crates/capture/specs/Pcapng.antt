@@ -113,7 +113,7 @@ pub record IsHead (section : Order) (bytes : List ℕ) (h : Head) : Type 0 where
   pub length_ : IsLength h.total_len
   pub small : IsRead h.kind → h.total_len ≤ 524288
 
--- what is told of other bytes, twelve or more: a section header has no byte order, or the length is not that of a block
+-- the refusal of other bytes, twelve or more: a section header has no byte order, or the length is not that of a block
 abbrev pub RefusesHead : Order → List ℕ → Refusal → Type 0
 RefusesHead section bytes refusal.ByteOrder = (order : Order) → HasOrder section bytes order → ⊥
 RefusesHead section bytes (refusal.Length n) =
@@ -262,7 +262,7 @@ pub data HoldsPacket (kind : ℕ) : Type 0 where
   holds_simple : kind ≡ 3 → HoldsPacket kind
   holds_enhanced : kind ≡ 6 → HoldsPacket kind
 
--- what is told of another enhanced or obsolete packet: the block is too short, its interface is not described, or it is
+-- the refusal of another enhanced or obsolete packet: the block is too short, its interface is not described, or it is
 -- shorter than the packet
 abbrev pub RefusesTimed : Order → List Interface → ℕ → List ℕ → Refusal → Type 0
 RefusesTimed order interfaces place bytes refusal.Short = length bytes < 32
@@ -273,7 +273,7 @@ RefusesTimed order interfaces place bytes (refusal.CapturedLength n) =
     × (n ≡ number_in order captured_len_field bytes) × (length bytes < 32 + n)
 RefusesTimed order interfaces place bytes _ = ⊥
 
--- what is told of another simple packet
+-- the refusal of another simple packet
 abbrev pub RefusesSimple : Order → List Interface → List ℕ → Refusal → Type 0
 RefusesSimple order interfaces bytes refusal.Short = length bytes < 16
 RefusesSimple order interfaces bytes (refusal.Interface n) =
@@ -283,7 +283,7 @@ RefusesSimple order interfaces bytes (refusal.CapturedLength n) =
     × (n ≡ kept_len i.snap_len (number_in order (field 8 12) bytes))) × (length bytes < 16 + n)
 RefusesSimple order interfaces bytes _ = ⊥
 
--- what is told of a block that holds no packet, by the first check that fails
+-- the refusal of a block that holds no packet, by the first check that fails
 pub data RefusesPacket (order : Order) (interfaces : List Interface) (bytes : List ℕ) (kind : ℕ) (r : Refusal)
     : Type 0 where
   no_head : length bytes < 12 → r ≡ refusal.Short → RefusesPacket order interfaces bytes kind r

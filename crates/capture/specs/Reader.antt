@@ -5,13 +5,13 @@ use Rattle.std.specs.Io.KnownBytes.{Consumes, Keeps, IsAtEnd}
 use Rattle.capture.specs.declared.ending.Fault.{Fault}
 use denote.Ref.{Bor}
 
--- bytes were taken off what a reader had left, at most this many, and fewer only at its end
+-- bytes were taken from what a reader had left, at most this many, and fewer only at its end
 pub record Takes (old new : Option (List ℕ)) (taken : List ℕ) (most : ℕ) : Type 0 where
   pub consumed : Consumes old new taken
   pub few : length taken ≤ most
   pub ended : length taken < most → OnSome old (IsAtEnd new)
 
--- what was at hand of this many bytes was taken off what a reader had left; these are all where it has ended
+-- what was buffered of this many bytes was taken from what a reader had left; these are all where it has ended
 pub record TakesPart (old new : Option (List ℕ)) (before after_ : List ℕ) (missing : ℕ) (ended : Bool) : Type 0 where
   pub taken : List ℕ
   pub appended : after_ ≡ before ++ taken

@@ -40,7 +40,7 @@ pub struct Record {
     pub original_len: u32,
 }
 
-/// What comes next in a capture.
+/// The next item of a capture.
 #[derive(Debug, PartialEq, Eq, Clone, Copy)]
 pub enum Next {
     /// A record; `Capture::octets` are its packet's bytes.

@@ -6,7 +6,7 @@ ghost use Rattle.capture.specs.Ending.{ending_text, refusal_text, fault_text};
 use std::fmt;
 use std::io::Error;
 
-/// What ends the records of a capture.
+/// The ending of a capture's records.
 #[derive(Debug, PartialEq, Eq, Clone, Copy)]
 pub enum Ending {
     /// The capture ends after a whole record.
@@ -104,7 +104,7 @@ impl fmt::Display for Refusal {
     }
 }
 
-/// What ended the reading.
+/// The fault that ended the reading.
 impl fmt::Display for Fault {
     ghost output = { λ fault. Some (fault_text fault) };
 

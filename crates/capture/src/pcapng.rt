@@ -280,7 +280,7 @@ pub fn check_section(order: Order, block: &[u8]) -> Result<(), Ending>
     Ok(())
 }
 
-/// What an interface description says.
+/// An interface description.
 #[derive(Debug, PartialEq, Eq, Clone, Copy)]
 pub struct Interface {
     /// The type of the link.

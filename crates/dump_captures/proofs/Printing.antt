@@ -61,7 +61,7 @@ module _ {E : Type 0} (a b : Option (List ℕ)) (r : Result (Option Reason) E) w
       gained_one (ListsOrRefuses IsValue (Indents listing) Refuses of) (indented page) None
       (lists v is (rw same refl) refl)
 
-  -- there is no value, and why is told
+  -- there is no value, and the reason is printed
   pub refuses_all : {V R : Type 0} (IsValue : V → Type 0) (Prints : V → List ℕ → Type 0) (Refuses : R → Type 0)
       (of : R → Refusal) (refusal : R) → ((v : V) → IsValue v → ⊥) → Refuses refusal
       → IfOk r (λ why. Gains a b (refusal_text (of refusal)) × (why ≡ Some (reason_of false (of refusal))))

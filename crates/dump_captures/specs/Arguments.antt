@@ -56,7 +56,7 @@ abbrev pub then_name : Result Only (List ℕ) → List ℕ → Result Only (List
 then_name (Ok only) name = ok_or (with_name name only) name
 then_name (Err wrong) name = Err wrong
 
--- those of all the names, or the first that is none
+-- the packets of all the names, or the first item that is no name
 abbrev pub with_names : List (List ℕ) → Result Only (List ℕ)
 with_names names = fold then_name (Ok chooses_none) names
 
@@ -66,8 +66,8 @@ only_of list = with_names (slice_split (λ octet. octet == 44) list)
 
 -- ---- the task
 
--- What is wrong: a word that is no option, a name in a list that is no kind's, or that there is no list after `--only`.
--- The last is told of arguments that are no words.
+-- What is wrong: a word that is no option, a name in a list that is not a kind's, no list after `--only`, or an
+-- argument that is not UTF-8.
 pub data WrongValue : Type 0 where
   unknown_option : List ℕ → WrongValue
   unknown_kind : List ℕ → WrongValue

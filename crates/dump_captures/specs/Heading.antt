@@ -12,7 +12,7 @@ use Rattle.dump_captures.specs.Kinds.{kind_text}
 use Rattle.dump_captures.specs.Sight.{HeadersValue}
 use Rattle.dump_captures.specs.TimeText.{time_text}
 
--- the time of a packet, where one is told
+-- the time of a packet, where it has one
 abbrev pub packet_time : Option TimeValue → List ℕ
 packet_time None = codes "-"
 packet_time (Some t) = time_text (t.nanoseconds / 1000000000) (t.nanoseconds % 1000000000)

@@ -50,12 +50,12 @@ refusal_text r = part_field margin (codes "refused") (refusal_display r)
 abbrev pub IsRefusal : Reason → Refusal → List ℕ → Option Reason → Type 0
 IsRefusal reason r text why = (text ≡ refusal_text r) × (why ≡ Some reason)
 
--- that of a message is told by its refusal
+-- the reason for a refused message is by its refusal
 abbrev pub IsMessageRefusal : Refusal → List ℕ → Option Reason → Type 0
 IsMessageRefusal r = IsRefusal (reason_of false r) r
 
 -- A message prints the listing of the value that its grammar has for its octets; exactly where it has none, it is
--- refused, and the check that fails first is told.
+-- refused, by the check that fails first.
 pub data ListsOrRefuses {V R : Type 0} (IsValue : V → Type 0) (Prints : V → List ℕ → Type 0) (Refuses : R → Type 0)
     (of : R → Refusal) (text : List ℕ) (why : Option Reason) : Type 0 where
   lists : (v : V) → IsValue v → Prints v text → why ≡ None → ListsOrRefuses IsValue Prints Refuses of text why

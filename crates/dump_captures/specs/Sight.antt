@@ -35,8 +35,8 @@ use Rattle.dump_captures.specs.declared.sight.Sight.TheVariants as sight
 
 -- ---- by content
 
--- the payload of a datagram between two addresses; or the reason under which a packet is counted that has none to
--- read, and why it has none
+-- the payload of a datagram between two addresses; or the reason under which a packet without one is counted, and why
+-- it has none
 pub data ContentValue : Type 0 where
   whole : Addresses → List ℕ → ContentValue
   refused : Reason → Refusal → ContentValue
@@ -82,7 +82,7 @@ abbrev pub is_v4 : Addresses → Bool
 is_v4 (V4 source destination) = true
 is_v4 (V6 source destination) = false
 
--- of UDP without its ports nothing more can be read
+-- without its ports, nothing more of a UDP datagram can be read
 abbrev pub content_by : Kind → Addresses → List ℕ → ContentValue
 content_by kind.Frame addresses payload = refused reason.Short (refusal.Udp Short)
 content_by _ addresses payload = whole addresses payload
@@ -121,7 +121,7 @@ refused_headers tags addresses ports counted r kind = record {
   content_ = refused counted r;
 }
 
--- nothing is known of it but its VLAN tags
+-- only the VLAN tags are known
 abbrev pub untold : List ℕ → Reason → Refusal → SightValue
 untold tags counted r = control (refused_headers tags None None counted r kind.Frame)
 
@@ -134,7 +134,7 @@ told tags addresses protocol ports counted r =
 abbrev pub told_front : List ℕ → DatagramValue → Reason → Refusal → SightValue
 told_front tags d = told tags d.addresses d.protocol (ports_in d.protocol d.payload)
 
--- what is told of one that has no front
+-- what is known of a datagram whose start was not captured
 abbrev pub head_of : DatagramRefusal → Option Head
 head_of (datagram.Cut head) = Some head
 head_of (datagram.Fragment head) = Some head
@@ -144,7 +144,7 @@ head_of _ = None
 abbrev pub ports_behind : List ℕ → Head → Option (ℕ × ℕ)
 ports_behind bytes h = if h.frag_offset == 0 then ports_in h.protocol (drop (header_len_in bytes) bytes) else None
 
--- By the start that there is; or else by what is told where there is none.
+-- By the start where it was captured; or else by what is known without it.
 pub data IsRefused4 (tags bytes : List ℕ) (counted : Reason) (r : Refusal) (s : SightValue) : Type 0 where
   by_front : (c : CapturedValue) → IsCaptured4 bytes c → s ≡ told_front tags c.datagram counted r
       → IsRefused4 tags bytes counted r s

@@ -1,4 +1,4 @@
--- The first line of what is at hand.
+-- The first line of what is buffered.
 use Rattle.std.proofs.Common.{◌≡◌, ◌≢◌, ℕ, ◌+◌, ◌<◌, List, [], ◌∷◌, ◌++◌, All, length, get_or, take, Option, None}
 use Rattle.std.proofs.Common.{Some, IfSome, ap, sym, ◌∙◌, arith, append_assoc}
 use Rattle.std.proofs.Common.{length-append}

@@ -6,7 +6,7 @@ use Rattle.std.proofs.Math.Seq.{take-add}
 use Rattle.std.proofs.lemmas.List.Elements.{All-append, All-more, All-same}
 use Rattle.std.specs.Prelude.{◌==◌, ◌||◌, not}
 
--- Spaces alone, of which there is one at the next place too
+-- Spaces alone, and one more at the next place
 pub spaces_more : (octets : List ℕ) (i : ℕ) (found : Bool) → i < length octets
     → (found ≡ false → All (λ octet. octet ≡ 32) (take i octets))
     → found || not (get_or octets i 0 == 32) ≡ false → All (λ octet. octet ≡ 32) (take (i + 1) octets)

@@ -6,7 +6,7 @@ use Rattle.std.specs.Prelude.{◌==◌, ◌&&◌, if◌then◌else◌, bytes_eq,
 use Rattle.hex.specs.Hex.{hex_digit_value, is_hex_digit}
 use Rattle.dump_lines.specs.Words.{address_of, is_length, with_octet, spelled_by, word_of}
 
--- one digit that is none, of two, or one of those after them
+-- one octet that is not a digit, among two or among those after them
 bad_pair : (a b : Option ℕ) (rest : Option (List ℕ)) (others : Bool)
     → (others ≡ false → rest ≡ None) → is_some a && (is_some b && others) ≡ false → with_octet a b rest ≡ None
 bad_pair None b rest others none e = refl

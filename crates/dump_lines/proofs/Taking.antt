@@ -302,9 +302,9 @@ line_read (Some octets) (Some left) (Some rest) fresh line new begun count is re
         (ended octets _ (begun_is ∙ ap (λ l. nat_lt 0 (length l)) (sym read)) (shape ∙ ap line_shape (sym all))
         (All-same (λ octet. octet ≢ 10) octets text all free))
 
--- ---- what was at hand
+-- ---- what was buffered
 
--- spaces and what follows them, of octets at hand
+-- spaces and what follows them, of buffered octets
 module _ (shown : List ℕ) (s n : ℕ) (in_shown : s ≤ length shown)
     (in_rest : n ≤ length (take (length shown - s) (drop s shown))) where
   rest_is : take (length shown - s) (drop s shown) ≡ drop s shown
@@ -336,7 +336,7 @@ module _ (shown : List ℕ) (s n : ℕ) (in_shown : s ≤ length shown)
       let same : s + n - s ≡ n = omega arith in
       rw same (rw rest_is at free)
 
--- octets of a line before those at hand, whatever is consumed
+-- octets of a line before the buffered ones, whatever is consumed
 module _ (line new : Line) (shown : List ℕ) (n : ℕ) (within : n ≤ length shown) (takes : Takes line new (take n shown))
     (free : All (λ octet. octet ≢ 10) (take n shown)) (a b : Option (List ℕ)) where
   pub part_front : (empty : Bool) → empty ≡ (length shown == 0) → Consumes a b (take n shown)

@@ -1,4 +1,4 @@
--- Digits that are turned into octets, two for each, and eight at a time as the octets of a word.
+-- Digits that are converted to octets, two for each, and eight at a time as the octets of a word.
 use Rattle.std.proofs.Common.{◌≡◌, ℕ, ◌+◌, ◌-◌, ◌*◌, ◌/◌, ◌%◌, ◌<◌, ◌≤◌, true, List, [], ◌∷◌, ◌++◌, length, take}
 use Rattle.std.proofs.Common.{drop, slice_index, Some, refl, sym, ap, ◌∙◌, arith, get_or, subst}
 use Rattle.std.proofs.lemmas.List.{append_assoc, append-nil, drop_all, drop-drop, length-drop, length-take-le}

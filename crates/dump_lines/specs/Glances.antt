@@ -14,7 +14,7 @@ IsFirst octets left shape =
     × (shape ≡ line_shape (strip_last 10 (take_through 10 octets)))
     × (left ≡ Some (drop_through 10 octets))
 
--- the first line and what it leaves; all is left, where no more is told than that; or there is no line
+-- the first line and what it leaves; all is left, where nothing more is known; or there is no line
 abbrev pub Sees : List ℕ → Option (List ℕ) → Glance → Type 0
 Sees octets left (Line shape) = IsFirst octets left (seen shape)
 Sees octets left Part = left ≡ Some octets

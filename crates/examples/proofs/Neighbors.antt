@@ -1,4 +1,4 @@
--- What is told of neighbors and routers, and in which messages.
+-- What messages tell of neighbors and routers.
 use Rattle.std.proofs.Common.{◌≡◌, ℕ, List, [], ◌∷◌, Option, None, Some, length, drop, slice_index, refl, ap, ◌∙◌}
 use Rattle.std.proofs.Common.{arith, subst}
 use Rattle.std.proofs.Math.ListN.{drop_of_length-le}

@@ -45,7 +45,7 @@ no_prefix (redirected h d) none = refl
 no_prefix (mtu n) none = refl
 no_prefix (unknown t n d) none = refl
 
--- what is told after a prefix
+-- the prefixes after a prefix
 pub record Told (bytes : List ℕ) (p : PrefixInformation) (prefixes : List PrefixInformation) : Type 0 where
   pub more : List PrefixInformation
   pub first : prefixes ≡ p ∷ more
@@ -73,7 +73,7 @@ first_told bytes block rest p options prefixes told b e reads alone (skips c s g
     let same = same_parts c s block rest g b (sym i ∙ e) in
     absurd (l (prefix_ p) (subst (λ (x : List ℕ). BeginsWith x (prefix_ p)) (sym same.fronts) reads))
 
--- a block that tells a prefix tells the first
+-- a block with a prefix has the first prefix
 pub told_first : (bytes block rest : List ℕ) (p : PrefixInformation) (prefixes : List PrefixInformation)
     → IsBlock block → bytes ≡ block ++ rest → BeginsWith block (prefix_ p)
     → ((v : OptionValue) → BeginsWith block v → v ≡ prefix_ p)
@@ -104,7 +104,7 @@ later_told bytes block rest options prefixes told b e none (skips {options = os}
       told = told;
     }
 
--- all prefixes are told after a block that tells none
+-- a block without a prefix is followed by all prefixes
 pub told_later : (bytes block rest : List ℕ) (prefixes : List PrefixInformation)
     → IsBlock block → bytes ≡ block ++ rest → ((p : PrefixInformation) → BeginsWith block (prefix_ p) → ⊥)
     → TellPrefixes bytes prefixes → TellPrefixes rest prefixes
@@ -118,7 +118,7 @@ none_told bytes options prefixes told none ends = told
 none_told bytes options prefixes told none (goes_on c s v g l u i) = absurd (none c s g i)
 none_told bytes options prefixes told none (skips c s g l u i) = absurd (none c s g i)
 
--- where there is no block, no prefix is told
+-- where there is no block, there is no prefix
 pub told_none : (bytes : List ℕ) (prefixes : List PrefixInformation)
     → ((block rest : List ℕ) → IsBlock block → bytes ≡ block ++ rest → ⊥) → TellPrefixes bytes prefixes → prefixes ≡ []
 told_none bytes prefixes none t = none_told bytes t.options prefixes t.told none t.tiling

@@ -124,7 +124,7 @@ value_of lease = record {
   rebind_duration = lease.rebind_duration;
 }
 
--- what a packet says that this server gives the client, with this router
+-- the lease of a packet from this server, with this router
 abbrev pub lease_of : Value → Ipv4Address → Option Ipv4Address → LeaseValue
 lease_of v server router = record {
   address = v.your_ip;

@@ -312,7 +312,7 @@ fn is_for(repr: &Repr<'_>, transaction_id: u32, client: EthernetAddress) -> bool
     repr.transaction_id == transaction_id && repr.client_hardware_address == client
 }
 
-// What a message of this type says that would give this lease.
+// What a message of this type says, where it would give this lease.
 fn told_by(kind: MessageType, lease: Lease) -> Option<Answer>
     ensures sound { IfSome result (λ told. Tells kind (lease_value lease) (answer_of told)) }
     ensures complete { (told : AnswerValue) → Tells kind (lease_value lease) told
@@ -333,7 +333,7 @@ fn told_by(kind: MessageType, lease: Lease) -> Option<Answer>
     None
 }
 
-// What a packet says that this server gives, with this router.
+// The lease of a packet from this server, with this router.
 fn given(repr: Repr<'_>, server: Ipv4Address, router: Option<Ipv4Address>) -> Lease
     ensures { lease_value result ≡ lease_of (packet_value repr.entry) server router }
 {

@@ -61,7 +61,7 @@ ports_read capabilities addresses bytes whole port checksum = (
   record { whole = whole; source = refl; destination = refl; port = port; checksum = checksum },
 )
 
--- a reason is told of what is not read
+-- what is not read has a reason
 pub told_some : {A P : Type 0} (reason : Option A) → (IsNone reason ↔ P) → (P → ⊥) → IsSome reason
 told_some (Some x) exact refused = refl
 told_some None exact refused = absurd (refused (exact.0 refl))

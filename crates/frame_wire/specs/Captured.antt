@@ -47,7 +47,7 @@ pub data IsCaptured4 (bytes : List ℕ) (v : CapturedValue) : Type 0 where
 abbrev pub IsOpening4 : List ℕ → Type 0
 IsOpening4 bytes = (HasHeader4 bytes × (length bytes < ipv4.total_len_in bytes)) ⊎ HasUnstated4 bytes
 
--- what is told of such bytes otherwise: the header itself, with its options, is cut, or they are a fragment
+-- the refusal of such bytes otherwise: the header itself, with its options, is cut, or they are a fragment
 abbrev pub RefusesOpen4 : List ℕ → Refusal → Type 0
 RefusesOpen4 bytes (Cut head) =
     IsOpening4 bytes × (length bytes < ipv4.header_len_in bytes) × IsHead4 bytes head
@@ -55,7 +55,7 @@ RefusesOpen4 bytes (Fragment head) =
     IsOpening4 bytes × (ipv4.header_len_in bytes ≤ length bytes) × IsFragment4 bytes × IsHead4 bytes head
 RefusesOpen4 bytes _ = ⊥
 
--- what is told of other bytes: as for a whole datagram, except where the bytes end too early or state no length
+-- the refusal of other bytes: as for a whole datagram, except where the bytes end too early or state no length
 abbrev pub RefusesCaptured4 : List ℕ → Refusal → Type 0
 RefusesCaptured4 bytes (TotalLen n) = Refuses4 bytes (TotalLen n) × (n ≢ 0)
 RefusesCaptured4 bytes (Cut head) = RefusesOpen4 bytes (Cut head)
@@ -71,7 +71,7 @@ pub data IsCaptured6 (bytes : List ℕ) (v : CapturedValue) : Type 0 where
   cut : (missing : ℕ) → HasHeader6 bytes → length bytes + missing ≡ total_len6 bytes → missing ≢ 0
       → IsHeaded6 bytes (drop 40 bytes) v.datagram → v.extent ≡ extent.Cut missing → IsCaptured6 bytes v
 
--- what is told of other bytes: as for a whole datagram, except where the bytes end too early
+-- the refusal of other bytes: as for a whole datagram, except where the bytes end too early
 abbrev pub RefusesCaptured6 : List ℕ → Refusal → Type 0
 RefusesCaptured6 bytes (Cut head) =
     HasHeader6 bytes × (length bytes < total_len6 bytes) × IsHead6 bytes head

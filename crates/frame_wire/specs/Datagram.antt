@@ -80,7 +80,7 @@ pub record IsHead4 (bytes : List ℕ) (h : Head) : Type 0 where
   pub frag_offset_ : h.frag_offset ≡ ipv4.frag_offset_in bytes
   pub more_frags_ : IsTrue h.more_frags ↔ (ipv4.more_frags_in bytes ≡ 1)
 
--- what is told of other bytes: the check that fails first
+-- the refusal of other bytes: the check that fails first
 abbrev pub Refuses4 : List ℕ → Refusal → Type 0
 Refuses4 bytes Short = length bytes < 20
 Refuses4 bytes (Version n) = (20 ≤ length bytes) × (ipv4.version_in bytes ≡ n) × (n ≢ 4)
@@ -243,7 +243,7 @@ pub record IsJumbogram (bytes : List ℕ) : Type 0 where
   pub uncounted : ipv6.payload_len_in bytes ≡ 0
   pub header : next_header_in bytes ≡ HopByHop
 
--- what is told of the bytes after a fixed header, where they lead to no payload
+-- the refusal by the bytes after a fixed header, where they lead to no payload
 abbrev pub RefusesBehind6 : List ℕ → List ℕ → Refusal → Type 0
 RefusesBehind6 bytes behind Jumbogram = IsJumbogram bytes
 RefusesBehind6 bytes behind (Extension p) =
@@ -252,7 +252,7 @@ RefusesBehind6 bytes behind (Extension p) =
 RefusesBehind6 bytes behind (Fragment head) = IsFragment6 bytes behind head
 RefusesBehind6 bytes behind _ = ⊥
 
--- what is told of other bytes: the check that fails first
+-- the refusal of other bytes: the check that fails first
 abbrev pub Refuses6 : List ℕ → Refusal → Type 0
 Refuses6 bytes Short = length bytes < 40
 Refuses6 bytes (Version n) = (40 ≤ length bytes) × (ipv6.version_in bytes ≡ n) × (n ≢ 6)

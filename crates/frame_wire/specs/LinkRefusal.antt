@@ -12,7 +12,7 @@ use Rattle.frame_wire.specs.declared.link.refusal.Refusal.TheVariants.{SessionTy
 abbrev pub IsRead : Link → List ℕ → Type 0
 IsRead link bytes = (v : FrameValue) × IsFrame link bytes v
 
--- the bytes end before a protocol of PPP does: there is none, or the first of two bytes alone
+-- the bytes end before a protocol of PPP does: they are empty, or the first of two bytes alone
 abbrev pub IsProtocolCut : List ℕ → Type 0
 IsProtocolCut bytes = (length bytes ≡ 0) ⊎ ((length bytes ≡ 1) × (slice_index bytes 0 % 2 ≢ 1))
 
@@ -62,7 +62,7 @@ abbrev pub RefusesPlain : ℕ → List ℕ → Refusal → Type 0
 RefusesPlain size bytes Short = length bytes < size
 RefusesPlain size bytes _ = ⊥
 
--- what is told of other bytes, by their link
+-- the refusal of other bytes, by their link
 abbrev pub Refuses : Link → List ℕ → Refusal → Type 0
 Refuses Null bytes refusal = RefusesPlain 4 bytes refusal
 Refuses Ethernet bytes refusal = RefusesTyped 12 14 bytes refusal

@@ -18,7 +18,7 @@ tag_of high low = record {
   number = 256 * (high % 16) + low;
 }
 
--- the tags in these bytes, of which fewer than four at their end are none
+-- the tags in these bytes; fewer than four bytes at their end are no tag
 unfoldable pub tags_in : List ℕ → List VlanTag
 tags_in [] = []
 tags_in (a ∷ []) = []
@@ -26,7 +26,7 @@ tags_in (a ∷ b ∷ []) = []
 tags_in (a ∷ b ∷ c ∷ []) = []
 tags_in (a ∷ b ∷ c ∷ d ∷ rest) = tag_of a b ∷ tags_in rest
 
--- a call of `next` gives the first tag and takes it off; where none is left it gives None, and none is left still
+-- a call of `next` returns the first tag and removes it; where none is left it returns None, and none is left after it
 abbrev pub GivesFirst : List VlanTag → Option VlanTag → List VlanTag → Type 0
 GivesFirst old None new = (old ≡ []) × (new ≡ [])
 GivesFirst old (Some tag) new = old ≡ tag ∷ new

@@ -39,7 +39,7 @@ pub data IsCaptured (bytes : List ℕ) (v : CapturedValue) : Type 0 where
   cut : (missing : ℕ) → HasHeader bytes → length bytes + missing ≡ len_in bytes → missing ≢ 0 → HasPorts bytes v
       → v.payload ≡ drop 8 bytes → v.extent ≡ extent.Cut missing → IsCaptured bytes v
 
--- what is told of other bytes: the header is cut, or its length does not count it
+-- the refusal of other bytes: the header is cut, or its length does not count it
 abbrev pub RefusesCaptured : List ℕ → Refusal → Type 0
 RefusesCaptured bytes Short = RefusesLen bytes Short
 RefusesCaptured bytes (Length n) = RefusesLen bytes (Length n)

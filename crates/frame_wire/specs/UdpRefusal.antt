@@ -28,7 +28,7 @@ pub record IsChecked (capabilities : ChecksumCapabilities) (bytes : List ℕ) : 
   pub port : number_of dst_port_field bytes ≢ 0
   pub verified : is_verified capabilities.udp ≡ true
 
--- what is told of bytes that are not read
+-- the refusal of bytes that are not read
 abbrev pub Refuses : ChecksumCapabilities → Addresses → List ℕ → Refusal → Type 0
 Refuses capabilities addresses bytes Port = BeginsWhole bytes × (number_of dst_port_field bytes ≡ 0)
 Refuses capabilities addresses bytes NoChecksum =

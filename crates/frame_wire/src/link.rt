@@ -122,7 +122,7 @@ pub struct Frame<'a> {
     /// The VLAN tags, the outermost first: four bytes each, of which the lower 12 bits of the first two are the VLAN's
     /// number (IEEE 802.1Q clause 9.6). [`Frame::vlan_tags`] gives them one by one.
     pub tags: &'a [u8],
-    /// What follows the headers of the link.
+    /// The payload after the link headers.
     pub payload: &'a [u8],
 }
 

@@ -8,7 +8,7 @@ use Rattle.dns_wire.specs.DnsNameWalk.{Coming, Walk, GivesFirst, answer_of}
 use Rattle.listing.specs.Layout.{line, field, octets_text}
 use Rattle.listing.specs.ListingDns.{answers_listing}
 
--- the first of the answers, by what a call gives
+-- the first of the answers, by the result of a call
 first_listing : (ahead : List Coming) (result : Option (Result (Bor (List ℕ)) Error)) (steps : ℕ)
     → slice_get ahead 0 ≡ Some (record { answer = answer_of result; steps = steps })
     → (rest : List Coming) × (ahead ≡ record { answer = answer_of result; steps = steps } ∷ rest)

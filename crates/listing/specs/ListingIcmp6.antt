@@ -14,7 +14,7 @@ use Rattle.listing.specs.ListingIpv6.{header_listing}
 use Rattle.listing.specs.ListingMld.{mld_listing}
 use Rattle.listing.specs.ListingNdisc.{ndisc_listing}
 
--- the packet that an error speaks of
+-- the packet in an error
 abbrev pub quote_listing : Ipv6Repr → List ℕ → List ℕ
 quote_listing quoted d = header_listing (codes "header.") quoted ++ field (codes "data") (octets_text d)
 

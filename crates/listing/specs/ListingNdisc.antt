@@ -11,7 +11,7 @@ use Rattle.listing.specs.Layout.{line, field, millis_text, octets_text, text_or_
 use Rattle.listing.specs.ListingIpv6.{address_text}
 use Rattle.listing.specs.ListingNdopt.{prefix_listing, redirected_listing}
 
--- parts of which there may be none
+-- parts that may be missing
 abbrev pub prefix_info_listing : Option PrefixInformation → List ℕ
 prefix_info_listing None = field (codes "prefix_info") (codes "none")
 prefix_info_listing (Some p) = prefix_listing (codes "prefix_info.") p

@@ -16,7 +16,7 @@ head_listing margin name code = margin ++ line name ++ part_field margin (codes 
 unfoldable pub quoted_field : List ℕ → List ℕ → List ℕ → List ℕ
 quoted_field margin name value = margin ++ part_field (codes "quoted.") name value
 
--- the ports of a quoted header of UDP or TCP, of which there may be none
+-- the ports of a quoted header of UDP or TCP, which may be missing
 abbrev pub ports_listing : List ℕ → Option (ℕ × ℕ) → List ℕ
 ports_listing margin None =
     quoted_field margin (codes "src_port") (codes "none") ++ quoted_field margin (codes "dst_port") (codes "none")

@@ -28,7 +28,7 @@ fn from(octets: &[u8], offset: usize) -> &[u8]
     &octets[offset..]
 }
 
-// Prints what a walk gives.
+// Prints the results of a walk.
 fn show_labels<W: Write>(output: &mut W, mut labels: NameIter<'_>) -> io::Result<()>
     ensures { OnOk result (Gains (W.contents output.old) (W.contents output.new)
         (answers_listing labels.entry.ahead)) }

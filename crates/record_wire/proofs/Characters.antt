@@ -160,7 +160,7 @@ character_first byte character rest (numbered a b c ha hb hc value small e) =
     (lt-ltb _ _ (omega (arith, is, small)))
     ∙ ap (λ (n : ℕ). byte_then n rest) is)
 
--- a character takes a byte at least
+-- a character takes at least one byte
 pub character_some : (byte : ℕ) (character : List ℕ) → IsCharacter byte character → 1 ≤ length character
 character_some byte character (itself graphic plain e) = omega (arith, ap length e)
 character_some byte character (quoted graphic no_digit e) = omega (arith, ap length e)

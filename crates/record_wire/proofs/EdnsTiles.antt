@@ -137,7 +137,7 @@ pub nothing_left : (bytes : List ℕ) → answer_at bytes ≡ None → bytes ≡
 nothing_left [] e = refl
 nothing_left (x ∷ xs) e = some_answer (x ∷ xs) (option_at (x ∷ xs)) e
 
--- the next answer is of an option, or of none, or there is none
+-- the next result is an option or a refusal, or there is none
 answer_some : (bytes : List ℕ) → 1 ≤ length bytes → answer_at bytes ≡ answer_by bytes (option_at bytes)
 answer_some [] some = absurd (omega (arith, some))
 answer_some (x ∷ xs) some = refl

@@ -144,7 +144,7 @@ pub struct Record<'a> {
     /// The class: 1 is the internet. An OPT record has the sender's payload size here. In multicast DNS its top bit is
     /// a flag: [`Record::multicast_class`] is the class, [`Record::flushes_cache`] the flag.
     pub class: u16,
-    /// How long the record may be kept, in seconds. An OPT record has flags here.
+    /// The time for which the record may be kept, in seconds. An OPT record has flags here.
     pub ttl: u32,
     /// The bytes of the data.
     pub data: &'a [u8],

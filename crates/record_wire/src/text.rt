@@ -74,7 +74,7 @@ use wirebase::{Ipv4Address, Ipv6Address};
 pub struct RecordText<'a> {
     /// The record's name.
     pub name: Name,
-    /// How long the record may be kept, in seconds.
+    /// The time for which the record may be kept, in seconds.
     pub ttl: u32,
     /// The class: 1 is the internet.
     pub class: u16,

@@ -121,7 +121,7 @@ fn low(number: u64) -> u16 {
     (number % 65_536) as u16
 }
 
-// An address of a host that the number gives.
+// An address of a host that the number determines.
 fn address(number: u64) -> Ipv6Address {
     let interface = low(number >> 16);
     Ipv6Address::new(0x2001, 0xdb8, 0, low(number), 0, 0, 0, interface)

@@ -70,7 +70,7 @@ fn lowest(number: u64) -> u8 {
     (number % 256) as u8
 }
 
-// A link-local address that the number gives.
+// A link-local address that the number determines.
 fn host(number: u64) -> Ipv6Address {
     Ipv6Address::new(
         0xfe80,
@@ -84,12 +84,12 @@ fn host(number: u64) -> Ipv6Address {
     )
 }
 
-// A multicast group of the link that the number gives.
+// A multicast group of the link that the number determines.
 fn group(number: u64) -> Ipv6Address {
     Ipv6Address::new(0xff02, 0, 0, 0, 0, 1, low(number >> 16), low(number))
 }
 
-// An address on an Ethernet that the number gives.
+// An address on an Ethernet that the number determines.
 fn link_address(number: u64) -> RawHardwareAddress {
     let address = EthernetAddress([
         0x52,
@@ -379,7 +379,7 @@ fn push_option<'a>(header: &mut ipv6hbh::Repr<'a>, option: ipv6option::Repr<'a>)
     let _ = header.options.try_push(option);
 }
 
-// An option that the number gives.
+// An option that the number determines.
 fn option(pool: &Pool, number: u64) -> ipv6option::Repr<'_>
     ensures { HasData (option_of result) }
 {

@@ -64,7 +64,7 @@ fn lowest(number: u64) -> u8 {
     (number % 256) as u8
 }
 
-// An address of a private network that the number gives.
+// An address of a private network that the number determines.
 fn address(number: u64) -> Ipv4Address {
     Ipv4Address::new(
         10,

@@ -1,6 +1,6 @@
 //! The jobs that a user of the library waits for, for measurements.
 //!
-//! `workloads JOB SEED [ROUNDS]` does a job on the input that the seed gives, and prints a digest of its results.
+//! `workloads JOB SEED [ROUNDS]` does a job on the input that the seed determines, and prints a digest of its results.
 //! Without a number of rounds it does as many as take some seconds. With no word each job is done on a small input.
 #![tactic(auto)]
 

@@ -1,4 +1,4 @@
-//! Numbers and bytes that a seed gives.
+//! Numbers and bytes that a seed determines.
 
 ghost use Rattle.std.specs.Prelude.{◌≤◌, ◌<◌, length};
 
@@ -17,7 +17,7 @@ pub struct Random {
 }
 
 impl Random {
-    /// The generator that a seed gives.
+    /// The generator that a seed determines.
     pub fn new(seed: u64) -> Random {
         Random {
             generator: Xoshiro256PlusPlus::seed_from_u64(seed),
@@ -56,7 +56,7 @@ impl Pool {
         Ok(Pool { octets })
     }
 
-    /// This many bytes of the pool, at most 65,536, from a place on that the number gives.
+    /// This many bytes of the pool, at most 65,536, from a place on that the number determines.
     pub fn part(&self, number: u64, len: usize) -> &[u8]
         ensures { length result.now ≤ len }
     {

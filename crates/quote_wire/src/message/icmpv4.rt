@@ -116,7 +116,7 @@ fn has_error_type(octets: &[u8]) -> bool
     }
 }
 
-/// What the error or the other message prints.
+/// How the error or the other message prints.
 impl fmt::Display for Icmpv4Message<'_> {
     ghost output = { λ message. Some (message_display (value_of message)) };
 

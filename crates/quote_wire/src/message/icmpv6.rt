@@ -138,7 +138,7 @@ fn has_error_type(octets: &[u8]) -> bool
     }
 }
 
-/// What the error or the other message prints.
+/// How the error or the other message prints.
 impl fmt::Display for Icmpv6Message<'_> {
     ghost output = { λ message. Some (message_display (value_of message)) };
 

@@ -71,8 +71,8 @@ pub(super) fn read_behind(text: &[u8]) -> Behind<'_>
     }
 }
 
-/// Reads a label's text up to where no character follows, and gives the rest. Refused where the label would be empty or
-/// has more than 63 bytes.
+/// Reads a label's text up to where no character follows, and returns the rest. Refused where the label would be empty
+/// or has more than 63 bytes.
 pub(super) fn read_label(text: &[u8]) -> Result<(ArrayVec<u8, MAX_LABEL_LEN>, &[u8])>
     ensures sound { IfOk result (λ read. IsSpelling text.now read.0.items read.1.now) }
     ensures some { IfOk result (λ read. 1 ≤ length read.0.items) }
@@ -191,8 +191,8 @@ pub(super) fn fmt_labels<W: fmt::Write>(f: &mut fmt::Formatter<W>, octets: &[u8]
     }
 }
 
-// Puts the text of a label after the bytes that wait, of which there are this many, and returns how many then wait.
-// That number is not a field of the piece, so that it stays in a register.
+// Puts the text of a label after the bytes that wait, `len` of them, and returns how many then wait. That number is not
+// a field of the piece, so that it stays in a register.
 fn put_label<W: fmt::Write>(
     f: &mut fmt::Formatter<W>,
     piece: &mut [u8; PIECE_LEN],

@@ -80,18 +80,18 @@ pub enum Front<'a> {
         /// `TxtStrings` gives them in turn.
         strings: &'a [u8],
     },
-    /// What is signed and how, of SIG (RFC 2535 section 4.1).
+    /// What a signature covers and how, of SIG (RFC 2535 section 4.1).
     Signed(Signed),
 }
 
-/// What is signed and how, and how long the signature is good (RFC 2535 section 4.1).
+/// What a signature covers and how, and how long it is valid (RFC 2535 section 4.1).
 #[derive(Debug, PartialEq, Eq, Clone, Copy)]
 pub struct Signed {
     /// The type of the records that are signed; 0 of a message (RFC 2931 section 3).
     pub covered: Type,
     /// The algorithm of the key.
     pub algorithm: u8,
-    /// How many labels the owner's name has, without the root and without a leading `*` (RFC 2535 section 4.1.3).
+    /// The number of labels of the owner's name, without the root and without a leading `*` (RFC 2535 section 4.1.3).
     pub labels: u8,
     /// The time to live of the records that are signed, in seconds.
     pub original_ttl: u32,
@@ -131,7 +131,7 @@ pub struct Form {
     pub rest: RestForm,
 }
 
-/// How the fields before a name are laid out.
+/// The layout of the fields before a name.
 #[derive(Debug, PartialEq, Eq, Clone, Copy)]
 pub enum FrontForm {
     /// None.
@@ -144,7 +144,7 @@ pub enum FrontForm {
     Signed,
 }
 
-/// How the fields after the names are laid out.
+/// The layout of the fields after the names.
 #[derive(Debug, PartialEq, Eq, Clone, Copy)]
 pub enum RestForm {
     /// None.

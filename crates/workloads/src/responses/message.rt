@@ -57,7 +57,7 @@ impl Letters {
         Ok(Letters { octets })
     }
 
-    /// This many letters, from a place on that the number gives.
+    /// This many letters, from a place on that the number determines.
     pub fn part(&self, number: u64, len: usize) -> &[u8] {
         let octets = self.octets.as_slice();
         let start = ((number % 65_000) as usize).min(octets.len());

@@ -1,4 +1,4 @@
--- The link is none of those that were looked at.
+-- The link is not among those that were looked at.
 use Rattle.std.proofs.Common.{◌≡◌, false, take}
 use Rattle.dump_captures.specs.Tally.{has_link}
 use Rattle.dump_captures.proofs.tally.place_of.Given as goal

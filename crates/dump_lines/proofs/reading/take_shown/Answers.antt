@@ -1,4 +1,4 @@
--- The part ends with what is at hand.
+-- The part ends with what is buffered.
 use Rattle.dump_lines.proofs.Taking.{part_front}
 use Rattle.dump_lines.proofs.reading.take_shown.Goals as goal
 

@@ -6,7 +6,7 @@ use crate::responses::message::{self, low, put, put_u16};
 use control_wire::{IpProtocol, checksum};
 use frame_wire::Addresses;
 
-// The kinds of messages, of which the first three speak of DNS.
+// The kinds of messages, of which the first three are of DNS.
 const KINDS: u64 = 9;
 
 // The protocols above IP, by their numbers.

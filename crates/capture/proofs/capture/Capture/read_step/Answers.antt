@@ -1,4 +1,4 @@
--- What comes next is told by how far the capture is read.
+-- The state of the reading decides what comes next.
 use Rattle.std.proofs.Common.{sym, subst, ap, ◌∙◌, arith}
 use Rattle.capture.specs.Capture.{State, state_of}
 use Rattle.capture.specs.Reader.{Reads}
