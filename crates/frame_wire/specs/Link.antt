@@ -58,7 +58,7 @@ typed_of t = record { type = t.kind; tags = t.tags.now; payload = t.payload.now 
 abbrev pub network_of_protocol : ℕ → Network
 network_of_protocol n = case_in Other ((Ipv4, 0x0021) ∷ (Ipv6, 0x0057) ∷ []) n
 
--- A protocol takes one byte where that is odd, and else in two (RFC 1661 section 6.5).
+-- A protocol takes one byte where that is odd, and else two (RFC 1661 section 6.5).
 pub data IsProtocol (bytes : List ℕ) (tags : List ℕ) (v : FrameValue) : Type 0 where
   short : 1 ≤ length bytes → slice_index bytes 0 % 2 ≡ 1
       → v ≡ frame (network_of_protocol (slice_index bytes 0)) tags (drop 1 bytes) → IsProtocol bytes tags v

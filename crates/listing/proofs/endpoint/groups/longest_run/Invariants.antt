@@ -1,4 +1,4 @@
--- The runs among the groups after.
+-- The runs among the groups that follow.
 use Rattle.std.proofs.Common.{◌≡◌, ◌+◌, ◌≤◌, drop}
 use Rattle.std.specs.Net.Text.{longest_zero_run, zero_run}
 use Rattle.listing.proofs.endpoint.groups.longest_run.Given as goal
