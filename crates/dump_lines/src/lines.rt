@@ -30,7 +30,7 @@ pub fn run<R: Read + Drop, W: Write + Drop>(
     Ok(all_known)
 }
 
-/// Runs the program and returns the output with all that was printed written out.
+/// Prints what each line of the input holds, and returns the output with all that was printed written out.
 pub fn run_onto<R: Read + Drop, W: Write + Drop>(
     alloc: Global,
     input: R,

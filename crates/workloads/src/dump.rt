@@ -36,7 +36,7 @@ pub fn digest(alloc: Global, seed: u64, rounds: u32) -> io::Result<u64> {
     Ok(digest.value())
 }
 
-// Reads a capture twice: through a buffer of std's size, and through a short one.
+// Reads a capture: by turns in place, through a buffer of std's size, and through a short one.
 fn read(alloc: Global, turn: u32, octets: &[u8], digest: &mut Digest) -> io::Result<()> {
     let mut input = octets;
     match turn % 3 {

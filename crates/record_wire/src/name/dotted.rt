@@ -21,7 +21,7 @@ const MOST: usize = 254;
 const PIECE: usize = 16;
 
 /// Puts the text of the name that begins in `bytes`, and goes on where its pointers lead in the message, into the
-/// buffer's front, each label before a dot, or a dot alone for the root, and returns its length. None where no name is
+/// buffer, each label with a dot after it, or a dot alone for the root, and returns its length. None where no name is
 /// read, and where a byte of a label is not a letter, a digit, `-` or `_`, since its text may need a backslash then.
 pub fn put_dotted<'a>(
     room: &mut [u8; ROOM_LEN],

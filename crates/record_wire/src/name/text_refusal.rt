@@ -20,11 +20,11 @@ pub enum NameTextRefusal {
     LongLabel,
     /// The name has more than 255 octets (RFC 1035 section 2.3.4).
     TooLong,
-    /// A backslash without a visible character after it, or with digits that are not three or above 255 (RFC 1035
-    /// section 5.1).
+    /// A backslash that is followed neither by a visible character other than a digit nor by three digits of a number
+    /// up to 255 (RFC 1035 section 5.1).
     Escape,
-    /// This byte, which is itself only after a backslash, or not at all: it has a meaning of its own, or is not
-    /// visible.
+    /// This byte, which needs a backslash before it or can't be written as itself: it has a meaning of its own, or is
+    /// not visible.
     Byte(u8),
 }
 

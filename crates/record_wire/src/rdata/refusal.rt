@@ -33,8 +33,8 @@ use std::fmt;
 pub enum DataRefusal {
     /// An address of another length than this: 4 bytes for IPv4, 16 for IPv6.
     Address(usize),
-    /// Fewer bytes than the numbers before the name have: 2 for MX, AFSDB, RT, PX and KX, 4 of NAPTR, 6 of SRV, 18 of
-    /// SIG.
+    /// Fewer bytes than the numbers before the name have: 2 for MX, AFSDB, RT, PX and KX, 4 for NAPTR, 6 for SRV, 18
+    /// for SIG.
     Numbers,
     /// There is no name where one should begin; of two names, the first.
     Name(PartRefusal),
@@ -140,7 +140,7 @@ fn why_no_data(layout: Layout, octets: &[u8]) -> DataRefusal
     match layout {
         Layout::Ipv4 => DataRefusal::Address(4),
         Layout::Ipv6 => DataRefusal::Address(16),
-        // Data of any bytes is not refused.
+        // Any bytes are accepted.
         Layout::Name | Layout::Opaque => why_no_name(octets),
         Layout::Mail => why_not_behind(octets, field::MX_NAME),
         Layout::Service => why_not_behind(octets, field::SRV_NAME),
@@ -213,7 +213,7 @@ fn why_no_fields(form: Form, octets: &[u8]) -> DataRefusal
     };
     match form.rest {
         RestForm::Bits | RestForm::Types => DataRefusal::Types,
-        // A signature of any bytes is not refused.
+        // Any bytes are accepted as a signature.
         RestForm::Nothing | RestForm::Signature => DataRefusal::BehindName,
     }
 }
@@ -230,7 +230,7 @@ fn why_no_front(form: FrontForm, octets: &[u8]) -> DataRefusal
             }
             DataRefusal::String
         }
-        // Nothing before a name is not refused.
+        // No fields before a name: never refused.
         FrontForm::Nothing | FrontForm::Number | FrontForm::Signed => DataRefusal::Numbers,
     }
 }

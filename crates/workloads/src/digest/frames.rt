@@ -49,7 +49,7 @@ pub fn add_datagram(datagram: &Datagram<'_>, digest: &mut Digest) {
         protocol,
         hop_limit,
         payload,
-        // The options of hop-by-hop headers, which the library does not return at the start.
+        // The options of hop-by-hop headers, which the library at the start does not return.
         ..
     } = datagram;
     match addresses {
