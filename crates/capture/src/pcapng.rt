@@ -30,7 +30,7 @@ mod field {
     // The head of every block.
     pub const HEAD_END: usize = 12;
 
-    // Of a section header.
+    // A section header.
     pub const BYTE_ORDER: Field = 8..12;
 
     pub const MAJOR: Field = 12..14;
@@ -39,21 +39,21 @@ mod field {
 
     pub const SECTION_END: usize = 28;
 
-    // Of an interface description.
+    // An interface description.
     pub const LINK_TYPE: Field = 8..10;
 
     pub const SNAP_LEN: Field = 12..16;
 
     pub const OPTIONS: usize = 16;
 
-    // Of an option.
+    // An option.
     pub const CODE: Field = 0..2;
 
     pub const LENGTH: Field = 2..4;
 
     pub const VALUE: usize = 4;
 
-    // Of a packet.
+    // An enhanced or an obsolete packet.
     pub const INTERFACE: Field = 8..12;
 
     pub const SHORT_INTERFACE: Field = 8..10;
@@ -68,7 +68,7 @@ mod field {
 
     pub const PACKET: usize = 28;
 
-    // Of a simple packet.
+    // A simple packet.
     pub const SIMPLE_ORIGINAL_LEN: Field = 8..12;
 
     pub const SIMPLE_PACKET: usize = 12;

@@ -1,4 +1,4 @@
--- Which fault comes of an error.
+-- The fault for an error.
 use Rattle.std.proofs.Common.{◌≡◌, refl}
 use Rattle.std.specs.declared.io.ErrorKind.{ErrorKind}
 use Rattle.std.specs.declared.io.ErrorKind.TheVariants.{BrokenPipe, OutOfMemory}

@@ -65,7 +65,7 @@ module _ (margin : List ℕ) (is_multicast : Bool) (message : List ℕ) (section
 module _ (margin : List ℕ) (is_multicast : Bool) (message : List ℕ) (section : Section) (r : RecordValue)
     (owner : List ℕ) (value : RDataValue) (name : NameReads message r.name owner)
     (is : IsDataOf r.kind (record_class is_multicast r.kind r.class) r.data_ value) where
-  -- a record with a name in its data that does not read
+  -- a record with a name in its data that can't be read
   pub record_unread : (a b : Option (List ℕ)) (why : NameRefusal)
       → GainsSome a b (λ text.
       LineShown (record_front margin is_multicast section r owner) message value text (Some why))

@@ -1,5 +1,5 @@
 -- What a whole DNS message prints (RFC 1035 section 4.1): the fields of its header, and then each question and record
--- in turn, up to the last, or to one that does not read.
+-- in turn, up to the last, or to one that can't be read.
 use Rattle.std.specs.Prelude.{◌≡◌, ℕ, ◌/◌, ◌%◌, ◌^◌, ◌<◌, ◌==◌, Bool, true, false, if◌then◌else◌, List, [], ◌∷◌, ◌++◌}
 use Rattle.std.specs.Prelude.{length, flat_map, Option, None, Some, codes, decimal}
 use Rattle.wirebase.specs.Bytes.{Reaches, number_of}

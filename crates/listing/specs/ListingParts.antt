@@ -43,7 +43,7 @@ line_text line =
     ++ word (class_text line.class)
     ++ word (type_text (type_number line.kind))
 
--- a line was written up to its end, or nothing for a name in its data that does not read
+-- a line was written up to its end, or nothing for a name in its data that can't be read
 abbrev pub LineShown : List ℕ → List ℕ → RDataValue → List ℕ → Option NameRefusal → Type 0
 LineShown front message value text None = (data_ : List ℕ) × DataReads message value data_ × (text ≡ front ++ data_)
 LineShown front message value text (Some why) =

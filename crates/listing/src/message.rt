@@ -27,7 +27,7 @@ use std::io;
 use std::io::Write;
 
 /// Prints a message, each line after the margin: the fields of its header, and then each question and record, up to the
-/// last, or to one that does not read, and then returns the reason. In multicast DNS the top bit of a class is no part
+/// last, or to one that can't be read, and then returns the reason. In multicast DNS the top bit of a class is no part
 /// of it (RFC 6762 sections 5.4 and 10.2).
 pub fn show_message<W: Write>(
     output: &mut W,

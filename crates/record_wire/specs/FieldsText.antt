@@ -50,7 +50,7 @@ pub record IsFieldsText (message : List ℕ) (fields : FieldsValue) (value : Fie
   pub second_ : IsSecondText message fields.second value.second
   pub rest_ : value.rest_ ≡ fields.rest_
 
--- ---- what is refused: the name that does not read first
+-- ---- what is refused: the first name that can't be read
 
 abbrev pub RefusesSecondIn : List ℕ → Option (List ℕ) → NameRefusal → Type 0
 RefusesSecondIn message None why = ⊥

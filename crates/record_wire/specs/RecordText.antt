@@ -134,7 +134,7 @@ abbrev pub IsQuestionText : List ℕ → ℕ → QuestionValue → QuestionText 
 IsQuestionText message class q text =
     Names message q.name (labels_of text.name) × (text.class ≡ class) × (text.type_ ≡ q.kind)
 
--- ---- what is refused: the name that does not read first
+-- ---- what is refused: the first name that can't be read
 
 abbrev pub RefusesNamesOf : List ℕ → rdata.AuthorityValue → NameRefusal → Type 0
 RefusesNamesOf message soa why =

@@ -200,7 +200,7 @@ pub enum Layout {
 
 impl<'a> RData<'a> {
     /// The data of a record of this type and class. Refused where the bytes are not laid out as the type has it:
-    /// [`RData::refusal`] says why. Of a record of multicast DNS, [`RData::parse_multicast`] reads it.
+    /// [`RData::refusal`] says why. For a record of multicast DNS, [`RData::parse_multicast`] reads it.
     pub fn parse(type_: Type, class: u16, octets: &'a [u8]) -> Result<RData<'a>>
         ensures sound { IfOk result (λ read. IsRData type_ class octets.now (rdata_of read)) }
         ensures complete { (value : RDataValue) → IsRData type_ class octets.now value

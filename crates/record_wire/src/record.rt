@@ -182,9 +182,8 @@ impl<'a> Record<'a> {
         None
     }
 
-    /// The data by the record's type and class. Refused where the bytes are not laid out as the type has it.
-    /// Of a record
-    /// of multicast DNS, [`Record::multicast_rdata`] gives it.
+    /// The data by the record's type and class. Refused where the bytes are not laid out as the type has it. For a
+    /// record of multicast DNS, [`Record::multicast_rdata`] gives it.
     pub fn rdata(&self) -> Result<RData<'a>>
         ensures sound { IfOk result (λ read.
             IsRData self.now.type_ self.now.class self.now.«data».now (rdata_of read)) }

@@ -238,7 +238,7 @@ impl<'a> Record<'a> {
     /// The record with its name and those in its data read, which prints its line of a zone file, or a comment where it
     /// is an OPT record. Data of a type that [`RData`] does not read print as octets: neither RFC 3597 section 4 nor
     /// RFC 6762 section 18.14 has a receiver expect compressed names in them, so they mean the same in each message. An
-    /// update's record of class NONE or ANY may have no data. Refused where a name does not read, and where the data is
+    /// update's record of class NONE or ANY may have no data. Refused where a name can't be read, and where the data is
     /// not laid out as its type has it.
     ///
     /// ```
@@ -321,7 +321,7 @@ impl<'a> Record<'a> {
 }
 
 impl<'a> RData<'a> {
-    /// The data with each name read. Refused where one does not read.
+    /// The data with each name read. Refused where one can't be read.
     pub fn text(&self, packet: &Packet<&'a [u8]>) -> result::Result<DataText<'a>, NameRefusal>
         ensures sound { IfOk result (λ text. IsDataText (view_octets packet.now) (rdata_of self.now)
             (data_text_of text)) }

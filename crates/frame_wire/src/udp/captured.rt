@@ -8,7 +8,7 @@ use crate::datagram::Extent;
 use crate::link::behind;
 use std::fmt;
 
-/// A UDP datagram as far as a capture has it.
+/// A UDP datagram as far as it was captured.
 ///
 /// ```
 /// use frame_wire::{CapturedUdp, Extent};

@@ -21,7 +21,7 @@ use std::io;
 use std::io::Write;
 
 /// Writes the line of a record up to its end, where the names in its data read; else nothing, and returns why the first
-/// name that does not read is refused.
+/// name that can't be read is refused.
 pub fn show_data<'a, W: Write>(
     output: &mut W,
     packet: &Packet<&'a [u8]>,

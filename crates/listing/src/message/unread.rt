@@ -6,16 +6,16 @@ ghost use Rattle.listing.specs.ListingUnread.{unread_display};
 use record_wire::{NameRefusal, OptionRefusal, Refusal, Section, TextRefusal};
 use std::fmt;
 
-/// Why a message is not listed to its end: the first item that does not read, and the check that it fails.
+/// Why a message is not listed to its end: the first item that can't be read, and the check that it fails.
 #[derive(Debug, PartialEq, Eq, Clone, Copy)]
 pub enum Unread {
     /// There are fewer bytes than the 12 of a header.
     Header,
     /// The next question or record of this section does not begin.
     Entry(Section, Refusal),
-    /// The name of a question does not read.
+    /// The name of a question can't be read.
     Question(NameRefusal),
-    /// The name of a record, its data, or a name in its data does not read.
+    /// The name of a record, its data, or a name in its data can't be read.
     Record(TextRefusal),
     /// The next option of an OPT record does not begin.
     Option(OptionRefusal),

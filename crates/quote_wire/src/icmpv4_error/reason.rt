@@ -47,7 +47,7 @@ fn unreachable(code: u8) -> Option<&'static str>
     }
 }
 
-// For which datagrams another gateway is better.
+// The datagrams for which another gateway is better.
 fn redirect(code: u8) -> Option<&'static str>
     ensures { option_map (λ words. words.now) result ≡ redirect_reason code }
 {
@@ -60,7 +60,7 @@ fn redirect(code: u8) -> Option<&'static str>
     }
 }
 
-// Which time was exceeded.
+// The time that was exceeded.
 fn time_exceeded(code: u8) -> Option<&'static str>
     ensures { option_map (λ words. words.now) result ≡ time_exceeded_reason code }
 {

@@ -37,7 +37,7 @@ fn unreachable(code: u8) -> Option<&'static str>
     }
 }
 
-// Which time was exceeded.
+// The time that was exceeded.
 fn time_exceeded(code: u8) -> Option<&'static str>
     ensures { option_map (λ words. words.now) result ≡ time_exceeded_reason code }
 {

@@ -80,8 +80,8 @@ impl fmt::Display for DataRefusal {
 
 impl RData<'_> {
     /// Why [`RData::parse`] refuses the data of this type and class, by the check that fails first; None where it reads
-    /// it. Of a record of multicast DNS, the class is the one without the top bit, as
-    /// [`crate::multicast::class_of`] gives it.
+    /// it. For a record of multicast DNS, the class is the one without the top bit, as [`crate::multicast::class_of`]
+    /// gives it.
     pub fn refusal(type_: Type, class: u16, octets: &[u8]) -> Option<DataRefusal>
         ensures told { IfSome result (λ refusal. RefusesRData type_ class octets.now refusal) }
         ensures exact { IsNone result ↔ HasRData type_ class octets.now }

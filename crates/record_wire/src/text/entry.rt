@@ -45,7 +45,7 @@ pub enum EntryText<'a> {
 impl<'a> Entry<'a> {
     /// The entry with its names read, which prints its line. A message is one of multicast DNS where it came from or
     /// goes to port 5353 of UDP (RFC 6762 section 3), which its octets do not tell: the top bit of a class is a flag
-    /// there (RFC 6762 sections 5.4 and 10.2), and a part of the class elsewhere. Refused where a name does not read,
+    /// there (RFC 6762 sections 5.4 and 10.2), and a part of the class elsewhere. Refused where a name can't be read,
     /// that of a question as [`TextRefusal::Owner`], and where the data of a record is not laid out as its type has it.
     ///
     /// ```

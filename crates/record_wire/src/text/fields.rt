@@ -202,7 +202,7 @@ impl fmt::Display for Bit {
 }
 
 impl<'a> Fields<'a> {
-    /// The fields with each name read. Refused where one does not read.
+    /// The fields with each name read. Refused where one can't be read.
     pub fn text(&self, packet: &Packet<&'a [u8]>) -> result::Result<FieldsText<'a>, NameRefusal>
         ensures sound { IfOk result (λ text. IsFieldsText (view_octets packet.now) (fields_of self.now)
             (fields_text_of text)) }

@@ -37,7 +37,7 @@ pub struct QuestionText {
 }
 
 impl<'a> Question<'a> {
-    /// The question with its name read. Refused where the name does not read.
+    /// The question with its name read. Refused where the name can't be read.
     pub fn text(&self, packet: &Packet<&'a [u8]>) -> result::Result<QuestionText, NameRefusal>
         ensures sound { IfOk result (IsQuestionText (view_octets packet.now) self.now.class (question_of self.now)) }
         ensures complete { (labels : List (List ℕ)) → Names (view_octets packet.now) self.now.name.now labels

@@ -7,11 +7,11 @@ use std::fmt;
 /// Why [`crate::Record::text`] refuses a record: the check that fails first.
 #[derive(Debug, PartialEq, Eq, Clone, Copy)]
 pub enum TextRefusal {
-    /// The record's name does not read.
+    /// The record's name can't be read.
     Owner(NameRefusal),
     /// The data is not laid out as the record's type and class have it.
     Data(DataRefusal),
-    /// A name in the data does not read: of two, the first that does not.
+    /// A name in the data can't be read: of two, the first such.
     DataName(NameRefusal),
 }
 

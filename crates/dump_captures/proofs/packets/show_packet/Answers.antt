@@ -1,4 +1,4 @@
--- By what the packet's headers tell.
+-- The packet's headers decide.
 use Rattle.std.proofs.Common.{[], refl}
 use Rattle.listing.proofs.Printing.{gains_none}
 use Rattle.dump_captures.specs.Dump.{of_unread, of_other}
