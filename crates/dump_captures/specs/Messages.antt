@@ -50,7 +50,7 @@ refusal_text r = part_field margin (codes "refused") (refusal_display r)
 abbrev pub IsRefusal : Reason → Refusal → List ℕ → Option Reason → Type 0
 IsRefusal reason r text why = (text ≡ refusal_text r) × (why ≡ Some reason)
 
--- the reason for a refused message is by its refusal
+-- a refused message is counted under the reason of its refusal
 abbrev pub IsMessageRefusal : Refusal → List ℕ → Option Reason → Type 0
 IsMessageRefusal r = IsRefusal (reason_of false r) r
 
