@@ -77,10 +77,10 @@ impl Time {
         self.seconds as u128 * NANOS + self.nanoseconds as u128
     }
 
-    // The time this many seconds later, or earlier where they are negative. A time before 1970 becomes 1970-01-01, and
-    // the seconds are limited to 64 bits.
+    /// The time `seconds` later, or earlier where they are negative, as by the option if_tsoffset of an interface of
+    /// pcapng. A time before 1970 becomes 1970-01-01, and one whose seconds exceed 64 bits gets the greatest of them.
     #[inline]
-    pub(crate) fn moved(self, seconds: i64) -> Time
+    pub fn moved(self, seconds: i64) -> Time
         requires { self.nanoseconds < 1000000000 }
         ensures { IsTime result (moved seconds (nanos_of self)) self.digits }
     {

@@ -12,8 +12,8 @@ mod packets;
 mod program;
 pub mod refusal;
 mod sight;
-mod summary;
-mod table;
+pub mod summary;
+pub mod table;
 pub mod tally;
 pub mod time;
 

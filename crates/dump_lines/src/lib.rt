@@ -4,13 +4,13 @@
 mod command;
 mod fault;
 mod glance;
-mod line;
+pub mod line;
 mod lines;
 mod pairs;
-mod reading;
+pub mod reading;
 mod search;
 mod shape;
-mod words;
+pub mod words;
 
 pub use fault::Fault;
 pub use lines::{run, run_onto, status};

@@ -1,4 +1,4 @@
-use frame_wire::datagram::super::{Addresses, Captured, Datagram, Extent, Head, Refusal};
+use frame_wire::datagram::{Addresses, Captured, Datagram, Extent, Head, Refusal};
 use crate::testing::prints;
 use wirebase::{IpProtocol, Ipv4Address, Ipv6Address};
 

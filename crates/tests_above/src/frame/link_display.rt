@@ -1,4 +1,4 @@
-use frame_wire::link::super::{Frame, Link, Network, Refusal};
+use frame_wire::link::{Frame, Link, Network, Refusal};
 use crate::testing::prints;
 
 #[test]

@@ -1,4 +1,4 @@
-use frame_wire::udp::super::{Refusal, UdpRepr};
+use frame_wire::udp::{Refusal, UdpRepr};
 use crate::testing::prints;
 
 #[test]

@@ -1,8 +1,21 @@
-use dhcp_wire::dhcpv4::Format;
 use dhcp_wire::dhcpv4::{DhcpOption, MessageType, OptionValue};
 use crate::testing::{holds_of, same_of};
 use std::process::Abort;
 use wirebase::Ipv4Address;
+
+// How the data of a kind is laid out, by the RFC that the registry refers to.
+#[derive(Clone, Copy)]
+enum Format {
+    Octets,
+    Text,
+    Address,
+    Addresses,
+    Number,
+    Byte,
+    Seconds,
+    Kinds,
+    MessageType,
+}
 
 // A kind, its name in IANA's registry "BOOTP Vendor Extensions and DHCP Options", its name here, and the format of its
 // data by the RFC that the registry refers to. Without a name of its own a kind has that of the registry, in lower case

@@ -1,7 +1,7 @@
 //! Why packets are refused, and the reasons under which they are counted.
 
-use dump_captures::Refusal;
-use dump_captures::Reason;
+use dump_captures::kind::Reason;
+use dump_captures::refusal::Refusal;
 use crate::testing::{prints, same_of};
 use dhcp_wire::dhcpv4;
 use frame_wire::{link, udp};

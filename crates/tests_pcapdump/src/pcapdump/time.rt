@@ -1,7 +1,7 @@
 //! Times as text.
 
 use crate::testing::{holds_of, same_of};
-use dump_captures::Clock;
+use dump_captures::time::Clock;
 
 // Seconds and nanoseconds, and their text by `date -u -d @N +%Y-%m-%dT%H:%M:%S`. The clock that writes them goes from
 // day to day and back, and stays on one for some.
