@@ -53,7 +53,9 @@ impl Time {
     {
         match precision {
             Precision::Micro => Time::of_micros(seconds as u64 * MICROS_A_SECOND + fraction as u64),
-            Precision::Nano => Time::of_nanos(seconds as u64 * NANOS_A_SECOND + fraction as u64),
+            Precision::Nano => Time::of_nanos_u64(
+                seconds as u64 * NANOS_A_SECOND + fraction as u64,
+            ),
         }
     }
 
@@ -65,8 +67,8 @@ impl Time {
         // 64 bits are enough for nearly all captures.
         match resolution {
             6 => Time::of_micros(ticks),
-            9 => Time::of_nanos(ticks),
-            _ => Time::of_nanoseconds(nanoseconds(ticks, resolution), digits(resolution)),
+            9 => Time::of_nanos_u64(ticks),
+            _ => Time::of_nanos_u128(nanoseconds(ticks, resolution), digits(resolution)),
         }
     }
 
@@ -150,7 +152,7 @@ impl Time {
     }
 
     // The time of a number of nanoseconds that 64 bits hold.
-    fn of_nanos(nanos: u64) -> Time
+    fn of_nanos_u64(nanos: u64) -> Time
         ensures { IsTime result nanos 9 }
     {
         Time {
@@ -161,7 +163,7 @@ impl Time {
     }
 
     // The time of this many nanoseconds, with this many digits.
-    fn of_nanoseconds(nanoseconds: u128, digits: u8) -> Time
+    fn of_nanos_u128(nanoseconds: u128, digits: u8) -> Time
         requires { nanoseconds < 2 ^ 64 * 1000000000 }
         ensures { IsTime result nanoseconds digits }
     {

@@ -64,19 +64,19 @@ pub fn read_unit<R: BufRead, H: UnitHead>(
     ensures fault { IfErr result (λ fault. (fault ≡ Fault.Read) ⊎ (fault ≡ Fault.Memory)) }
 {
     if !octets.as_slice().is_empty() {
-        return read_parts(input, octets, order);
+        return read_record_parts(input, octets, order);
     }
     let Some(shown) = look(input)? else {
-        return read_parts(input, octets, order);
+        return read_record_parts(input, octets, order);
     };
     if shown.is_empty() {
         return Ok(Taken::Ended(Ending::Whole));
     }
     let Some(front) = shown.get(..H::LEN) else {
-        return read_parts(input, octets, order);
+        return read_record_parts(input, octets, order);
     };
     let Ok(head) = H::of(order, front) else {
-        return read_parts(input, octets, order);
+        return read_record_parts(input, octets, order);
     };
     let len = head.unit_len();
     if shown.len() < len {
@@ -97,7 +97,7 @@ pub fn read_unit<R: BufRead, H: UnitHead>(
 }
 
 // Reads the octets of the next record or block, its head first and then the rest, or passes over it.
-fn read_parts<R: BufRead, H: UnitHead>(
+fn read_record_parts<R: BufRead, H: UnitHead>(
     input: &mut R,
     octets: &mut Vec<u8>,
     order: Order,

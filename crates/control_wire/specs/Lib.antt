@@ -45,13 +45,13 @@ pub use Rattle.icmp6_wire.specs.MldRecord
 pub use Rattle.icmp6_wire.specs.MldTables
 pub use Rattle.icmp6_wire.specs.Ndisc
 pub use Rattle.icmp6_wire.specs.NdiscBlocks
-pub use Rattle.icmp6_wire.specs.NdiscFound
+pub use Rattle.icmp6_wire.specs.NdiscOptionsSeen
 pub use Rattle.icmp6_wire.specs.NdiscPacket
 pub use Rattle.icmp6_wire.specs.NdiscTables
 pub use Rattle.dhcp_wire.specs.Dhcpv4
-pub use Rattle.dhcp_wire.specs.Dhcpv4Emission
+pub use Rattle.dhcp_wire.specs.Dhcpv4Writing
 pub use Rattle.dhcp_wire.specs.Dhcpv4Format
-pub use Rattle.dhcp_wire.specs.Dhcpv4Found
+pub use Rattle.dhcp_wire.specs.Dhcpv4OptionsSeen
 pub use Rattle.dhcp_wire.specs.Dhcpv4Options
 pub use Rattle.dhcp_wire.specs.Dhcpv4Packet
 pub use Rattle.dhcp_wire.specs.Dhcpv4Tables

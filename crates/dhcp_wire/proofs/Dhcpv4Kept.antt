@@ -12,10 +12,10 @@ use Rattle.wirebase.specs.declared.ipv4.Ipv4Address.{Ipv4Address}
 use Rattle.wirebase.proofs.Ipv4Header.{same_address}
 use Rattle.wirebase.proofs.LastOf.{kept}
 use Rattle.dhcp_wire.specs.declared.dhcpv4.tables.MessageType.{MessageType}
-use Rattle.dhcp_wire.specs.declared.dhcpv4.found.Found.{Found}
+use Rattle.dhcp_wire.specs.declared.dhcpv4.options_seen.OptionsSeen.{OptionsSeen}
 use Rattle.dhcp_wire.specs.Dhcpv4.{Value, value_of, HasHeader, IsPacket, AreOfEthernet, said, of_len, number_in}
 use Rattle.dhcp_wire.specs.Dhcpv4.{identifier_in, addresses_in, type_in}
-use Rattle.dhcp_wire.specs.Dhcpv4Found.{kept_of, bare, nothing, keep, IsMadeOf}
+use Rattle.dhcp_wire.specs.Dhcpv4OptionsSeen.{kept_of, bare, nothing, keep, IsMadeOf}
 use Rattle.dhcp_wire.specs.Dhcpv4Options.{OptionValue}
 use Rattle.dhcp_wire.specs.Dhcpv4OptionsAhead.{list_of}
 use Rattle.dhcp_wire.specs.Dhcpv4Packet.{op_field, options_in}
@@ -31,7 +31,7 @@ pub kept-type : (op : ℕ) (os : List OptionValue) → (keep_all (keep op) nothi
 kept-type op os = kept (keep op) (λ k. k.message_type) (said 53 (type_in op)) (λ k o. refl) nothing refl os
 
 -- the header, and what the options said
-pub made-of-found : (bytes : List ℕ) (t : MessageType) (v0 : Value) (found : Found)
+pub made-of-found : (bytes : List ℕ) (t : MessageType) (v0 : Value) (found : OptionsSeen)
     → IsMadeOf bytes v0.message_type nothing v0 → bare (value_of found.repr) ≡ bare v0
     → IsMadeOf bytes t (kept_of found) (record (value_of found.repr) { message_type = t })
 made-of-found bytes t v0 found made same = record {

@@ -8,7 +8,7 @@ use Rattle.wirebase.specs.Ethernet.{octets_of as ethernet_octets}
 use Rattle.wirebase.specs.Ipv4.{octets_of}
 use Rattle.dhcp_wire.specs.Dhcpv4.{Value, Slot, of_slot, of_slots, slots_of, options_of, options_text, header_text}
 use Rattle.dhcp_wire.specs.Dhcpv4.{text}
-use Rattle.dhcp_wire.specs.Dhcpv4Emission.{slots_len, counted_len}
+use Rattle.dhcp_wire.specs.Dhcpv4Writing.{slots_len, counted_len}
 use Rattle.dhcp_wire.specs.Dhcpv4Format.{data_len, len_if, fields_len, options_len, text_len}
 use Rattle.dhcp_wire.specs.Dhcpv4Options.{OptionValue, option, option_text}
 use Rattle.dhcp_wire.specs.Dhcpv4Tables.{message_number}

@@ -9,10 +9,10 @@ use Rattle.wirebase.specs.declared.error.Error.{Error}
 use Rattle.wirebase.proofs.Chains.{put-fields, whole-sheet}
 use Rattle.wirebase.proofs.Pieces.{over-fits}
 use Rattle.dhcp_wire.specs.Dhcpv4.{Value, options_of, options_text, header_fields, header_text}
-use Rattle.dhcp_wire.specs.Dhcpv4Emission.{WritesOptions}
+use Rattle.dhcp_wire.specs.Dhcpv4Writing.{WritesOptions}
 use Rattle.dhcp_wire.specs.Dhcpv4Format.{texts_before, AllShort}
 use Rattle.dhcp_wire.specs.Dhcpv4Options.{OptionValue}
-use Rattle.dhcp_wire.proofs.Dhcpv4Emission.{length-before}
+use Rattle.dhcp_wire.proofs.Dhcpv4Writing.{length-before}
 
 pub header_len-240 : (v : Value) → length (header_text v) ≡ 240
 unfolding header_text fields be8 be16 be32

@@ -2,11 +2,11 @@
 use Rattle.std.proofs.Common.{◌≡◌, ℕ, List, [], ◌∷◌, ◌++◌, length, refl, sym, ap, ◌∙◌, subst, append_assoc}
 use Rattle.std.specs.List.{flat_map}
 use Rattle.dns_wire.specs.DnsName.{IsLabel, written, Stop, ends, goes_on, IsMark, IsPart, IsFront}
-use Rattle.dns_wire.specs.DnsNameAhead.{Front, whole, pointer, stop, front_of}
+use Rattle.dns_wire.specs.DnsNameAhead.{NamePart, whole, pointer, stop, front_of}
 use Rattle.dns_wire.proofs.DnsNameTurns.{front-whole, front-pointer, whole_parts}
 
 -- the front of a text that begins with a mark
-abbrev pub front_at : Stop → Front
+abbrev pub front_at : Stop → NamePart
 front_at ends = stop
 front_at (goes_on p) = pointer p
 

@@ -5,7 +5,7 @@ use Rattle.std.specs.List.{AllByRecursion, flat_map}
 use Rattle.std.proofs.lemmas.Bool.{cases_lt}
 use Rattle.std.proofs.lemmas.List.{append-nil, length-append}
 use Rattle.dns_wire.specs.DnsName.{IsLabel, written, ends, goes_on, IsPart, joined}
-use Rattle.dns_wire.specs.DnsNameAhead.{Front, whole, pointer, stop, torn, front_of, ahead_of}
+use Rattle.dns_wire.specs.DnsNameAhead.{NamePart, whole, pointer, stop, torn, front_of, ahead_of}
 use Rattle.dns_wire.specs.DnsNameWalk.{Coming, label, at_end, at_fault, in_window, in_windows}
 use Rattle.dns_wire.proofs.DnsNameTurns.{Whole, Whole-front, Whole-length, Points, Points-front, Points-length}
 use Rattle.dns_wire.proofs.DnsNameTurns.{parts_length, stop-front, ahead_label, ahead_pointer, ahead_far, ahead_stop}
@@ -154,7 +154,7 @@ pointer_part text p h = record {
   whole = h.is;
 }
 
-found_by : (f : Front) (text reach : List ℕ) → front_of text ≡ f
+found_by : (f : NamePart) (text reach : List ℕ) → front_of text ≡ f
     → ((t r : List ℕ) → length t + length r + 2 ≤ length text + length reach → Found t r) → Found text reach
 found_by (whole b r) text reach e go =
     let w = Whole-front text b r e in

@@ -6,7 +6,7 @@ use Rattle.std.proofs.lemmas.Bool.{cases_lt, lt-ltb, le-ltb}
 use Rattle.std.proofs.lemmas.List.{append-nil, take_all}
 use Rattle.dns_wire.specs.DnsName.{ends, goes_on, IsPart, IsFront, windows, HaveParts, IsCompletePath, last_window}
 use Rattle.dns_wire.specs.DnsName.{IsBrokenPath, joined, Follows, HasPath}
-use Rattle.dns_wire.specs.DnsNameAhead.{Front, whole, pointer, stop, torn, front_of, by_front, answers, ahead_of}
+use Rattle.dns_wire.specs.DnsNameAhead.{NamePart, whole, pointer, stop, torn, front_of, by_front, answers, ahead_of}
 use Rattle.dns_wire.specs.DnsNameWalk.{Coming, at_end, at_fault, in_windows, whole_name, broken_name, FollowsOnly}
 use Rattle.dns_wire.specs.DnsNameWalk.{IsWalkOver}
 use Rattle.dns_wire.proofs.DnsNameLabels.{name_gives, gives_name}
@@ -95,7 +95,7 @@ route_broken text message targets parts r =
     )
 
 -- each answer comes after no more steps than half the bytes
-turn_linear : (f : Front) (most n : ℕ) (text reach : List ℕ) (go : ℕ → List ℕ → List ℕ → List Coming)
+turn_linear : (f : NamePart) (most n : ℕ) (text reach : List ℕ) (go : ℕ → List ℕ → List ℕ → List Coming)
     → front_of text ≡ f → 2 * n + length text + length reach ≤ most
     → ((m : ℕ) (t r : List ℕ) → 2 * m + length t + length r ≤ most
     → AllByRecursion (λ c. 2 * c.steps ≤ most) (go m t r)) → AllByRecursion (λ c. 2 * c.steps ≤ most)

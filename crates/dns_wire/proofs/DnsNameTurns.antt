@@ -3,7 +3,7 @@ use Rattle.std.proofs.Common.{◌≡◌, ℕ, ◌+◌, ◌*◌, ◌%◌, ◌<◌
 use Rattle.std.proofs.Common.{length, take, drop, refl, sym, ap, ◌∙◌, ◌⊎◌, inl, inr, zero, suc, arith}
 use Rattle.std.proofs.lemmas.Bool.{ltb-true, ltb-false, lt-ltb, le-ltb, eqb-true, eqb-false, ne_eqb, cases_lt}
 use Rattle.std.proofs.lemmas.List.{take-append-drop, length-take-le, length-drop, length-append, take_at, drop_at}
-use Rattle.dns_wire.specs.DnsNameAhead.{Front, whole, pointer, stop, torn, front_of, pointer_at, by_front, answers}
+use Rattle.dns_wire.specs.DnsNameAhead.{NamePart, whole, pointer, stop, torn, front_of, pointer_at, by_front, answers}
 use Rattle.dns_wire.specs.DnsNameAhead.{ahead_of}
 use Rattle.dns_wire.specs.DnsNameWalk.{Coming, label, at_end, at_fault}
 
@@ -52,23 +52,23 @@ whole_at x xs b r n h l e =
     record { is = cc; some = omega (arith, k, ne); few = omega (arith, k) }
 
 -- the front where the first byte is below 64, from 64 on, and not 0
-abbrev small : ℕ → List ℕ → Front
+abbrev small : ℕ → List ℕ → NamePart
 small x xs = cond (ltb (length xs) x) torn (whole (take x xs) (drop x xs))
 
-abbrev big : ℕ → List ℕ → Front
+abbrev big : ℕ → List ℕ → NamePart
 big x xs = cond (ltb x 192) torn (pointer_at x xs)
 
-abbrev other : ℕ → List ℕ → Front
+abbrev other : ℕ → List ℕ → NamePart
 other x xs = cond (ltb x 64) (small x xs) (big x xs)
 
 -- how a front came about
-data Way (x : ℕ) (xs : List ℕ) (f : Front) : Type 0 where
+data Way (x : ℕ) (xs : List ℕ) (f : NamePart) : Type 0 where
   at_zero : x ≡ 0 → stop ≡ f → Way x xs f
   cut : torn ≡ f → Way x xs f
   at_whole : eqb x 0 ≡ false → x < 64 → x ≤ length xs → whole (take x xs) (drop x xs) ≡ f → Way x xs f
   at_high : 192 ≤ x → pointer_at x xs ≡ f → Way x xs f
 
-way : (x : ℕ) (xs : List ℕ) (f : Front) → front_of (x ∷ xs) ≡ f → Way x xs f
+way : (x : ℕ) (xs : List ℕ) (f : NamePart) → front_of (x ∷ xs) ≡ f → Way x xs f
 way x xs f e =
     elim (chosen (eqb x 0) stop (other x xs) f e) [
       | inl h ↦ at_zero (eqb-true x 0 h.0) h.1
@@ -143,7 +143,7 @@ pub parts_length : (p : ℕ) (reach : List ℕ) → p < length reach
 parts_length p reach h = omega (arith, length-drop p reach, length-take-le p reach (omega arith))
 
 -- two ways to go on that agree where fewer bytes are left
-same_turn : (f : Front) (n : ℕ) (text reach : List ℕ) (go on : ℕ → List ℕ → List ℕ → List Coming) → front_of text ≡ f
+same_turn : (f : NamePart) (n : ℕ) (text reach : List ℕ) (go on : ℕ → List ℕ → List ℕ → List Coming) → front_of text ≡ f
     → ((m : ℕ) (t r : List ℕ) → length t + length r + 2 ≤ length text + length reach → go m t r ≡ on m t r)
     → by_front f n reach go ≡ by_front f n reach on
 same_turn (whole b r) n text reach go on e h =

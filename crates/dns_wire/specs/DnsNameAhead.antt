@@ -4,18 +4,18 @@ use Rattle.std.specs.Prelude.{take, drop, suc, zero}
 use Rattle.dns_wire.specs.DnsNameWalk.{Coming, label, at_end, at_fault}
 
 -- what a text begins with
-pub data Front : Type 0 where
-  whole : List ℕ → List ℕ → Front
-  pointer : ℕ → Front
-  stop : Front
-  torn : Front
+pub data NamePart : Type 0 where
+  whole : List ℕ → List ℕ → NamePart
+  pointer : ℕ → NamePart
+  stop : NamePart
+  torn : NamePart
 
 -- the fourteen bits of a pointer whose first byte is x
-abbrev pub pointer_at : ℕ → List ℕ → Front
+abbrev pub pointer_at : ℕ → List ℕ → NamePart
 pointer_at x [] = torn
 pointer_at x (y ∷ ys) = pointer (256 * (x % 64) + y)
 
-abbrev pub front_of : List ℕ → Front
+abbrev pub front_of : List ℕ → NamePart
 front_of [] = torn
 front_of (x ∷ xs) =
     if x == 0 then stop
@@ -25,7 +25,7 @@ front_of (x ∷ xs) =
 
 -- The answers where the text begins with this and these bytes of the message are open: go gives them after one step
 -- more.
-abbrev pub by_front : Front → ℕ → List ℕ → (ℕ → List ℕ → List ℕ → List Coming) → List Coming
+abbrev pub by_front : NamePart → ℕ → List ℕ → (ℕ → List ℕ → List ℕ → List Coming) → List Coming
 by_front (whole bytes rest) n reach go = record { answer = label bytes; steps = n + 1 } ∷ go (n + 1) rest reach
 by_front (pointer target) n reach go =
     if nat_lt target (length reach) then go (n + 1) (drop target reach) (take target reach) else at_fault n

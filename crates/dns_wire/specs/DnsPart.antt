@@ -1,12 +1,12 @@
 -- One part of a name at the front of a text, in the words of the code that finds it.
 use Rattle.std.specs.Prelude.{◌≡◌, ℕ, ◌+◌, ◌<◌, List, ◌++◌, length, take, drop}
 use Rattle.dns_wire.specs.DnsName.{Stop, IsPart, IsOnePart}
-use Rattle.dns_wire.specs.declared.dns.part.Front.{Front as FrontOf}
-use Rattle.dns_wire.specs.declared.dns.part.Front.TheVariants.{Label, Pointer, End, Torn}
-use Rattle.dns_wire.specs.DnsNameAhead.{Front, whole, pointer, stop, torn}
+use Rattle.dns_wire.specs.declared.dns.part.NamePart.{NamePart as FrontOf}
+use Rattle.dns_wire.specs.declared.dns.part.NamePart.TheVariants.{Label, Pointer, End, Torn}
+use Rattle.dns_wire.specs.DnsNameAhead.{NamePart, whole, pointer, stop, torn}
 
 -- what a text begins with, without its place in memory
-abbrev pub shown : FrontOf → Front
+abbrev pub shown : FrontOf → NamePart
 shown (Label bytes rest) = whole bytes.now rest.now
 shown (Pointer target) = pointer target
 shown End = stop

@@ -2,4 +2,4 @@
 #![tactic(auto)]
 
 pub mod dns;
-pub mod message;
+pub mod octets;

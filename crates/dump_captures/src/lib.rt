@@ -17,6 +17,6 @@ pub mod table;
 pub mod tally;
 pub mod time;
 
-pub use packets::{Report, dump, run_onto};
 pub use fault::Fault;
+pub use packets::{Report, dump, run_onto};
 pub use program::run_program;

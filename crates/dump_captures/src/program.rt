@@ -1,12 +1,11 @@
 //! The program: its files, what it says on standard error, and its status.
 
 use crate::arguments::{Task, Wrong, read_task};
-use crate::help;
 use crate::options::Options;
 use crate::summary::write_summary;
 use crate::table::show_table;
 use crate::tally::Tally;
-use crate::{Fault, dump};
+use crate::{Fault, dump, help};
 use capture::Ending;
 use std::env::Env;
 use std::io::{BufWriter, Input, Read, Write};

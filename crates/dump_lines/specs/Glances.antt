@@ -4,8 +4,8 @@ use Rattle.std.specs.Io.BufRead.{strip_last, take_through, drop_through}
 use Rattle.dump_lines.specs.Listing.{Shape, LinePrints, is_known, line_shape}
 use Rattle.listing.specs.Output.{Gains, GainsSome}
 use Rattle.dump_lines.specs.Shapes.{seen}
-use Rattle.dump_lines.specs.declared.glance.Glance.{Glance}
-use Rattle.dump_lines.specs.declared.glance.Glance.TheVariants.{Line, Part, End}
+use Rattle.dump_lines.specs.declared.buffered_line.Glance.{Glance}
+use Rattle.dump_lines.specs.declared.buffered_line.Glance.TheVariants.{Line, Part, End}
 
 -- there was a line of these octets, of this shape, and the lines after it are left
 abbrev pub IsFirst : List ℕ → Option (List ℕ) → Shape → Type 0

@@ -5,7 +5,7 @@ use Rattle.std.specs.Io.KnownBytes.{Consumes, IsAtEnd}
 use Rattle.std.specs.Io.BufRead.{strip_last, take_through, drop_through}
 use Rattle.dump_lines.specs.Lines.{words_in}
 use Rattle.dump_lines.specs.Listing.{Shape, bad, line_shape}
-use Rattle.dump_lines.specs.declared.reading.Line.{Line}
+use Rattle.dump_lines.specs.declared.partial_line.Line.{Line}
 
 -- the shape of a line of which a front is read, and these octets are still to come
 abbrev pub shape_from : Line → List ℕ → Shape

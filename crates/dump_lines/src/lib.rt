@@ -1,13 +1,13 @@
 //! The lines of `wiredump`: what packets that are given in hexadecimal hold.
 #![tactic(auto)]
 
+mod buffered_line;
 mod command;
 mod fault;
-mod glance;
+mod hex_digits;
 pub mod line;
 mod lines;
-mod pairs;
-pub mod reading;
+pub mod partial_line;
 mod search;
 mod shape;
 pub mod words;

@@ -7,7 +7,7 @@ ghost use Rattle.dump_lines.specs.Reading.{shape_from};
 ghost use Rattle.dump_lines.specs.Shapes.{seen};
 
 use crate::Fault;
-use crate::reading::Line;
+use crate::partial_line::Line;
 use crate::shape::Shape;
 use listing::printer;
 use std::alloc::Global;

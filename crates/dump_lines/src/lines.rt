@@ -8,9 +8,9 @@ ghost use Rattle.dump_lines.specs.Listing.{LinesPrint, are_known, shapes_of};
 ghost use Rattle.dump_lines.specs.Status.{status_of};
 
 use crate::Fault;
-use crate::glance::{Glance, look};
+use crate::buffered_line::{Glance, look};
 use crate::line::{show_line, show_shape};
-use crate::reading::{Line, read_line};
+use crate::partial_line::{Line, read_line};
 use std::alloc::Global;
 use std::io::{BufReader, BufWriter, Read, Write};
 

@@ -8,7 +8,7 @@ ghost use Rattle.dump_lines.specs.Lines.{words_in};
 ghost use Rattle.dump_lines.specs.Words.{address_of, is_length, offset_of, word_of};
 
 use crate::Fault;
-use crate::pairs::{are_digits, decode, decode_front};
+use crate::hex_digits::{are_digits, decode, decode_front};
 use crate::search::{len_before, spaces_len};
 use std::alloc::Global;
 

@@ -13,7 +13,7 @@ use Rattle.control_wire.specs.Ipv6AddressType.{Ipv6Address}
 use Rattle.control_wire.specs.Ndisc.{NdiscValue, router_solicit, router_advert, neighbor_solicit}
 use Rattle.control_wire.specs.Ndisc.{neighbor_advert, redirect}
 use Rattle.control_wire.specs.NdiscBlocks.{AreBlocks, prefix_in}
-use Rattle.control_wire.specs.NdiscFound.{link_of}
+use Rattle.control_wire.specs.NdiscOptionsSeen.{link_of}
 use Rattle.control_wire.specs.NdiscNeighborFlagsType.{NeighborFlags}
 use Rattle.control_wire.specs.NdiscPrefixInformationType.{PrefixInformation}
 use Rattle.control_wire.specs.NdiscRouterFlagsType.{RouterFlags}

@@ -8,7 +8,7 @@ use Rattle.control_wire.specs.Ipv6Address.{octets_of, IsMulticast}
 use Rattle.control_wire.specs.Ipv6AddressType.{Ipv6Address}
 use Rattle.control_wire.specs.Icmpv6.{ndisc, packet_text}
 use Rattle.control_wire.specs.Ndisc.{NdiscValue, neighbor_solicit, neighbor_advert}
-use Rattle.control_wire.specs.NdiscFound.{link_of}
+use Rattle.control_wire.specs.NdiscOptionsSeen.{link_of}
 use Rattle.control_wire.specs.NdiscNeighborFlagsType.{NeighborFlags}
 use Rattle.control_wire.specs.NdiscTables.{neighbor_bits}
 use Rattle.examples.specs.Ping.{IsGoodMessageV6}

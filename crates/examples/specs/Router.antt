@@ -8,7 +8,7 @@ use Rattle.control_wire.specs.Ipv6AddressType.{Ipv6Address}
 use Rattle.control_wire.specs.Icmpv6.{ndisc, packet_text}
 use Rattle.control_wire.specs.Ndisc.{NdiscValue, router_solicit, router_advert}
 use Rattle.control_wire.specs.NdiscBlocks.{AreBlocks, prefix_in}
-use Rattle.control_wire.specs.NdiscFound.{link_of}
+use Rattle.control_wire.specs.NdiscOptionsSeen.{link_of}
 use Rattle.control_wire.specs.NdiscOptionRepr.{OptionValue}
 use Rattle.control_wire.specs.NdiscPrefixInformationType.{PrefixInformation}
 use Rattle.examples.specs.Neighbor.{IsSender, IsReceived}

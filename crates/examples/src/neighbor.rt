@@ -10,7 +10,7 @@ ghost use Rattle.control_wire.specs.HardwareAddress.{ethernet_of};
 ghost use Rattle.control_wire.specs.Ipv6Address.{octets_of as octets_in};
 ghost use Rattle.control_wire.specs.Icmpv6.{ndisc as neighbors, packet_text};
 ghost use Rattle.control_wire.specs.Ndisc.{NdiscValue, CanEmit, text_len, value_of as content_of};
-ghost use Rattle.control_wire.specs.NdiscFound.{link_of};
+ghost use Rattle.control_wire.specs.NdiscOptionsSeen.{link_of};
 ghost use Rattle.examples.specs.Neighbor.{IsUnspecified, IsSolicitedNode, solicited_node_prefix, IsSender};
 ghost use Rattle.examples.specs.Neighbor.{IsSolicitation, IsReceived, LooksFor, Solicits, IsAnswer, NeighborIn};
 ghost use Rattle.examples.specs.Neighbor.{TellsNeighbor};

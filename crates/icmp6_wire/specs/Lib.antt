@@ -13,7 +13,7 @@ pub mod MldTables
 pub mod Ndisc
 pub mod NdiscBlocks
 pub mod NdiscDisplay
-pub mod NdiscFound
+pub mod NdiscOptionsSeen
 pub mod NdiscPacket
 pub mod NdiscRefusal
 pub mod NdiscTables

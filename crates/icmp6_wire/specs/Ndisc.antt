@@ -16,7 +16,7 @@ use Rattle.opt_wire.specs.declared.ndiscoption.repr.PrefixInformation.{PrefixInf
 use Rattle.icmp6_wire.specs.Icmpv6Packet.{BeginsWhole, payload_in}
 use Rattle.wirebase.specs.LastOf.{last_of}
 use Rattle.icmp6_wire.specs.NdiscBlocks.{AreBlocks, source_in, target_in, mtu_in, prefix_in, redirected_in}
-use Rattle.icmp6_wire.specs.NdiscFound.{packet_of, link_of}
+use Rattle.icmp6_wire.specs.NdiscOptionsSeen.{packet_of, link_of}
 use Rattle.icmp6_wire.specs.NdiscPacket.{hop_limit_field, router_flags_field, router_lifetime_field}
 use Rattle.icmp6_wire.specs.NdiscPacket.{reachable_time_field, retrans_time_field, neighbor_flags_field}
 use Rattle.icmp6_wire.specs.NdiscPacket.{target_addr_field, dest_addr_field}

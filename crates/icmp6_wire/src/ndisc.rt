@@ -41,14 +41,14 @@ use wirebase::{Duration, Ipv6Address, Octets, OctetsMut};
 
 mod display;
 mod flags;
-mod found;
 mod options;
+mod options_seen;
 mod reading;
 mod refusal;
 mod repr;
 
 pub use flags::{NeighborFlags, RouterFlags};
-pub(crate) use found::Found;
+pub(crate) use options_seen::OptionsSeen;
 pub(crate) use reading::{
     neighbor_advert, neighbor_solicit, redirect, router_advert, router_solicit,
 };

@@ -6,6 +6,7 @@
 pub mod dhcp;
 pub mod endpoint;
 pub mod hbh;
+mod hex_digits;
 pub mod icmp4;
 pub mod icmp4_error;
 pub mod icmp6;
@@ -19,7 +20,6 @@ pub mod ndisc;
 pub mod ndopt;
 pub mod number;
 pub mod page;
-mod pairs;
 pub mod ports;
 pub mod printer;
 pub mod question;

@@ -6,7 +6,7 @@ ghost use Rattle.std.specs.Prelude.{OnOk};
 ghost use Rattle.std.specs.Option.{option_map};
 ghost use Rattle.icmp6_wire.specs.Ndisc.{neighbor_advert, neighbor_solicit, redirect, router_advert};
 ghost use Rattle.icmp6_wire.specs.Ndisc.{router_solicit, value_of};
-ghost use Rattle.icmp6_wire.specs.NdiscFound.{link_of, packet_of};
+ghost use Rattle.icmp6_wire.specs.NdiscOptionsSeen.{link_of, packet_of};
 ghost use Rattle.listing.specs.ListingNdisc.{ndisc_listing, router_listing, lladdr_listing};
 ghost use Rattle.listing.specs.ListingNdisc.{prefix_info_listing, redirected_hdr_listing};
 ghost use Rattle.listing.specs.Output.{Gains};

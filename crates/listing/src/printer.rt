@@ -10,8 +10,8 @@ ghost use Rattle.listing.specs.Layout.{octets_text, millis_text, truth_text, tex
 ghost use Rattle.listing.specs.Output.{Gains};
 
 use crate::endpoint::write_v4;
+use crate::hex_digits::encode;
 use crate::number::write_number;
-use crate::pairs::encode;
 use std::io;
 use std::io::Write;
 use wirebase::{Duration, Ipv4Address};

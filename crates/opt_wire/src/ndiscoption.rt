@@ -53,7 +53,7 @@ mod field {
 
     pub const LENGTH: Field = 1..2;
 
-    pub const PREFIX_LEN: Field = 2..3;
+    pub const PREFIX_OPTION_LEN: Field = 2..3;
 
     pub const PREFIX_FLAGS: Field = 3..4;
 
@@ -207,7 +207,7 @@ impl<T: Octets> NdiscOption<T> {
         requires { Reaches prefix_len_field (T.bytes (inner self.now)) }
         ensures { result ≡ byte_of prefix_len_field (T.bytes (inner self.now)) }
     {
-        self.buffer.u8_at(field::PREFIX_LEN)
+        self.buffer.u8_at(field::PREFIX_OPTION_LEN)
     }
 
     /// The flags of a prefix that have a name. Requires at least 4 bytes.
@@ -304,7 +304,7 @@ impl<T: OctetsMut> NdiscOption<T> {
         ensures writes { Sets T.bytes T.put self.old self.new prefix_len_field (value ∷ []) }
         ensures len { KeepsLen T.bytes self.old self.new }
     {
-        self.buffer.set_u8(field::PREFIX_LEN, value);
+        self.buffer.set_u8(field::PREFIX_OPTION_LEN, value);
     }
 
     /// Writes the flags of a prefix, all their bits. Requires at least 4 bytes.

@@ -20,7 +20,7 @@ pub const UNIT: usize = 8;
 pub const MTU_LEN: usize = UNIT;
 
 /// The bytes of the option of a prefix.
-pub const PREFIX_LEN: usize = 4 * UNIT;
+pub const PREFIX_OPTION_LEN: usize = 4 * UNIT;
 
 // The bytes of the type and length fields, and the bytes of a redirected header before the payload of the packet.
 const HEADER_LEN: usize = 2;

@@ -6,7 +6,7 @@ use Rattle.std.specs.List.{AllByRecursion}
 use Rattle.dns_wire.specs.DnsName.{IsLabel, written}
 use Rattle.record_wire.specs.Labels.{written_all, wire}
 use Rattle.record_wire.specs.NameText.{Spells, GoesOn, IsTextOf, IsNameText}
-use Rattle.record_wire.specs.NameReading.{first_byte, AreSpelled, behind_in, at_end, at_label, at_other}
+use Rattle.record_wire.specs.NameReading.{first_byte, HasLabelsOfText, behind_in, at_end, at_label, at_other}
 use Rattle.record_wire.specs.TextRefusal.{Leads}
 use Rattle.record_wire.proofs.LabelLists.{written_more, each_more, room_before}
 use Rattle.record_wire.proofs.Characters.{chosen, character_some, character_first}
@@ -97,7 +97,7 @@ first_more (d ∷ done) label = (d, done ++ label ∷ [], refl)
 
 -- the last label is read, and the end or a last dot follows it
 pub all_read : (text octets left label rest next : List ℕ) → SoFar text octets left → IsLabel label
-    → Spells left label rest → GoesOn rest [] → next ≡ octets ++ written label → AreSpelled text next
+    → Spells left label rest → GoesOn rest [] → next ≡ octets ++ written label → HasLabelsOfText text next
 all_read text octets left label rest next so one spells ends e =
     let f = first_more so.done label in
     record {

@@ -7,13 +7,13 @@ use Rattle.std.proofs.lemmas.Grind.{flat_map-append}
 use Rattle.std.proofs.Math.Seq.{take-append_seam}
 use Rattle.std.specs.List.{AllByRecursion}
 use Rattle.dns_wire.specs.DnsName.{IsLabel, IsName, written, joined}
-use Rattle.dns_wire.specs.DnsNameAhead.{Front, whole, pointer, stop, torn, front_of, ahead_of, answers, by_front}
+use Rattle.dns_wire.specs.DnsNameAhead.{NamePart, whole, pointer, stop, torn, front_of, ahead_of, answers, by_front}
 use Rattle.dns_wire.specs.DnsNameWalk.{Coming, label, Gives, in_window, in_windows, at_end, at_fault}
 use Rattle.dns_wire.proofs.DnsNameTurns.{Whole-front, ahead_pointer, ahead_far, ahead_stop, ahead_torn}
 use Rattle.dns_wire.proofs.DnsNameRoutes.{labels_ahead}
 use Rattle.dns_wire.proofs.DnsNameTheorem.{walks_over}
 use Rattle.record_wire.specs.Labels.{written_all, wire, AreOfName}
-use Rattle.record_wire.specs.NameParts.{AreInFront}
+use Rattle.record_wire.specs.NameParts.{LabelsAtFront}
 use Rattle.record_wire.specs.Names.{Names, most_pointers}
 use Rattle.record_wire.proofs.LabelLists.{drop_seam, written_more, each_more, name_of}
 
@@ -23,26 +23,26 @@ drop_whole n xs = take_all (length xs - n) (drop n xs) (omega (arith, length-dro
 
 -- ---- labels at the start of a text
 
-pub none_in_front : (text : List ℕ) → AreInFront text 0
+pub none_in_front : (text : List ℕ) → LabelsAtFront text 0
 none_in_front text = record { labels = []; rest = text; each = tt; is = refl; count = refl }
 
-pub behind_front : (text : List ℕ) (len : ℕ) (so : AreInFront text len) → drop len text ≡ so.rest
+pub behind_front : (text : List ℕ) (len : ℕ) (so : LabelsAtFront text len) → drop len text ≡ so.rest
 behind_front text len so =
     ap (λ t. drop len t) so.is
     ∙ (ap (λ n. drop n (written_all so.labels ++ so.rest)) (sym so.count) ∙ drop_seam (written_all so.labels) so.rest)
 
-pub in_front : (text : List ℕ) (len : ℕ) (so : AreInFront text len) → take len text ≡ written_all so.labels
+pub in_front : (text : List ℕ) (len : ℕ) (so : LabelsAtFront text len) → take len text ≡ written_all so.labels
 in_front text len so =
     ap (λ t. take len t) so.is
     ∙ (ap (λ n. take n (written_all so.labels ++ so.rest)) (sym so.count)
     ∙ take-append_seam (written_all so.labels) so.rest)
 
-pub front_fits : (text : List ℕ) (len : ℕ) → AreInFront text len → len ≤ length text
+pub front_fits : (text : List ℕ) (len : ℕ) → LabelsAtFront text len → len ≤ length text
 front_fits text len so = omega (arith, ap length so.is, length-append (written_all so.labels) so.rest, so.count)
 
 -- one label more
-pub one_more_in_front : (text bytes rest : List ℕ) (len : ℕ) → AreInFront text len
-    → whole bytes rest ≡ front_of (drop len text) → AreInFront text (len + (1 + length bytes))
+pub one_more_in_front : (text bytes rest : List ℕ) (len : ℕ) → LabelsAtFront text len
+    → whole bytes rest ≡ front_of (drop len text) → LabelsAtFront text (len + (1 + length bytes))
 one_more_in_front text bytes rest len so e =
     let w = Whole-front (drop len text) bytes rest (sym e) in
     let at : so.rest ≡ written bytes ++ rest = sym (behind_front text len so) ∙ w.is in
@@ -115,7 +115,7 @@ some_by : (b : Bool) (xs ys : List Coming) → 1 ≤ length xs → 1 ≤ length 
 some_by true xs ys h k = h
 some_by false xs ys h k = k
 
-some_by_front : (f : Front) (n : ℕ) (reach : List ℕ) (go : ℕ → List ℕ → List ℕ → List Coming)
+some_by_front : (f : NamePart) (n : ℕ) (reach : List ℕ) (go : ℕ → List ℕ → List ℕ → List Coming)
     → ((m : ℕ) (t r : List ℕ) → 1 ≤ length (go m t r)) → 1 ≤ length (by_front f n reach go)
 some_by_front (whole bytes rest) n reach go h = omega arith
 some_by_front (pointer target) n reach go h =
@@ -138,7 +138,7 @@ late_by : (b : Bool) (n : ℕ) (xs : List Coming) (more : List (List ℕ)) → G
 late_by true n xs more g h = omega (arith, h g)
 late_by false n xs more g h = absurd (none_at_fault n more g)
 
-late_by_front : (f : Front) (n : ℕ) (reach : List ℕ) (go : ℕ → List ℕ → List ℕ → List Coming) (more : List (List ℕ))
+late_by_front : (f : NamePart) (n : ℕ) (reach : List ℕ) (go : ℕ → List ℕ → List ℕ → List Coming) (more : List (List ℕ))
     → ((m : ℕ) (t r : List ℕ) → 1 ≤ length (go m t r))
     → ((m : ℕ) (t r : List ℕ) (ls : List (List ℕ)) → Gives (go m t r) ls → m + length ls ≤ last_steps (go m t r))
     → Gives (by_front f n reach go) more → n + length more ≤ last_steps (by_front f n reach go)
@@ -227,7 +227,7 @@ pointer_read text message octets left reach pointers target so e l =
 
 pub labels_read : (text message octets next left reach : List ℕ) (pointers len : ℕ)
     → IsReadTo text message octets left reach pointers
-    → AreInFront left len → next ≡ octets ++ take len left
+    → LabelsAtFront left len → next ≡ octets ++ take len left
     → IsReadTo text message next (drop len left) reach pointers
 labels_read text message octets next left reach pointers len so front pushed =
     let n = (so.steps + length front.labels) + 0 in
@@ -386,7 +386,7 @@ room_read text message octets left reach pointers so labels name fit =
 -- labels that do not fit
 pub room_for_labels : (text message octets left reach : List ℕ) (pointers len : ℕ)
     → IsReadTo text message octets left reach pointers
-    → AreInFront left len → (labels : List (List ℕ)) → IsName text message labels → AreOfName labels
+    → LabelsAtFront left len → (labels : List (List ℕ)) → IsName text message labels → AreOfName labels
     → length octets + length (take len left) < 255
 room_for_labels text message octets left reach pointers len so front labels name fit =
     let next = labels_read text message octets (octets ++ take len left) left reach pointers len so front refl in
@@ -396,7 +396,7 @@ room_for_labels text message octets left reach pointers len so front labels name
 
 -- a label that ends too far belongs to no name
 pub no_name_long : (text message octets left reach bytes rest : List ℕ) (pointers len : ℕ)
-    → IsReadTo text message octets left reach pointers → AreInFront left len
+    → IsReadTo text message octets left reach pointers → LabelsAtFront left len
     → whole bytes rest ≡ front_of (drop len left)
     → 255 ≤ len + (1 + length bytes) → (labels : List (List ℕ)) → IsName text message labels → AreOfName labels → ⊥
 no_name_long text message octets left reach bytes rest pointers len so front e far labels name fit =

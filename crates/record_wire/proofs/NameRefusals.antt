@@ -9,7 +9,7 @@ use Rattle.dns_wire.specs.DnsName.{IsLabel, written}
 use Rattle.dns_wire.specs.DnsNameAhead.{whole, pointer, stop, torn, front_of}
 use Rattle.dns_wire.proofs.DnsNameTurns.{Whole-front, Points-front, front-whole}
 use Rattle.record_wire.specs.Labels.{written_all}
-use Rattle.record_wire.specs.NameParts.{AreInFront, AreNamed}
+use Rattle.record_wire.specs.NameParts.{LabelsAtFront, HasLabelsOfName}
 use Rattle.record_wire.specs.NameRefusal.{PointsTo, ComesTo, begins, passes, follows, IsLeft, RefusesName}
 use Rattle.record_wire.specs.Names.{most_pointers}
 use Rattle.record_wire.specs.RecordRefusal.{IsNoPart}
@@ -80,12 +80,12 @@ at_start text message octets none = record {
   few = omega arith;
 }
 
-front_length : (left : List ℕ) (len : ℕ) (front : AreInFront left len)
+front_length : (left : List ℕ) (len : ℕ) (front : LabelsAtFront left len)
     → length (take len left) ≡ length (written_all front.labels)
 front_length left len front = ap length (in_front left len front)
 
 module _ (text message octets left opened : List ℕ) (pointers len : ℕ)
-    (so : IsAt text message octets left opened pointers) (front : AreInFront left len) where
+    (so : IsAt text message octets left opened pointers) (front : LabelsAtFront left len) where
   pub at_labels : (next : List ℕ) → length octets + length (take len left) < 255 → next ≡ octets ++ take len left
       → IsAt text message next (drop len left) opened pointers
   at_labels next room pushed =
@@ -129,7 +129,7 @@ at_pointer text message octets left opened pointers place so e inside few = reco
 -- the name that was read
 pub named : (text message octets left opened next : List ℕ) (pointers : ℕ)
     → IsAt text message octets left opened pointers → stop ≡ front_of left → next ≡ octets ++ 0 ∷ []
-    → AreNamed text message next
+    → HasLabelsOfName text message next
 named text message octets left opened next pointers so e ends = record {
   labels = so.read.done;
   names_ = all_read text message octets left opened pointers so.read e so.room so.few;

@@ -2,13 +2,13 @@
 use Rattle.std.specs.Prelude.{◌≡◌, ℕ, ◌+◌, ◌≤◌, List, ◌++◌, length}
 use Rattle.std.specs.List.{AllByRecursion}
 use Rattle.dns_wire.specs.DnsName.{IsLabel}
-use Rattle.dns_wire.specs.declared.dns.part.Front.{Front}
-use Rattle.dns_wire.specs.declared.dns.part.Front.TheVariants.{Label, Pointer, End, Torn}
+use Rattle.dns_wire.specs.declared.dns.part.NamePart.{NamePart}
+use Rattle.dns_wire.specs.declared.dns.part.NamePart.TheVariants.{Label, Pointer, End, Torn}
 use Rattle.record_wire.specs.Labels.{wire, written_all}
 use Rattle.record_wire.specs.Names.{Names}
 
 -- the text begins with whole labels, which take this many bytes
-pub record AreInFront (text : List ℕ) (len : ℕ) : Type 0 where
+pub record LabelsAtFront (text : List ℕ) (len : ℕ) : Type 0 where
   pub labels : List (List ℕ)
   pub rest : List ℕ
   pub each : AllByRecursion IsLabel labels
@@ -16,14 +16,14 @@ pub record AreInFront (text : List ℕ) (len : ℕ) : Type 0 where
   pub count : length (written_all labels) ≡ len
 
 -- a label after this many bytes would leave no room in a name for byte 0
-abbrev pub EndsTooFar : ℕ → Front → Type 0
+abbrev pub EndsTooFar : ℕ → NamePart → Type 0
 EndsTooFar len (Label bytes rest) = 255 ≤ len + (1 + length bytes.now)
 EndsTooFar len (Pointer target) = Unit {0}
 EndsTooFar len End = Unit {0}
 EndsTooFar len Torn = Unit {0}
 
 -- the octets of the name that begins in a text and may go on in a message
-pub record AreNamed (text message octets : List ℕ) : Type 0 where
+pub record HasLabelsOfName (text message octets : List ℕ) : Type 0 where
   pub labels : List (List ℕ)
   pub names_ : Names message text labels
   pub written_ : octets ≡ wire labels

@@ -83,7 +83,7 @@ pub record IsSpelling (text bytes rest : List ℕ) : Type 0 where
   pub no_more : first_byte rest ≡ None
 
 -- the octets of the labels of a text, at least one
-pub record AreSpelled (text octets : List ℕ) : Type 0 where
+pub record HasLabelsOfText (text octets : List ℕ) : Type 0 where
   pub first : List ℕ
   pub more : List (List ℕ)
   pub each : AllByRecursion IsLabel (first ∷ more)

@@ -12,7 +12,7 @@ ghost use Rattle.wirebase.specs.Bytes.{IsBytes};
 ghost use Rattle.dns_wire.specs.DnsPacket.{view_octets};
 ghost use Rattle.record_wire.specs.Labels.{wire, labels_in, AreOfName};
 ghost use Rattle.record_wire.specs.Names.{Names};
-ghost use Rattle.record_wire.specs.NameParts.{AreNamed};
+ghost use Rattle.record_wire.specs.NameParts.{HasLabelsOfName};
 ghost use Rattle.record_wire.specs.NameCase.{lower_labels};
 ghost use Rattle.record_wire.specs.NameRefusal.{RefusesName, HasName};
 ghost use Rattle.record_wire.specs.TextRefusal.{RefusesText, IsText};
@@ -26,7 +26,7 @@ use crate::name::text_refusal::{NameTextRefusal, why_no_text};
 use crate::refusal::why_torn;
 use arrayvec::ArrayVec;
 use dns_wire::dns::Packet;
-use dns_wire::message::{Front, follow, octets_of};
+use dns_wire::octets::{NamePart, follow, octets_of};
 use std::alloc::AllocError;
 use std::{fmt, result};
 use wirebase::{Error, Result};
@@ -172,7 +172,7 @@ fn put_name<'a>(
     bytes: &'a [u8],
 ) -> result::Result<(), NameRefusal>
     requires { octets.old.items ≡ [] }
-    ensures sound { OnOk result (AreNamed bytes.now message.now octets.new.items) }
+    ensures sound { OnOk result (HasLabelsOfName bytes.now message.now octets.new.items) }
     ensures complete { (labels : List (List ℕ)) → Names message.now bytes.now labels
         → IsOk result × (octets.new.items ≡ wire labels) }
     ensures told { IfErr result (λ refusal. RefusesName bytes.now message.now refusal) }
@@ -187,11 +187,11 @@ fn put_name<'a>(
             return Err(NameRefusal::TooLong);
         };
         match front {
-            Front::End => {
+            NamePart::End => {
                 octets.push(0);
                 return Ok(());
             }
-            Front::Pointer(target) => {
+            NamePart::Pointer(target) => {
                 let Some((next, open)) = follow(reach, target) else {
                     return Err(NameRefusal::Pointer(target));
                 };
@@ -202,8 +202,8 @@ fn put_name<'a>(
                 left = next;
                 reach = open;
             }
-            Front::Label(..) => return Err(NameRefusal::TooLong),
-            Front::Torn => return Err(NameRefusal::Part(why_torn(&left[len..]))),
+            NamePart::Label(..) => return Err(NameRefusal::TooLong),
+            NamePart::Torn => return Err(NameRefusal::Part(why_torn(&left[len..]))),
         }
     }
 }

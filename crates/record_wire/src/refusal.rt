@@ -5,7 +5,7 @@ ghost use Rattle.dns_wire.specs.DnsPart.{IsSplit};
 ghost use Rattle.dns_wire.specs.DnsNameAhead.{front_of, torn};
 ghost use Rattle.record_wire.specs.RecordRefusal.{IsNoPart};
 
-use dns_wire::message::{Front, read_front};
+use dns_wire::octets::{NamePart, read_front};
 use std::fmt;
 
 // The first byte of a label is its length, below `LABEL_END`; the first byte of a pointer is `POINTER` or above.
@@ -74,8 +74,8 @@ pub(crate) fn why_no_part(text: &[u8]) -> PartRefusal
     let mut left = text;
     loop {
         match read_front(left) {
-            Front::Label(_, rest) => left = rest,
-            Front::Pointer(_) | Front::End | Front::Torn => return why_torn(left),
+            NamePart::Label(_, rest) => left = rest,
+            NamePart::Pointer(_) | NamePart::End | NamePart::Torn => return why_torn(left),
         }
     }
 }

@@ -7,8 +7,8 @@ mod message;
 mod page;
 mod ports;
 
-use listing::printer::{Value, field, line, part_field};
 use crate::testing::{holds_of, same_of};
+use listing::printer::{Value, field, line, part_field};
 use std::alloc::Global;
 use std::process::Abort;
 

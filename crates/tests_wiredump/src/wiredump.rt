@@ -13,8 +13,8 @@ mod options;
 mod plain;
 mod words;
 
-use dump_lines::run;
 use crate::testing::{holds_of, same_of};
+use dump_lines::run;
 use std::alloc::Global;
 use std::fmt::Debug;
 use std::process::Abort;

@@ -8,8 +8,8 @@ ghost use Rattle.std.specs.Option.{option_map};
 ghost use Rattle.dhcp_wire.specs.Dhcpv4.{slot};
 ghost use Rattle.dhcp_wire.specs.Dhcpv4Options.{GivesFirst, HasNoPadding};
 
-use super::data::Data;
-use super::kinds::{OPT_END, OPT_PAD};
+use super::option_data::Data;
+use super::option_kinds::{OPT_END, OPT_PAD};
 use byteorder::{ByteOrder, LittleEndian};
 use std::marker::Model;
 use wirebase::{ByteWriter, Error, Result, are_bytes};
@@ -140,7 +140,7 @@ pub struct DhcpOptionWriter<'a> {
 
 impl<'a> DhcpOptionWriter<'a> {
     ghost use Rattle.dhcp_wire.specs.Dhcpv4Writer.{settled, free, the_slice, Fits, IsUnchanged};
-    ghost use Rattle.dhcp_wire.specs.Dhcpv4Emission.{progress, step_slot};
+    ghost use Rattle.dhcp_wire.specs.Dhcpv4Writing.{progress, step_slot};
 
     /// A writer over this slice, all of whose bytes are free.
     pub fn new(buffer: &'a mut [u8]) -> DhcpOptionWriter<'a>

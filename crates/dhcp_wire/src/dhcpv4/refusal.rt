@@ -11,9 +11,9 @@ ghost use Rattle.dhcp_wire.specs.Dhcpv4OptionsAhead.{list_of};
 ghost use Rattle.dhcp_wire.specs.Dhcpv4Packet.{inner, op_field, options_in};
 ghost use Rattle.dhcp_wire.specs.Dhcpv4Refusal.{IsRead, IsOther, Ends, Refuses, HasNoType, last_type, refusal_display};
 
-use super::found::{ETHERNET, Found, IDENTIFIER_LEN};
-use super::kinds::{OPT_CLIENT_ID, OPT_DHCP_MESSAGE_TYPE, OPT_END, OPT_PAD};
+use super::option_kinds::{OPT_CLIENT_ID, OPT_DHCP_MESSAGE_TYPE, OPT_END, OPT_PAD};
 use super::options::DhcpOption;
+use super::options_seen::{ETHERNET, IDENTIFIER_LEN, OptionsSeen};
 use super::packet::{Packet, field};
 use super::repr::{ETHERNET_LEN, MAGIC_NUMBER, Repr};
 use super::tables::{MessageType, OpCode};
@@ -79,7 +79,7 @@ impl<'a> Repr<'a> {
         if let Some(refusal) = header_refusal(packet) {
             return Some(refusal);
         }
-        let mut found = Found {
+        let mut found = OptionsSeen {
             message_type: None,
             repr: Repr::of(packet),
         };

@@ -4,14 +4,14 @@ ghost use Rattle.std.specs.Prelude.{◌≡◌, ◌≤◌, ◌↔◌, ⊤, length
 ghost use Rattle.std.specs.Option.{option_map};
 ghost use Rattle.dhcp_wire.specs.Dhcpv4.{Value, value_of, has_broadcast, HasHeader, IsPacket};
 ghost use Rattle.dhcp_wire.specs.Dhcpv4Format.{format};
-ghost use Rattle.dhcp_wire.specs.Dhcpv4Found.{kept_of, nothing, IsMadeOf};
+ghost use Rattle.dhcp_wire.specs.Dhcpv4OptionsSeen.{kept_of, nothing, IsMadeOf};
 ghost use Rattle.wirebase.specs.Bytes.{number_of};
 ghost use Rattle.wirebase.specs.Format.{Rewrites};
 ghost use Rattle.dhcp_wire.specs.Dhcpv4Packet.{inner, flags_field};
 
 use super::MAX_DNS_SERVER_COUNT;
-use super::found::Found;
 use super::options::DhcpOption;
+use super::options_seen::OptionsSeen;
 use super::packet::Packet;
 use super::tables::{Flags, MessageType};
 use arrayvec::ArrayVec;
@@ -118,7 +118,7 @@ impl<'a> Repr<'a> {
     {
         are_bytes(packet.buffer);
         check_header(packet)?;
-        let mut found = Found {
+        let mut found = OptionsSeen {
             message_type: None,
             repr: Repr::of(packet),
         };

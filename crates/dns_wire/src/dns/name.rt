@@ -3,7 +3,7 @@
 ghost use Rattle.std.specs.Prelude.{◌≡◌};
 ghost use Rattle.dns_wire.specs.DnsNameWalk.{IsWalkOver};
 
-use crate::dns::part::{Front, follow, read_front};
+use crate::dns::part::{NamePart, follow, read_front};
 use std::alloc::AllocError;
 use std::marker::Model;
 use std::result;
@@ -49,12 +49,12 @@ impl<'a> Iterator for NameIter<'a> {
     fn next(&mut self) -> Option<Result<&'a [u8]>> {
         loop {
             match read_front(self.left) {
-                Front::Label(label, rest) => {
+                NamePart::Label(label, rest) => {
                     self.left = rest;
                     self.steps += 1;
                     return Some(Ok(label));
                 }
-                Front::Pointer(target) => {
+                NamePart::Pointer(target) => {
                     let Some((left, reach)) = follow(self.reach, target) else {
                         break;
                     };
@@ -62,8 +62,8 @@ impl<'a> Iterator for NameIter<'a> {
                     self.reach = reach;
                     self.steps += 1;
                 }
-                Front::End => return None,
-                Front::Torn => break,
+                NamePart::End => return None,
+                NamePart::Torn => break,
             }
         }
         // From here on the end of a name is read, so that the error is given once.

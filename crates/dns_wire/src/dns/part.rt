@@ -8,7 +8,7 @@ use wirebase::{Error, Result};
 
 /// What a part of a name begins with (RFC 1035 section 4.1.4).
 #[derive(Debug, PartialEq, Eq, Clone, Copy)]
-pub enum Front<'a> {
+pub enum NamePart<'a> {
     /// The bytes of a label, and the text after it.
     Label(&'a [u8], &'a [u8]),
     /// The place of the message where the name goes on.
@@ -27,19 +27,19 @@ pub(crate) const POINTER: u8 = 0xc0;
 
 /// Reads what a text begins with (RFC 1035 section 4.1.4).
 #[inline]
-pub fn read_front(text: &[u8]) -> Front<'_>
+pub fn read_front(text: &[u8]) -> NamePart<'_>
     ensures { shown result ≡ front_of text.now }
 {
     match text {
-        [0, ..] => Front::End,
+        [0, ..] => NamePart::End,
         [len @ 1..LABEL_END, rest @ ..] if *len as usize <= rest.len() => {
             let (label, rest) = rest.split_at(*len as usize);
-            Front::Label(label, rest)
+            NamePart::Label(label, rest)
         }
         [first, second, ..] if *first >= POINTER => {
-            Front::Pointer(256 * (*first % 64) as usize + *second as usize)
+            NamePart::Pointer(256 * (*first % 64) as usize + *second as usize)
         }
-        _ => Front::Torn,
+        _ => NamePart::Torn,
     }
 }
 
@@ -75,10 +75,10 @@ fn part_len(text: &[u8]) -> Result<usize>
     let mut left = text;
     loop {
         match read_front(left) {
-            Front::Label(_, rest) => left = rest,
-            Front::Pointer(_) => return Ok(text.len() - left.len() + 2),
-            Front::End => return Ok(text.len() - left.len() + 1),
-            Front::Torn => return Err(Error),
+            NamePart::Label(_, rest) => left = rest,
+            NamePart::Pointer(_) => return Ok(text.len() - left.len() + 2),
+            NamePart::End => return Ok(text.len() - left.len() + 1),
+            NamePart::Torn => return Err(Error),
         }
     }
 }

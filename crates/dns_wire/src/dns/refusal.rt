@@ -10,7 +10,7 @@ ghost use Rattle.dns_wire.specs.DnsRefusal.{GoesOnBehindName, RefusesRecord, Beg
 ghost use Rattle.dns_wire.specs.DnsRefusal.{name_refusal_display, refusal_display};
 
 use super::{Packet, Question, Record, RecordData, Type};
-use crate::dns::part::{Front, LABEL_END, POINTER, follow, read_front};
+use crate::dns::part::{LABEL_END, NamePart, POINTER, follow, read_front};
 use crate::dns::question::CLASS_IN;
 use std::fmt;
 use wirebase::Octets;
@@ -195,10 +195,10 @@ fn part_len_or_why(text: &[u8]) -> Result<usize, NameRefusal>
     let mut left = text;
     loop {
         match read_front(left) {
-            Front::Label(_, rest) => left = rest,
-            Front::Pointer(_) => return Ok(text.len() - left.len() + 2),
-            Front::End => return Ok(text.len() - left.len() + 1),
-            Front::Torn => return Err(why_torn(left)),
+            NamePart::Label(_, rest) => left = rest,
+            NamePart::Pointer(_) => return Ok(text.len() - left.len() + 2),
+            NamePart::End => return Ok(text.len() - left.len() + 1),
+            NamePart::Torn => return Err(why_torn(left)),
         }
     }
 }
@@ -213,16 +213,16 @@ fn why_broken(message: &[u8], text: &[u8]) -> Option<NameRefusal>
     let mut reach = message;
     loop {
         match read_front(left) {
-            Front::Label(_, rest) => left = rest,
-            Front::Pointer(place) => {
+            NamePart::Label(_, rest) => left = rest,
+            NamePart::Pointer(place) => {
                 let Some((next, open_bytes)) = follow(reach, place) else {
                     return Some(NameRefusal::Pointer(place));
                 };
                 left = next;
                 reach = open_bytes;
             }
-            Front::End => return None,
-            Front::Torn => return Some(why_torn(left)),
+            NamePart::End => return None,
+            NamePart::Torn => return Some(why_torn(left)),
         }
     }
 }

@@ -22,7 +22,7 @@ use super::tables::{DstUnreachable, Message, ParamProblem, TimeExceeded};
 use super::{ECHO_REPLY, ECHO_REQUEST, field};
 use crate::mld::{read_query, read_report};
 use crate::ndisc::{
-    Found, neighbor_advert, neighbor_solicit, redirect, router_advert, router_solicit,
+    OptionsSeen, neighbor_advert, neighbor_solicit, redirect, router_advert, router_solicit,
 };
 use crate::{mld, ndisc};
 use wirebase::{
@@ -216,7 +216,7 @@ impl<'a> Repr<'a> {
                 _ => return Err(Error),
             }
         }
-        let mut found = Found::nothing();
+        let mut found = OptionsSeen::nothing();
         found.note_all(packet.behind(kind))?;
         match kind {
             Message::RouterSolicit => return Ok(Repr::Ndisc(router_solicit(packet, &found))),

@@ -5,7 +5,7 @@ ghost use Rattle.std.specs.Option.{option_map};
 ghost use Rattle.icmp6_wire.specs.Ndisc.{value_of};
 ghost use Rattle.icmp6_wire.specs.NdiscDisplay.{lladdr_display, mtu_display, prefix_display, packet_display};
 ghost use Rattle.icmp6_wire.specs.NdiscDisplay.{repr_display, times_display, options_display};
-ghost use Rattle.icmp6_wire.specs.NdiscFound.{link_of, packet_of};
+ghost use Rattle.icmp6_wire.specs.NdiscOptionsSeen.{link_of, packet_of};
 
 use super::Repr;
 use opt_wire::digits::Digits;

@@ -7,7 +7,7 @@ ghost use Rattle.wirebase.specs.ByteWriter.{free, Puts};
 ghost use Rattle.opt_wire.specs.NdiscOptionRepr.{CanEmit as CanEmitOption};
 ghost use Rattle.icmp6_wire.specs.Ndisc.{sources, targets, mtus, prefixes, packets};
 ghost use Rattle.icmp6_wire.specs.Ndisc.{option_text, option_len, IfThere};
-ghost use Rattle.icmp6_wire.specs.NdiscFound.{link_of, packet_of};
+ghost use Rattle.icmp6_wire.specs.NdiscOptionsSeen.{link_of, packet_of};
 
 use opt_wire::ndiscoption::{PrefixInformation, RedirectedHeader, Type};
 use opt_wire::writing;
@@ -48,7 +48,7 @@ pub(super) fn prefix_len(prefix_info: &Option<PrefixInformation>) -> usize
     ensures { result ≡ option_len (prefixes prefix_info.now) }
 {
     match prefix_info {
-        Some(_) => writing::PREFIX_LEN,
+        Some(_) => writing::PREFIX_OPTION_LEN,
         None => 0,
     }
 }

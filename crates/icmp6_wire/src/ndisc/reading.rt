@@ -3,17 +3,17 @@
 ghost use Rattle.std.specs.Prelude.{◌≡◌};
 ghost use Rattle.icmp6_wire.specs.Icmpv6Packet.{view_octets, message_in, payload_in, BeginsWhole};
 ghost use Rattle.icmp6_wire.specs.Ndisc.{value_of, IsMessage};
-ghost use Rattle.icmp6_wire.specs.NdiscFound.{kept_of, Says};
+ghost use Rattle.icmp6_wire.specs.NdiscOptionsSeen.{kept_of, Says};
 ghost use Rattle.icmp6_wire.specs.declared.icmpv6.tables.Message.TheVariants.{RouterSolicit, RouterAdvert, Redirect};
 ghost use Rattle.icmp6_wire.specs.declared.icmpv6.tables.Message.TheVariants.{NeighborSolicit, NeighborAdvert};
 
-use super::found::Found;
+use super::options_seen::OptionsSeen;
 use super::repr::Repr;
 use crate::icmpv6::Packet;
 
 // The router solicitation in octets of that type, with these options.
 #[inline(always)]
-pub(crate) fn router_solicit<'a>(packet: &Packet<&'a [u8]>, found: &Found<'a>) -> Repr<'a>
+pub(crate) fn router_solicit<'a>(packet: &Packet<&'a [u8]>, found: &OptionsSeen<'a>) -> Repr<'a>
     requires whole { BeginsWhole (view_octets packet.now) }
     requires kind { message_in (view_octets packet.now) ≡ RouterSolicit }
     requires says { Says (payload_in (view_octets packet.now)) (kept_of found.now) }
@@ -26,7 +26,7 @@ pub(crate) fn router_solicit<'a>(packet: &Packet<&'a [u8]>, found: &Found<'a>) -
 
 // The router advertisement in octets of that type, with these options.
 #[inline(always)]
-pub(crate) fn router_advert<'a>(packet: &Packet<&'a [u8]>, found: &Found<'a>) -> Repr<'a>
+pub(crate) fn router_advert<'a>(packet: &Packet<&'a [u8]>, found: &OptionsSeen<'a>) -> Repr<'a>
     requires whole { BeginsWhole (view_octets packet.now) }
     requires kind { message_in (view_octets packet.now) ≡ RouterAdvert }
     requires says { Says (payload_in (view_octets packet.now)) (kept_of found.now) }
@@ -46,7 +46,7 @@ pub(crate) fn router_advert<'a>(packet: &Packet<&'a [u8]>, found: &Found<'a>) ->
 
 // The neighbor solicitation in octets of that type, with these options.
 #[inline(always)]
-pub(crate) fn neighbor_solicit<'a>(packet: &Packet<&'a [u8]>, found: &Found<'a>) -> Repr<'a>
+pub(crate) fn neighbor_solicit<'a>(packet: &Packet<&'a [u8]>, found: &OptionsSeen<'a>) -> Repr<'a>
     requires whole { BeginsWhole (view_octets packet.now) }
     requires kind { message_in (view_octets packet.now) ≡ NeighborSolicit }
     requires says { Says (payload_in (view_octets packet.now)) (kept_of found.now) }
@@ -60,7 +60,7 @@ pub(crate) fn neighbor_solicit<'a>(packet: &Packet<&'a [u8]>, found: &Found<'a>)
 
 // The neighbor advertisement in octets of that type, with these options.
 #[inline(always)]
-pub(crate) fn neighbor_advert<'a>(packet: &Packet<&'a [u8]>, found: &Found<'a>) -> Repr<'a>
+pub(crate) fn neighbor_advert<'a>(packet: &Packet<&'a [u8]>, found: &OptionsSeen<'a>) -> Repr<'a>
     requires whole { BeginsWhole (view_octets packet.now) }
     requires kind { message_in (view_octets packet.now) ≡ NeighborAdvert }
     requires says { Says (payload_in (view_octets packet.now)) (kept_of found.now) }
@@ -75,7 +75,7 @@ pub(crate) fn neighbor_advert<'a>(packet: &Packet<&'a [u8]>, found: &Found<'a>) 
 
 // The redirect in octets of that type, with these options.
 #[inline(always)]
-pub(crate) fn redirect<'a>(packet: &Packet<&'a [u8]>, found: &Found<'a>) -> Repr<'a>
+pub(crate) fn redirect<'a>(packet: &Packet<&'a [u8]>, found: &OptionsSeen<'a>) -> Repr<'a>
     requires whole { BeginsWhole (view_octets packet.now) }
     requires kind { message_in (view_octets packet.now) ≡ Redirect }
     requires says { Says (payload_in (view_octets packet.now)) (kept_of found.now) }

@@ -10,7 +10,7 @@ ghost use Rattle.icmp6_wire.specs.NdiscDisplay.{refusal_display};
 ghost use Rattle.icmp6_wire.specs.NdiscRefusal.{IsRead, AreWholeUpTo, Refuses};
 
 use super::Repr;
-use super::found::split_block;
+use super::options_seen::split_block;
 use crate::icmpv6::{Packet, field};
 use opt_wire::writing::UNIT;
 use std::fmt;

@@ -13,17 +13,17 @@ ghost use Rattle.icmp6_wire.specs.Ndisc.{options_of, option_lens, option_texts, 
 ghost use Rattle.icmp6_wire.specs.Ndisc.{HaveTimes, message_fields, text};
 ghost use Rattle.icmp6_wire.specs.Ndisc.{text_len, CanEmit, IsMessage, format, Emits};
 ghost use Rattle.icmp6_wire.specs.NdiscBlocks.{AreBlocks};
-ghost use Rattle.icmp6_wire.specs.NdiscFound.{link_of, packet_of};
+ghost use Rattle.icmp6_wire.specs.NdiscOptionsSeen.{link_of, packet_of};
 ghost use Rattle.icmp6_wire.specs.Icmpv6Tables.{message_number, is_ndisc};
 ghost use Rattle.icmp6_wire.specs.NdiscTables.{router_bits, neighbor_bits};
 
 use super::field;
 use super::flags::{NeighborFlags, RouterFlags};
-use super::found::Found;
 use super::options::{
     mtu_len, prefix_len, put_mtu, put_prefix, put_redirected, put_source, put_target,
     redirected_len, source_len, target_len,
 };
+use super::options_seen::OptionsSeen;
 use super::reading::{neighbor_advert, neighbor_solicit, redirect, router_advert, router_solicit};
 use crate::icmpv6::{Message, Packet};
 use crate::writing::put_address;
@@ -133,7 +133,7 @@ impl<'a> Repr<'a> {
             → (options : List OptionValue) → AreBlocks (payload_in (view_octets packet.now)) options → ⊥ }
     {
         let kind = packet.checked_type()?;
-        let mut found = Found::nothing();
+        let mut found = OptionsSeen::nothing();
         found.note_all(packet.behind(kind))?;
         // Each arm returns, so that the value is written once, in the caller's slot.
         match kind {

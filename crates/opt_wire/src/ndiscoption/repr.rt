@@ -200,7 +200,7 @@ impl<'a> Repr<'a> {
         match self {
             Repr::SourceLinkLayerAddr(addr) => writing::link_layer_addr_len(addr),
             Repr::TargetLinkLayerAddr(addr) => writing::link_layer_addr_len(addr),
-            Repr::PrefixInformation(_) => writing::PREFIX_LEN,
+            Repr::PrefixInformation(_) => writing::PREFIX_OPTION_LEN,
             Repr::RedirectedHeader(redirected) => writing::redirected_len(redirected),
             Repr::Mtu(_) => writing::MTU_LEN,
             Repr::Unknown { length, .. } => UNIT * *length as usize,

@@ -8,7 +8,7 @@ ghost use Rattle.record_wire.specs.NameParts.{StandInFront};
 
 use crate::name::MAX_POINTERS;
 use dns_wire::dns::Packet;
-use dns_wire::message::{Front, follow, octets_of, read_front};
+use dns_wire::octets::{NamePart, follow, octets_of, read_front};
 
 /// The size of the buffer that holds the text of any such name.
 pub const ROOM_LEN: usize = 256;
@@ -53,7 +53,7 @@ fn put_text(room: &mut [u8; ROOM_LEN], message: &[u8], bytes: &[u8]) -> Option<u
     let mut reach = message;
     loop {
         match read_front(left) {
-            Front::Label(label, rest) => {
+            NamePart::Label(label, rest) => {
                 let Some(end) = put_label(room, at, label, &left[1..]) else {
                     return None;
                 };
@@ -61,7 +61,7 @@ fn put_text(room: &mut [u8; ROOM_LEN], message: &[u8], bytes: &[u8]) -> Option<u
                 dots += 1;
                 left = rest;
             }
-            Front::Pointer(target) => {
+            NamePart::Pointer(target) => {
                 let Some((next, open)) = follow(reach, target) else {
                     return None;
                 };
@@ -72,7 +72,7 @@ fn put_text(room: &mut [u8; ROOM_LEN], message: &[u8], bytes: &[u8]) -> Option<u
                 left = next;
                 reach = open;
             }
-            Front::End => {
+            NamePart::End => {
                 if at == 0 {
                     room[0] = b'.';
                     return Some(1);
@@ -83,7 +83,7 @@ fn put_text(room: &mut [u8; ROOM_LEN], message: &[u8], bytes: &[u8]) -> Option<u
                 }
                 return Some(at);
             }
-            Front::Torn => return None,
+            NamePart::Torn => return None,
         }
     }
 }

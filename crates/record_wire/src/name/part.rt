@@ -3,16 +3,16 @@
 ghost use Rattle.std.specs.Prelude.{◌≡◌, ◌≤◌, length, drop};
 ghost use Rattle.dns_wire.specs.DnsNameAhead.{front_of};
 ghost use Rattle.dns_wire.specs.DnsPart.{shown};
-ghost use Rattle.record_wire.specs.NameParts.{AreInFront, EndsTooFar};
+ghost use Rattle.record_wire.specs.NameParts.{LabelsAtFront, EndsTooFar};
 
 use crate::name::MAX_NAME_LEN;
-use dns_wire::message::{Front, read_front};
+use dns_wire::octets::{NamePart, read_front};
 
 /// The number of bytes of the whole labels at the start of a text, which are copied at once, and what follows them:
 /// also a label, where the labels with it would have more octets than a name has.
 #[inline]
-pub(super) fn read_labels(text: &[u8]) -> (usize, Front<'_>)
-    ensures labels { AreInFront text.now result.0 }
+pub(super) fn read_labels(text: &[u8]) -> (usize, NamePart<'_>)
+    ensures labels { LabelsAtFront text.now result.0 }
     ensures fits { result.0 ≤ length text.now }
     ensures behind { shown result.1 ≡ front_of (drop result.0 text.now) }
     ensures far { EndsTooFar result.0 result.1 }
@@ -20,7 +20,7 @@ pub(super) fn read_labels(text: &[u8]) -> (usize, Front<'_>)
     let mut left = text;
     loop {
         match read_front(left) {
-            Front::Label(_, rest) if text.len() - rest.len() < MAX_NAME_LEN => left = rest,
+            NamePart::Label(_, rest) if text.len() - rest.len() < MAX_NAME_LEN => left = rest,
             front => return (text.len() - left.len(), front),
         }
     }

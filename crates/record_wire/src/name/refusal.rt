@@ -8,7 +8,7 @@ use crate::name::{Name, put_name};
 use crate::refusal::PartRefusal;
 use arrayvec::ArrayVec;
 use dns_wire::dns::Packet;
-use dns_wire::message::octets_of;
+use dns_wire::octets::octets_of;
 use std::{fmt, result};
 
 /// Why [`crate::Name::read`] refuses octets and their message: the check that fails first.

@@ -8,7 +8,7 @@ ghost use Rattle.std.specs.Fmt.{WritesOnOk};
 ghost use Rattle.std.specs.Str.{IsAscii};
 ghost use Rattle.arrayvec.specs.ArrayVec.{array_vec_len};
 ghost use Rattle.record_wire.specs.NameReading.{first_byte, quoted_in, numbered_at, seen_byte, IsSpelling};
-ghost use Rattle.record_wire.specs.NameReading.{AreSpelled, seen_behind, behind_in};
+ghost use Rattle.record_wire.specs.NameReading.{HasLabelsOfText, seen_behind, behind_in};
 ghost use Rattle.record_wire.specs.Labels.{written_all, labels_in};
 ghost use Rattle.record_wire.specs.NameText.{is_special, IsNameText, character, label_text, name_text};
 ghost use Rattle.record_wire.specs.NamePieces.{TakesOnOk};
@@ -32,7 +32,7 @@ pub(super) fn is_root(text: &[u8]) -> bool
 #[inline(never)]
 pub(super) fn put_labels(octets: &mut ArrayVec<u8, MAX_NAME_LEN>, text: &[u8]) -> Result<()>
     requires { octets.old.items ≡ [] }
-    ensures sound { OnOk result (AreSpelled text.now octets.new.items) }
+    ensures sound { OnOk result (HasLabelsOfText text.now octets.new.items) }
     ensures complete { (label : List ℕ) (labels : List (List ℕ)) → IsNameText text.now (label ∷ labels)
         → IsOk result × (octets.new.items ≡ written_all (label ∷ labels)) }
 {

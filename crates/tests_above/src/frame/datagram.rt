@@ -1,5 +1,5 @@
-use frame_wire::datagram::{Addresses, Captured, Datagram, Extent, Head, Refusal};
 use crate::testing::same_of;
+use frame_wire::datagram::{Addresses, Captured, Datagram, Extent, Head, Refusal};
 use wirebase::{IpProtocol, Ipv4Address, Ipv6Address};
 
 // A router alert option, one byte of ICMP, and padding of a frame behind it.

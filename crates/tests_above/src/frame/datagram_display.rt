@@ -1,5 +1,5 @@
-use frame_wire::datagram::{Addresses, Captured, Datagram, Extent, Head, Refusal};
 use crate::testing::prints;
+use frame_wire::datagram::{Addresses, Captured, Datagram, Extent, Head, Refusal};
 use wirebase::{IpProtocol, Ipv4Address, Ipv6Address};
 
 fn over_v4() -> Addresses {

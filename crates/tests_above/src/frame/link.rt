@@ -1,5 +1,5 @@
-use frame_wire::link::{EthernetHeader, Frame, Link, Network, Refusal, VlanTag};
 use crate::testing::same_of;
+use frame_wire::link::{EthernetHeader, Frame, Link, Network, Refusal, VlanTag};
 use std::process::Abort;
 use wirebase::EthernetAddress;
 

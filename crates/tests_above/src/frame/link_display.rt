@@ -1,5 +1,5 @@
-use frame_wire::link::{Frame, Link, Network, Refusal};
 use crate::testing::prints;
+use frame_wire::link::{Frame, Link, Network, Refusal};
 
 #[test]
 fn links_by_their_names(rt: HostRuntime) {

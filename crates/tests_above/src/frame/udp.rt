@@ -1,6 +1,6 @@
-use frame_wire::udp::{CapturedUdp, Refusal, UdpPacket, UdpRepr};
-use frame_wire::datagram::{Addresses, Extent};
 use crate::testing::{prints, same_of};
+use frame_wire::datagram::{Addresses, Extent};
+use frame_wire::udp::{CapturedUdp, Refusal, UdpPacket, UdpRepr};
 use wirebase::{ChecksumCapabilities, Ipv4Address, Ipv6Address};
 
 // Three bytes of data to the port of DNS, with the checksum of each pseudo header.

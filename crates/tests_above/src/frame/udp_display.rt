@@ -1,5 +1,5 @@
-use frame_wire::udp::{Refusal, UdpRepr};
 use crate::testing::prints;
+use frame_wire::udp::{Refusal, UdpRepr};
 
 #[test]
 fn ports_and_refusals_in_words(rt: HostRuntime) {

@@ -1,9 +1,9 @@
 //! Errors of ICMPv6: what a path MTU discovery gets, and what a host sends.
 
+use crate::testing::{prints, same, same_of};
 use quote_wire::icmpv6_error::{Kind, MAX_QUOTED, Refusal, Repr};
 use quote_wire::quote;
 use quote_wire::quote::Ipv6Quote;
-use crate::testing::{prints, same, same_of};
 use std::process::Abort;
 use wirebase::capabilities::Checksum;
 use wirebase::{ChecksumCapabilities, Error, IpProtocol, Ipv6Address};

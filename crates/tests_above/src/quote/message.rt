@@ -1,10 +1,10 @@
 //! Messages of ICMP: echoes, errors whose quotes are cut, and messages of neighbor discovery.
 
-use quote_wire::message::{Icmpv4Message, Icmpv4Refusal, Icmpv6Message, Icmpv6Refusal};
 use crate::testing::{prints, same, same_of};
-use quote_wire::{icmpv4_error, icmpv6_error, quote};
 use icmp4_wire::icmpv4;
 use icmp6_wire::icmpv6;
+use quote_wire::message::{Icmpv4Message, Icmpv4Refusal, Icmpv6Message, Icmpv6Refusal};
+use quote_wire::{icmpv4_error, icmpv6_error, quote};
 use std::alloc::Global;
 use std::process::Abort;
 use wirebase::{ChecksumCapabilities, Error, Ipv6Address};

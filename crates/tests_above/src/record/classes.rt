@@ -1,7 +1,7 @@
 //! Classes by their mnemonics.
 
-use record_wire::classes::{ANY, CH, ClassName, HS, IN, NONE, mnemonic};
 use crate::testing::{prints, same_of};
+use record_wire::classes::{ANY, CH, ClassName, HS, IN, NONE, mnemonic};
 
 #[test]
 fn classes_of_the_registry(rt: HostRuntime) {

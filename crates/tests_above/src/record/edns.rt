@@ -1,9 +1,9 @@
 //! OPT records and their options.
 
-use record_wire::edns::{Edns, EdnsOption, EdnsOptions, OptionRefusal};
-use record_wire::record::Record;
 use crate::testing::{prints, same_of};
 use dns_wire::dns::Type;
+use record_wire::edns::{Edns, EdnsOption, EdnsOptions, OptionRefusal};
+use record_wire::record::Record;
 use std::process::Abort;
 use std::result;
 

@@ -1,10 +1,10 @@
 //! The questions and the records of messages.
 
+use crate::testing::{prints, same, same_of};
+use dns_wire::dns::{Packet, Type};
 use record_wire::entries::{Entries, Entry, Section};
 use record_wire::record::{Question, Record};
 use record_wire::refusal::{PartRefusal, Refusal};
-use crate::testing::{prints, same, same_of};
-use dns_wire::dns::{Packet, Type};
 use std::process::Abort;
 use wirebase::{Error, Result};
 

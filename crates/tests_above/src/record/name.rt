@@ -1,11 +1,11 @@
 //! Names read from messages and from text, and written as text.
 
-use record_wire::name::Name;
-use record_wire::name::refusal::NameRefusal;
-use record_wire::refusal::PartRefusal;
 use crate::testing::{prints, same, same_of, takes_writes};
 use arrayvec::ArrayString;
 use dns_wire::dns::Packet;
+use record_wire::name::Name;
+use record_wire::name::refusal::NameRefusal;
+use record_wire::refusal::PartRefusal;
 use std::alloc::Global;
 use std::fmt::Write;
 use std::process::Abort;

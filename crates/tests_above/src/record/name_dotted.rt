@@ -1,8 +1,8 @@
 // Names in messages, and their texts.
 
-use record_wire::name::dotted::{ROOM_LEN, put_dotted};
 use crate::testing::same_of;
 use dns_wire::dns::Packet;
+use record_wire::name::dotted::{ROOM_LEN, put_dotted};
 use std::process::Abort;
 
 // The text that is put for the name at a place of a message, or nothing.

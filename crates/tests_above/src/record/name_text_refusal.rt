@@ -1,9 +1,9 @@
 //! Why texts are those of no names.
 
-use record_wire::name::text_refusal::NameTextRefusal;
-use record_wire::name::Name;
 use crate::record::name::long_name;
 use crate::testing::{prints, same_of};
+use record_wire::name::Name;
+use record_wire::name::text_refusal::NameTextRefusal;
 use std::process::Abort;
 
 // Ends the test unless this text is refused for this reason.

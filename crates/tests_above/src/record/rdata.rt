@@ -1,10 +1,10 @@
 //! The data of records by their type.
 
-use record_wire::rdata::{Authority, RData};
-use record_wire::rdata::fields::{Fields, Front, Rest, Signed};
 use crate::testing::{prints, same_of};
-use record_wire::types;
 use dns_wire::dns::Type;
+use record_wire::rdata::fields::{Fields, Front, Rest, Signed};
+use record_wire::rdata::{Authority, RData};
+use record_wire::types;
 use std::process::Abort;
 use wirebase::{Error, Ipv4Address, Ipv6Address, Result};
 

@@ -1,12 +1,12 @@
 //! Why data is not laid out as its type has it.
 
-use record_wire::rdata::refusal::DataRefusal;
+use crate::testing::{prints, same_of};
+use dns_wire::dns::Type;
 use record_wire::rdata::RData;
+use record_wire::rdata::refusal::DataRefusal;
 use record_wire::record::Record;
 use record_wire::refusal::PartRefusal;
-use crate::testing::{prints, same_of};
 use record_wire::types;
-use dns_wire::dns::Type;
 use std::process::Abort;
 
 // The data of a zone: two names of one part, and five numbers.

@@ -1,10 +1,10 @@
 //! What questions and records print, and those of multicast DNS.
 
-use record_wire::record::{Question, Record};
-use record_wire::multicast::{class_of, has_top_bit};
-use record_wire::rdata::RData;
 use crate::testing::{prints, same_of};
 use dns_wire::dns::Type;
+use record_wire::multicast::{class_of, has_top_bit};
+use record_wire::rdata::RData;
+use record_wire::record::{Question, Record};
 use std::process::Abort;
 use wirebase::{Ipv4Address, Result};
 

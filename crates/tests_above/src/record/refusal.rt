@@ -1,8 +1,8 @@
 //! Why octets begin with no question or record.
 
-use record_wire::refusal::{PartRefusal, Refusal};
-use record_wire::record::{Question, Record};
 use crate::testing::{prints, same_of};
+use record_wire::record::{Question, Record};
+use record_wire::refusal::{PartRefusal, Refusal};
 use std::process::Abort;
 
 // A question for the address of `pc.local`, and an answer.

@@ -1,7 +1,7 @@
 //! The strings of TXT data.
 
-use record_wire::strings::TxtStrings;
 use crate::testing::same_of;
+use record_wire::strings::TxtStrings;
 use std::process::Abort;
 
 // Ends the test unless these octets begin with these strings and no more.

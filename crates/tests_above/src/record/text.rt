@@ -1,15 +1,15 @@
 //! What records of each type print, and which are refused.
 
+use crate::testing::{prints, same, same_of, takes_writes};
+use dns_wire::dns::{Packet, Type};
 use record_wire::name::refusal::NameRefusal;
 use record_wire::rdata::RData;
 use record_wire::rdata::refusal::DataRefusal;
 use record_wire::record::{Question, Record};
 use record_wire::refusal::PartRefusal;
-use crate::testing::{prints, same, same_of, takes_writes};
 use record_wire::text::refusal::TextRefusal;
 use record_wire::text::{DataText, QuestionText, RecordText};
 use record_wire::{classes, types};
-use dns_wire::dns::{Packet, Type};
 use std::alloc::Global;
 use std::process::Abort;
 use std::result;

@@ -1,14 +1,14 @@
 //! What entries of messages print, multicast or not, and which are refused.
 
-use record_wire::text::EntryText;
+use crate::testing::{prints, same_of, takes_writes};
+use dns_wire::dns::{Packet, Type};
 use record_wire::entries::{Entry, Section};
 use record_wire::name::refusal::NameRefusal;
 use record_wire::rdata::refusal::DataRefusal;
 use record_wire::record::{Question, Record};
-use crate::testing::{prints, same_of, takes_writes};
+use record_wire::text::EntryText;
 use record_wire::text::refusal::TextRefusal;
 use record_wire::types;
-use dns_wire::dns::{Packet, Type};
 use std::alloc::Global;
 use std::process::Abort;
 

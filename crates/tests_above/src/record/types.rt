@@ -1,12 +1,12 @@
 //! Types by their mnemonics.
 
+use crate::testing::{prints, same_of};
+use dns_wire::dns::Type;
 use record_wire::types::{
     A, AAAA, AFSDB, ANY, AXFR, CAA, CNAME, DNAME, DNSKEY, DS, HINFO, HTTPS, IXFR, KX, MB, MD, MF,
     MG, MINFO, MR, MX, NAPTR, NS, NSEC, NSEC3, NXT, OPT, PTR, PX, RP, RRSIG, RT, SIG, SOA, SPF,
     SRV, SSHFP, SVCB, TLSA, TXT,
 };
-use crate::testing::{prints, same_of};
-use dns_wire::dns::Type;
 
 // The types of IANA's registry, their mnemonics and numbers.
 const ROWS: &[(Type, &str, u16)] = &[

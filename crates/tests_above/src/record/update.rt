@@ -1,9 +1,9 @@
 //! Records of updates without data, and others.
 
-use record_wire::rdata::RData;
 use crate::testing::same_of;
-use record_wire::{classes, types};
 use dns_wire::dns::Type;
+use record_wire::rdata::RData;
+use record_wire::{classes, types};
 use wirebase::{Error, Ipv4Address, Result};
 
 #[test]

@@ -1,5 +1,5 @@
-use wirebase::capabilities::*;
 use crate::testing::{same, same_of};
+use wirebase::capabilities::*;
 
 #[test]
 fn directions_of_each_case(rt: HostRuntime) {

@@ -1,6 +1,6 @@
-use wirebase::checksum::*;
 use crate::testing::{same, same_of};
 use std::test::Fail;
+use wirebase::checksum::*;
 
 #[test]
 fn sums_of_texts(rt: HostRuntime) {

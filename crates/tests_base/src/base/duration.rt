@@ -1,5 +1,5 @@
-use wirebase::duration::Duration;
 use crate::testing::{prints, same, same_of, takes_writes};
+use wirebase::duration::Duration;
 
 #[test]
 fn parts(rt: HostRuntime) {

@@ -1,5 +1,5 @@
-use wirebase::error::Error;
 use crate::testing::{prints, takes_writes};
+use wirebase::error::Error;
 
 #[test]
 fn prints_its_name(rt: HostRuntime) {

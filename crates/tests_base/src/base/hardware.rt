@@ -1,5 +1,5 @@
-use wirebase::hardware::Hardware;
 use crate::testing::{prints, same, same_of};
+use wirebase::hardware::Hardware;
 
 #[test]
 fn hardware_by_its_number(rt: HostRuntime) {

@@ -1,10 +1,10 @@
 ghost use Rattle.std.specs.Prelude.{◌≤◌};
 
+use crate::options::plain_reader::{DAMAGE, LONGEST, check_kept, damaged};
+use crate::testing::{FILLERS, holds_of, prints, same, same_of, takes_writes};
 use opt_wire::ipv6ext_header::{Header, Refusal, Repr};
 use opt_wire::ipv6option;
 use opt_wire::ipv6option::RouterAlert;
-use crate::options::plain_reader::{DAMAGE, LONGEST, check_kept, damaged};
-use crate::testing::{FILLERS, holds_of, prints, same, same_of, takes_writes};
 use std::process::Abort;
 use wirebase::IpProtocol;
 

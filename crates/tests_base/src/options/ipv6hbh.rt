@@ -3,12 +3,12 @@ ghost use Rattle.opt_wire.specs.Ipv6Option.{pad_n, router_alert};
 ghost use Rattle.opt_wire.specs.Ipv6Hbh.{value_of, text_len, HaveData};
 ghost use Rattle.opt_wire.specs.declared.ipv6option.tables.RouterAlert.TheVariants.{MulticastListenerDiscovery};
 
-use opt_wire::ipv6hbh::{Header, Refusal, Repr};
-use opt_wire::ipv6option;
-use opt_wire::ipv6option::{RouterAlert, Type};
 use crate::options::plain_reader::{check_kept, compare_damaged};
 use crate::testing::{FILLERS, holds_of, prints, same, same_of, takes_writes};
 use arrayvec::ArrayVec;
+use opt_wire::ipv6hbh::{Header, Refusal, Repr};
+use opt_wire::ipv6option;
+use opt_wire::ipv6option::{RouterAlert, Type};
 use std::process::Abort;
 
 type Option<'a> = ipv6option::Repr<'a>;

@@ -1,9 +1,9 @@
 ghost use Rattle.std.specs.Prelude.{◌≡◌, ◌≤◌, true, length};
 ghost use Rattle.opt_wire.specs.Ipv6Option.{value_of, HasData};
 
-use opt_wire::ipv6option::{FailureType, Ipv6Option, Ipv6OptionsIterator, Repr, RouterAlert, Type};
 use crate::options::plain_reader::compare_damaged;
 use crate::testing::{FILLERS, ascend, holds_of, same, same_of};
+use opt_wire::ipv6option::{FailureType, Ipv6Option, Ipv6OptionsIterator, Repr, RouterAlert, Type};
 use std::hash::{DefaultHasher, Hash, Hasher};
 use std::process::Abort;
 use std::test::Fail;

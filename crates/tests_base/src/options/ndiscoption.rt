@@ -2,9 +2,11 @@ ghost use Rattle.std.specs.Prelude.{◌≤◌, ◌<◌, ◌^◌, length};
 ghost use Rattle.opt_wire.specs.NdiscOptionRepr.{HasSeconds, CanEmit, value_of, text_len};
 ghost use Rattle.opt_wire.specs.declared.ndiscoption.repr.Repr.TheVariants as repr;
 
-use opt_wire::ndiscoption::{NdiscOption, PrefixInfoFlags, PrefixInformation, RedirectedHeader, Repr};
 use crate::testing::{FILLERS, holds_of, print_differently, prints, same, same_of};
 use bitflags::Flags as _;
+use opt_wire::ndiscoption::{
+    NdiscOption, PrefixInfoFlags, PrefixInformation, RedirectedHeader, Repr,
+};
 use std::alloc::Global;
 use std::process::Abort;
 use wirebase::{Duration, Error, IpProtocol, Ipv6Address, Ipv6Repr, RawHardwareAddress};

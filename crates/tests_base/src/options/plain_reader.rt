@@ -4,10 +4,10 @@
 
 ghost use Rattle.std.specs.Prelude.{◌≤◌, ◌<◌, length};
 
+use crate::testing::{holds_of, same_of};
 use opt_wire::ipv6hbh;
 use opt_wire::ipv6hbh::Header;
 use opt_wire::ipv6option::{Ipv6Option, Ipv6OptionsIterator, Repr};
-use crate::testing::{holds_of, same_of};
 use std::process::Abort;
 use wirebase::{Error, IPV6_HBH_MAX_OPTIONS};
 

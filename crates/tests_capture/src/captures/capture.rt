@@ -5,10 +5,8 @@ mod printing;
 mod shown;
 mod times;
 
-use capture::{Capture, Next, Record};
-use capture::{Ending, Fault, Refusal};
 use crate::testing::same_of;
-use capture::Time;
+use capture::{Capture, Ending, Fault, Next, Record, Refusal, Time};
 use std::alloc::Global;
 use std::io;
 use std::process::Abort;

@@ -1,13 +1,13 @@
 ghost use Rattle.std.specs.Prelude.{◌≤◌, length};
 ghost use Rattle.dhcp_wire.specs.Dhcpv4Packet.{inner};
 
+use crate::dhcp::plain_reader::{compare_damaged, compare_view};
+use crate::testing::{holds_of, same, same_of};
+use bitflags::Flags as _;
 use dhcp_wire::dhcpv4::{
     CLIENT_PORT, DhcpOption, DhcpOptionWriter, Flags, MAX_DNS_SERVER_COUNT, MessageType,
     OPT_DHCP_MESSAGE_TYPE, OPT_HOST_NAME, OpCode, Packet, SERVER_PORT,
 };
-use crate::dhcp::plain_reader::{compare_damaged, compare_view};
-use crate::testing::{holds_of, same, same_of};
-use bitflags::Flags as _;
 use std::alloc::Global;
 use std::process::Abort;
 use wirebase::{Error, EthernetAddress, Hardware, Ipv4Address};

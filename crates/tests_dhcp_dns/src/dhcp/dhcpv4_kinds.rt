@@ -1,5 +1,5 @@
-use dhcp_wire::dhcpv4::*;
 use crate::testing::same_of;
+use dhcp_wire::dhcpv4::*;
 
 // The tags of RFC 2132, sections 3 to 9, in ascending order.
 const TAGS: &[(u8, u8)] = &[

@@ -1,5 +1,5 @@
-use dhcp_wire::dhcpv4::{DhcpOption, MessageType, OptionAddresses, OptionValue};
 use crate::testing::{prints, same_of};
+use dhcp_wire::dhcpv4::{DhcpOption, MessageType, OptionAddresses, OptionValue};
 use wirebase::Ipv4Address;
 
 #[test]

@@ -1,8 +1,7 @@
-use dhcp_wire::dhcpv4::Refusal;
 use crate::dhcp::dhcpv4::packet;
-use dhcp_wire::dhcpv4::{MessageType, OpCode, Packet, Repr};
 use crate::dhcp::plain_reader::{compare_damaged, set};
 use crate::testing::{prints, same, same_of, takes_writes};
+use dhcp_wire::dhcpv4::{MessageType, OpCode, Packet, Refusal, Repr};
 
 // Why a packet is refused.
 fn told(packet: &[u8]) -> Option<Refusal> {

@@ -1,10 +1,9 @@
 ghost use Rattle.std.specs.Prelude.{◌≡◌, [], None, length};
 
-use dhcp_wire::dhcpv4::Repr;
-use dhcp_wire::dhcpv4::{DhcpOption, MAX_DNS_SERVER_COUNT, MessageType, Packet};
 use crate::dhcp::plain_reader::held;
 use crate::testing::{fail, same};
 use arrayvec::ArrayVec;
+use dhcp_wire::dhcpv4::{DhcpOption, MAX_DNS_SERVER_COUNT, MessageType, Packet, Repr};
 use std::process::Abort;
 use wirebase::{EthernetAddress, Ipv4Address};
 

@@ -1,5 +1,5 @@
-use dhcp_wire::dhcpv4::{DhcpOption, MessageType, OptionValue};
 use crate::testing::{holds_of, same_of};
+use dhcp_wire::dhcpv4::{DhcpOption, MessageType, OptionValue};
 use std::process::Abort;
 use wirebase::Ipv4Address;
 

@@ -3,8 +3,8 @@
 // is followed by a length and as many bytes of data, and an option that is cut off ends them too. The tests compare the
 // crate with it.
 
-use dhcp_wire::dhcpv4::{DhcpOption, MAX_DNS_SERVER_COUNT, OptionsIter, Packet, Repr};
 use crate::testing::{holds_of, same, same_of};
+use dhcp_wire::dhcpv4::{DhcpOption, MAX_DNS_SERVER_COUNT, OptionsIter, Packet, Repr};
 use std::alloc::Global;
 use std::process::Abort;
 use wirebase::Ipv4Address;

@@ -1,9 +1,9 @@
+use crate::testing::{fail, same, same_of};
+use bitflags::Flags as _;
 use dns_wire::dns::{
     Flags, MULTICAST_PORT, Opcode, Packet, Question, Rcode, Record, RecordData, SERVER_PORT, Type,
 };
-use dns_wire::message::{Front, follow, read_front};
-use crate::testing::{fail, same, same_of};
-use bitflags::Flags as _;
+use dns_wire::octets::{NamePart, follow, read_front};
 use std::process::Abort;
 use wirebase::{Ipv4Address, Ipv6Address};
 
@@ -354,17 +354,17 @@ fn views_are_equal_where_their_octets_are(rt: HostRuntime) {
 
 #[test]
 fn fronts_of_parts_of_names(rt: HostRuntime) {
-    const ROWS: &[(&[u8], Front<'_>)] = &[
-        (b"\x03www\x03com\0", Front::Label(b"www", b"\x03com\0")),
-        (b"\x01a", Front::Label(b"a", b"")),
-        (b"\0\x01a", Front::End),
-        (b"\xc0\x14\0", Front::Pointer(20)),
-        (b"\xff\xff", Front::Pointer(16383)),
-        (b"", Front::Torn),
-        (b"\x02a", Front::Torn),
-        (b"\x40", Front::Torn),
-        (b"\xbf\0", Front::Torn),
-        (b"\xc0", Front::Torn),
+    const ROWS: &[(&[u8], NamePart<'_>)] = &[
+        (b"\x03www\x03com\0", NamePart::Label(b"www", b"\x03com\0")),
+        (b"\x01a", NamePart::Label(b"a", b"")),
+        (b"\0\x01a", NamePart::End),
+        (b"\xc0\x14\0", NamePart::Pointer(20)),
+        (b"\xff\xff", NamePart::Pointer(16383)),
+        (b"", NamePart::Torn),
+        (b"\x02a", NamePart::Torn),
+        (b"\x40", NamePart::Torn),
+        (b"\xbf\0", NamePart::Torn),
+        (b"\xc0", NamePart::Torn),
     ];
     for &(text, front) in ROWS {
         same_of(&rt, text, read_front(text), front);

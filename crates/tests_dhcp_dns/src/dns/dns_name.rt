@@ -1,9 +1,8 @@
 //! Walks over names.
 
-use dns_wire::dns::NameIter;
-use dns_wire::dns::Packet;
 use crate::dns::dns::damaged::damaged;
 use crate::testing::{fail, holds_of, same, same_of};
+use dns_wire::dns::{NameIter, Packet};
 use std::process::Abort;
 use wirebase::Error;
 

@@ -1,8 +1,8 @@
 ghost use Rattle.std.specs.Prelude.{◌≤◌, length};
 
-use examples::lease::{Answer, Client, Lease, Message, read_answer, write};
 use crate::testing::same;
 use control_wire::{EthernetAddress, Ipv4Address};
+use examples::lease::{Answer, Client, Lease, Message, read_answer, write};
 use std::process::Abort;
 
 // The header of an answer to the client 00:0b:82:01:fc:42 in exchange 0x00003d1d, with the address 192.168.0.10.

@@ -1,6 +1,6 @@
-use examples::listener::version1::{MESSAGE_LEN, done, max_delay, report};
 use crate::testing::same;
 use control_wire::{Duration, IPV6_LINK_LOCAL_ALL_NODES, Ipv6Address};
+use examples::listener::version1::{MESSAGE_LEN, done, max_delay, report};
 
 // A querier fe80::1 asks for all groups within 10 s, and for ff02::fb within 1 s.
 const GENERAL: [u8; MESSAGE_LEN] = [

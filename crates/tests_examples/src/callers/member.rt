@@ -1,8 +1,8 @@
 ghost use Rattle.control_wire.specs.Ipv4.{IsMulticast};
 
-use examples::member::{MESSAGE_LEN, answer, join, leave};
 use crate::testing::same;
 use control_wire::{Duration, Ipv4Address};
+use examples::member::{MESSAGE_LEN, answer, join, leave};
 
 // 224.0.6.150
 fn group() -> Ipv4Address

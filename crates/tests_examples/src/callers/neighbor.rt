@@ -1,7 +1,9 @@
-use examples::neighbor::{NeighborInformation, Reply, answer, neighbor, solicit, solicited_node, solicits};
 use crate::testing::same;
 use control_wire::ndisc::NeighborFlags;
 use control_wire::{EthernetAddress, IPV6_LINK_LOCAL_ALL_NODES, Ipv6Address, RawHardwareAddress};
+use examples::neighbor::{
+    NeighborInformation, Reply, answer, neighbor, solicit, solicited_node, solicits,
+};
 use std::process::Abort;
 
 const PEER_LINK_ADDRESS: EthernetAddress = EthernetAddress([0x02, 0x00, 0x00, 0x00, 0x00, 0x01]);

@@ -1,6 +1,6 @@
-use examples::ping::{answer, answer_v6};
 use crate::testing::same;
 use control_wire::{Ipv6Address, icmp, icmpv4, icmpv6};
+use examples::ping::{answer, answer_v6};
 
 // An echo request with identifier 0x1234, sequence number 0xabcd and four bytes, and its reply.
 const REQUEST: [u8; 12] = [

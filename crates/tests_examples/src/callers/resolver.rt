@@ -1,9 +1,11 @@
 //! A response of a real server for www.facebook.com: its canonical name, and the address of that.
 
-use examples::resolver::{Address, Answers, Response, next_address, query, query_text, read_answers};
 use crate::testing::same;
 use control_wire::Ipv4Address;
 use control_wire::dns::{Rcode, Type};
+use examples::resolver::{
+    Address, Answers, Response, next_address, query, query_text, read_answers,
+};
 use std::process::Abort;
 
 const NAME: [u8; 18] = [

@@ -1,10 +1,10 @@
-use examples::router::{RouterInformation, next_prefix, options, router_information, solicit};
 use crate::testing::same;
 use control_wire::ndisc::RouterFlags;
 use control_wire::ndiscoption::{PrefixInfoFlags, PrefixInformation};
 use control_wire::{
     Duration, EthernetAddress, IPV6_LINK_LOCAL_ALL_NODES, Ipv6Address, RawHardwareAddress,
 };
+use examples::router::{RouterInformation, next_prefix, options, router_information, solicit};
 
 const ROUTER_LINK_ADDRESS: EthernetAddress = EthernetAddress([0x02, 0x00, 0x00, 0x00, 0x00, 0x01]);
 

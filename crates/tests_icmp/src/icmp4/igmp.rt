@@ -1,6 +1,6 @@
+use crate::testing::{prints, prints_each, same, same_of, takes_writes};
 use icmp4_wire::igmp::IgmpVersion::{Version1, Version2};
 use icmp4_wire::igmp::{IgmpVersion, Message, Packet, Refusal, Repr};
-use crate::testing::{prints, prints_each, same, same_of, takes_writes};
 use std::alloc::Global;
 use std::process::Abort;
 use wirebase::{Duration, Ipv4Address};

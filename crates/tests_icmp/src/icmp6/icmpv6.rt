@@ -1,9 +1,9 @@
 ghost use Rattle.std.specs.Prelude.{◌≡◌, ◌<◌, ℕ, List, length};
 ghost use Rattle.icmp6_wire.specs.Icmpv6.{CanEmit, value_of};
 
-use icmp6_wire::icmpv6::{Packet, Repr};
 use crate::icmp6::plain_reader::compare_damaged;
 use crate::testing::{holds_of, reads, same_of};
+use icmp6_wire::icmpv6::{Packet, Repr};
 use std::process::Abort;
 use wirebase::capabilities::Checksum;
 use wirebase::{ChecksumCapabilities, Ipv6Address};

@@ -2,10 +2,10 @@ ghost use Rattle.std.specs.Prelude.{◌≡◌, ◌≤◌, ℕ, List, length};
 ghost use Rattle.wirebase.specs.Ipv6Address.{IsMulticast};
 ghost use Rattle.icmp6_wire.specs.Mld.{CanEmit, value_of, values_of, records, text_len, told_len};
 
-use icmp6_wire::mld::{AddressRecord, AddressRecordRepr, RecordType, Repr};
-use icmp6_wire::icmpv6::Packet;
 use crate::icmp6::plain_reader::compare_damaged;
 use crate::testing::{holds_of, reads, same, same_of};
+use icmp6_wire::icmpv6::Packet;
+use icmp6_wire::mld::{AddressRecord, AddressRecordRepr, RecordType, Repr};
 use std::process::Abort;
 use wirebase::{IPV6_LINK_LOCAL_ALL_NODES, IPV6_LINK_LOCAL_ALL_ROUTERS, Ipv6Address};
 

@@ -3,12 +3,12 @@ ghost use Rattle.icmp6_wire.specs.Ndisc.{value_of, text_len, CanEmit};
 ghost use Rattle.wirebase.specs.Duration.{seconds_of};
 ghost use Rattle.opt_wire.specs.NdiscOptionRepr.{HasSeconds};
 
-use icmp6_wire::ndisc::{NeighborFlags, Repr, RouterFlags};
-use icmp6_wire::icmpv6::Packet;
 use crate::icmp6::plain_reader::compare_damaged;
 use crate::testing::{differ, holds_of, reads, same, same_of};
-use icmp6_wire::{icmpv6, mld};
 use bitflags::Flags as _;
+use icmp6_wire::icmpv6::Packet;
+use icmp6_wire::ndisc::{NeighborFlags, Repr, RouterFlags};
+use icmp6_wire::{icmpv6, mld};
 use opt_wire::ndiscoption::{PrefixInfoFlags, PrefixInformation, RedirectedHeader};
 use std::process::Abort;
 use wirebase::{

@@ -3,8 +3,8 @@
 
 ghost use Rattle.std.specs.Prelude.{◌<◌};
 
-use icmp6_wire::icmpv6::Packet;
 use crate::testing::same_of;
+use icmp6_wire::icmpv6::Packet;
 use icmp6_wire::{icmpv6, mld, ndisc};
 use std::fmt::Debug;
 use std::process::Abort;

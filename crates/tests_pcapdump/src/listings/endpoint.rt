@@ -1,7 +1,7 @@
 //! Addresses and ports as text.
 
-use listing::endpoint::{write_v4, write_v6};
 use crate::testing::{holds_of, same_of};
+use listing::endpoint::{write_v4, write_v6};
 use std::alloc::Global;
 use std::process::Abort;
 use wirebase::{Ipv4Address, Ipv6Address};

@@ -1,7 +1,7 @@
 //! Errors of ICMPv4 by the pictures of RFC 792, with a checksum of zero, which is not looked at.
 
-use listing::icmp4_error::show_error;
 use crate::testing::{holds_of, same_of};
+use listing::icmp4_error::show_error;
 use quote_wire::icmpv4_error::Repr;
 use std::alloc::Global;
 use std::process::Abort;

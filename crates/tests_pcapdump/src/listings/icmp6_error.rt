@@ -1,7 +1,7 @@
 //! Errors of ICMPv6 by the pictures of RFC 4443 and RFC 8200, with a checksum of zero, which is not looked at.
 
-use listing::icmp6_error::show_error;
 use crate::testing::{holds_of, same_of};
+use listing::icmp6_error::show_error;
 use quote_wire::icmpv6_error::Repr;
 use std::alloc::Global;
 use std::process::Abort;

@@ -1,5 +1,5 @@
-use listing::message::{Unread, show_message};
 use crate::testing::{holds_of, same_of};
+use listing::message::{Unread, show_message};
 use record_wire::{
     DataRefusal, NameRefusal, OptionRefusal, PartRefusal, Refusal, Section, TextRefusal,
 };

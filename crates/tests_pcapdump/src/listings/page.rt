@@ -1,7 +1,7 @@
 //! Texts that are indented.
 
-use listing::page::write_indented;
 use crate::testing::{holds_of, same_of};
+use listing::page::write_indented;
 
 const TEXTS: &[(&str, &str)] = &[
     ("", ""),

@@ -1,7 +1,7 @@
 //! Ports at the front of a payload.
 
-use listing::ports::ports_of;
 use crate::testing::same_of;
+use listing::ports::ports_of;
 use wirebase::IpProtocol;
 
 // The front of a header, from port 40000 to port 53.

@@ -2,14 +2,14 @@
 
 use super::PRINTED;
 use super::packets::{PACKETS, append, append_interface, append_packet, append_section, pcap};
+use crate::testing::{holds_of, same_of};
+use capture::Ending;
 use dump_captures::kind::{Kind, Reason};
 use dump_captures::options::{Only, Options};
 use dump_captures::run_onto;
 use dump_captures::summary::write_summary;
 use dump_captures::table::show_table;
 use dump_captures::tally::{Outcome, Row, Tally};
-use crate::testing::{holds_of, same_of};
-use capture::Ending;
 use std::alloc::Global;
 use std::process::Abort;
 

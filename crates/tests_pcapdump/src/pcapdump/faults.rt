@@ -2,10 +2,10 @@
 
 use super::PRINTED;
 use super::packets::{HEADER_LEN, PACKETS, pcap, record_end, text_within};
-use dump_captures::tally::Tally;
 use crate::testing::same_of;
-use dump_captures::{Fault, Report, dump, run_onto};
 use capture::Ending;
+use dump_captures::tally::Tally;
+use dump_captures::{Fault, Report, dump, run_onto};
 use std::alloc::Global;
 use std::io;
 use std::io::{ErrorKind, Read, Write};

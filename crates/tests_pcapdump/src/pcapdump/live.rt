@@ -4,8 +4,8 @@ use super::PRINTED;
 use super::packets::{
     PACKETS, append, append_interface, append_packet, append_section, pcap, record_end,
 };
-use dump_captures::run_onto;
 use crate::testing::{holds_of, same_of};
+use dump_captures::run_onto;
 use std::alloc::Global;
 use std::cell::Cell;
 use std::io;

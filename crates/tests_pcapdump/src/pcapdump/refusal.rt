@@ -1,9 +1,9 @@
 //! Why packets are refused, and the reasons under which they are counted.
 
-use dump_captures::kind::Reason;
-use dump_captures::refusal::Refusal;
 use crate::testing::{prints, same_of};
 use dhcp_wire::dhcpv4;
+use dump_captures::kind::Reason;
+use dump_captures::refusal::Refusal;
 use frame_wire::{link, udp};
 use icmp4_wire::{icmpv4, igmp};
 use icmp6_wire::icmpv6;

@@ -1,9 +1,9 @@
 //! Readers and writers that fail.
 
 use super::{joined, print_line, repeated};
-use dump_lines::line::show_line;
-use dump_lines::reading::{Line, read_line};
 use crate::testing::{holds_of, same_of};
+use dump_lines::line::show_line;
+use dump_lines::partial_line::{Line, read_line};
 use dump_lines::{Fault, run, status};
 use std::alloc::Global;
 use std::io;

@@ -1,8 +1,8 @@
 //! What is written out by the time that more of the input is read.
 
 use super::append;
-use dump_lines::run;
 use crate::testing::same_of;
+use dump_lines::run;
 use std::alloc::Global;
 use std::cell::Cell;
 use std::io;

@@ -1,6 +1,6 @@
 use Rattle.std.proofs.Common.{refl}
 use Rattle.std.proofs.lemmas.Option.{IfSome_then}
-use Rattle.control_wire.specs.NdiscFound.{link_of}
+use Rattle.control_wire.specs.NdiscOptionsSeen.{link_of}
 use Rattle.examples.proofs.router.solicit.Goals as goal
 
 pub returns-clause-sent : goal.returns-clause-sent

@@ -1,9 +1,9 @@
 //! What errors and quotes print.
 
 use super::{DATAGRAM, about};
+use crate::testing::{prints, same, same_of};
 use quote_wire::icmpv4_error::Kind;
 use quote_wire::quote::Ipv4Quote;
-use crate::testing::{prints, same, same_of};
 use std::alloc::Global;
 use std::process::Abort;
 

@@ -1,9 +1,9 @@
 //! What is read of errors and of their quotes.
 
 use super::{ALL, DATAGRAM, FRAGMENTATION_REQUIRED, PARAMETER_PROBLEM, TIME_EXCEEDED, about};
+use crate::testing::{same, same_of};
 use quote_wire::icmpv4_error::{Kind, Repr};
 use quote_wire::quote::Ipv4Quote;
-use crate::testing::{same, same_of};
 use wirebase::{ChecksumCapabilities, Error, IpProtocol, Ipv4Address};
 
 #[test]

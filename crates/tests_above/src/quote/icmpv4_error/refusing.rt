@@ -1,10 +1,10 @@
 //! Which errors and quotes are refused, and why.
 
 use super::{ALL, PARAMETER_PROBLEM, TIME_EXCEEDED};
+use crate::testing::{prints, same, same_of};
 use quote_wire::icmpv4_error::{Refusal, Repr};
 use quote_wire::quote;
 use quote_wire::quote::Ipv4Quote;
-use crate::testing::{prints, same, same_of};
 use std::process::Abort;
 use wirebase::ChecksumCapabilities;
 use wirebase::capabilities::Checksum;

@@ -1,8 +1,8 @@
 //! How errors are written.
 
 use super::{ALL, DATAGRAM, TIME_EXCEEDED, about};
-use quote_wire::icmpv4_error::{Kind, MAX_QUOTED, Repr};
 use crate::testing::{same, same_of};
+use quote_wire::icmpv4_error::{Kind, MAX_QUOTED, Repr};
 
 #[test]
 fn error_is_written_over_other_octets(rt: HostRuntime) {

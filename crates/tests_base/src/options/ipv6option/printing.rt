@@ -1,7 +1,7 @@
 //! What options and their parts print.
 
-use opt_wire::ipv6option::{FailureType, Ipv6Option, Refusal, Repr, RouterAlert, Type};
 use crate::testing::{prints, same_of, takes_writes};
+use opt_wire::ipv6option::{FailureType, Ipv6Option, Refusal, Repr, RouterAlert, Type};
 
 #[test]
 fn what_types_print(rt: HostRuntime) {

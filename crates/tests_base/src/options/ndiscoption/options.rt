@@ -1,8 +1,8 @@
 //! The options of a message in turn.
 
 use super::{PREFIX, REDIRECTED};
-use opt_wire::ndiscoption::{NdiscOption, NdiscOptions, Refusal, Repr, Type};
 use crate::testing::{holds_of, same, same_of};
+use opt_wire::ndiscoption::{NdiscOption, NdiscOptions, Refusal, Repr, Type};
 use std::process::Abort;
 use std::test::Fail;
 use wirebase::RawHardwareAddress;

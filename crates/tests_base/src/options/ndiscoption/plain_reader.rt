@@ -2,10 +2,12 @@
 // 0, and the bytes up to that length; a prefix has 4 units and an MTU 1; by smoltcp's rules an address of 2 units or
 // more is its first 8 bytes, and a redirected packet is whole. The tests compare the crate with it.
 
-use opt_wire::ndiscoption::{NdiscOption, PrefixInfoFlags, PrefixInformation, RedirectedHeader, Repr};
 use crate::options::plain_reader::{DAMAGE, LONGEST, damaged};
 use crate::testing::{holds_of, same_of};
 use bitflags::Flags as _;
+use opt_wire::ndiscoption::{
+    NdiscOption, PrefixInfoFlags, PrefixInformation, RedirectedHeader, Repr,
+};
 use std::process::Abort;
 use wirebase::{Duration, IpProtocol, Ipv6Address, Ipv6Repr, RawHardwareAddress};
 

@@ -1,6 +1,6 @@
 use super::{PREFIX, REDIRECTED};
-use opt_wire::ndiscoption::{NdiscOption, Refusal, Repr, Type};
 use crate::testing::{prints, same_of, takes_writes};
+use opt_wire::ndiscoption::{NdiscOption, Refusal, Repr, Type};
 use std::process::Abort;
 
 // Compares the reason that is told of octets.

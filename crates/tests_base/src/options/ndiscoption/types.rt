@@ -1,6 +1,6 @@
-use opt_wire::ndiscoption::{PrefixInfoFlags, Type};
 use crate::testing::{ascend, prints, same};
 use bitflags::Flags as _;
+use opt_wire::ndiscoption::{PrefixInfoFlags, Type};
 
 #[test]
 fn types_and_their_numbers(rt: HostRuntime) {

@@ -1,7 +1,7 @@
 use super::{MTU, PREFIX, UNKNOWN, here};
-use opt_wire::ndiscoption::{NdiscOption, PrefixInfoFlags, Type};
 use crate::testing::{prints, same, takes_writes};
 use bitflags::Flags as _;
+use opt_wire::ndiscoption::{NdiscOption, PrefixInfoFlags, Type};
 use wirebase::{Duration, RawHardwareAddress};
 
 #[test]

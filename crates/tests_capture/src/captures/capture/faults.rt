@@ -1,9 +1,8 @@
 //! Readers that give few octets at a call, are interrupted, and fail.
 
 use super::{DAMAGE, FILES, File, Row, check_input, check_record, cut_at, damaged};
-use capture::{Capture, Next};
-use capture::{Ending, Fault};
 use crate::testing::same_of;
+use capture::{Capture, Ending, Fault, Next};
 use std::alloc::Global;
 use std::io::{self, BufReader, ErrorKind, Read};
 use std::process::Abort;

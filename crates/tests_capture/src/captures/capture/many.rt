@@ -1,10 +1,8 @@
 // Sections of many interfaces, and blocks of no packet.
 
-use capture::{Capture, Next};
-use capture::{Ending, Refusal};
-use capture::Order;
-use capture::pcapng::{Interface, parse_packet};
 use crate::testing::same_of;
+use capture::pcapng::{Interface, parse_packet};
+use capture::{Capture, Ending, Next, Order, Refusal};
 
 // A section header of a machine with the highest byte first, and a description of Ethernet.
 const SECTION: &[u8] = &[

@@ -1,8 +1,7 @@
 // Interfaces whose times are told from another time than 1970 on.
 
-use capture::{Capture, Next};
 use crate::testing::same_of;
-use capture::Time;
+use capture::{Capture, Next, Time};
 use std::alloc::Global;
 use std::process::Abort;
 

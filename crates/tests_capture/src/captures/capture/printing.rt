@@ -1,14 +1,10 @@
 // What endings, refusals, faults, times, dates, records and headers print.
 
+use crate::testing::prints;
 use capture::calendar::date_of;
-use capture::{Next, Record};
-use capture::{Ending, Fault, Refusal};
-use capture::Order;
-use capture::Packet;
 use capture::pcap::{FileHeader, Precision, RecordHeader};
 use capture::pcapng::{Head, Interface};
-use crate::testing::prints;
-use capture::Time;
+use capture::{Ending, Fault, Next, Order, Packet, Record, Refusal, Time};
 
 #[test]
 fn endings_print_what_ended_the_capture(rt: HostRuntime) {

@@ -1,11 +1,10 @@
 // What a buffer shows of the packet that comes next.
 
 use super::{FILES, File};
-use capture::{Capture, Next};
-use capture::Order;
+use crate::testing::same_of;
 use capture::pcap::shows_record;
 use capture::pcapng::shows_packet;
-use crate::testing::same_of;
+use capture::{Capture, Next, Order};
 use std::alloc::Global;
 use std::process::Abort;
 

@@ -1,8 +1,8 @@
 // Times of each resolution, their order, and the spans that they are.
 
-use capture::pcap::Precision;
 use crate::testing::same_of;
 use capture::Time;
+use capture::pcap::Precision;
 use std::cmp::Ordering;
 use std::time::Duration;
 

@@ -1,7 +1,7 @@
 use super::{bare, five_servers, with_options};
-use dhcp_wire::dhcpv4::{DhcpOption, Flags, MessageType, OpCode};
 use crate::testing::{prints, prints_each, takes_writes};
 use bitflags::Flags as _;
+use dhcp_wire::dhcpv4::{DhcpOption, Flags, MessageType, OpCode};
 use wirebase::{EthernetAddress, Ipv4Address};
 
 #[test]

@@ -1,8 +1,8 @@
 use super::{bare, compare_read, held_in};
 use crate::dhcp::dhcpv4::{discover_with, packet, padded_discover};
-use dhcp_wire::dhcpv4::{MessageType, Packet, Repr};
 use crate::dhcp::plain_reader::{compare_damaged, set};
 use crate::testing::{fail, same, same_of};
+use dhcp_wire::dhcpv4::{MessageType, Packet, Repr};
 use std::process::Abort;
 use wirebase::{EthernetAddress, Ipv4Address};
 

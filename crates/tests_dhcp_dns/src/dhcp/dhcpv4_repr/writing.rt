@@ -2,8 +2,8 @@ ghost use Rattle.std.specs.Prelude.{◌≤◌};
 
 use super::{bare, compare_read, five_servers, with_options};
 use crate::dhcp::dhcpv4::packet;
-use dhcp_wire::dhcpv4::{DhcpOption, MessageType, Packet, Repr};
 use crate::testing::{fail, holds_of, same, same_of};
+use dhcp_wire::dhcpv4::{DhcpOption, MessageType, Packet, Repr};
 use std::alloc::Global;
 use std::process::Abort;
 use wirebase::{EthernetAddress, Ipv4Address};

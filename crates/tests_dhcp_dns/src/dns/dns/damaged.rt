@@ -4,9 +4,9 @@
 ghost use Rattle.std.specs.Prelude.{◌≤◌, ◌<◌, length};
 
 use super::{is_question, is_record};
-use dns_wire::dns::{Flags, Opcode, Packet, Question, Rcode, Record, RecordData, Type};
 use crate::testing::{agree, fail, holds_of, same_of};
 use bitflags::Flags as _;
+use dns_wire::dns::{Flags, Opcode, Packet, Question, Rcode, Record, RecordData, Type};
 use std::process::Abort;
 use wirebase::{Ipv4Address, Ipv6Address};
 

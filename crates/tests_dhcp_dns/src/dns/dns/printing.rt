@@ -1,8 +1,8 @@
 //! What messages and their parts print.
 
-use dns_wire::dns::{Flags, Opcode, Packet, Question, Rcode, Record, RecordData, Repr, Type};
 use crate::testing::{prints, takes_writes};
 use bitflags::Flags as _;
+use dns_wire::dns::{Flags, Opcode, Packet, Question, Rcode, Record, RecordData, Repr, Type};
 use wirebase::{Ipv4Address, Ipv6Address};
 
 #[test]

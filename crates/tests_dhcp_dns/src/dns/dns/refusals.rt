@@ -1,7 +1,7 @@
 //! Which check refuses octets first.
 
-use dns_wire::dns::{NameRefusal, Packet, Question, Record, RecordData, Refusal, Type};
 use crate::testing::{prints, same_of};
+use dns_wire::dns::{NameRefusal, Packet, Question, Record, RecordData, Refusal, Type};
 
 #[test]
 fn why_names_break(rt: HostRuntime) {

@@ -3,8 +3,8 @@
 ghost use Rattle.dns_wire.specs.DnsTables.{flag_bits, IsKnown};
 
 use super::check_question;
-use dns_wire::dns::{Flags, Opcode, Packet, Question, Repr, Type};
 use crate::testing::{holds_of, same, same_of};
+use dns_wire::dns::{Flags, Opcode, Packet, Question, Repr, Type};
 use std::process::Abort;
 
 const ADDRESS_QUERY: Repr<'static> = Repr {

@@ -1,8 +1,8 @@
 //! Damaged and cut messages, against a second reader by RFC 792 and RFC 791 section 3.1 alone.
 
 use super::{ALL, ECHO_REQUEST, PORT_UNREACHABLE};
-use icmp4_wire::icmpv4::{DstUnreachable, Packet, Repr, TimeExceeded};
 use crate::testing::{agree, holds_of, same_of};
+use icmp4_wire::icmpv4::{DstUnreachable, Packet, Repr, TimeExceeded};
 use std::process::Abort;
 use wirebase::{ChecksumCapabilities, IpProtocol, Ipv4Address, Ipv4Repr};
 

@@ -1,8 +1,10 @@
 //! What is printed.
 
 use super::{ECHO_REQUEST, PORT_UNREACHABLE, QUOTED_DATA, quoted};
-use icmp4_wire::icmpv4::{DstUnreachable, Message, Packet, ParamProblem, Redirect, Repr, TimeExceeded};
 use crate::testing::{prints, prints_each, takes_writes};
+use icmp4_wire::icmpv4::{
+    DstUnreachable, Message, Packet, ParamProblem, Redirect, Repr, TimeExceeded,
+};
 
 #[test]
 fn types_print_their_words(rt: HostRuntime) {

@@ -3,8 +3,10 @@
 ghost use Rattle.std.specs.Prelude.{◌≤◌};
 
 use super::{ALL, PORT_UNREACHABLE, QUOTED_DATA, all, quoted, read, write_unreachable};
-use icmp4_wire::icmpv4::{DstUnreachable, Message, Packet, ParamProblem, Redirect, Repr, TimeExceeded};
 use crate::testing::{same, same_of};
+use icmp4_wire::icmpv4::{
+    DstUnreachable, Message, Packet, ParamProblem, Redirect, Repr, TimeExceeded,
+};
 use std::process::Abort;
 use wirebase::capabilities::Checksum;
 use wirebase::{ChecksumCapabilities, IpProtocol, Ipv4Address, Ipv4Repr};

@@ -1,8 +1,8 @@
 //! Why octets are refused.
 
 use super::{ALL, ECHO_REQUEST, PORT_UNREACHABLE};
-use icmp4_wire::icmpv4::{Packet, Refusal, Repr};
 use crate::testing::{prints, same, same_of, takes_writes};
+use icmp4_wire::icmpv4::{Packet, Refusal, Repr};
 use wirebase::ChecksumCapabilities;
 
 // Why the octets are refused, whatever their checksum.

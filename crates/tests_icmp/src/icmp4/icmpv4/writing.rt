@@ -3,8 +3,8 @@
 ghost use Rattle.std.specs.Prelude.{◌≡◌, ◌≤◌, length};
 
 use super::{ALL, ECHO_REQUEST, PORT_UNREACHABLE, QUOTED_DATA, all, quoted, write_unreachable};
-use icmp4_wire::icmpv4::{Packet, Repr, TimeExceeded};
 use crate::testing::{same, same_of};
+use icmp4_wire::icmpv4::{Packet, Repr, TimeExceeded};
 use std::process::Abort;
 use wirebase::ChecksumCapabilities;
 use wirebase::capabilities::Checksum;

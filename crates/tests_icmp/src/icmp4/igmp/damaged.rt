@@ -1,8 +1,8 @@
 //! Damaged and cut messages, against a second reader by RFC 1112 appendix I, RFC 2236 and RFC 3376 alone.
 
+use crate::testing::{agree, holds_of, same_of};
 use icmp4_wire::igmp::IgmpVersion::{Version1, Version2};
 use icmp4_wire::igmp::{Packet, Repr};
-use crate::testing::{agree, holds_of, same_of};
 use std::process::Abort;
 use wirebase::{Duration, Ipv4Address};
 

@@ -4,8 +4,8 @@ ghost use Rattle.icmp6_wire.specs.Icmpv6.{CanEmit, text_len, value_of};
 use super::{
     FILLS, TOO_BIG, all, behind, check_found, check_written, destination, is_read, read, source,
 };
-use icmp6_wire::icmpv6::{DstUnreachable, Packet, ParamProblem, Repr, TimeExceeded};
 use crate::testing::{differ, holds_of, same, same_of};
+use icmp6_wire::icmpv6::{DstUnreachable, Packet, ParamProblem, Repr, TimeExceeded};
 use std::process::Abort;
 use wirebase::capabilities::Checksum;
 use wirebase::{IpProtocol, Ipv6Repr};

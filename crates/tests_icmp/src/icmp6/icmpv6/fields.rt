@@ -3,8 +3,8 @@ ghost use Rattle.icmp6_wire.specs.Icmpv6Packet.{CanClear};
 ghost use Rattle.icmp6_wire.specs.Icmpv6Tables.{message_of};
 
 use super::{ECHO, destination, source};
-use icmp6_wire::icmpv6::{Message, Packet};
 use crate::testing::{holds_of, same, same_of};
+use icmp6_wire::icmpv6::{Message, Packet};
 use std::process::Abort;
 
 // Clears what is reserved in a message of which all but the type is 0xff, and checks that it is what is wanted.

@@ -1,7 +1,7 @@
 use super::{ECHO, TOO_BIG, all, behind, destination, source};
+use crate::testing::{prints, same, same_of};
 use icmp6_wire::icmpv6::{Packet, Refusal, Repr};
 use icmp6_wire::ndisc;
-use crate::testing::{prints, same, same_of};
 use std::process::Abort;
 use wirebase::capabilities::Checksum;
 

@@ -1,6 +1,6 @@
 use super::{TOO_BIG, behind, read};
-use icmp6_wire::icmpv6::Repr;
 use crate::testing::{prints, same, takes_writes};
+use icmp6_wire::icmpv6::Repr;
 use icmp6_wire::{mld, ndisc};
 use std::alloc::Global;
 use std::process::Abort;

@@ -1,5 +1,5 @@
-use icmp6_wire::icmpv6::{DstUnreachable, Message, Packet, ParamProblem, TimeExceeded};
 use crate::testing::{prints, same_of, takes_writes};
+use icmp6_wire::icmpv6::{DstUnreachable, Message, Packet, ParamProblem, TimeExceeded};
 use std::alloc::Global;
 use std::process::Abort;
 

@@ -2,10 +2,10 @@ ghost use Rattle.std.specs.Prelude.{◌≡◌, ℕ, List, length};
 ghost use Rattle.icmp6_wire.specs.Icmpv6.{CanEmit, value_of};
 
 use super::{FILLS, QUERY, REPORT, SOURCE_REPORT, query, report_of};
+use crate::testing::{holds_of, reads, same, same_of};
 use icmp6_wire::icmpv6::{Packet, Repr};
 use icmp6_wire::mld;
 use icmp6_wire::mld::{AddressRecordRepr, RecordType};
-use crate::testing::{holds_of, reads, same, same_of};
 use std::process::Abort;
 use wirebase::{
     ChecksumCapabilities, IPV6_LINK_LOCAL_ALL_NODES, IPV6_LINK_LOCAL_ALL_ROUTERS, Result,

@@ -1,9 +1,9 @@
 ghost use Rattle.wirebase.specs.Ipv6Address.{IsMulticast};
 
 use super::{QUERY, short_record};
+use crate::testing::{holds_of, same, same_of};
 use icmp6_wire::icmpv6::Packet;
 use icmp6_wire::mld::{AddressRecordRepr, RecordRefusal, RecordType, Records, Repr, Sources};
-use crate::testing::{holds_of, same, same_of};
 use std::process::Abort;
 use std::test::Fail;
 use wirebase::{IPV6_LINK_LOCAL_ALL_NODES, IPV6_LINK_LOCAL_ALL_ROUTERS, Ipv6Address};

@@ -1,7 +1,7 @@
 use super::{QUERY, REPORT, SHORT_RECORD};
+use crate::testing::{prints, same_of};
 use icmp6_wire::icmpv6::Packet;
 use icmp6_wire::mld::{AddressRecord, AddressRecordRepr, RecordRefusal, Refusal, Repr};
-use crate::testing::{prints, same_of};
 use std::process::Abort;
 
 // Checks why these octets are refused.

@@ -1,6 +1,6 @@
 use super::{query, report_of, short_record};
-use icmp6_wire::mld::{AddressRecordRepr, RecordType, Repr};
 use crate::testing::{prints, takes_writes};
+use icmp6_wire::mld::{AddressRecordRepr, RecordType, Repr};
 use wirebase::IPV6_LINK_LOCAL_ALL_NODES;
 
 #[test]

@@ -1,5 +1,5 @@
-use icmp6_wire::icmpv6::Packet;
 use crate::testing::same_of;
+use icmp6_wire::icmpv6::Packet;
 use wirebase::Duration;
 
 #[test]

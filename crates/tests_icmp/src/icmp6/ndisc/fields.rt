@@ -1,8 +1,8 @@
 use super::{here, there};
-use icmp6_wire::icmpv6::Packet;
-use icmp6_wire::ndisc::{NeighborFlags, RouterFlags};
 use crate::testing::same;
 use bitflags::Flags as _;
+use icmp6_wire::icmpv6::Packet;
+use icmp6_wire::ndisc::{NeighborFlags, RouterFlags};
 use wirebase::Duration;
 
 // Hop limit 64, flag M with bits that have no name, a lifetime of 900 s, and times of 16,778,216 and 4,278,125,344 ms.

@@ -1,7 +1,7 @@
 use super::{REDIRECT, THREE_MTUS, check_read, check_refused, check_written, here, read, there};
+use crate::testing::{holds_of, same, same_of};
 use icmp6_wire::icmpv6::Packet;
 use icmp6_wire::ndisc::Repr;
-use crate::testing::{holds_of, same, same_of};
 use opt_wire::ndiscoption;
 use std::process::Abort;
 use wirebase::RawHardwareAddress;

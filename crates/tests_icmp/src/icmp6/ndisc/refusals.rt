@@ -1,7 +1,7 @@
 use super::{BARE_ADVERT, FULL_ROUTER_ADVERT, REDIRECT, ROUTER_ADVERT};
+use crate::testing::{prints, same_of};
 use icmp6_wire::icmpv6::Packet;
 use icmp6_wire::ndisc::{Refusal, Repr};
-use crate::testing::{prints, same_of};
 use std::process::Abort;
 
 // Checks why these octets are refused.

@@ -1,9 +1,9 @@
 use super::{
     REDIRECT, ethernet, full_router_advert, here, prefix, read, redirect, router_solicit, there,
 };
-use icmp6_wire::ndisc::{NeighborFlags, Repr, RouterFlags};
 use crate::testing::{holds_of, print_differently, prints};
 use bitflags::Flags as _;
+use icmp6_wire::ndisc::{NeighborFlags, Repr, RouterFlags};
 use opt_wire::ndiscoption::{PrefixInfoFlags, PrefixInformation};
 use std::alloc::Global;
 use std::process::Abort;

@@ -2,8 +2,8 @@
 // option that can be read counts.
 
 use super::{split_header, split_ip_header};
-use icmp6_wire::ndisc::{NeighborFlags, Repr, RouterFlags};
 use bitflags::Flags as _;
+use icmp6_wire::ndisc::{NeighborFlags, Repr, RouterFlags};
 use opt_wire::ndiscoption::{PrefixInfoFlags, PrefixInformation, RedirectedHeader};
 use wirebase::{Duration, Ipv6Address, RawHardwareAddress};
 

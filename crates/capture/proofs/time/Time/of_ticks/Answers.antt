@@ -17,4 +17,4 @@ returns-in-6 c =
 
 pub returns-in-9 : goal.returns-in-9
 returns-in-9 c =
-    rw c.in-9.is (subst (λ n. IsTime c.of_nanos.result n 9) (nanos c.args.ticks) c.of_nanos.ensures)
+    rw c.in-9.is (subst (λ n. IsTime c.of_nanos_u64.result n 9) (nanos c.args.ticks) c.of_nanos_u64.ensures)

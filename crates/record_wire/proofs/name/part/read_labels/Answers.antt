@@ -1,7 +1,7 @@
 use Rattle.std.proofs.Common.{◌≡◌, ℕ, ◌+◌, ◌-◌, length, drop, sym, ap, ◌∙◌, subst, arith}
 use Rattle.dns_wire.specs.DnsNameAhead.{front_of}
 use Rattle.dns_wire.proofs.DnsNameTurns.{Whole-front, Whole-length}
-use Rattle.record_wire.specs.NameParts.{AreInFront}
+use Rattle.record_wire.specs.NameParts.{LabelsAtFront}
 use Rattle.record_wire.proofs.NameParts.{one_more_in_front, behind_one_more}
 use Rattle.record_wire.proofs.name.part.read_labels.Goals as goal
 
@@ -18,7 +18,7 @@ loop-rest-preserved c =
     let front = c.in-Label.ensures ∙ ap front_of i.at in
     let e : len + (1 + length b) ≡ length text - length rest = omega (arith, long, i.fits) in
     record {
-      labels = subst (λ (n : ℕ). AreInFront text n) e (one_more_in_front text b rest len i.labels front);
+      labels = subst (λ (n : ℕ). LabelsAtFront text n) e (one_more_in_front text b rest len i.labels front);
       fits = omega (arith, long, i.fits);
       at = sym (behind_one_more text b rest len front) ∙ ap (λ n. drop n text) e;
     }

@@ -1,10 +1,10 @@
 use Rattle.std.proofs.Common.{◌≡◌, ◌-◌, ◌≤◌, length, drop}
-use Rattle.record_wire.specs.NameParts.{AreInFront}
+use Rattle.record_wire.specs.NameParts.{LabelsAtFront}
 use Rattle.record_wire.proofs.name.part.read_labels.Given as goal
 
 abbrev pub invariant-loop-rest : goal.invariant-loop-rest
 invariant-loop-rest l = record {
-  labels : AreInFront l.text (length l.text - length l.left);
+  labels : LabelsAtFront l.text (length l.text - length l.left);
   fits : length l.left ≤ length l.text;
   at : l.left ≡ drop (length l.text - length l.left) l.text;
 }

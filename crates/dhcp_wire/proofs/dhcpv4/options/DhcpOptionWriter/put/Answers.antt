@@ -1,9 +1,9 @@
 use Rattle.std.proofs.Common.{Ok, sym, ap, ◌∙◌}
 use Rattle.std.specs.Option.{option_map}
 use Rattle.dhcp_wire.specs.Dhcpv4.{slot}
-use Rattle.dhcp_wire.specs.Dhcpv4Emission.{progress, step_slot}
+use Rattle.dhcp_wire.specs.Dhcpv4Writing.{progress, step_slot}
 use Rattle.dhcp_wire.specs.Dhcpv4Options.{option}
-use Rattle.dhcp_wire.proofs.Dhcpv4Emission.{emitted_step}
+use Rattle.dhcp_wire.proofs.Dhcpv4Writing.{emitted_step}
 use Rattle.dhcp_wire.proofs.dhcpv4.options.DhcpOptionWriter.put.Goals as goal
 
 pub returns-in-Some-clause-step : goal.returns-in-Some-clause-step

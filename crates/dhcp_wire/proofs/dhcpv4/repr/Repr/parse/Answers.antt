@@ -2,7 +2,7 @@ use Rattle.std.proofs.Common.{refl, sym, ap, subst, ◌∙◌}
 use Rattle.wirebase.proofs.Format.{rewrites}
 use Rattle.dhcp_wire.specs.Dhcpv4.{Value, value_of}
 use Rattle.dhcp_wire.specs.Dhcpv4Format.{format}
-use Rattle.dhcp_wire.specs.Dhcpv4Found.{Kept, IsMadeOf}
+use Rattle.dhcp_wire.specs.Dhcpv4OptionsSeen.{Kept, IsMadeOf}
 use Rattle.dhcp_wire.specs.Dhcpv4Packet.{inner}
 use Rattle.dhcp_wire.proofs.Dhcpv4Kept.{made-of-found, packet-made, packet-typed, packet-unique, good_options}
 use Rattle.dhcp_wire.proofs.Dhcpv4Laws.{dhcp_format}

@@ -1,6 +1,6 @@
 use Rattle.std.proofs.Common.{rules, ◌≡◌, Err}
 use Rattle.dhcp_wire.specs.Dhcpv4.{value_of}
-use Rattle.dhcp_wire.proofs.Dhcpv4Emission.{fields-refused, fields-written}
+use Rattle.dhcp_wire.proofs.Dhcpv4Writing.{fields-refused, fields-written}
 use Rattle.dhcp_wire.proofs.dhcpv4.repr.Repr.put_options.Goals as goal
 
 pub returns-in_err-put_fields-clause-steps : goal.returns-in_err-put_fields-clause-steps

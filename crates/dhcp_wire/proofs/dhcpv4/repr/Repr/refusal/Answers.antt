@@ -2,7 +2,7 @@ use Rattle.std.proofs.Common.{refl, sym, ap, subst, ◌∙◌}
 use Rattle.wirebase.specs.Bytes.{byte_of}
 use Rattle.dhcp_wire.specs.declared.dhcpv4.tables.MessageType.{MessageType}
 use Rattle.dhcp_wire.specs.Dhcpv4.{Value, value_of}
-use Rattle.dhcp_wire.specs.Dhcpv4Found.{Kept, IsMadeOf}
+use Rattle.dhcp_wire.specs.Dhcpv4OptionsSeen.{Kept, IsMadeOf}
 use Rattle.dhcp_wire.specs.Dhcpv4OptionsAhead.{list_of}
 use Rattle.dhcp_wire.specs.Dhcpv4Packet.{inner, op_field, options_in}
 use Rattle.dhcp_wire.proofs.Dhcpv4Kept.{made-of-found, packet-made, packet-typed, good_options, kept-type}

@@ -1,7 +1,7 @@
 use Rattle.std.proofs.Common.{rules, ◌≡◌, Err, arith}
 use Rattle.std.proofs.lemmas.Grind.{common_steps}
 use Rattle.dhcp_wire.specs.Dhcpv4.{value_of, options_of}
-use Rattle.dhcp_wire.proofs.Dhcpv4Emission.{writes-refused, writes-ended}
+use Rattle.dhcp_wire.proofs.Dhcpv4Writing.{writes-refused, writes-ended}
 use Rattle.dhcp_wire.proofs.dhcpv4.repr.Repr.write_options.Goals as goal
 
 pub returns-in_err-put_options : goal.returns-in_err-put_options

@@ -1,8 +1,0 @@
--- Whether those below the index are.
-use Rattle.std.proofs.Common.{◌≡◌, take}
-use Rattle.std.specs.List.{list_all}
-use Rattle.hex.specs.Hex.{is_hex_digit}
-use Rattle.dump_lines.proofs.pairs.are_digits.Given as goal
-
-abbrev pub invariant-loop-octet : goal.invariant-loop-octet
-invariant-loop-octet l = l.are ≡ list_all is_hex_digit (take l.octet-index l.text)
