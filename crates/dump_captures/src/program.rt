@@ -48,7 +48,7 @@ impl<R: Read> Read for Watched<R> {
 }
 
 /// The whole of `pcapdump`: prints what the files that the arguments name hold, and returns the program's status.
-pub fn run_program(rt: &(impl Env + Files + Input + Print + AllocGlobal)) -> u8 {
+pub fn run_program(rt: &(impl Env + Files + Input + Print + Eprint + AllocGlobal)) -> u8 {
     let task = match env::args(rt) {
         Ok(arguments) => read_task(rt.alloc(), arguments),
         Err(error) if error.kind() == io::ErrorKind::InvalidData => {
@@ -65,7 +65,7 @@ pub fn run_program(rt: &(impl Env + Files + Input + Print + AllocGlobal)) -> u8 
 }
 
 // Prints the help, and returns the status.
-fn print_help(rt: &impl Print) -> u8 {
+fn print_help(rt: &(impl Print + Eprint)) -> u8 {
     match println!(rt; "{}\n\n{}", help::USAGE, help::HELP) {
         Ok(()) => WHOLE,
         Err(error) => report_fault(rt, Fault::from(error)),
@@ -74,7 +74,7 @@ fn print_help(rt: &impl Print) -> u8 {
 
 // Prints the captures of these files, and returns the highest of their statuses.
 fn dump_all(
-    rt: &(impl Files + Input + Print + AllocGlobal),
+    rt: &(impl Files + Input + Print + Eprint + AllocGlobal),
     options: &Options,
     files: &[String],
 ) -> u8 {
@@ -95,7 +95,7 @@ fn dump_all(
 // Prints the captures of these files, and where packets are only counted the table at the end, with one line for all
 // files. The status covers each file, also where a fault ends the program.
 fn dump_each<W: Write>(
-    rt: &(impl Files + Input + Print + AllocGlobal),
+    rt: &(impl Files + Input + Print + Eprint + AllocGlobal),
     options: &Options,
     files: &[String],
     output: &mut W,
@@ -123,7 +123,7 @@ fn dump_each<W: Write>(
 
 // Prints the capture of a file, and returns the status. A fault of the output or of memory ends the program.
 fn dump_file<W: Write>(
-    rt: &(impl Files + Input + Print + AllocGlobal),
+    rt: &(impl Files + Input + Print + Eprint + AllocGlobal),
     options: &Options,
     file: &str,
     output: &mut W,
@@ -190,7 +190,7 @@ fn name_of_all(files: &[String]) -> Option<&str> {
 
 // Prints the number of packets of a capture, or of all captures where they have no name.
 fn report_counts(
-    rt: &(impl Print + AllocGlobal),
+    rt: &(impl Eprint + AllocGlobal),
     name: Option<&str>,
     tally: &Tally,
 ) -> Result<(), Fault> {
@@ -206,7 +206,7 @@ fn report_counts(
 }
 
 // Prints what ended a capture if it did not end after a whole record, and returns the status.
-fn report_ending(rt: &impl Print, file: &str, ending: Ending, packets: u64) -> u8 {
+fn report_ending(rt: &impl Eprint, file: &str, ending: Ending, packets: u64) -> u8 {
     let status = match ending {
         Ending::Whole => return WHOLE,
         Ending::Version | Ending::NotACapture => WRONG,
@@ -220,7 +220,7 @@ fn report_ending(rt: &impl Print, file: &str, ending: Ending, packets: u64) -> u
 }
 
 // Prints that an input could not be read further, and why, and returns the status.
-fn report_unread(rt: &impl Print, file: &str, error: Option<io::Error>, packets: u64) -> u8 {
+fn report_unread(rt: &impl Eprint, file: &str, error: Option<io::Error>, packets: u64) -> u8 {
     let Some(error) = error else {
         let _ = eprintln!(rt; "pcapdump: {file}: reading failed");
         return FAILED;
@@ -233,7 +233,7 @@ fn report_unread(rt: &impl Print, file: &str, error: Option<io::Error>, packets:
 }
 
 // Prints what is wrong with the arguments, and the usage, and returns the status.
-fn report_wrong(rt: &impl Print, wrong: &Wrong) -> u8 {
+fn report_wrong(rt: &impl Eprint, wrong: &Wrong) -> u8 {
     let _ = match wrong {
         Wrong::UnknownOption(word) => {
             eprintln!(rt; "pcapdump: there is no option '{}'", word.as_str())
@@ -250,7 +250,7 @@ fn report_wrong(rt: &impl Print, wrong: &Wrong) -> u8 {
 }
 
 // Prints what ended the program, and returns the status. A closed output is not a fault.
-fn report_fault(rt: &impl Print, fault: Fault) -> u8 {
+fn report_fault(rt: &impl Eprint, fault: Fault) -> u8 {
     let what = match fault {
         Fault::Closed => return WHOLE,
         Fault::Memory => "there is no memory",
