@@ -1,0 +1,410 @@
+"""The contracts of the sources: parsed, and written as the tables of docs/CLAUSES.md.
+
+`page` makes that page from the sources that `crates.txt` names. What is listed follows from the sources alone:
+
+- a crate that has definitions of its own (`specs/`), in the order of crates.txt, with the modules that its lib.rt or
+  main.rt declares, but those of tests;
+- of these, each public function, and each implementation of a trait for a public type, whose clauses or ghost items
+  cite a definition of one of the repository's crates. Fields of a view (definitions of type `Field`) and the words that
+  lead from a view to its octets (`VIEW`) are not named, and calls of a type that then have the same clauses share a
+  row;
+- each definition that is so cited, with the first sentence of the comment above it.
+"""
+
+import functools
+import os
+import re
+
+TOP = os.path.dirname(os.path.dirname(os.path.dirname(os.path.abspath(__file__))))
+
+# What nearly every clause about a view or a value says first: whose octets, or which value by its content.
+VIEW = {"inner", "with_inner", "view_octets", "view_bytes", "value_of"}
+
+
+@functools.cache
+def read(path):
+    with open(os.path.join(TOP, path), encoding="utf-8") as it:
+        return it.read()
+
+
+# ---- contracts
+
+
+def matching(text, at):
+    """The place of the bracket that closes the one at this place."""
+    depth = 0
+    for i in range(at, len(text)):
+        depth += text[i] in "([{"
+        depth -= text[i] in ")]}"
+        if depth == 0:
+            return i
+    return len(text)
+
+
+def on_one_line(text):
+    return re.sub(r",? ([)\]])", r"\1", re.sub(r"([(\[]) ", r"\1", " ".join(text.split())))
+
+
+def contract(text, at):
+    """The signature of the function whose name ends at this place, its clauses by kind and name, and where they end."""
+    start = text.index("(", at)
+    end = matching(text, start) + 1
+    head = re.match(r"\s*(->\s*(?:[^{;]|\{\{)*?)?(?=\s*(?:requires|ensures|where|\{|;))", text[end:])
+    signature = text[at:end] + " " + (head[1] or "" if head else "")
+    at, clauses = end + (head.end() if head else 0), {}
+    while True:
+        clause = re.match(r"\s*(requires|ensures)\*?\s*(\w*)\s*\{", text[at:])
+        if not clause:
+            return on_one_line(signature), clauses, at
+        stop = matching(text, at + clause.end() - 1)
+        clauses[clause[1], clause[2]] = on_one_line(text[at + clause.end() : stop])
+        at = stop + 1
+
+
+def without_comments(text):
+    return re.sub(r"^\s*//.*$", "", text, flags=re.M)
+
+
+def functions(file):
+    """Each function of a source with its type: its signature, and its clauses by kind and name."""
+    text = without_comments(read(file))
+    owner, found = "", {}
+    for it in re.finditer(r"^(?:impl\b(?:<[^{]*?>)? ?(?:[\w:<>', \[\]&]+ for )?(\w+)[^{]*\{|\})"
+                          r"|^ *(?:pub(?:\([^)]*\))? )?(?:const )?fn (\w+)", text, flags=re.M):
+        if it[2] is None:
+            owner = it[1] or ""
+            continue
+        signature, clauses, _ = contract(text, it.end(2))
+        found[f"{owner}::{it[2]}" if owner and text[it.start()] == " " else it[2]] = signature, clauses
+    return found
+
+
+# ---- the sources of a crate
+
+
+def exists(path):
+    return os.path.isfile(os.path.join(TOP, path))
+
+
+def crates():
+    """The crates of the repository that have definitions, in order."""
+    names = re.findall(r"^(\w+)", read("crates.txt"), flags=re.M)
+    return [it for it in names if os.path.isdir(os.path.join(TOP, "crates", it, "specs"))]
+
+
+def modules(crate):
+    """The sources of a crate, but for its tests: each with the public modules that lead to it, and the names that these
+    export of it, or None where all of it is public. The modules of a program are taken as public."""
+    roots = [f"crates/{crate}/src/lib.rt", f"crates/{crate}/src/main.rt"]
+    root = next(filter(exists, roots), "")
+    waiting = [(root, (), None)] if root else []
+    while waiting:
+        file, path, exported = waiting.pop(0)
+        yield file, path, exported
+        text = without_comments(read(file))
+        names = set(re.findall(r"\w+", " ".join(re.findall(r"^pub use ([^;]*);", text, flags=re.M))))
+        names = names if exported is None else names & exported
+        below = os.path.dirname(file) if file == root else file[:-3]
+        inner, declared = [], r"^(#\[cfg\(test\)\]\n)?(pub )?(?:pub\(\w+\) )?mod (\w+);"
+        for test, shown, name in re.findall(declared, text, flags=re.M):
+            shown = exported is None and (shown or root.endswith("main.rt"))
+            if not test and exists(f"{below}/{name}.rt"):
+                inner.append((f"{below}/{name}.rt", (*path, name) if shown else path, None if shown else names))
+        waiting[:0] = inner
+
+
+def imports(text, start):
+    """The definitions that the `use` lines of a text import, those behind this start of a line: the file and the name, by
+    the word that the text has for it. There is no name where a word stands for a whole file."""
+    found = {}
+    for use in re.findall(rf"^{start}use Rattle\.([^;\n]*)", text, flags=re.M):
+        it = re.match(r"(\w+)\.specs\.(\w+)(?:\.\{([^}]*)\}| as (\w+))$", use.strip())
+        file = it and spec_file(it[1], it[2])
+        if file and it[4]:
+            found[it[4]] = file, None
+        for word in re.findall(r"[^, ][^,]*", it[3] or "") if file else ():
+            name, _, other = word.strip().partition(" as ")
+            found[other or name] = file, name
+    return found
+
+
+def spec_file(crate, name):
+    """The file of definitions that a crate has by this name, of its own or of another crate of the repository."""
+    if exists(f"crates/{crate}/specs/{name}.antt"):
+        return f"crates/{crate}/specs/{name}.antt"
+    lib = read(f"crates/{crate}/specs/Lib.antt") if exists(f"crates/{crate}/specs/Lib.antt") else ""
+    other = re.search(rf"^pub use Rattle\.(\w+)\.specs\.{name}$", lib, flags=re.M)
+    return spec_file(other[1], name) if other and other[1] != crate else None
+
+
+def named(text, words):
+    """The definitions that a text names, in order: the file and the name of each."""
+    found = {}
+    for word, below in re.findall(r"(?<![\w.])([A-Za-z_]\w*)(?:\.(\w+))?", text):
+        file, name = words.get(word, (None, None))
+        if file and (name or below):
+            found[file, name or below] = None
+    return list(found)
+
+
+# ---- the definitions
+
+
+class Definition:
+    """A definition: the first sentence of the comment above it, and its text."""
+
+    def __init__(self, comment):
+        self.comment, self.lines = sentence(comment), []
+
+    def text(self):
+        return "\n".join(self.lines)
+
+    def is_field(self):
+        return self.lines[0].endswith(" : Field")
+
+    def is_format(self):
+        return bool(re.search(r"[:→] Format \S", self.lines[0]))
+
+    def is_relation(self):
+        """Whether it says something of something."""
+        head = re.split(r" where$|^\s*\w+ [^:]*=", self.text(), maxsplit=1, flags=re.M)[0].rstrip()
+        return head.endswith("Type 0") and ("→" in head or "(" in head)
+
+
+@functools.cache
+def definitions(file):
+    """The definitions of a file by name."""
+    found, comment, indent, last = {}, [], "", None
+    for line in read(file).splitlines():
+        if re.match(r"\S", line):
+            indent = "  " if line.startswith("module ") else ""
+        it = re.match(indent + r"(?:(?:abbrev|unfoldable) )?(?:pub )?(?:(?:record|data) )?(\w+) [:({]", line)
+        if re.match(indent + "--", line):
+            comment, last = [*comment, line], None
+        elif it and it[1] not in found and not line.startswith(("use ", "module ")):
+            last = found[it[1]] = Definition(comment)
+        if not line or last:
+            comment = []
+        if last:
+            last.lines.append(line)
+    return found
+
+
+@functools.cache
+def cases(file):
+    """The `data` of each case that a file has."""
+    found = {}
+    for name, it in definitions(file).items():
+        if re.match(r"\s*(pub )?data ", it.lines[0]):
+            found.update({case: (file, name) for case in re.findall(r"^ +(\w+) :", it.text(), flags=re.M)})
+    return found
+
+
+@functools.cache
+def cites(file):
+    """The definitions that each definition of a file names."""
+    here = definitions(file)
+    words = {**cases(file), **imports(read(file), r"\s*"), **{it: (file, it) for it in here}}
+    return {name: named(it.text(), words) for name, it in here.items()}
+
+
+def rests_on(start):
+    """The definitions that these name, and those that they name in turn."""
+    found, waiting = {}, list(start)
+    while waiting:
+        file, name = waiting.pop(0)
+        if (file, name) not in found:
+            found[file, name] = None
+            waiting += cites(file)[name] if name in cites(file) else filter(None, [cases(file).get(name)])
+    return list(found)
+
+
+def sentence(comment):
+    """The first sentence of a comment, of its lines in front of a picture."""
+    words = []
+    for line in comment:
+        line = re.sub(r"^\s*-- ?", "", line).strip()
+        if re.match(r"---|\+-|$", line):
+            break
+        words.append(line)
+    first = re.split(r"(?<=[.:;]) (?=[A-Z])", " ".join(words))[0].rstrip(".:;")
+    return (first[:1].upper() + first[1:]).replace("|", "\\|")
+
+
+# ---- the contracts of a crate
+
+
+def blocks(text):
+    """The implementations and traits of a source, each with its first line; what stands outside of them has none."""
+    at = 0
+    for it in re.finditer(r"^(?:pub )?(?:impl|trait)\b[^;{]*\{\n.*?^\}", text, flags=re.M | re.S):
+        yield "", text[at : it.start()]
+        head, _, body = it[0].partition("{\n")
+        yield head.strip(), body
+        at = it.end()
+    yield "", text[at:]
+
+
+def names_in(head):
+    """The trait and the type of an implementation's first line."""
+    plain = re.sub(r"^(?:pub )?(?:trait|impl)\b(?:<[^{]*?>(?= ))?\s*", "", head)
+    plain = re.sub(r"\s+where\b.*|(?<!:):(?!:).*", "", plain)
+    trait, _, owner = re.sub(r"\b\w+::(?=[A-Z])|'\w+ ", "", plain).rpartition(" for ")
+    return trait, re.sub(r"<.*|^&(?!mut)", "", owner).strip()
+
+
+def cited(said, words):
+    """The definitions that a clause cites, but those that are not listed."""
+    shown = lambda file, name: name not in definitions(file) or not definitions(file)[name].is_field()
+    return [it for it in named(said, words) if it[1] not in VIEW and shown(*it)]
+
+
+def contracts(file):
+    """Each contract of a source that is not a private function's: trait, type, function, and what its clauses cite."""
+    text = without_comments(read(file))
+    whole = imports(text, "ghost ")
+    for head, body in blocks(text):
+        trait, owner = names_in(head) if head else ("", "")
+        words = {**whole, **imports(body, "    ghost ")} if head else whole
+        for it in re.finditer(r"^    ghost (\w+)[^={\n]*= \{" if head else r"(?!)", body, flags=re.M):
+            if it[1] not in ("laws", "from_gives"):
+                yield trait, owner, "", {it[1]: cited(body[it.end() : matching(body, it.end() - 1)], words)}
+        indent = "    " if head else ""
+        for it in re.finditer(rf"^{indent}(pub )?(?:const )?fn (\w+)", body, flags=re.M):
+            if it[1] or trait or head.startswith("pub trait"):
+                by_name = {}
+                for (kind, name), said in contract(body, it.end(2))[1].items():
+                    key = kind if kind == "requires" else name or kind
+                    by_name[key] = by_name.get(key, []) + cited(said, words)
+                yield trait, owner, it[2], by_name
+
+
+class Crate:
+    """The public contracts of a crate: by source and name, the definitions that each clause cites."""
+
+    def __init__(self, name):
+        self.name, self.types, self.rows = name, {}, {}
+        sources = list(modules(name))
+        for file, path, exported in sources:
+            for it in re.findall(r"^pub (?:struct|enum|trait|type) (\w+)", without_comments(read(file)), flags=re.M):
+                if exported is None or it in exported:
+                    self.types.setdefault(it, []).append(path)
+        for file, path, exported in sources:
+            for trait, owner, call, clauses in contracts(file):
+                it = self.called(path, exported, trait, owner, call)
+                row = self.rows.setdefault((file, *it), {}) if it else {}
+                for key, found in clauses.items():
+                    row[key] = list(dict.fromkeys(row.get(key, []) + found))
+        self.rows = {it: row for it, row in self.rows.items() if any(row[key] for key in row if key != "requires")}
+
+    def called(self, path, exported, trait, owner, call):
+        """The type and the call of a contract, or the implementation, where it is public."""
+        if not owner:
+            return ("::".join(path), call) if exported is None or call in exported else None
+        # `From<Message> for u8` is of `Message`.
+        of = next((it for it in (owner, *re.findall(r"\w+", trait)) if it in self.types), None)
+        if not of:
+            return None
+        whole = "::".join((*(path if path in self.types[of] else self.types[of][0]), of))
+        if not trait:
+            return (whole, call) if call else None
+        return "", re.sub(rf"\b{of}\b", whole, f"{trait} for {owner}")
+
+
+# ---- the page
+
+HEAD = """# The clauses, and the definitions that they cite
+
+Made from the sources by `tests/docs/run --write`; an edit by hand is lost. [PROOFS.md](PROOFS.md) says what the clauses prove together, and [READING.md](READING.md) explains the notation.
+
+Of each crate, the first table has the public functions and the implementations of traits, the source of each, and its clauses with the definitions that they cite. `Igmp.IsMessage` is the definition `IsMessage` in `specs/Igmp.antt` of the crate whose second table lists it. A clause without a name of its own is `ensures` or `requires`; the items of a trait are listed by their names, as `output`, the text that a `Display` prints. The second table has what the comment above each definition says, in its first sentence, or where it has none what that of its file says (`the file`), and the relations of the same file on which the definition rests.
+
+Not listed are functions whose clauses cite no definition of these crates, fields, and the words for the octets of a view and the content of a value: `inner`, `with_inner`, `view_octets`, `value_of`. Functions of one type with the same clauses share a row.
+"""
+
+REST = """## Definitions on which no clause above rests
+
+Private functions and iterators cite them. Nothing above is true or false by what they say, so whoever reads the statements may pass them over.
+
+| File | Definitions |
+|---|---|"""
+
+
+def word(it):
+    return f"`{os.path.basename(it[0])[:-5]}.{it[1]}`"
+
+
+def clauses_text(row):
+    """The clauses of a contract, those that cite the same definitions together."""
+    by = {}
+    for key, found in row.items():
+        by.setdefault(tuple(found), []).append(f"`{key}`")
+    said = [", ".join(keys) + ": " + ", ".join(map(word, found)) for found, keys in by.items() if found]
+    return "; ".join([*said, *([", ".join(by[()])] if () in by else [])])
+
+
+def call_rows(crate):
+    """The rows of a crate's functions and implementations."""
+    shared = {}
+    for (file, owner, call), row in crate.rows.items():
+        said = f"`{file.split('/', 2)[2]}` | {clauses_text(row)}"
+        shared.setdefault((owner or call, said), []).append(f"{owner}::{call}" if owner else call)
+    for (owner, said), calls in shared.items():
+        short = [f"`{calls[0]}`", *(f"`{it.removeprefix(owner + '::')}`" for it in calls[1:])]
+        yield f"| {', '.join(short)} | {said} |"
+
+
+def definition_rows(file, listed):
+    """The rows of a file's definitions of these names. For one without a comment, that of the file stands."""
+    groups = {}
+    for name in (it for it in definitions(file) if it in listed):
+        below = [it for of, it in rests_on([(file, name)]) if of == file and it != name and it in definitions(file)]
+        rests = ", ".join(f"`{it}`" for it in below if definitions(file)[it].is_relation())
+        comment = definitions(file)[name].comment
+        groups.setdefault((comment, rests), []).append(name)
+    whole = sentence(re.match(r"(?:--.*\n)*", read(file))[0].splitlines())
+    for (comment, rests), names in groups.items():
+        words = ", ".join([word((file, names[0])), *(f"`{it}`" for it in names[1:])])
+        yield f"| {words} | {comment or f'{whole} (`the file`)'} | {rests} |"
+
+
+def page():
+    """The text of docs/CLAUSES.md."""
+    made = [Crate(it) for it in crates()]
+    direct = {it: None for crate in made for row in crate.rows.values() for found in row.values() for it in found}
+    # A format stands for what it is made of.
+    for file, name in list(direct):
+        if name in definitions(file) and definitions(file)[name].is_format():
+            direct.update((it, None) for it in cites(file)[name] if it[0] == file)
+    text = [HEAD]
+    for crate in made:
+        folder = f"crates/{crate.name}/specs"
+        files = sorted({file for file, _ in direct if file.startswith(folder + "/")})
+        rows = list(call_rows(crate))
+        below = [it for file in files for it in definition_rows(file, {name for of, name in direct if of == file})]
+        if rows or below:
+            text += [f"## {crate.name}", ""]
+        if rows:
+            text += ["| Call | Source | Clauses, and the definitions that they cite |", "|---|---|---|", *rows, ""]
+        if below:
+            text += ["| Definition | What it says | Rests on |", "|---|---|---|", *below, ""]
+    return "\n".join([*text, REST, *rest_rows(made, direct)]) + "\n"
+
+
+def rest_rows(made, direct):
+    """The rows of the definitions on which no listed clause rests, also not by the words that are not listed."""
+    known = set(rests_on([*direct, *((file, name) for file in spec_files(made) for name in definitions(file)
+                                     if name in VIEW or definitions(file)[name].is_field())]))
+    for file in spec_files(made):
+        left = [f"`{name}`" for name in definitions(file) if (file, name) not in known]
+        if left:
+            yield f"| `{file}` | {', '.join(left)} |"
+
+
+def spec_files(made):
+    found = []
+    for crate in made:
+        folder = os.path.join(TOP, "crates", crate.name, "specs")
+        names = sorted(it for it in os.listdir(folder) if it.endswith(".antt") and it != "Lib.antt")
+        found += [f"crates/{crate.name}/specs/{it}" for it in names]
+    return found
