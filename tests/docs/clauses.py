@@ -18,7 +18,10 @@ import re
 TOP = os.path.dirname(os.path.dirname(os.path.dirname(os.path.abspath(__file__))))
 
 # What nearly every clause about a view or a value says first: whose octets, or which value by its content.
-VIEW = {"inner", "with_inner", "view_octets", "view_bytes", "value_of"}
+VIEW = {"inner", "with_inner", "view_octets", "value_of"}
+
+# The ghost items that model an iterator: what it will answer, by its fields.
+MODEL = {"view", "invariant", "remaining"}
 
 
 @functools.cache
@@ -114,8 +117,8 @@ def modules(crate):
 
 
 def imports(text, start):
-    """The definitions that the `use` lines of a text import, those behind this start of a line: the file and the name, by
-    the word that the text has for it. There is no name where a word stands for a whole file."""
+    """The definitions that the `use` lines of a text with this start import: by the word that the text has for each, the
+    file and the name. There is no name where the word is that of a whole file."""
     found = {}
     for use in re.findall(rf"^{start}use Rattle\.([^;\n]*)", text, flags=re.M):
         it = re.match(r"(\w+)\.specs\.(\w+)(?:\.\{([^}]*)\}| as (\w+))$", use.strip())
@@ -324,7 +327,7 @@ Not listed are functions whose clauses cite no definition of these crates, field
 
 REST = """## Definitions on which no clause above rests
 
-Private functions and iterators cite them. Nothing above is true or false by what they say, so whoever reads the statements may pass them over.
+Clauses of private functions cite them, or the model of an iterator (its items `view`, `invariant` and `remaining`). Whoever reads the statements may pass them over.
 
 | File | Definitions |
 |---|---|"""
@@ -368,43 +371,50 @@ def definition_rows(file, listed):
         yield f"| {words} | {comment or f'{whole} (`the file`)'} | {rests} |"
 
 
+def cited_by(made, passed_over):
+    """The definitions that the clauses of these crates cite, but for clauses of these names. With a format, its parts."""
+    found = {}
+    for crate in made:
+        for row in crate.rows.values():
+            for file, name in (it for key, cited in row.items() if key not in passed_over for it in cited):
+                found[file, name] = None
+                if name in definitions(file) and definitions(file)[name].is_format():
+                    found.update((it, None) for it in cites(file)[name] if it[0] == file)
+    return found
+
+
 def page():
     """The text of docs/CLAUSES.md."""
     made = [Crate(it) for it in crates()]
-    direct = {it: None for crate in made for row in crate.rows.values() for found in row.values() for it in found}
-    # A format stands for what it is made of.
-    for file, name in list(direct):
-        if name in definitions(file) and definitions(file)[name].is_format():
-            direct.update((it, None) for it in cites(file)[name] if it[0] == file)
+    direct = cited_by(made, ())
     text = [HEAD]
     for crate in made:
-        folder = f"crates/{crate.name}/specs"
-        files = sorted({file for file, _ in direct if file.startswith(folder + "/")})
         rows = list(call_rows(crate))
-        below = [it for file in files for it in definition_rows(file, {name for of, name in direct if of == file})]
+        below = []
+        for file in spec_files(crate):
+            below += definition_rows(file, {name for of, name in direct if of == file})
         if rows or below:
             text += [f"## {crate.name}", ""]
         if rows:
             text += ["| Call | Source | Clauses, and the definitions that they cite |", "|---|---|---|", *rows, ""]
         if below:
             text += ["| Definition | What it says | Rests on |", "|---|---|---|", *below, ""]
-    return "\n".join([*text, REST, *rest_rows(made, direct)]) + "\n"
+    return "\n".join([*text, REST, *rest_rows(made)]) + "\n"
 
 
-def rest_rows(made, direct):
-    """The rows of the definitions on which no listed clause rests, also not by the words that are not listed."""
-    known = set(rests_on([*direct, *((file, name) for file in spec_files(made) for name in definitions(file)
-                                     if name in VIEW or definitions(file)[name].is_field())]))
-    for file in spec_files(made):
+def rest_rows(made):
+    """The rows of the definitions on which no listed clause rests, and which are no words of `VIEW` and no fields."""
+    files = [file for crate in made for file in spec_files(crate)]
+    plain = [(file, name) for file in files for name, it in definitions(file).items() if name in VIEW or it.is_field()]
+    known = set(rests_on([*cited_by(made, MODEL), *plain]))
+    for file in files:
         left = [f"`{name}`" for name in definitions(file) if (file, name) not in known]
         if left:
             yield f"| `{file}` | {', '.join(left)} |"
 
 
-def spec_files(made):
-    found = []
-    for crate in made:
-        folder = os.path.join(TOP, "crates", crate.name, "specs")
-        names = sorted(it for it in os.listdir(folder) if it.endswith(".antt") and it != "Lib.antt")
-        found += [f"crates/{crate.name}/specs/{it}" for it in names]
-    return found
+def spec_files(crate):
+    """The files of a crate's definitions."""
+    folder = f"crates/{crate.name}/specs"
+    names = sorted(it for it in os.listdir(os.path.join(TOP, folder)) if it.endswith(".antt") and it != "Lib.antt")
+    return [f"{folder}/{it}" for it in names]
