@@ -3,7 +3,8 @@
 `page` makes that page from the sources that `crates.txt` names. What is listed follows from the sources alone:
 
 - a crate that has definitions of its own (`specs/`), in the order of crates.txt, with the modules that its lib.rt or
-  main.rt declares, but those of tests;
+  main.rt declares, but those of tests; a crate on which no other of these is built is a program, or a library that is
+  all of one, and its modules count as public;
 - of these, each public function, and each implementation of a trait for a public type, whose clauses or ghost items
   cite a definition of one of the repository's crates. Fields of a view (definitions of type `Field`) and the words that
   lead from a view to its octets (`VIEW`) are not named, and calls of a type that then have the same clauses share a
@@ -90,14 +91,19 @@ def exists(path):
 
 
 def crates():
-    """The crates of the repository that have definitions, in order."""
-    names = re.findall(r"^(\w+)", read("crates.txt"), flags=re.M)
-    return [it for it in names if os.path.isdir(os.path.join(TOP, "crates", it, "specs"))]
+    """The crates of the repository that have definitions, in order, with those that each is built on."""
+    lines = re.findall(r"^(\w+):(.*)", read("crates.txt"), flags=re.M)
+    return {it: below.split() for it, below in lines if os.path.isdir(os.path.join(TOP, "crates", it, "specs"))}
+
+
+def is_program(crate):
+    """Whether no crate with definitions is built on this one, so that its promises are those of all its modules."""
+    return not any(crate in below for below in crates().values())
 
 
 def modules(crate):
     """The sources of a crate, but for its tests: each with the public modules that lead to it, and the names that these
-    export of it, or None where all of it is public. The modules of a program are taken as public."""
+    export of it, or None where all of it is public. Those of a program are taken as public."""
     roots = [f"crates/{crate}/src/lib.rt", f"crates/{crate}/src/main.rt"]
     root = next(filter(exists, roots), "")
     waiting = [(root, (), None)] if root else []
@@ -110,7 +116,7 @@ def modules(crate):
         below = os.path.dirname(file) if file == root else file[:-3]
         inner, declared = [], r"^(#\[cfg\(test\)\]\n)?(pub )?(?:pub\(\w+\) )?mod (\w+);"
         for test, shown, name in re.findall(declared, text, flags=re.M):
-            shown = exported is None and (shown or root.endswith("main.rt"))
+            shown = exported is None and (shown or is_program(crate))
             if not test and exists(f"{below}/{name}.rt"):
                 inner.append((f"{below}/{name}.rt", (*path, name) if shown else path, None if shown else names))
         waiting[:0] = inner
