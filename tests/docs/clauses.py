@@ -90,9 +90,10 @@ def exists(path):
     return os.path.isfile(os.path.join(TOP, path))
 
 
+@functools.cache
 def crates():
     """The crates of the repository that have definitions, in order, with those that each is built on."""
-    lines = re.findall(r"^(\w+):(.*)", read("crates.txt"), flags=re.M)
+    lines = re.findall(r"^(\w+):?(.*)", read("crates.txt"), flags=re.M)
     return {it: below.split() for it, below in lines if os.path.isdir(os.path.join(TOP, "crates", it, "specs"))}
 
 
@@ -123,8 +124,8 @@ def modules(crate):
 
 
 def imports(text, start):
-    """The definitions that the `use` lines of a text with this start import: by the word that the text has for each, the
-    file and the name. There is no name where the word is that of a whole file."""
+    """The definitions that the `use` lines of a text with this start import: the file and the name, by the word that the
+    text has for each. There is no name where the word is that of a whole file."""
     found = {}
     for use in re.findall(rf"^{start}use Rattle\.([^;\n]*)", text, flags=re.M):
         it = re.match(r"(\w+)\.specs\.(\w+)(?:\.\{([^}]*)\}| as (\w+))$", use.strip())
@@ -378,7 +379,7 @@ def definition_rows(file, listed):
 
 
 def cited_by(made, passed_over):
-    """The definitions that the clauses of these crates cite, but for clauses of these names. With a format, its parts."""
+    """The definitions that the clauses of these crates cite, but for those of these names; with a format, its parts."""
     found = {}
     for crate in made:
         for row in crate.rows.values():
