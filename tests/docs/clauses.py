@@ -124,8 +124,8 @@ def modules(crate):
 
 
 def imports(text, start):
-    """The definitions that the `use` lines of a text with this start import: the file and the name, by the word that the
-    text has for each. There is no name where the word is that of a whole file."""
+    """The definitions that the `use` lines of a text with this start import: the file and the name, by the word that
+    the text has for each. There is no name where the word is that of a whole file."""
     found = {}
     for use in re.findall(rf"^{start}use Rattle\.([^;\n]*)", text, flags=re.M):
         it = re.match(r"(\w+)\.specs\.(\w+)(?:\.\{([^}]*)\}| as (\w+))$", use.strip())
