@@ -13,7 +13,7 @@ use crate::order::Order;
 use crate::packet::Packet;
 use crate::pcap::{self, FileHeader, RecordHeader};
 use crate::pcapng::{self, Head, Interface};
-use crate::reader::fill;
+use crate::reader::read_onto;
 use crate::time::Time;
 use crate::unit::{Taken, read_unit};
 use std::alloc::Global;
@@ -198,11 +198,11 @@ impl Capture {
         ensures count { count_of self.new ≡ count_of self.old }
         ensures fault { IfErr result (λ fault. (fault ≡ Fault.Read) ⊎ (fault ≡ Fault.Memory)) }
     {
-        fill(input, &mut self.octets, pcapng::KIND_LEN)?;
+        read_onto(input, &mut self.octets, pcapng::KIND_LEN)?;
         if pcapng::begins_section(self.octets.as_slice()) {
             return self.read_block(input, Order::Big);
         }
-        fill(input, &mut self.octets, pcap::FILE_HEADER_LEN)?;
+        read_onto(input, &mut self.octets, pcap::FILE_HEADER_LEN)?;
         match FileHeader::parse(self.octets.as_slice()) {
             Ok(header) => {
                 self.stage = Stage::File(header);

@@ -10,7 +10,7 @@ use crate::ending::Fault;
 use std::io::{BufRead, ErrorKind};
 
 /// Reads until there are this many octets, or the input has ended. Does not read where there are enough already.
-pub fn fill<R: BufRead>(input: &mut R, octets: &mut Vec<u8>, count: usize) -> Result<(), Fault>
+pub fn read_onto<R: BufRead>(input: &mut R, octets: &mut Vec<u8>, count: usize) -> Result<(), Fault>
     requires { length octets.old.items ≤ count }
     ensures fills { OnOk result ((taken : List ℕ) × (octets.new.items ≡ octets.old.items ++ taken)
         × Takes (R.remaining input.old) (R.remaining input.new) taken (count - length octets.old.items)) }

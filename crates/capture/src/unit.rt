@@ -6,7 +6,7 @@ ghost use Rattle.capture.specs.Unit.{Form, UnitReads, IfRead};
 
 use crate::ending::{Ending, Fault};
 use crate::order::Order;
-use crate::reader::{fill, look, skip};
+use crate::reader::{look, read_onto, skip};
 use std::io::BufRead;
 
 /// The head of a record or a block, which says how long that is.
@@ -110,7 +110,7 @@ fn read_record_parts<R: BufRead, H: UnitHead>(
     ensures len { IfOk result (λ taken. IfRead taken (λ h. length octets.new.items ≡ H.form.unit_len h)) }
     ensures fault { IfErr result (λ fault. (fault ≡ Fault.Read) ⊎ (fault ≡ Fault.Memory)) }
 {
-    fill(input, octets, H::LEN)?;
+    read_onto(input, octets, H::LEN)?;
     match H::of(order, octets.as_slice()) {
         Ok(head) => read_rest(input, octets, head),
         Err(ending) => Ok(Taken::Ended(ending)),
@@ -142,7 +142,7 @@ fn read_rest<R: BufRead, H: UnitHead>(
         }
         return Ok(Taken::Passed(head));
     }
-    fill(input, octets, len)?;
+    read_onto(input, octets, len)?;
     if octets.as_slice().len() < len {
         return Ok(Taken::Ended(Ending::Cut));
     }

@@ -4,8 +4,8 @@ use Rattle.std.specs.List.{fold}
 use Rattle.dump_captures.specs.Kinds.{reason_place, reason_text}
 use Rattle.dump_captures.specs.Tally.{TallyValue, more_by}
 use Rattle.dump_captures.specs.declared.kind.Reason.{Reason}
-use Rattle.dump_captures.specs.declared.kind.Reason.TheVariants.{Cut, Fragment, Short, Checksum, UnknownType, Quote, Name}
-use Rattle.dump_captures.specs.declared.kind.Reason.TheVariants.{Malformed}
+use Rattle.dump_captures.specs.declared.kind.Reason.TheVariants.{Cut, Fragment, Short, Checksum, UnknownType, Quote}
+use Rattle.dump_captures.specs.declared.kind.Reason.TheVariants.{Name, Malformed}
 use Rattle.dump_captures.specs.declared.tally.UnreadLink.{UnreadLink}
 
 -- in the order of their places

@@ -1,8 +1,8 @@
 //! Why a control packet is refused.
 
 ghost use Rattle.std.specs.Prelude.{◌≡◌, Some};
-ghost use Rattle.dump_captures.specs.Refusals.{early, frame_reason, datagram_reason, udp_reason, icmp4_reason, igmp_reason};
-ghost use Rattle.dump_captures.specs.Refusals.{icmp6_reason, dhcp_reason, dns_reason};
+ghost use Rattle.dump_captures.specs.Refusals.{early, frame_reason, datagram_reason, udp_reason, icmp4_reason};
+ghost use Rattle.dump_captures.specs.Refusals.{igmp_reason, icmp6_reason, dhcp_reason, dns_reason};
 ghost use Rattle.dump_captures.specs.Refusals.{refusal_display, reason_of};
 
 use crate::kind::Reason;

@@ -9,7 +9,8 @@ use Rattle.std.specs.Io.KnownBytes.{Keeps}
 use Rattle.dump_lines.specs.Lines.{before_first}
 use Rattle.dump_lines.specs.Glances.{IsFirst, ShowsFirst}
 use Rattle.dump_lines.proofs.Parts.{strip_last-more}
-use Rattle.dump_lines.specs.Listing.{Shape, line_shape, lines_of, shapes_of, is_known, are_known, LinePrints, LinesPrint}
+use Rattle.dump_lines.specs.Listing.{Shape, line_shape, lines_of, shapes_of, is_known, are_known, LinePrints}
+use Rattle.dump_lines.specs.Listing.{LinesPrint}
 use Rattle.listing.specs.Output.{Gains, GainsSome}
 use Rattle.listing.proofs.Printing.{gains_none, gains_both}
 

@@ -1,6 +1,7 @@
 -- The format of datagrams: a text is read back, what was read is canonical, and bytes have one value.
-use Rattle.std.proofs.Common.{◌≡◌, ◌≢◌, ℕ, ◌+◌, ◌-◌, ◌<◌, ◌≤◌, ◌^◌, Bool, true, false, List, [], ◌∷◌, ◌++◌, length, take}
-use Rattle.std.proofs.Common.{if◌then◌else◌, drop, refl, sym, ap, subst, ◌∙◌, arith, append_assoc, length-append, inl, inr}
+use Rattle.std.proofs.Common.{◌≡◌, ◌≢◌, ℕ, ◌+◌, ◌-◌, ◌<◌, ◌≤◌, ◌^◌, Bool, true, false, List, [], ◌∷◌, ◌++◌}
+use Rattle.std.proofs.Common.{if◌then◌else◌, length, take, drop, refl, sym, ap, subst, ◌∙◌, arith, append_assoc}
+use Rattle.std.proofs.Common.{length-append, inl, inr}
 use Rattle.std.proofs.lemmas.List.{append-nil, take_at, drop_at}
 use Rattle.byteorder.specs.Endian.{big_bytes}
 use Rattle.wirebase.specs.Bytes.{IsBytes, part, splice, over, bytes_of, number_of}
@@ -216,14 +217,16 @@ accepted : (capabilities : ChecksumCapabilities) (addresses : Addresses) (bytes 
     → IsBytes bytes → length bytes ≤ 65515 → Reads capabilities addresses bytes v → IsCanonical v
 accepted capabilities addresses bytes v are small m =
     let whole = m.datagram.whole in
-    let long = ap (λ (l : List ℕ). length l) m.payload_ ∙ length-part bytes 8 (len_in bytes) whole.order whole.total in (
+    let long = ap (λ (l : List ℕ). length l) m.payload_
+    ∙ length-part bytes 8 (len_in bytes) whole.order whole.total in (
       omega (arith, m.datagram.source, number_of-small 0 2 bytes refl are),
       omega (arith, m.datagram.destination, number_of-small 2 4 bytes refl are),
       m.datagram.port,
       omega (arith, long, whole.order, whole.total),
     )
 
-pub udp_format : (capabilities : ChecksumCapabilities) (addresses : Addresses) → IsFormat (format capabilities addresses)
+pub udp_format : (capabilities : ChecksumCapabilities) (addresses : Addresses)
+    → IsFormat (format capabilities addresses)
 udp_format capabilities addresses = record {
   one_value = one_value capabilities addresses;
   reads_back =

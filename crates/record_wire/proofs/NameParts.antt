@@ -147,7 +147,8 @@ late_by_front (whole bytes rest) n reach go (first ∷ more) some h g =
     omega (
       arith,
       h (n + 1) rest reach more g.1,
-      last_behind (record { answer = label bytes; steps = n + 1 } ∷ []) (go (n + 1) rest reach) (some (n + 1) rest reach),
+      last_behind (record { answer = label bytes; steps = n + 1 } ∷ [])
+          (go (n + 1) rest reach) (some (n + 1) rest reach),
     )
 late_by_front (pointer target) n reach go more some h g =
     late_by (ltb target (length reach)) n (go (n + 1) (drop target reach) (take target reach)) more g
@@ -362,7 +363,8 @@ no_name_more text message octets left reach pointers target so e l most labels n
     let next = pointer_read text message octets left reach pointers target so e l in
     omega (
       arith,
-      pointers_read text message octets (drop target reach) (take target reach) (pointers + 1) next labels names.name_.is,
+      pointers_read text message octets (drop target reach) (take target reach) (pointers + 1) next labels
+          names.name_.is,
       names.name_.few,
       most,
     )

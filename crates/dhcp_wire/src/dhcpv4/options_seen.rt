@@ -40,7 +40,7 @@ pub(super) struct OptionsSeen<'a> {
 impl<'a> OptionsSeen<'a> {
     // Notes all options of a packet, where none was noted before. Refused where one is a client identifier of another
     // hardware.
-    pub(super) fn note_all(&mut self, packet: &Packet<&'a [u8]>) -> Result<()>
+    pub(super) fn add_all(&mut self, packet: &Packet<&'a [u8]>) -> Result<()>
         requires room { Reaches magic_field (inner packet.now).now }
         requires fresh { kept_of self.old ≡ nothing }
         ensures found { OnOk result (kept_of self.new
@@ -56,7 +56,7 @@ impl<'a> OptionsSeen<'a> {
             if !is_of_ethernet(option) {
                 return Err(Error);
             }
-            self.note(option.kind, option.data, op);
+            self.add(option.kind, option.data, op);
         }
         Ok(())
     }
@@ -64,7 +64,7 @@ impl<'a> OptionsSeen<'a> {
     // Notes one more option, of a packet with this operation. Never inlined into the loop; by `&mut self`, so that the
     // value is not copied.
     #[inline(never)]
-    fn note(&mut self, kind: u8, body: &'a [u8], op: u8)
+    fn add(&mut self, kind: u8, body: &'a [u8], op: u8)
         ensures kept { kept_of self.new ≡ keep op (kept_of self.old) (option kind body.now) }
         ensures header { bare (value_of self.new.repr) ≡ bare (value_of self.old.repr) }
     {

@@ -108,7 +108,8 @@ returns-in-Label-clause-told c =
     let next = at_labels c.args.bytes.now c.args.message.now c.loop-octets.octets.items c.loop-octets.left.now
     c.loop-octets.reach.now c.loop-octets.pointers _ c.loop-octets.invariant c.read_labels-len.ensures.labels _
     (c.in-Ok.ensures.room.0 refl) c.in-Ok.ensures.pushes in
-    let far = subst (λ front. EndsTooFar c.read_labels-len.result.0 front) c.in-Label.is c.read_labels-len.ensures.far in
+    let far = subst (λ front. EndsTooFar c.read_labels-len.result.0 front)
+    c.in-Label.is c.read_labels-len.ensures.far in
     label_long _ _ _ _ _ c.in-Label.field-0.now c.in-Label.field-1.now _ next
     (ap shown (sym c.in-Label.is) ∙ c.read_labels-len.ensures.behind)
     (omega (
@@ -133,7 +134,8 @@ returns-in-Torn-clause-told c =
     c.loop-octets.reach.now c.loop-octets.pointers _ c.loop-octets.invariant c.read_labels-len.ensures.labels _
     (c.in-Ok.ensures.room.0 refl) c.in-Ok.ensures.pushes in
     part_refused _ _ _ _ _ _ _ next (ap shown (sym c.in-Torn.is) ∙ c.read_labels-len.ensures.behind)
-    (subst (λ (l : List ℕ). IsNoPart l c.why_torn.result) (drop_whole c.read_labels-len.result.0 c.loop-octets.left.now) c.why_torn.ensures)
+    (subst (λ (l : List ℕ). IsNoPart l c.why_torn.result)
+    (drop_whole c.read_labels-len.result.0 c.loop-octets.left.now) c.why_torn.ensures)
 
 pub why_torn-requires : goal.why_torn-requires
 why_torn-requires c =

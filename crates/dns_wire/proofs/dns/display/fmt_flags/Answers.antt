@@ -20,7 +20,8 @@ one_set : (done front none all : List ℕ) (names : List (Bor (List ℕ) × ℕ)
     ++ names_set (codes ",") [] (rows (take (length names - 1) (drop 1 names))) bits ≡ all
 one_set done front none all [] bits some set is = absurd (omega (arith, some))
 one_set done front none all (row ∷ rest) bits some set is =
-    let whole : take (length (row ∷ rest) - 1) (drop 1 (row ∷ rest)) ≡ rest = simp unary_clauses (take_all (length rest) rest (omega arith)) in
+    let whole : take (length (row ∷ rest) - 1) (drop 1 (row ∷ rest)) ≡ rest =
+    simp unary_clauses (take_all (length rest) rest (omega arith)) in
     let step : names_set front none (rows (row ∷ rest)) bits
     ≡ front ++ row.0.now ++ names_set (codes ",") [] (rows rest) bits = rw (ne_eqb (bit_and bits row.1) 0 set) refl in
     subst (λ names. (done ++ (front ++ row.0.now)) ++ names_set (codes ",") [] (rows names) bits ≡ all) (sym whole)

@@ -8,13 +8,13 @@ use Rattle.dhcp_wire.proofs.Dhcpv4Kept.{made-of-found, packet-made, packet-typed
 use Rattle.dhcp_wire.proofs.Dhcpv4Laws.{dhcp_format}
 use Rattle.dhcp_wire.proofs.dhcpv4.repr.Repr.parse.Goals as goal
 
-pub returns-in_err-note_all-clause-complete : goal.returns-in_err-note_all-clause-complete
-returns-in_err-note_all-clause-complete c value p =
-    absurd (c.in_err-note_all.ensures.refused (good_options (inner c.args.packet.now).now value p))
+pub returns-in_err-add_all-clause-complete : goal.returns-in_err-add_all-clause-complete
+returns-in_err-add_all-clause-complete c value p =
+    absurd (c.in_err-add_all.ensures.refused (good_options (inner c.args.packet.now).now value p))
 
 pub returns-in_default-clause-complete : goal.returns-in_default-clause-complete
 returns-in_default-clause-complete c value p =
-    let none = sym c.in_default.is ∙ ap (λ (k : Kept). k.message_type) c.in_ok-note_all.ensures.found
+    let none = sym c.in_default.is ∙ ap (λ (k : Kept). k.message_type) c.in_ok-add_all.ensures.found
     ∙ packet-typed (inner c.args.packet.now).now value p in
     cc
 
@@ -22,12 +22,12 @@ pub returns-clause-sound : goal.returns-clause-sound
 returns-clause-sound c =
     let bytes = (inner c.args.packet.now).now in
     let t = c.in-Some.message_type in
-    let v : Value = record (value_of c.note_all.new.self.repr) { message_type = t } in
-    let found = c.in_ok-note_all.ensures.found in
-    packet-made bytes t v (c.in_ok-check_header.ensures.0 refl) c.in_ok-note_all.ensures.accepted
+    let v : Value = record (value_of c.add_all.new.self.repr) { message_type = t } in
+    let found = c.in_ok-add_all.ensures.found in
+    packet-made bytes t v (c.in_ok-check_header.ensures.0 refl) c.in_ok-add_all.ensures.accepted
     (sym (ap (λ (k : Kept). k.message_type) found) ∙ c.in-Some.is)
     (subst (λ (k : Kept). IsMadeOf bytes t k v) found
-    (made-of-found bytes t (value_of c.of.result) c.note_all.new.self c.of.ensures.header c.note_all.ensures.header))
+    (made-of-found bytes t (value_of c.of.result) c.add_all.new.self c.of.ensures.header c.add_all.ensures.header))
 
 pub returns-clause-complete : goal.returns-clause-complete
 returns-clause-complete c value p = packet-unique (inner c.args.packet.now).now _ value (returns-clause-sound c) p

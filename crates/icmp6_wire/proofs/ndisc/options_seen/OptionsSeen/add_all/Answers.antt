@@ -3,7 +3,7 @@ use Rattle.std.proofs.lemmas.Bool.{eqb-true, eqb-false}
 use Rattle.std.proofs.lemmas.List.{nil_from_length}
 use Rattle.icmp6_wire.specs.NdiscOptionsSeen.{kept_of}
 use Rattle.icmp6_wire.proofs.NdiscTiling.{front_lacks, blocks_behind, says_more, says_all}
-use Rattle.icmp6_wire.proofs.ndisc.options_seen.OptionsSeen.note_all.Goals as goal
+use Rattle.icmp6_wire.proofs.ndisc.options_seen.OptionsSeen.add_all.Goals as goal
 
 pub returns-in_err-block-clause-reads : goal.returns-in_err-block-clause-reads
 returns-in_err-block-clause-reads c = λ options blocks.
@@ -20,7 +20,7 @@ loop-rest-preserved c =
     let parts = c.in_ok-block.ensures.sound in
     record {
       said = says_more c.args.payload.now rest block behind (kept_of c.loop-rest.self)
-          (kept_of c.note_block.new.self) parts.0 parts.1 c.note_block.ensures c.loop-rest.invariant.said;
+          (kept_of c.add_block.new.self) parts.0 parts.1 c.add_block.ensures c.loop-rest.invariant.said;
       tiled = λ options blocks.
           let has = c.loop-rest.invariant.tiled options blocks in
           blocks_behind rest block behind has.options parts.0 parts.1 has.tiling;

@@ -10,7 +10,7 @@ use Rattle.dhcp_wire.specs.Dhcpv4Packet.{inner, op_field, options_in}
 use Rattle.dhcp_wire.specs.Dhcpv4Tables.{opcode_number}
 use Rattle.dhcp_wire.proofs.Dhcpv4Kept.{opcode_back}
 use Rattle.dhcp_wire.proofs.Dhcpv4Lists.{list-options}
-use Rattle.dhcp_wire.proofs.dhcpv4.options_seen.OptionsSeen.note_all.Goals as goal
+use Rattle.dhcp_wire.proofs.dhcpv4.options_seen.OptionsSeen.add_all.Goals as goal
 
 pub loop-option-init : goal.loop-option-init
 loop-option-init c =
@@ -44,8 +44,8 @@ loop-option-preserved c =
     let steps = c.in-Some.ensures.steps in
     let same : c.into-op.result ≡ op = c.into-op.ensures ∙ ap opcode_number c.opcode.ensures ∙ opcode_back op in
     record {
-      header = c.note.ensures.header ∙ c.loop-option.invariant.header;
-      kept = ap (λ (l : Kept). keep_all (keep op) l rest) (c.note.ensures.kept ∙ ap (λ (n : ℕ). keep n k o) same)
+      header = c.add.ensures.header ∙ c.loop-option.invariant.header;
+      kept = ap (λ (l : Kept). keep_all (keep op) l rest) (c.add.ensures.kept ∙ ap (λ (n : ℕ). keep n k o) same)
           ∙ sym (keep_all-more (keep op) k o rest) ∙ ap (λ (os : List OptionValue). keep_all (keep op) k os) (sym steps)
           ∙ c.loop-option.invariant.kept;
       good = λ h. c.loop-option.invariant.good

@@ -3,7 +3,7 @@ use Rattle.wirebase.specs.LastOf.{keep_all}
 use Rattle.opt_wire.specs.NdiscOptionRepr.{OptionValue}
 use Rattle.icmp6_wire.specs.NdiscBlocks.{AreBlocks}
 use Rattle.icmp6_wire.specs.NdiscOptionsSeen.{kept_of, keep, Says, HasBlocks}
-use Rattle.icmp6_wire.proofs.ndisc.options_seen.OptionsSeen.note_all.Given as goal
+use Rattle.icmp6_wire.proofs.ndisc.options_seen.OptionsSeen.add_all.Given as goal
 
 -- the options to come, kept too, are all that the payload says; and what is left is blocks, where all is
 abbrev pub invariant-loop-rest : goal.invariant-loop-rest

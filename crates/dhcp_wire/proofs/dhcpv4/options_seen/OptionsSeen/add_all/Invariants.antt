@@ -5,7 +5,7 @@ use Rattle.dhcp_wire.specs.Dhcpv4.{AreOfEthernet, value_of}
 use Rattle.dhcp_wire.specs.Dhcpv4OptionsSeen.{kept_of, bare, nothing, keep}
 use Rattle.dhcp_wire.specs.Dhcpv4OptionsAhead.{list_of}
 use Rattle.dhcp_wire.specs.Dhcpv4Packet.{inner, op_field, options_in}
-use Rattle.dhcp_wire.proofs.dhcpv4.options_seen.OptionsSeen.note_all.Given as goal
+use Rattle.dhcp_wire.proofs.dhcpv4.options_seen.OptionsSeen.add_all.Given as goal
 
 -- doing the rest gives the result of doing the whole
 abbrev pub invariant-loop-option : goal.invariant-loop-option

@@ -1,7 +1,7 @@
 -- The parts are taken in turn.
 use Rattle.std.proofs.Common.{◌≡◌, ◌-◌, arith, ap, subst, length}
 use Rattle.capture.proofs.Reading.{takes-none, so_far-init, so_far-more, so_far-ended}
-use Rattle.capture.proofs.reader.fill.Goals as goal
+use Rattle.capture.proofs.reader.read_onto.Goals as goal
 
 pub returns-then-as_slice-count-clause-fills : goal.returns-then-as_slice-count-clause-fills
 returns-then-as_slice-count-clause-fills g c =

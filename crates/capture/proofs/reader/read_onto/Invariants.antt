@@ -1,6 +1,6 @@
 -- Some bytes were taken.
 use Rattle.capture.proofs.Reading.{SoFar}
-use Rattle.capture.proofs.reader.fill.Given as goal
+use Rattle.capture.proofs.reader.read_onto.Given as goal
 
 abbrev pub invariant-parts : goal.invariant-parts
 invariant-parts g l =
