@@ -3,7 +3,7 @@ use Rattle.std.specs.Prelude.{ℕ, ◌==◌, ◌||◌, ◌&&◌, not, nat_lt, Bo
 use Rattle.std.specs.Prelude.{length, get_or, map, codes, bytes_eq, string_bytes, Option, None, Some, Result, Ok, Err}
 use Rattle.std.specs.List.{fold, slice_split}
 use Rattle.std.specs.Option.{ok_or, option_and_then}
-use Rattle.dump_captures.specs.Kinds.{kind_place, kind_text}
+use Rattle.dump_captures.specs.Kinds.{kinds, kind_place, kind_text}
 use Rattle.dump_captures.specs.Tally.{changed_at}
 use Rattle.dump_captures.specs.declared.arguments.Reading.{Reading}
 use Rattle.dump_captures.specs.declared.arguments.Step.{Step}
@@ -13,7 +13,6 @@ use Rattle.dump_captures.specs.declared.arguments.Task.TheVariants as task
 use Rattle.dump_captures.specs.declared.arguments.Wrong.{Wrong}
 use Rattle.dump_captures.specs.declared.arguments.Wrong.TheVariants.{UnknownOption, UnknownKind, MissingList, NotText}
 use Rattle.dump_captures.specs.declared.kind.Kind.{Kind}
-use Rattle.dump_captures.specs.declared.kind.Kind.TheVariants.{Icmp4, Igmp, Icmp6, Dns, Mdns, Dhcp, Frame}
 use Rattle.dump_captures.specs.declared.options.Only.{Only}
 use Rattle.dump_captures.specs.declared.options.Options.{Options}
 
@@ -22,23 +21,20 @@ use Rattle.dump_captures.specs.declared.options.Options.{Options}
 abbrev pub is_named : List ℕ → Kind → Bool
 is_named name kind = bytes_eq name (kind_text kind)
 
+-- the first of these kinds that has this name
+abbrev pub first_named : List ℕ → List Kind → Option Kind
+first_named name [] = None
+first_named name (kind ∷ rest) = if is_named name kind then Some kind else first_named name rest
+
 -- the kind of a name, none where it is no kind's
 abbrev pub kind_named : List ℕ → Option Kind
-kind_named name =
-    if is_named name Icmp4 then Some Icmp4
-    else if is_named name Igmp then Some Igmp
-    else if is_named name Icmp6 then Some Icmp6
-    else if is_named name Dns then Some Dns
-    else if is_named name Mdns then Some Mdns
-    else if is_named name Dhcp then Some Dhcp
-    else if is_named name Frame then Some Frame
-    else None
+kind_named name = first_named name kinds
 
 -- ---- the packets that a list of names chooses
 
 abbrev pub chooses_none : Only
 chooses_none = record {
-  kinds = false ∷ false ∷ false ∷ false ∷ false ∷ false ∷ false ∷ [];
+  kinds = map (λ _. false) kinds;
   hop_by_hop = false;
 }
 
@@ -111,7 +107,7 @@ abbrev pub nothing_read : ReadingValue
 nothing_read = record {
   options = record {
     only = record {
-      kinds = true ∷ true ∷ true ∷ true ∷ true ∷ true ∷ true ∷ [];
+      kinds = map (λ _. true) kinds;
       hop_by_hop = true;
     };
     prints = true;

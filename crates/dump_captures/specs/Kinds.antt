@@ -1,5 +1,5 @@
 -- The kinds of control packets, which datagrams are of which kind, and the reasons for which a packet is refused.
-use Rattle.std.specs.Prelude.{ℕ, ◌==◌, ◌||◌, ◌&&◌, Bool, if◌then◌else◌, List, codes, Option, None, Some}
+use Rattle.std.specs.Prelude.{ℕ, ◌==◌, ◌||◌, ◌&&◌, Bool, if◌then◌else◌, List, [], ◌∷◌, codes, Option, None, Some}
 use Rattle.wirebase.specs.declared.ip.IpProtocol.{IpProtocol}
 use Rattle.wirebase.specs.declared.ip.IpProtocol.TheVariants.{HopByHop, Icmp, Igmp, Udp, Ipv6Route, Ipv6Frag, Icmpv6}
 use Rattle.wirebase.specs.declared.ip.IpProtocol.TheVariants.{Ipv6Opts}
@@ -19,7 +19,12 @@ kind_text kind.Mdns = codes "mdns"
 kind_text kind.Dhcp = codes "dhcp"
 kind_text kind.Frame = codes "frame"
 
--- their order in tables
+-- the order in tables
+abbrev pub kinds : List Kind
+kinds =
+    kind.Icmp4 ∷ kind.Igmp ∷ kind.Icmp6 ∷ kind.Dns ∷ kind.Mdns ∷ kind.Dhcp ∷ kind.Frame ∷ []
+
+-- the place of each in that order
 abbrev pub kind_place : Kind → ℕ
 kind_place kind.Icmp4 = 0
 kind_place kind.Igmp = 1
@@ -76,7 +81,13 @@ reason_text reason.Quote = codes "quote"
 reason_text reason.Name = codes "name"
 reason_text reason.Malformed = codes "malformed"
 
--- their order in tables
+-- the order in tables
+abbrev pub reasons : List Reason
+reasons =
+    reason.Cut ∷ reason.Fragment ∷ reason.Short ∷ reason.Checksum ∷ reason.UnknownType ∷ reason.Quote ∷ reason.Name
+    ∷ reason.Malformed ∷ []
+
+-- the place of each in that order
 abbrev pub reason_place : Reason → ℕ
 reason_place reason.Cut = 0
 reason_place reason.Fragment = 1

@@ -1,16 +1,10 @@
 -- The line that sums up a capture.
 use Rattle.std.specs.Prelude.{ℕ, ◌==◌, if◌then◌else◌, List, [], ◌∷◌, ◌++◌, get_or, codes, decimal, flat_map}
 use Rattle.std.specs.List.{fold}
-use Rattle.dump_captures.specs.Kinds.{reason_place, reason_text}
+use Rattle.dump_captures.specs.Kinds.{reasons, reason_place, reason_text}
 use Rattle.dump_captures.specs.Tally.{TallyValue, more_by}
 use Rattle.dump_captures.specs.declared.kind.Reason.{Reason}
-use Rattle.dump_captures.specs.declared.kind.Reason.TheVariants.{Cut, Fragment, Short, Checksum, UnknownType, Quote}
-use Rattle.dump_captures.specs.declared.kind.Reason.TheVariants.{Name, Malformed}
 use Rattle.dump_captures.specs.declared.tally.UnreadLink.{UnreadLink}
-
--- in the order of their places
-abbrev pub reasons : List Reason
-reasons = Cut ∷ Fragment ∷ Short ∷ Checksum ∷ UnknownType ∷ Quote ∷ Name ∷ Malformed ∷ []
 
 -- ---- how many packets
 

@@ -1,18 +1,21 @@
 -- The table of counts.
 use Rattle.std.specs.Prelude.{ℕ, ◌||◌, false, if◌then◌else◌, List, [], ◌++◌, get_or}
 use Rattle.std.specs.Prelude.{codes, decimal, flat_map}
-use Rattle.dump_captures.specs.Kinds.{kind_text, kind_place}
+use Rattle.dump_captures.specs.Kinds.{kinds, kind_text, kind_place, reasons, reason_text}
 use Rattle.dump_captures.specs.Tally.{TallyValue, no_row}
 use Rattle.dump_captures.specs.declared.kind.Kind.{Kind}
-use Rattle.dump_captures.specs.declared.kind.Kind.TheVariants as kind
 use Rattle.dump_captures.specs.declared.options.Only.{Only}
 use Rattle.dump_captures.specs.declared.tally.Row.{Row}
 
 -- ---- the table
 
+-- the names of the reasons, each after a tab
+abbrev pub reason_names : List ℕ
+reason_names = flat_map (λ reason. codes "\t" ++ reason_text reason) reasons
+
 -- the names of the columns, with tabs between them
 abbrev pub head_text : List ℕ
-head_text = codes "kind\tlisted\tcut\tfragment\tshort\tchecksum\ttype\tquote\tname\tmalformed\toctets\n"
+head_text = codes "kind\tlisted" ++ reason_names ++ codes "\toctets\n"
 
 -- numbers, each after a tab
 abbrev pub with_tabs : List ℕ → List ℕ
@@ -30,8 +33,9 @@ chosen_text only rows kind =
     then row_text kind (get_or rows (kind_place kind) no_row)
     else []
 
+-- the rows of all kinds, in their order
+abbrev pub rows_text : Only → TallyValue → List ℕ
+rows_text only t = flat_map (chosen_text only t.rows) kinds
+
 unfoldable pub table_text : Only → TallyValue → List ℕ
-table_text only t =
-    head_text ++ chosen_text only t.rows kind.Icmp4 ++ chosen_text only t.rows kind.Igmp
-    ++ chosen_text only t.rows kind.Icmp6 ++ chosen_text only t.rows kind.Dns ++ chosen_text only t.rows kind.Mdns
-    ++ chosen_text only t.rows kind.Dhcp ++ chosen_text only t.rows kind.Frame
+table_text only t = head_text ++ rows_text only t

@@ -215,14 +215,10 @@ fn with_name(only: Only, name: &str) -> Option<Only>
 fn kind_of(name: &str) -> Option<Kind>
     ensures { result ≡ kind_named name.now }
 {
-    match name {
-        "icmp4" => Some(Kind::Icmp4),
-        "igmp" => Some(Kind::Igmp),
-        "icmp6" => Some(Kind::Icmp6),
-        "dns" => Some(Kind::Dns),
-        "mdns" => Some(Kind::Mdns),
-        "dhcp" => Some(Kind::Dhcp),
-        "frame" => Some(Kind::Frame),
-        _ => None,
+    for kind in &Kind::ALL {
+        if name == kind.name() {
+            return Some(*kind);
+        }
     }
+    None
 }

@@ -29,6 +29,17 @@ pub enum Kind {
 }
 
 impl Kind {
+    /// All kinds, in the order of tables.
+    pub const ALL: [Kind; KINDS] = [
+        Kind::Icmp4,
+        Kind::Igmp,
+        Kind::Icmp6,
+        Kind::Dns,
+        Kind::Mdns,
+        Kind::Dhcp,
+        Kind::Frame,
+    ];
+
     /// The name.
     pub fn name(self) -> &'static str
         ensures { result.now ≡ kind_text self }
@@ -44,20 +55,12 @@ impl Kind {
         }
     }
 
-    /// The index in tables, from 0 on.
+    /// The index in `ALL`, from 0 on.
     pub fn place(self) -> usize
         ensures value { result ≡ kind_place self }
         ensures bound { result < 7 }
     {
-        match self {
-            Kind::Icmp4 => 0,
-            Kind::Igmp => 1,
-            Kind::Icmp6 => 2,
-            Kind::Dns => 3,
-            Kind::Mdns => 4,
-            Kind::Dhcp => 5,
-            Kind::Frame => 6,
-        }
+        self as usize
     }
 }
 
@@ -83,6 +86,18 @@ pub enum Reason {
 }
 
 impl Reason {
+    /// All reasons, in the order of tables.
+    pub const ALL: [Reason; REASONS] = [
+        Reason::Cut,
+        Reason::Fragment,
+        Reason::Short,
+        Reason::Checksum,
+        Reason::UnknownType,
+        Reason::Quote,
+        Reason::Name,
+        Reason::Malformed,
+    ];
+
     /// The name.
     pub fn name(self) -> &'static str
         ensures { result.now ≡ reason_text self }
@@ -99,20 +114,11 @@ impl Reason {
         }
     }
 
-    /// The index in tables, from 0 on.
+    /// The index in `ALL`, from 0 on.
     pub fn place(self) -> usize
         ensures value { result ≡ reason_place self }
         ensures bound { result < 8 }
     {
-        match self {
-            Reason::Cut => 0,
-            Reason::Fragment => 1,
-            Reason::Short => 2,
-            Reason::Checksum => 3,
-            Reason::UnknownType => 4,
-            Reason::Quote => 5,
-            Reason::Name => 6,
-            Reason::Malformed => 7,
-        }
+        self as usize
     }
 }

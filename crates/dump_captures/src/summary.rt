@@ -9,23 +9,11 @@ ghost use Rattle.dump_captures.specs.Summary.{listed_in, refused_for, refused_in
 ghost use Rattle.dump_captures.specs.Summary.{summary_text, reasons_text, link_text, links_text, further_text};
 ghost use Rattle.dump_captures.specs.Tally.{tally_of};
 
-use crate::kind::{REASONS, Reason};
+use crate::kind::Reason;
 use crate::tally::{Tally, UnreadLink};
 use listing::printer::Value;
 use std::io;
 use std::io::Write;
-
-// The reasons, in the order of their places.
-const EACH: [Reason; REASONS] = [
-    Reason::Cut,
-    Reason::Fragment,
-    Reason::Short,
-    Reason::Checksum,
-    Reason::UnknownType,
-    Reason::Quote,
-    Reason::Name,
-    Reason::Malformed,
-];
 
 /// Writes the line, without a line's end, as
 /// `5 packets, 2 listed, 1 refused (1 cut), 1 of other protocols, 3 of link 147`.
@@ -75,7 +63,7 @@ fn all_refused(tally: &Tally) -> u64
     ensures { result ≡ refused_in (tally_of tally.now) }
 {
     let mut count: u64 = 0;
-    for reason in &EACH {
+    for reason in &Reason::ALL {
         count = count.saturating_add(refused(tally, *reason));
     }
     count
@@ -87,7 +75,7 @@ fn write_reasons<W: Write>(output: &mut W, tally: &Tally) -> io::Result<()>
         (reasons_text (tally_of tally.now))) }
 {
     let mut is_first = true;
-    for reason in &EACH {
+    for reason in &Reason::ALL {
         let count = refused(tally, *reason);
         if count == 0 {
             continue;

@@ -4,33 +4,55 @@
 
 ghost use Rattle.std.specs.Prelude.{◌≡◌, OnOk};
 ghost use Rattle.listing.specs.Output.{Gains};
-ghost use Rattle.dump_captures.specs.Table.{table_text, chosen_text, row_text, with_tabs};
+ghost use Rattle.dump_captures.specs.Table.{table_text, head_text, reason_names, rows_text, chosen_text, row_text};
+ghost use Rattle.dump_captures.specs.Table.{with_tabs};
 ghost use Rattle.dump_captures.specs.Tally.{tally_of};
 
-use crate::kind::Kind;
+use crate::kind::{Kind, Reason};
 use crate::options::Only;
 use crate::tally::{Row, Tally};
 use listing::printer::Value;
 use std::io;
 use std::io::Write;
 
-// The names of the columns.
-const HEAD: &[u8] =
-    b"kind\tlisted\tcut\tfragment\tshort\tchecksum\ttype\tquote\tname\tmalformed\toctets\n";
-
 /// Prints the table of counts: a row for each kind of packets that may be chosen.
 pub fn show_table<W: Write>(output: &mut W, only: &Only, tally: &Tally) -> io::Result<()>
     ensures { OnOk result (Gains (W.contents output.old) (W.contents output.new)
         (table_text only.now (tally_of tally.now))) }
 {
-    output.write_all(HEAD)?;
-    show_chosen(output, only, tally, Kind::Icmp4)?;
-    show_chosen(output, only, tally, Kind::Igmp)?;
-    show_chosen(output, only, tally, Kind::Icmp6)?;
-    show_chosen(output, only, tally, Kind::Dns)?;
-    show_chosen(output, only, tally, Kind::Mdns)?;
-    show_chosen(output, only, tally, Kind::Dhcp)?;
-    show_chosen(output, only, tally, Kind::Frame)
+    show_head(output)?;
+    show_rows(output, only, tally)
+}
+
+// Prints the names of the columns.
+fn show_head<W: Write>(output: &mut W) -> io::Result<()>
+    ensures { OnOk result (Gains (W.contents output.old) (W.contents output.new) head_text) }
+{
+    output.write_all(b"kind\tlisted")?;
+    show_reasons(output)?;
+    output.write_all(b"\toctets\n")
+}
+
+// Prints the names of the reasons, each after a tab.
+fn show_reasons<W: Write>(output: &mut W) -> io::Result<()>
+    ensures { OnOk result (Gains (W.contents output.old) (W.contents output.new) reason_names) }
+{
+    for reason in &Reason::ALL {
+        output.write_all(b"\t")?;
+        reason.name().write_to(output)?;
+    }
+    Ok(())
+}
+
+// Prints the rows of all kinds.
+fn show_rows<W: Write>(output: &mut W, only: &Only, tally: &Tally) -> io::Result<()>
+    ensures { OnOk result (Gains (W.contents output.old) (W.contents output.new)
+        (rows_text only.now (tally_of tally.now))) }
+{
+    for kind in &Kind::ALL {
+        show_chosen(output, only, tally, *kind)?;
+    }
+    Ok(())
 }
 
 // Prints the row of a kind, where packets of it may be chosen.

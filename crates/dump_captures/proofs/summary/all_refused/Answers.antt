@@ -1,6 +1,7 @@
 -- Each turn adds the packets of one reason more.
 use Rattle.std.proofs.Common.{arith}
-use Rattle.dump_captures.specs.Summary.{reasons, refused_for, refused_in}
+use Rattle.dump_captures.specs.Kinds.{reasons}
+use Rattle.dump_captures.specs.Summary.{refused_for, refused_in}
 use Rattle.dump_captures.specs.Tally.{tally_of}
 use Rattle.dump_captures.specs.declared.kind.Reason.TheVariants.{Cut}
 use Rattle.dump_captures.proofs.Summaries.{sum_more, sum_all}

@@ -1,6 +1,7 @@
 -- The packets of the reasons so far.
 use Rattle.std.proofs.Common.{◌≡◌, take}
-use Rattle.dump_captures.specs.Summary.{reasons, refused_for, sum_up}
+use Rattle.dump_captures.specs.Kinds.{reasons}
+use Rattle.dump_captures.specs.Summary.{refused_for, sum_up}
 use Rattle.dump_captures.specs.Tally.{tally_of}
 use Rattle.dump_captures.proofs.summary.all_refused.Given as goal
 

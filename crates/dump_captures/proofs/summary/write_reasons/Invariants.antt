@@ -1,7 +1,7 @@
 -- The reasons so far, and whether none was printed.
 use Rattle.std.proofs.Common.{◌≡◌}
 use Rattle.listing.specs.Output.{Gains}
-use Rattle.dump_captures.specs.Summary.{reasons}
+use Rattle.dump_captures.specs.Kinds.{reasons}
 use Rattle.dump_captures.specs.Tally.{tally_of}
 use Rattle.dump_captures.proofs.Summaries.{is_none, opened, parts_so_far}
 use Rattle.dump_captures.proofs.summary.write_reasons.Given as goal

@@ -1,0 +1,27 @@
+-- The first of the kinds that are left is compared, or none is left.
+use Rattle.std.proofs.Common.{refl, ap, sym, ◌∙◌, add-one, arith}
+use Rattle.std.proofs.lemmas.List.{drop_all}
+use Rattle.dump_captures.specs.Arguments.{first_named}
+use Rattle.dump_captures.specs.Kinds.{kinds}
+use Rattle.dump_captures.specs.declared.kind.Kind.TheVariants.{Icmp4}
+use Rattle.dump_captures.proofs.Names.{first-named, first-other}
+use Rattle.dump_captures.proofs.arguments.kind_of.Goals as goal
+
+pub loop-kind-init : goal.loop-kind-init
+loop-kind-init c = refl
+
+pub returns-then-name-eq-name : goal.returns-then-name-eq-name
+returns-then-name-eq-name c =
+    sym (c.loop-kind.invariant ∙ first-named c.args.name.now kinds c.loop-kind.kind-index Icmp4 c.loop-kind-test.true
+    (sym c.eq.ensures ∙ c.if-name-eq-name.true))
+
+pub loop-kind-preserved : goal.loop-kind-preserved
+loop-kind-preserved c =
+    rw (add-one c.loop-kind.kind-index)
+    (c.loop-kind.invariant ∙ first-other c.args.name.now kinds c.loop-kind.kind-index Icmp4 c.loop-kind-test.true
+    (sym c.eq.ensures ∙ c.if-name-eq-name.false))
+
+pub returns : goal.returns
+returns c =
+    sym (c.loop-kind.invariant ∙ ap (first_named c.args.name.now)
+    (drop_all c.loop-kind.kind-index kinds (omega (arith, c.loop-kind-test.false))))
