@@ -8,7 +8,7 @@ use Rattle.std.specs.Prelude.{nat_le, if◌then◌else◌}
 use Rattle.std.specs.Io.BufRead.{strip_last}
 use Rattle.dump_lines.specs.Lines.{are_short, words_in}
 use Rattle.dump_lines.specs.Listing.{bad, shape_of, line_shape}
-use Rattle.dump_lines.specs.Reading.{IsFront}
+use Rattle.dump_lines.specs.PartialLines.{IsFront}
 use Rattle.dump_lines.proofs.Parts.{Free, strip_last-append, length-strip_last, All-strip_last}
 use Rattle.dump_lines.proofs.Parts.{words_in-append, words_in-free, words_in-word}
 

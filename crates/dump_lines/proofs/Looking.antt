@@ -5,7 +5,7 @@ use Rattle.std.proofs.Common.{length-append}
 use Rattle.std.proofs.lemmas.List.{take_more}
 use Rattle.std.specs.Io.KnownBytes.{Consumes}
 use Rattle.std.specs.Io.BufRead.{strip_last, take_through, drop_through}
-use Rattle.dump_lines.specs.Glances.{IsFirst}
+use Rattle.dump_lines.specs.BufferedLines.{IsFirst}
 use Rattle.dump_lines.specs.Listing.{Shape, line_shape}
 use Rattle.dump_lines.proofs.Taking.{lf_ends}
 

@@ -12,7 +12,7 @@ use Rattle.std.specs.Prelude.{◌==◌, ◌||◌, ◌⊎◌, nat_lt, if◌then�
 use Rattle.std.specs.Io.KnownBytes.{Consumes, IsAtEnd}
 use Rattle.std.specs.Io.BufRead.{strip_last, take_through, drop_through}
 use Rattle.dump_lines.specs.Listing.{Shape, bad, line_shape}
-use Rattle.dump_lines.specs.Reading.{IsFresh, IsFront, IsKept, NextLine, Takes, TakesPart, shape_from}
+use Rattle.dump_lines.specs.PartialLines.{IsFresh, IsFront, IsKept, NextLine, Takes, TakesPart, shape_from}
 use Rattle.dump_lines.specs.declared.partial_line.Line.{Line}
 use Rattle.dump_lines.proofs.Keeping.{both_bad, spaces_skipped, front_bad, front_more, long_bad}
 use Rattle.dump_lines.proofs.Parts.{Free, strip_last-append, strip_last-free}
@@ -101,10 +101,10 @@ module _ (line : Line) (is : IsKept line) where
     free = All-nil (λ octet. octet ≢ 32);
     few = omega (arith, is.few, few, words);
     short = omega arith;
-    room = omega (
+    packet_buffer = omega (
       arith,
       words,
-      is.room,
+      is.packet_buffer,
       is.short,
       ap length is.split,
       length-append is.front is.word,
@@ -174,7 +174,7 @@ module _ (line : Line) (is : IsKept line) where
       length-append is.front is.word,
       length-append is.word part,
     );
-    room = omega (arith, is.room, words);
+    packet_buffer = omega (arith, is.packet_buffer, words);
   }
 
 -- ---- parts of a line

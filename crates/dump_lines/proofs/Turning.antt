@@ -64,13 +64,13 @@ pub one_more : (text octets : List ℕ) (i high low octet : ℕ) → 2 * i + 1 <
     → hex_digit_value (slice_index text (2 * i + 1)) ≡ Some low → octet ≡ 16 * high + low
     → take i octets ++ octets_of (drop (2 * i) text) ≡ octets_of text
     → take (i + 1) (slice_set octets i octet) ++ octets_of (drop (2 * (i + 1)) text) ≡ octets_of text
-one_more text octets i high low octet within room is_high is_low is so_far =
+one_more text octets i high low octet within packet_buffer is_high is_low is so_far =
     let digits = slice_index text (2 * i) ∷ slice_index text (2 * i + 1) ∷ [] in
     let first = value_of (slice_index text (2 * i)) high is_high in
     let second = value_of (slice_index text (2 * i + 1)) low is_low in
     let same : octet ∷ [] ≡ octets_of digits = ap (λ (o : ℕ). o ∷ []) (omega (arith, first, second)) in
     more text octets (slice_set octets i octet) digits i (2 * i) (i + 1) (2 * (i + 1)) refl (drop-pair text i within)
-    (take_more_set octets i octet room ∙ ap (λ (behind : List ℕ). take i octets ++ behind) same) so_far
+    (take_more_set octets i octet packet_buffer ∙ ap (λ (behind : List ℕ). take i octets ++ behind) same) so_far
 
 -- eight digits
 module _ (text digits : List ℕ) (i : ℕ) (is : digits ≡ take 8 (take (length text - 8 * i) (drop (8 * i) text)))
@@ -87,7 +87,7 @@ module _ (text digits : List ℕ) (i : ℕ) (is : digits ≡ take 8 (take (lengt
       → take (4 * i) octets ++ octets_of (drop (8 * i) text) ≡ octets_of text
       → take (4 * (i + 1)) (put_mid (4 * i) (4 * i + 4 - 4 * i) octets four) ++ octets_of (drop (8 * (i + 1)) text)
       ≡ octets_of text
-  four_more octets four within room long spells so_far =
+  four_more octets four within packet_buffer long spells so_far =
       let rest = drop (8 * i) text in
       let left = length-drop (8 * i) text in
       let front : digits ≡ take 8 rest = is ∙ ap (take 8) (take_all (length text - 8 * i) rest (omega (arith, left))) in
@@ -97,7 +97,7 @@ module _ (text digits : List ℕ) (i : ℕ) (is : digits ≡ take 8 (take (lengt
       rw (front, ← next, ← drop-drop 8 (8 * i) text) (sym (take-append-drop 8 rest)) in
       let same : four ≡ octets_of digits = let known = spelled digits (omega (arith, eight)) eight_digits in cc in
       more text octets _ digits (4 * i) (8 * i) (4 * (i + 1)) (8 * (i + 1)) (omega (arith, eight)) cut
-      (take-put_mid (4 * i) (4 * i + 4 - 4 * i) octets four (4 * (i + 1)) (omega (arith, long)) room
+      (take-put_mid (4 * i) (4 * i + 4 - 4 * i) octets four (4 * (i + 1)) (omega (arith, long)) packet_buffer
       ∙ ap (λ (behind : List ℕ). take (4 * i) octets ++ behind) same) so_far
 
 -- all octets

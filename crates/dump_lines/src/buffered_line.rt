@@ -2,7 +2,7 @@
 
 ghost use Rattle.std.specs.Prelude.{◌≡◌, ◌≤◌, ◌⊎◌, ℕ, IfOk, IfErr, IfSome, OnSome, List, Option, length, take};
 ghost use Rattle.std.specs.Io.KnownBytes.{Consumes, IsAtEnd};
-ghost use Rattle.dump_lines.specs.Glances.{Sees};
+ghost use Rattle.dump_lines.specs.BufferedLines.{Sees};
 
 use crate::Fault;
 use crate::partial_line::try_again;
@@ -13,7 +13,7 @@ use std::io::BufRead;
 
 /// What a look at an input finds of its next line.
 #[derive(Clone, Copy)]
-pub enum Glance<'a> {
+pub enum BufferedLine<'a> {
     /// The line was buffered as a whole, has this shape, and is taken.
     Line(Shape<'a>),
     /// Not all of it is buffered, and nothing is taken.
@@ -26,9 +26,9 @@ pub enum Glance<'a> {
 #[inline]
 pub fn look<'a, R: BufRead>(
     alloc: Global,
-    room: &'a mut Vec<u8>,
+    packet_buffer: &'a mut Vec<u8>,
     input: &mut R,
-) -> Result<Glance<'a>, Fault>
+) -> Result<BufferedLine<'a>, Fault>
     ensures sees { IfOk result (λ glance. IfSome (R.remaining input.old) (λ octets.
         Sees octets (R.remaining input.new) glance)) }
     ensures fault { IfErr result (λ fault. (fault ≡ Fault.Read) ⊎ (fault ≡ Fault.Memory)) }
@@ -37,10 +37,10 @@ pub fn look<'a, R: BufRead>(
         Ok(available) => available,
         Err(error) => {
             try_again(&error)?;
-            return Ok(Glance::Part);
+            return Ok(BufferedLine::Part);
         }
     };
-    let (count, glance) = look_at(alloc, room, available)?;
+    let (count, glance) = look_at(alloc, packet_buffer, available)?;
     input.consume(count);
     Ok(glance)
 }
@@ -50,9 +50,9 @@ pub fn look<'a, R: BufRead>(
 #[inline]
 fn look_at<'a>(
     alloc: Global,
-    room: &'a mut Vec<u8>,
+    packet_buffer: &'a mut Vec<u8>,
     shown: &[u8],
-) -> Result<(usize, Glance<'a>), Fault>
+) -> Result<(usize, BufferedLine<'a>), Fault>
     ensures bound { IfOk result (λ taken. taken.0 ≤ length shown.now) }
     ensures sees { IfOk result (λ taken. (old new : Option (List ℕ)) → Consumes old new (take taken.0 shown.now)
         → (length shown.now ≡ 0 → OnSome old (IsAtEnd new))
@@ -60,12 +60,12 @@ fn look_at<'a>(
     ensures fault { IfErr result (λ fault. fault ≡ Fault.Memory) }
 {
     if shown.is_empty() {
-        return Ok((0, Glance::End));
+        return Ok((0, BufferedLine::End));
     }
     let end = len_before(shown, b'\n');
     if end == shown.len() {
-        return Ok((0, Glance::Part));
+        return Ok((0, BufferedLine::Part));
     }
-    let shape = Shape::of_line(alloc, room, &shown[..end])?;
-    Ok((end + 1, Glance::Line(shape)))
+    let shape = Shape::of_line(alloc, packet_buffer, &shown[..end])?;
+    Ok((end + 1, BufferedLine::Line(shape)))
 }

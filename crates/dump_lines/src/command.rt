@@ -3,7 +3,7 @@
 ghost use Rattle.std.specs.Prelude.{◌≡◌, OnOk, map};
 ghost use Rattle.listing.specs.Output.{GainsSome};
 
-use crate::words::{is, read_address, read_offset};
+use crate::words::{is_word, read_address, read_offset};
 use listing::dhcp::show_dhcp;
 use listing::hbh::show_hbh;
 use listing::icmp4::show_icmp4;
@@ -49,8 +49,8 @@ impl Command {
     {
         match arguments {
             [] => Command::alone(word),
-            [offset] if is(word, "name") => Some(Command::Name(read_offset(offset)?)),
-            [source, destination] if is(word, "icmp6") => {
+            [offset] if is_word(word, "name") => Some(Command::Name(read_offset(offset)?)),
+            [source, destination] if is_word(word, "icmp6") => {
                 Some(Command::Icmp6(read_address(source)?, read_address(destination)?))
             }
             _ => None,
@@ -61,19 +61,19 @@ impl Command {
     fn alone(word: &[u8]) -> Option<Command>
         ensures { result ≡ command_alone word.now }
     {
-        if is(word, "hbh") {
+        if is_word(word, "hbh") {
             Some(Command::Hbh)
-        } else if is(word, "icmp4") {
+        } else if is_word(word, "icmp4") {
             Some(Command::Icmp4)
-        } else if is(word, "igmp") {
+        } else if is_word(word, "igmp") {
             Some(Command::Igmp)
-        } else if is(word, "mld") {
+        } else if is_word(word, "mld") {
             Some(Command::Mld)
-        } else if is(word, "ndopt") {
+        } else if is_word(word, "ndopt") {
             Some(Command::Ndopt)
-        } else if is(word, "dhcp") {
+        } else if is_word(word, "dhcp") {
             Some(Command::Dhcp)
-        } else if is(word, "question") {
+        } else if is_word(word, "question") {
             Some(Command::Question)
         } else {
             None

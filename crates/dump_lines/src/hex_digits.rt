@@ -70,14 +70,14 @@ fn decode_word(digits: &[u8; 8]) -> [u8; 4]
 }
 
 /// Writes the octets that digits spell into a buffer for them.
-pub fn decode_front(text: &[u8], room: &mut [u8])
+pub fn decode_front(text: &[u8], packet_buffer: &mut [u8])
     requires even { length text.now ≡ 2 * (length text.now / 2) }
-    requires room { length text.now / 2 ≤ length room.old }
+    requires packet_buffer { length text.now / 2 ≤ length packet_buffer.old }
     requires digits { list_all is_hex_digit text.now ≡ true }
-    ensures { spelled_by text.now ≡ Some (take (length text.now / 2) room.new) }
+    ensures { spelled_by text.now ≡ Some (take (length text.now / 2) packet_buffer.new) }
 {
     let count = text.len() / 2;
-    decode(text, &mut room[..count]);
+    decode(text, &mut packet_buffer[..count]);
 }
 
 // The value of a digit: its low four bits, and 9 more for a letter, which alone has the bit of 64.

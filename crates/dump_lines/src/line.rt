@@ -3,7 +3,7 @@
 ghost use Rattle.std.specs.Prelude.{◌≡◌, ◌⊎◌, [], OnOk, IfOk, IfErr};
 ghost use Rattle.listing.specs.Output.{GainsSome};
 ghost use Rattle.dump_lines.specs.Listing.{LinePrints, is_known};
-ghost use Rattle.dump_lines.specs.Reading.{shape_from};
+ghost use Rattle.dump_lines.specs.PartialLines.{shape_from};
 ghost use Rattle.dump_lines.specs.Shapes.{seen};
 
 use crate::Fault;
@@ -18,7 +18,7 @@ use std::io::Write;
 /// A line is a command, the command's further words, and a packet. A line without a word prints nothing.
 pub fn show_line<W: Write>(
     alloc: Global,
-    room: &mut Vec<u8>,
+    packet_buffer: &mut Vec<u8>,
     output: &mut W,
     line: &Line,
 ) -> Result<bool, Fault>
@@ -27,7 +27,7 @@ pub fn show_line<W: Write>(
         (LinePrints (shape_from line.now []))) }
     ensures fault { IfErr result (λ fault. (fault ≡ Fault.Memory) ⊎ (fault ≡ Fault.Write)) }
 {
-    show_shape(output, line.shape(alloc, room)?)
+    show_shape(output, line.shape(alloc, packet_buffer)?)
 }
 
 /// Prints the output of a line of this shape.

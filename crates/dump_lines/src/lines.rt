@@ -3,12 +3,12 @@
 ghost use Rattle.std.specs.Prelude.{◌≡◌, [], IfOk, OnOk, IfSome};
 ghost use Rattle.std.specs.Io.Buffered.{reader_remaining};
 ghost use Rattle.listing.specs.Output.{Gains, GainsSome};
-ghost use Rattle.dump_lines.specs.Glances.{ShowsFirst};
+ghost use Rattle.dump_lines.specs.BufferedLines.{ShowsFirst};
 ghost use Rattle.dump_lines.specs.Listing.{LinesPrint, are_known, shapes_of};
 ghost use Rattle.dump_lines.specs.Status.{status_of};
 
 use crate::Fault;
-use crate::buffered_line::{Glance, look};
+use crate::buffered_line::{BufferedLine, look};
 use crate::line::{show_line, show_shape};
 use crate::partial_line::{Line, read_line};
 use std::alloc::Global;
@@ -86,10 +86,10 @@ fn show_lines<R: Read, W: Write>(
         GainsSome (W.contents output.old) (W.contents output.new) (LinesPrint (shapes_of octets)))) }
 {
     let mut line = Line::new(alloc);
-    let mut room = Vec::new(alloc);
+    let mut packet_buffer = Vec::new(alloc);
     let mut all_known = true;
     'lines: for _ in 0..u64::MAX {
-        match show_next(alloc, input, output, &mut line, &mut room)? {
+        match show_next(alloc, input, output, &mut line, &mut packet_buffer)? {
             Some(known) => {
                 all_known &= known;
             }
@@ -100,28 +100,28 @@ fn show_lines<R: Read, W: Write>(
 }
 
 // Prints what the next line holds, and returns whether its shape is known, or None where there is no line. `line` keeps
-// a line that is not buffered as a whole, and `room` the packet of one that is.
+// a line that is not buffered as a whole, and `packet_buffer` the packet of one that is.
 #[tactic(auto, using(crate::proofs::Running::gains_behind))]
 fn show_next<R: Read, W: Write>(
     alloc: Global,
     input: &mut BufReader<R>,
     output: &mut W,
     line: &mut Line,
-    room: &mut Vec<u8>,
+    packet_buffer: &mut Vec<u8>,
 ) -> Result<Option<bool>, Fault>
     ensures { IfOk result (λ known. IfSome (reader_remaining R.remaining input.old) (λ octets.
         ShowsFirst octets (reader_remaining R.remaining input.new)
         (W.contents output.old) (W.contents output.new) known)) }
 {
     write_out_before_wait(input, output)?;
-    let glance = look(alloc, room, input)?;
+    let glance = look(alloc, packet_buffer, input)?;
     match glance {
-        Glance::Line(shape) => {
+        BufferedLine::Line(shape) => {
             let known = show_shape(output, shape)?;
             Ok(Some(known))
         }
-        Glance::Part => show_part(alloc, input, output, line),
-        Glance::End => Ok(None),
+        BufferedLine::Part => show_part(alloc, input, output, line),
+        BufferedLine::End => Ok(None),
     }
 }
 

@@ -7,7 +7,7 @@ ghost use Rattle.std.specs.Prelude.{◌≡◌, ◌≢◌, ◌≤◌, ◌⊎◌, 
 ghost use Rattle.std.specs.Prelude.{◌↔◌, IsOk, Option};
 ghost use Rattle.std.specs.IoError.{error_kind};
 ghost use Rattle.std.specs.Io.KnownBytes.{Consumes, IsAtEnd};
-ghost use Rattle.dump_lines.specs.Reading.{IsFresh, IsKept, NextLine, Takes, TakesPart, shape_from};
+ghost use Rattle.dump_lines.specs.PartialLines.{IsFresh, IsKept, NextLine, Takes, TakesPart, shape_from};
 ghost use Rattle.dump_lines.specs.Shapes.{seen};
 
 use crate::Fault;
@@ -56,14 +56,18 @@ impl Line {
     }
 
     /// The line's shape, once it is read. The packet is in the buffer.
-    pub fn shape<'a>(&self, alloc: Global, room: &'a mut Vec<u8>) -> Result<Shape<'a>, Fault>
+    pub fn shape<'a>(
+        &self,
+        alloc: Global,
+        packet_buffer: &'a mut Vec<u8>,
+    ) -> Result<Shape<'a>, Fault>
         ensures shape { IfOk result (λ shape. seen shape ≡ shape_from self.now []) }
         ensures fault { IfErr result (λ fault. fault ≡ Fault.Memory) }
     {
         if self.is_bad {
             return Ok(Shape::Bad);
         }
-        Shape::of_line(alloc, room, self.octets.as_slice())
+        Shape::of_line(alloc, packet_buffer, self.octets.as_slice())
     }
 
     // Takes spaces, of which one is kept after a word.

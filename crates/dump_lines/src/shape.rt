@@ -25,15 +25,23 @@ pub enum Shape<'a> {
 
 impl<'a> Shape<'a> {
     /// The shape of a line without its LF. The packet goes to the buffer.
-    pub fn of_line(alloc: Global, room: &'a mut Vec<u8>, line: &[u8]) -> Result<Shape<'a>, Fault>
+    pub fn of_line(
+        alloc: Global,
+        packet_buffer: &'a mut Vec<u8>,
+        line: &[u8],
+    ) -> Result<Shape<'a>, Fault>
         ensures shape { IfOk result (λ shape. seen shape ≡ line_shape line.now) }
         ensures fault { IfErr result (λ fault. fault ≡ Fault.Memory) }
     {
-        Shape::of_text(alloc, room, without_cr(line))
+        Shape::of_text(alloc, packet_buffer, without_cr(line))
     }
 
     // The shape of a line without its end.
-    fn of_text(alloc: Global, room: &'a mut Vec<u8>, text: &[u8]) -> Result<Shape<'a>, Fault>
+    fn of_text(
+        alloc: Global,
+        packet_buffer: &'a mut Vec<u8>,
+        text: &[u8],
+    ) -> Result<Shape<'a>, Fault>
         ensures shape { IfOk result (λ shape. seen shape ≡ shape_of (words_in text.now)) }
         ensures fault { IfErr result (λ fault. fault ≡ Fault.Memory) }
     {
@@ -42,7 +50,7 @@ impl<'a> Shape<'a> {
         loop {
             let (word, behind) = next_word(rest);
             if word.is_empty() {
-                return Shape::of_words(alloc, room, words.as_slice());
+                return Shape::of_words(alloc, packet_buffer, words.as_slice());
             }
             if word.len() > MOST_OCTETS || words.try_push(word).is_err() {
                 return Ok(Shape::Bad);
@@ -52,7 +60,11 @@ impl<'a> Shape<'a> {
     }
 
     // The shape of a line of these words.
-    fn of_words(alloc: Global, room: &'a mut Vec<u8>, words: &[&[u8]]) -> Result<Shape<'a>, Fault>
+    fn of_words(
+        alloc: Global,
+        packet_buffer: &'a mut Vec<u8>,
+        words: &[&[u8]],
+    ) -> Result<Shape<'a>, Fault>
         requires { are_short (map (λ word. word.now) words.now) ≡ true }
         ensures shape { IfOk result (λ shape.
             seen shape ≡ shape_of (map (λ word. word.now) words.now)) }
@@ -64,7 +76,7 @@ impl<'a> Shape<'a> {
                 let Some(command) = Command::of(word, arguments) else {
                     return Ok(Shape::Bad);
                 };
-                match read_word(alloc, room, packet)? {
+                match read_word(alloc, packet_buffer, packet)? {
                     Some(packet) if command.reads(packet) => Ok(Shape::Packet(command, packet)),
                     _ => Ok(Shape::Bad),
                 }

@@ -38,7 +38,7 @@ pub fn next_word<'a>(text: &'a [u8]) -> (&'a [u8], &'a [u8])
 }
 
 /// Whether a word is this one.
-pub fn is(word: &[u8], name: &str) -> bool
+pub fn is_word(word: &[u8], name: &str) -> bool
     ensures { result ≡ bytes_eq word.now name.now }
 {
     word == name.as_bytes()
@@ -51,38 +51,38 @@ pub fn is(word: &[u8], name: &str) -> bool
 /// the high digit first.
 pub fn read_word<'a>(
     alloc: Global,
-    room: &'a mut Vec<u8>,
+    packet_buffer: &'a mut Vec<u8>,
     text: &[u8],
 ) -> Result<Option<&'a [u8]>, Fault>
     ensures value { IfOk result (λ word. option_map (λ octets. octets.now) word ≡ word_of text.now) }
     ensures fault { IfErr result (λ fault. fault ≡ Fault.Memory) }
 {
-    if is(text, "-") {
+    if is_word(text, "-") {
         return Ok(Some(&[]));
     }
     if !are_pairs(text) {
         return Ok(None);
     }
     let count = text.len() / 2;
-    grow(alloc, room, count)?;
-    decode_front(text, room.as_mut_slice());
-    Ok(Some(&room.as_slice()[..count]))
+    grow(alloc, packet_buffer, count)?;
+    decode_front(text, packet_buffer.as_mut_slice());
+    Ok(Some(&packet_buffer.as_slice()[..count]))
 }
 
 // Makes the buffer at least this large. Its contents are lost where it was smaller.
-fn grow(alloc: Global, room: &mut Vec<u8>, count: usize) -> Result<(), Fault>
-    ensures room { OnOk result (count ≤ vec_len room.new) }
+fn grow(alloc: Global, packet_buffer: &mut Vec<u8>, count: usize) -> Result<(), Fault>
+    ensures packet_buffer { OnOk result (count ≤ vec_len packet_buffer.new) }
     ensures fault { IfErr result (λ fault. fault ≡ Fault.Memory) }
 {
-    if room.len() >= count {
+    if packet_buffer.len() >= count {
         return Ok(());
     }
     // The old buffer is freed first.
-    *room = Vec::new(alloc);
+    *packet_buffer = Vec::new(alloc);
     let Ok(octets) = vec![in alloc; 0u8; count] else {
         return Err(Fault::Memory);
     };
-    *room = octets;
+    *packet_buffer = octets;
     Ok(())
 }
 

@@ -1,5 +1,5 @@
 -- The line is read as far as octets were taken.
-use Rattle.dump_lines.specs.Reading.{IsKept}
+use Rattle.dump_lines.specs.PartialLines.{IsKept}
 use Rattle.dump_lines.proofs.Taking.{ReadsLine}
 use Rattle.dump_lines.proofs.partial_line.read_line.Given as goal
 

@@ -5,5 +5,5 @@ use Rattle.dump_lines.proofs.words.read_word.Goals as goal
 
 pub returns-then-not-are_pairs-clause-value : goal.returns-then-not-are_pairs-clause-value
 returns-then-not-are_pairs-clause-value c =
-    word_of-none c.args.text.now (sym c.is.ensures ∙ c.if-is.false)
+    word_of-none c.args.text.now (sym c.is_word.ensures ∙ c.if-is_word.false)
     (sym c.are_pairs.ensures ∙ c.if-not-are_pairs.true)

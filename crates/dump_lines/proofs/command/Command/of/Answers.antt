@@ -6,7 +6,7 @@ use Rattle.dump_lines.proofs.command.Command.of.Goals as goal
 pub returns-in_default : goal.returns-in_default
 returns-in_default c =
     command_of-other (λ argument. argument.now) c.args.word.now c.args.arguments.now
-    (omega (arith, c.in-len1.len_at_least, c.in-len1.len_below)) (sym c.is.ensures ∙ c.if-is.false)
+    (omega (arith, c.in-len1.len_at_least, c.in-len1.len_below)) (sym c.is_word.ensures ∙ c.if-is_word.false)
 
 pub returns-in_default-3 : goal.returns-in_default-3
 returns-in_default-3 c =

@@ -36,7 +36,7 @@ pub record IsKept (line : Line) : Type 0 where
   pub free : All (λ octet. octet ≢ 32) word
   pub few : line.words ≤ 4
   pub short : length word ≤ 131071
-  pub room : length front ≤ 131072 * line.words
+  pub packet_buffer : length front ≤ 131072 * line.words
 
 -- where there was a line of these octets, its shape was read, and the lines after it are left; else there was none
 abbrev pub NextLine : List ℕ → Option (List ℕ) → Line → Bool → Type 0
