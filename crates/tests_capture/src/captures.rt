@@ -326,7 +326,7 @@ fn what_ends_a_capture(rt: HostRuntime) {
     }
 }
 
-// What stands behind the header of a section and a description of Ethernet of at most 4 bytes.
+// What follows the header of a section and a description of Ethernet of at most 4 bytes.
 #[test]
 fn blocks_that_end_a_section(rt: HostRuntime) {
     const ROWS: &[(&[u8], Ending)] = &[

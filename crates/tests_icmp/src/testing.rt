@@ -52,7 +52,7 @@ pub(crate) fn prints(rt: &impl Abort, alloc: Global, value: &impl Display, text:
     same(rt, printed.as_deref(), Some(text));
 }
 
-// Ends the test where the value of one of these numbers prints another text than stands beside it.
+// Ends the test where the value of one of these numbers prints another text than the one beside it.
 pub(crate) fn prints_each<T: From<u8> + Display + Drop>(
     rt: &impl Abort,
     alloc: Global,

@@ -53,7 +53,7 @@ fn check(rt: &impl Abort, alloc: Global, words: &str, rows: &[(&str, &str)]) {
     }
 }
 
-// The same, and of each packet cut and changed what the plain printer prints.
+// `check`, and of each packet cut and changed what the plain printer prints.
 fn check_changed(rt: &impl Abort, alloc: Global, words: &str, rows: &[(&str, &str)]) {
     check(rt, alloc, words, rows);
     for (packet, _) in rows {
@@ -68,7 +68,7 @@ fn check_packet(rt: &impl Abort, alloc: Global, words: &str, packet: &str, want:
     check_line(rt, alloc, line.as_str(), want);
 }
 
-// The same of headers with data behind each: they print this, and then what is printed of the data.
+// `check_changed` of headers with data after each: they print this, and then what is printed of the data.
 fn check_with_data(
     rt: &impl Abort,
     alloc: Global,
@@ -121,7 +121,7 @@ fn print_lines(rt: &impl Abort, alloc: Global, printed: &mut Vec<u8>, input: &[u
     all_known
 }
 
-// The same of one line, which may end with a CR.
+// `print_lines` of one line, which may end with a CR.
 fn print_line(rt: &impl Abort, alloc: Global, printed: &mut Vec<u8>, line: &[u8]) -> bool {
     let mut text = Vec::new(alloc);
     let line = line.strip_suffix(b"\r").unwrap_or(line);
@@ -141,7 +141,7 @@ fn compare_changed(rt: &impl Abort, alloc: Global, line: &[u8], start: usize) {
     }
 }
 
-// The same on a line with this octet there.
+// `compare` on a line with this octet there.
 fn compare_with(rt: &impl Abort, alloc: Global, line: &[u8], at: usize, digit: u8) {
     let mut changed = Vec::new(alloc);
     holds_of(rt, line, changed.extend_from_slice(line).is_ok());

@@ -12,7 +12,7 @@ use record_wire::types;
 use std::alloc::Global;
 use std::process::Abort;
 
-// The message that the entries stand in: behind its header the name `example.com` at 12.
+// The message of the entries: after its header the name `example.com` at 12.
 const MESSAGE: &[u8] = b"\0\0\x84\0\0\0\0\0\0\0\0\0\x07example\x03com\0";
 
 const EXAMPLE: &[u8] = b"\xc0\x0c";

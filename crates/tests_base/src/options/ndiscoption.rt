@@ -45,7 +45,7 @@ fn prefix_information() -> PrefixInformation
     }
 }
 
-// The same, valid for a part of a second more, which is not written.
+// That prefix, valid for a part of a second more, which is not written.
 fn longer_prefix_information() -> PrefixInformation
     ensures { HasSeconds result.valid_lifetime × HasSeconds result.preferred_lifetime }
 {

@@ -5,7 +5,7 @@ use capture::{Capture, Next, Time};
 use std::alloc::Global;
 use std::process::Abort;
 
-// The octets that stand around the options of a description, in either order: a section header and the description's
+// The octets around the options of a description, in either order: a section header and the description's
 // front, whose length is left out, and enhanced and obsolete packets of 10.25 s in microseconds, with a simple packet.
 type Around = (&'static [u8], &'static [u8], &'static [u8]);
 

@@ -38,7 +38,7 @@ fn times_are_ordered_as_they_follow_each_other(rt: HostRuntime) {
     same_of(&rt, (), later > earlier, true);
     same_of(&rt, (), later != earlier, true);
 
-    // The same time to other digits.
+    // That time to other digits.
     let finer = Time::of_ticks(2_000_000_000, 9);
     same_of(&rt, (), finer.cmp(&later), Ordering::Equal);
     same_of(&rt, (), finer, later);

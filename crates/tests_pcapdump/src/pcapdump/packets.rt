@@ -330,7 +330,7 @@ pub fn append_packet(
     let mut body = Vec::new(alloc);
     let time = u64::from(START.wrapping_add(seconds)).wrapping_mul(1_000_000);
     let length = length_of(digits);
-    // The upper half of the time stands before the lower one.
+    // The upper half of the time precedes the lower one.
     let [a, b, c, d, e, f, g, h] = time.to_le_bytes();
     append_numbers(rt, &mut body, &[interface]);
     append(rt, &mut body, &[e, f, g, h, a, b, c, d]);

@@ -41,7 +41,7 @@ fn words_and_the_octets_they_spell(rt: HostRuntime) {
         ("0g", None),
         (" 00", None),
     ];
-    // The room is kept, so that shorter words stand where longer ones did.
+    // The buffer is kept, so that shorter words are where longer ones were.
     let mut room = Vec::new(rt.alloc());
     for &(text, octets) in ROWS {
         check_word(&rt, rt.alloc(), &mut room, text, octets);

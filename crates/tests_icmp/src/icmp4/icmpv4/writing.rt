@@ -9,7 +9,7 @@ use std::process::Abort;
 use wirebase::ChecksumCapabilities;
 use wirebase::capabilities::Checksum;
 
-// The octets that stand in a buffer before it is written into.
+// The octets of a buffer before it is written into.
 const FILLS: [u8; 4] = [0x00, 0xff, 0x2a, 0xa5];
 
 // Writes an echo request over octets of this value, and compares them.
