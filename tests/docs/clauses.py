@@ -1,15 +1,17 @@
-"""The contracts of the sources: parsed, and written as the tables of docs/CLAUSES.md.
+"""The contracts of the sources: parsed, and written as the lists of docs/CLAUSES.md.
 
 `page` makes that page from the sources that `crates.txt` names. What is listed follows from the sources alone:
 
 - a crate that has definitions of its own (`specs/`), in the order of crates.txt, with the modules that its lib.rt or
-  main.rt declares, but those of tests; a crate on which no other of these is built is a program, or a library that is
-  all of one, and its modules count as public;
-- of these, each public function, and each implementation of a trait for a public type, whose clauses or ghost items
-  cite a definition of one of the repository's crates. Fields of a view (definitions of type `Field`) and the words that
-  lead from a view to its octets (`VIEW`) are not named, and calls of a type that then have the same clauses share a
-  row;
-- each definition that is so cited, with the first sentence of the comment above it.
+  main.rt declares; a crate on which no other of these is built is a library that is all of a program, or the callers,
+  and its modules count as public;
+- of these, each public function, and each implementation of a trait for a public type, with the clauses that cite a
+  definition of one of the repository's crates. Fields of a view (definitions of type `Field`) and the words that lead
+  from a view to its octets (`VIEW`) are not named, and a `requires` not where it asks for length alone (`LENGTH`).
+  Functions with the same clauses share a line, and so do the getters and the setters of a view, and the
+  implementations of one trait in one source;
+- each relation that is so cited, with the first sentence of the comment above it, but for those whose names say the
+  same in each module (`ROLES`).
 """
 
 import functools
@@ -22,7 +24,13 @@ TOP = os.path.dirname(os.path.dirname(os.path.dirname(os.path.abspath(__file__))
 VIEW = {"inner", "with_inner", "view_octets", "value_of"}
 
 # The ghost items that model an iterator: what it will answer, by its fields.
-MODEL = {"view", "invariant", "remaining"}
+MODEL = {"view", "invariant", "remaining", "Value"}
+
+# What asks only that octets are long enough, or that a writer has room.
+LENGTH = {"Reaches", "free"}
+
+# Names that say the same in each module. The head of the page says what.
+ROLES = {"Sets", "KeepsLen", "Emits", "Fills", "IsCanonical", "IsException", "IsCut", "IsRead", "Refuses", "GivesFirst"}
 
 
 @functools.cache
@@ -103,8 +111,8 @@ def is_program(crate):
 
 
 def modules(crate):
-    """The sources of a crate, but for its tests: each with the public modules that lead to it, and the names that these
-    export of it, or None where all of it is public. Those of a program are taken as public."""
+    """The sources of a crate: each with the public modules that lead to it, and the names that these export of it, or
+    None where all of it is public. Those of a program are taken as public."""
     roots = [f"crates/{crate}/src/lib.rt", f"crates/{crate}/src/main.rt"]
     root = next(filter(exists, roots), "")
     waiting = [(root, (), None)] if root else []
@@ -115,10 +123,10 @@ def modules(crate):
         names = set(re.findall(r"\w+", " ".join(re.findall(r"^pub use ([^;]*);", text, flags=re.M))))
         names = names if exported is None else names & exported
         below = os.path.dirname(file) if file == root else file[:-3]
-        inner, declared = [], r"^(#\[cfg\(test\)\]\n)?(pub )?(?:pub\(\w+\) )?mod (\w+);"
-        for test, shown, name in re.findall(declared, text, flags=re.M):
+        inner = []
+        for shown, name in re.findall(r"^(pub )?(?:pub\(\w+\) )?mod (\w+);", text, flags=re.M):
             shown = exported is None and (shown or is_program(crate))
-            if not test and exists(f"{below}/{name}.rt"):
+            if exists(f"{below}/{name}.rt"):
                 inner.append((f"{below}/{name}.rt", (*path, name) if shown else path, None if shown else names))
         waiting[:0] = inner
 
@@ -327,55 +335,102 @@ HEAD = """# The clauses, and the definitions that they cite
 
 Made from the sources by `tests/docs/run --write`; an edit by hand is lost. [PROOFS.md](PROOFS.md) says what the clauses prove together, and [READING.md](READING.md) explains the notation.
 
-Of each crate, the first table has the public functions and the implementations of traits, the source of each, and its clauses with the definitions that they cite. `Igmp.IsMessage` is the definition `IsMessage` in `specs/Igmp.antt` of the crate whose second table lists it. A clause without a name of its own is `ensures` or `requires`; the items of a trait are listed by their names, as `output`, the text that a `Display` prints. The second table has what the comment above each definition says, in its first sentence, or where it has none what that of its file says (`the file`), and the relations of the same file on which the definition rests.
+Of each crate, first by source: each public call, and each implementation of a trait, with its clauses and the definitions that these cite. `Igmp.IsMessage` is the definition `IsMessage` in `specs/Igmp.antt` of this crate or of one below it. A clause without a name of its own is `ensures` or `requires`; the items of a trait have their names, as `output`, the text that a `Display` prints.
 
-Not listed are functions whose clauses cite no definition of these crates, fields, and the words for the octets of a view and the content of a value: `inner`, `with_inner`, `view_octets`, `value_of`. Functions of one type with the same clauses share a row.
+Then the relations of the crate that are cited: what the comment above each says in its first sentence, and in parentheses the relations of its file on which it rests.
+
+Not listed are clauses that cite no definition of these crates or ask for length alone (`Bytes.Reaches`, `ByteWriter.free`), fields, the words for the octets of a view and the content of a value (`inner`, `with_inner`, `view_octets`, `value_of`), and among the relations those whose names say the same in each module: `Sets`, `KeepsLen` (a setter changes one field), `Emits` (what writing leaves), `Fills`, `IsCanonical`, `IsException`, `IsCut` ([the headline](PROOFS.md#the-headline)), `IsRead`, `Refuses` (what is read, and the check that fails first where nothing is), `GivesFirst` (`next` of an iterator gives the first answer and takes it off).
 """
 
 REST = """## Definitions on which no clause above rests
 
 Clauses of private functions cite them, or the model of an iterator (its items `view`, `invariant` and `remaining`). Whoever reads the statements may pass them over.
-
-| File | Definitions |
-|---|---|"""
+"""
 
 
 def word(it):
     return f"`{os.path.basename(it[0])[:-5]}.{it[1]}`"
 
 
+def listed(words):
+    return ", ".join(words)
+
+
+def shown_clauses(row):
+    """The clauses of a contract that are listed."""
+    asks = lambda key, found: key != "requires" or any(name not in LENGTH for _, name in found)
+    return {key: found for key, found in row.items() if found and key not in MODEL and asks(key, found)}
+
+
 def clauses_text(row):
     """The clauses of a contract, those that cite the same definitions together."""
     by = {}
-    for key, found in row.items():
+    for key, found in shown_clauses(row).items():
         by.setdefault(tuple(found), []).append(f"`{key}`")
-    said = [", ".join(keys) + ": " + ", ".join(map(word, found)) for found, keys in by.items() if found]
-    return "; ".join([*said, *([", ".join(by[()])] if () in by else [])])
+    return "; ".join(f"{listed(keys)}: {listed(map(word, found))}" for found, keys in by.items())
 
 
-def call_rows(crate):
-    """The rows of a crate's functions and implementations."""
-    shared = {}
+def access(owner, row, views):
+    """Whether a call of a view is a getter or a setter of it, by its clauses."""
+    kinds = (("getters", {"requires", "ensures"}), ("setters", {"requires", "writes", "len"}))
+    return next((kind for kind, keys in kinds if owner in views and set(row) <= keys), None)
+
+
+def united(rows):
+    """The definitions that contracts cite, but for those of bytes."""
+    found = dict.fromkeys(it for row in rows for cited in shown_clauses(row).values() for it in cited)
+    return [it for it in found if os.path.basename(it[0]) != "Bytes.antt" and it[1] not in LENGTH]
+
+
+def call_lines(crate):
+    """The lines of a crate's functions and implementations, each source's after its name."""
+    views = {owner for _, owner, call in crate.rows if call in ("new_checked", "check_len")}
+    sources = {}
     for (file, owner, call), row in crate.rows.items():
-        said = f"`{file.split('/', 2)[2]}` | {clauses_text(row)}"
-        shared.setdefault((owner or call, said), []).append(f"{owner}::{call}" if owner else call)
-    for (owner, said), calls in shared.items():
-        short = [f"`{calls[0]}`", *(f"`{it.removeprefix(owner + '::')}`" for it in calls[1:])]
-        yield f"| {', '.join(short)} | {said} |"
+        if not shown_clauses(row):
+            continue
+        groups = sources.setdefault(file.split("/", 2)[2], {})
+        kind = access(owner, row, views)
+        trait = re.match(r"(\w+)", call)[1] if not owner else ""
+        key = (trait,) if " for " in call else (owner, kind) if kind else (owner, clauses_text(row))
+        groups.setdefault(key, []).append((owner, call, row))
+    for source, groups in sources.items():
+        yield f"\n`{source}`\n"
+        for group in groups.values():
+            yield f"- {line_of(group, views)}"
 
 
-def definition_rows(file, listed):
-    """The rows of a file's definitions of these names. For one without a comment, that of the file stands."""
-    groups = {}
-    for name in (it for it in definitions(file) if it in listed):
-        below = [it for of, it in rests_on([(file, name)]) if of == file and it != name and it in definitions(file)]
-        rests = ", ".join(f"`{it}`" for it in below if definitions(file)[it].is_relation())
-        comment = definitions(file)[name].comment
-        groups.setdefault((comment, rests), []).append(name)
-    whole = sentence(re.match(r"(?:--.*\n)*", read(file))[0].splitlines())
-    for (comment, rests), names in groups.items():
-        words = ", ".join([word((file, names[0])), *(f"`{it}`" for it in names[1:])])
-        yield f"| {words} | {comment or f'{whole} (`the file`)'} | {rests} |"
+def line_of(group, views):
+    owner, call, row = group[0]
+    kind, calls = access(owner, row, views), [call for _, call, _ in group]
+    if " for " in call:
+        keys = dict.fromkeys(f"`{key}`" for _, _, row in group for key in shown_clauses(row))
+        cited = dict.fromkeys(it for _, _, row in group for found in shown_clauses(row).values() for it in found)
+        return f"{listed(implemented(calls))}: {listed(keys)}: {listed(map(word, cited))}"
+    if kind:
+        cited = united(row for _, _, row in group)
+        said = f": {listed(map(word, cited))}" if cited else ""
+        return f"`{owner}`, {kind} {listed(f'`{it}`' for it in calls)}{said}"
+    whole = [f"`{owner}::{it}`" if owner else f"`{it}`" for it in calls]
+    return f"{listed([whole[0], *(f'`{it}`' for it in calls[1:])])}: {clauses_text(row)}"
+
+
+def implemented(calls):
+    """What implementations are of: each by the trait and the type, those of one trait as `Display for A`, `B`."""
+    before = None
+    for trait, _, owner in (it.rpartition(" for ") for it in calls):
+        yield f"`{owner}`" if trait == before else f"`{trait} for {owner}`"
+        before = trait
+
+
+def relation_lines(file, cited):
+    """The lines of a file's relations of these names that a comment explains."""
+    for name in (it for it in definitions(file) if it in cited and it not in ROLES):
+        it = definitions(file)[name]
+        if it.comment and it.is_relation():
+            below = [at for of, at in rests_on([(file, name)]) if of == file and at != name and at in definitions(file)]
+            rests = listed(f"`{at}`" for at in below if definitions(file)[at].is_relation())
+            yield f"- {word((file, name))}{f' ({rests})' if rests else ''}: {it.comment}"
 
 
 def cited_by(made, passed_over):
@@ -394,30 +449,25 @@ def page():
     """The text of docs/CLAUSES.md."""
     made = [Crate(it) for it in crates()]
     direct = cited_by(made, ())
-    text = [HEAD]
+    text = [HEAD.rstrip()]
     for crate in made:
-        rows = list(call_rows(crate))
-        below = []
+        calls, below = list(call_lines(crate)), []
         for file in spec_files(crate):
-            below += definition_rows(file, {name for of, name in direct if of == file})
-        if rows or below:
-            text += [f"## {crate.name}", ""]
-        if rows:
-            text += ["| Call | Source | Clauses, and the definitions that they cite |", "|---|---|---|", *rows, ""]
-        if below:
-            text += ["| Definition | What it says | Rests on |", "|---|---|---|", *below, ""]
-    return "\n".join([*text, REST, *rest_rows(made)]) + "\n"
+            below += relation_lines(file, {name for of, name in direct if of == file})
+        text += [f"\n## {crate.name}"] if calls or below else []
+        text += [*calls, *(["\nRelations:\n", *below] if below else [])]
+    return "\n".join([*text, "", REST, *rest_lines(made)]) + "\n"
 
 
-def rest_rows(made):
-    """The rows of the definitions on which no listed clause rests, and which are no words of `VIEW` and no fields."""
+def rest_lines(made):
+    """The lines of the definitions on which no listed clause rests, and which are no words of `VIEW` and no fields."""
     files = [file for crate in made for file in spec_files(crate)]
     plain = [(file, name) for file in files for name, it in definitions(file).items() if name in VIEW or it.is_field()]
     known = set(rests_on([*cited_by(made, MODEL), *plain]))
     for file in files:
         left = [f"`{name}`" for name in definitions(file) if (file, name) not in known]
         if left:
-            yield f"| `{file}` | {', '.join(left)} |"
+            yield f"- `{file}`: {listed(left)}"
 
 
 def spec_files(crate):
