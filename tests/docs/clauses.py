@@ -6,12 +6,13 @@
   main.rt declares; a crate on which no other of these is built is a library that is all of a program, or the callers,
   and its modules count as public;
 - of these, each public function, and each implementation of a trait for a public type, with the clauses that cite a
-  definition of one of the repository's crates. Fields of a view (definitions of type `Field`) and the words that lead
-  from a view to its octets (`VIEW`) are not named, and a `requires` not where it asks for length alone (`LENGTH`).
+  definition of one of the repository's crates. Fields of a view (definitions of type `Field`), the words that lead
+  from a view to its octets (`VIEW`), and beside a relation the words for the content of a value are not named, and a
+  clause not where it speaks of length alone (`LENGTH`), but `accepts`.
   Functions with the same clauses share a line, and so do the getters and the setters of a view, and the
   implementations of one trait in one source;
-- each relation that is so cited, with the first sentence of the comment above it, but for those whose names say the
-  same in each module (`ROLES`).
+- each relation that is so cited by another clause than `exact`, with the first sentence of the comment above it, if
+  that has four words, but for those whose names say the same in each module (`ROLES`).
 """
 
 import functools
@@ -30,7 +31,8 @@ MODEL = {"view", "invariant", "remaining", "Value"}
 LENGTH = {"Reaches", "free"}
 
 # Names that say the same in each module. The head of the page says what.
-ROLES = {"Sets", "KeepsLen", "Emits", "Fills", "IsCanonical", "IsException", "IsCut", "IsRead", "Refuses", "GivesFirst"}
+ROLES = {"Sets", "KeepsLen", "Emits", "Fills", "IsCanonical", "IsException", "IsCut", "Refuses"}
+ROLES |= {f"Gives{it}" for it in ("First", "Bytes", "Entry", "Option", "Record", "Source")}
 
 
 @functools.cache
@@ -188,6 +190,10 @@ class Definition:
         head = re.split(r" where$|^\s*\w+ [^:]*=", self.text(), maxsplit=1, flags=re.M)[0].rstrip()
         return head.endswith("Type 0") and ("→" in head or "(" in head)
 
+    def is_content(self, name):
+        """Whether it says what the content of a value of some type is, by its name and what it is of."""
+        return name.endswith("Value") or name.endswith("_of") and re.search(r"(?!ℕ|List|Type)[A-Z]\w+", self.lines[0])
+
 
 @functools.cache
 def definitions(file):
@@ -245,8 +251,15 @@ def sentence(comment):
         if re.match(r"---|\+-|$", line):
             break
         words.append(line)
-    first = re.split(r"(?<=[.:;]) (?=[A-Z])", " ".join(words))[0].rstrip(".:;")
-    return (first[:1].upper() + first[1:]).replace("|", "\\|")
+    first = re.sub(r"(?<!:)[.:;]$", "", re.split(r"(?<=[.:;]) (?=[A-Z])", " ".join(words))[0])
+    return first[:1].upper() + first[1:]
+
+
+def in_short(said, most=28):
+    """A sentence, or its beginning up to a mark, where it has more words than these."""
+    words = said.split()
+    marks = [i for i, it in enumerate(words[:most], 1) if it[-1] in ",;:"]
+    return said if len(words) <= most or not marks else " ".join(words[: marks[-1]])[:-1] + " .."
 
 
 # ---- the contracts of a crate
@@ -337,9 +350,9 @@ Made from the sources by `tests/docs/run --write`; an edit by hand is lost. [PRO
 
 Of each crate, first by source: each public call, and each implementation of a trait, with its clauses and the definitions that these cite. `Igmp.IsMessage` is the definition `IsMessage` in `specs/Igmp.antt` of this crate or of one below it. A clause without a name of its own is `ensures` or `requires`; the items of a trait have their names, as `output`, the text that a `Display` prints.
 
-Then the relations of the crate that are cited: what the comment above each says in its first sentence, and in parentheses the relations of its file on which it rests.
+Then the relations of the crate that are cited: what the comment above each says in its first sentence (cut by .. where it is long), and in parentheses the relations of its file on which it rests.
 
-Not listed are clauses that cite no definition of these crates or ask for length alone (`Bytes.Reaches`, `ByteWriter.free`), fields, the words for the octets of a view and the content of a value (`inner`, `with_inner`, `view_octets`, `value_of`), and among the relations those whose names say the same in each module: `Sets`, `KeepsLen` (a setter changes one field), `Emits` (what writing leaves), `Fills`, `IsCanonical`, `IsException`, `IsCut` ([the headline](PROOFS.md#the-headline)), `IsRead`, `Refuses` (what is read, and the check that fails first where nothing is), `GivesFirst` (`next` of an iterator gives the first answer and takes it off).
+Not listed are clauses that cite no definition of these crates or speak of length alone (`Bytes.Reaches`, `ByteWriter.free`), fields, the words for the octets of a view and the content of a value (`inner`, `with_inner`, `view_octets`, `value_of`, beside a relation also `.._of` and `..Value`), and among the relations those whose names say the same in each module: `Sets`, `KeepsLen` (a setter changes one field), `Emits` (what writing leaves), `Fills`, `IsCanonical`, `IsException`, `IsCut` ([the headline](PROOFS.md#the-headline)), `Refuses` (the check of `parse` that fails first), what `exact` cites (something is read), and `Gives..` (`next` of an iterator gives the first answer and takes it off).
 """
 
 REST = """## Definitions on which no clause above rests
@@ -358,8 +371,17 @@ def listed(words):
 
 def shown_clauses(row):
     """The clauses of a contract that are listed."""
-    asks = lambda key, found: key != "requires" or any(name not in LENGTH for _, name in found)
-    return {key: found for key, found in row.items() if found and key not in MODEL and asks(key, found)}
+    shown = {key: without_content(found) for key, found in row.items() if found and key not in MODEL}
+    of_length = lambda key, found: key != "accepts" and all(name in LENGTH for _, name in found)
+    return {key: found for key, found in shown.items() if not of_length(key, found)}
+
+
+def without_content(found):
+    """Definitions that a clause cites, but for the content of values where there is a relation."""
+    known = {it: definitions(it[0])[it[1]] for it in found if it[1] in definitions(it[0])}
+    if not any(it.is_relation() for it in known.values()):
+        return found
+    return [it for it in found if it not in known or not known[it].is_content(it[1])]
 
 
 def clauses_text(row):
@@ -379,7 +401,7 @@ def access(owner, row, views):
 def united(rows):
     """The definitions that contracts cite, but for those of bytes."""
     found = dict.fromkeys(it for row in rows for cited in shown_clauses(row).values() for it in cited)
-    return [it for it in found if os.path.basename(it[0]) != "Bytes.antt" and it[1] not in LENGTH]
+    return [it for it in found if os.path.basename(it[0]) != "Bytes.antt" and it[1] not in LENGTH | ROLES]
 
 
 def call_lines(crate):
@@ -416,10 +438,14 @@ def line_of(group, views):
 
 
 def implemented(calls):
-    """What implementations are of: each by the trait and the type, those of one trait as `Display for A`, `B`."""
-    before = None
-    for trait, _, owner in (it.rpartition(" for ") for it in calls):
-        yield f"`{owner}`" if trait == before else f"`{trait} for {owner}`"
+    """What implementations are of: those of one trait as `Display for A`, `B`; those of `From` back are told once."""
+    pairs = [tuple(it.rpartition(" for ")[::2]) for it in calls]
+    forward = [(trait, owner) for trait, owner in pairs if "::" not in trait]
+    both = len(pairs) == 2 * len(forward) and all(trait.startswith("From<") for trait, _ in pairs)
+    before, last = None, (forward if both else pairs)[-1]
+    for it in forward if both else pairs:
+        trait, owner = it
+        yield (f"`{owner}`" if trait == before else f"`{trait} for {owner}`") + " and back" * (both and it == last)
         before = trait
 
 
@@ -427,10 +453,10 @@ def relation_lines(file, cited):
     """The lines of a file's relations of these names that a comment explains."""
     for name in (it for it in definitions(file) if it in cited and it not in ROLES):
         it = definitions(file)[name]
-        if it.comment and it.is_relation():
+        if it.is_relation() and len(it.comment.split()) > 3:
             below = [at for of, at in rests_on([(file, name)]) if of == file and at != name and at in definitions(file)]
             rests = listed(f"`{at}`" for at in below if definitions(file)[at].is_relation())
-            yield f"- {word((file, name))}{f' ({rests})' if rests else ''}: {it.comment}"
+            yield f"- {word((file, name))}{f' ({rests})' if rests else ''}: {in_short(it.comment)}"
 
 
 def cited_by(made, passed_over):
@@ -448,12 +474,12 @@ def cited_by(made, passed_over):
 def page():
     """The text of docs/CLAUSES.md."""
     made = [Crate(it) for it in crates()]
-    direct = cited_by(made, ())
+    told = cited_by(made, {*MODEL, "exact"})
     text = [HEAD.rstrip()]
     for crate in made:
         calls, below = list(call_lines(crate)), []
         for file in spec_files(crate):
-            below += relation_lines(file, {name for of, name in direct if of == file})
+            below += relation_lines(file, {name for of, name in told if of == file})
         text += [f"\n## {crate.name}"] if calls or below else []
         text += [*calls, *(["\nRelations:\n", *below] if below else [])]
     return "\n".join([*text, "", REST, *rest_lines(made)]) + "\n"
