@@ -339,7 +339,8 @@ class Crate:
         whole = "::".join((*(path if path in self.types[of] else self.types[of][0]), of))
         if not trait:
             return (whole, call) if call else None
-        return "", re.sub(rf"\b{of}\b", whole, f"{trait} for {owner}")
+        named = lambda text: re.sub(rf"\b{of}\b", whole, text)
+        return "", f"{trait} for {named(owner)}" if of == owner else f"{named(trait)} for {owner}"
 
 
 # ---- the page
@@ -352,7 +353,7 @@ Of each crate, first by source: each public call, and each implementation of a t
 
 Then the relations of the crate that are cited: what the comment above each says in its first sentence (cut by .. where it is long), and in parentheses the relations of its file on which it rests.
 
-Not listed are clauses that cite no definition of these crates or speak of length alone (`Bytes.Reaches`, `ByteWriter.free`), fields, the words for the octets of a view and the content of a value (`inner`, `with_inner`, `view_octets`, `value_of`, beside a relation also `.._of` and `..Value`), and among the relations those whose names say the same in each module: `Sets`, `KeepsLen` (a setter changes one field), `Emits` (what writing leaves), `Fills`, `IsCanonical`, `IsException`, `IsCut` ([the headline](PROOFS.md#the-headline)), `Refuses` (the check of `parse` that fails first), what `exact` cites (something is read), and `Gives..` (`next` of an iterator gives the first answer and takes it off).
+Not listed are clauses that cite no definition of these crates or speak of length alone (`Bytes.Reaches`, `ByteWriter.free`), fields, the words for the octets of a view and the content of a value (`inner`, `with_inner`, `view_octets`, `value_of`, beside a relation also `.._of` and `..Value`; of getters and setters all of `Bytes`), and among the relations those whose names say the same in each module: `Sets`, `KeepsLen` (a setter changes one field), `Emits` (what writing leaves), `Fills`, `IsCanonical`, `IsException`, `IsCut` ([the headline](PROOFS.md#the-headline)), `Refuses` (the check of `parse` that fails first), what `exact` cites (something is read), and `Gives..` (`next` of an iterator gives the first answer and takes it off).
 """
 
 REST = """## Definitions on which no clause above rests
@@ -438,15 +439,14 @@ def line_of(group, views):
 
 
 def implemented(calls):
-    """What implementations are of: those of one trait as `Display for A`, `B`; those of `From` back are told once."""
-    pairs = [tuple(it.rpartition(" for ")[::2]) for it in calls]
-    forward = [(trait, owner) for trait, owner in pairs if "::" not in trait]
-    both = len(pairs) == 2 * len(forward) and all(trait.startswith("From<") for trait, _ in pairs)
-    before, last = None, (forward if both else pairs)[-1]
-    for it in forward if both else pairs:
-        trait, owner = it
-        yield (f"`{owner}`" if trait == before else f"`{trait} for {owner}`") + " and back" * (both and it == last)
-        before = trait
+    """What implementations are of: those of one trait as `Display for A`, `B`; `From` and its way back are one."""
+    pairs, before = [tuple(it.rpartition(" for ")[::2]) for it in calls], None
+    back = {(trait, owner): (f"From<{owner}>", trait[len("From<") : -1]) for trait, owner in pairs}
+    both = [it for it in pairs if "::" in it[1] and back[it] in pairs]
+    alone = [it for it in pairs if it not in both and it not in [back[at] for at in both]]
+    for it in both + alone:
+        yield (f"`{it[1]}`" if it[0] == before else f"`{it[0]} for {it[1]}`") + " and back" * (it in both[-1:])
+        before = it[0]
 
 
 def relation_lines(file, cited):
