@@ -1,7 +1,7 @@
 #!/usr/bin/env python3
 """Makes the Rust crate from the proved source: takes the contracts away, and leaves the code as it is.
 
-    erase.py SOURCES OUT     writes OUT/src and the packages beside it (SOURCES is the repository)
+    erase.py SOURCES OUT     writes OUT/src, OUT/tests and OUT/packages (SOURCES is the repository)
     erase.py --rules         lists the rules
 
 What the rules do not know is refused, by file and line. `modules.txt` says which crate becomes what.
@@ -20,15 +20,16 @@ HERE = pathlib.Path(__file__).resolve().parent
 
 
 class Unit:
-    """A package that is written: its crates, the path that each crate of the repository has in it and to its users, its
-    files by their targets."""
+    """What cargo compiles as one crate: its folder, the crates that are in it, the path that each crate of the
+    repository has in it and to its users, its files by their targets. Tests have the folder of their package."""
 
-    def __init__(self, folder, crates, paths, root, users):
+    def __init__(self, folder, crates, paths, root, users, tests=None):
         self.folder, self.crates, self.paths, self.root, self.users = folder, crates, paths, root, users
+        self.tests = tests
         self.files = {}
 
     def is_library(self):
-        return self.folder == pathlib.Path()
+        return self.folder == pathlib.Path() and self.tests is None
 
 
 def table(path=HERE / "modules.txt"):
@@ -60,29 +61,35 @@ def below(needs, names):
 # ---------------------------------------------------------------- reading
 
 def read(source, target, shown, files, runs=False):
-    """Reads a module's file, and those of the modules below it. `runs`: it is of a test or a program."""
+    """Reads a module's file, and those of the modules below it. `runs`: it is of tests or of a program, or of what
+    reads and prints for one."""
     file = File(shown, source.read_text(), runs)
     files[target] = file
     folder = source.parent if source.stem in ("lib", "main") else source.with_suffix("")
     under = target.parent if target.stem in ("lib", "main") else target.with_suffix("")
     for i in range(len(file.tokens)):
         if file.text(i) == "mod" and file.text(i + 2) == ";":
-            name, for_tests = file.text(i + 1), file.texts(i - 7, "#", "[", "cfg", "(", "test", ")", "]")
+            name = file.text(i + 1)
             path = folder / f"{name}.rt"
             if not path.exists():
                 file.refuse(i, f"no {path.name} in {path.parent}")
             at = shown.parent if source.stem in ("lib", "main") else shown.with_suffix("")
-            read(path, under / f"{name}.rs", at / f"{name}.rt", files, runs or for_tests)
+            read(path, under / f"{name}.rs", at / f"{name}.rt", files, runs)
+
+
+# How many words a row of each kind has behind its crate.
+WORDS = {"root": 0, "module": 1, "inside": 1, "package": 0, "tests": 2}
 
 
 def kinds_of(needs):
-    """The rows of the table by their kinds. Each crate that is not below a root or a module has one."""
+    """The rows of the table by their kinds, each crate with the words behind it. Each crate that is not below a root or
+    a module has a row."""
     kinds = collections.defaultdict(dict)
-    for kind, crate, *name in table():
-        if kind not in ("root", "module", "package", "example", "left"):
-            raise Refused(f"modules.txt: a row of the kind `{kind}`")
+    for kind, crate, *words in table():
+        if kind not in WORDS or len(words) != WORDS[kind]:
+            raise Refused(f"modules.txt: a row `{kind} {crate}` with {len(words)} more words")
         if crate in needs:
-            kinds[kind][crate] = name[0] if name else crate
+            kinds[kind][crate] = words
     library = below(needs, [*kinds["root"], *kinds["module"]])
     for crate in needs:
         if crate not in library and not any(crate in rows for rows in kinds.values()):
@@ -94,33 +101,47 @@ def units_of(sources):
     """The packages, with the files of each as they are."""
     needs = needs_of(sources)
     kinds, library = kinds_of(needs)
-    [root], public = kinds["root"], kinds["module"]
+    [root], public = kinds["root"], {crate: name for crate, [name] in kinds["module"].items()}
     modules = {crate: "crate" if crate == root else f"crate::{public.get(crate, crate)}" for crate in library}
     outside = {crate: f"control_wire::{public[crate]}" if crate in public else "control_wire" for crate in library}
     units = [Unit(pathlib.Path(), library, modules, root, outside)]
     for crate in library:
         read_crate(sources, units[0], crate, public.get(crate, crate), False)
-    for crate, name in kinds["package"].items():
-        units.append(Unit(pathlib.Path("packages") / name, [crate], outside, crate, outside))
+    for crate in kinds["package"]:
+        units.append(Unit(folder_of(kinds, crate), [crate], outside, crate, outside))
         read_crate(sources, units[-1], crate, crate, True)
-    for crate, name in kinds["example"].items():
-        units.append(Unit(pathlib.Path("examples"), [crate], outside, crate, outside))
-        read(sources / f"crates/{crate}/src/main.rt", pathlib.Path(f"examples/{name}.rs"),
-             pathlib.Path(f"crates/{crate}/src/main.rt"), units[-1].files, True)
+    inside = {f"{crate}::{module}": "control_wire::inside" for crate, [module] in kinds["inside"].items()}
+    for crate, [of, name] in kinds["tests"].items():
+        units.append(Unit(folder_of(kinds, of), [crate], {**outside, **inside}, crate, outside, name))
+        read_crate(sources, units[-1], crate, name, True)
     for unit in units:
         for file in unit.files.values():
             file.crate = file.path.parts[1]
-            file.library = unit.is_library()
-            file.std = "crate::rattle_std" if unit.is_library() else "rattle_std"
-            file.published = unit.is_library() or unit.root in PUBLISHED
+            file.library, file.tests = unit.is_library(), unit.tests is not None
+            file.std = "crate::rattle_std" if has_std_beside(unit) else "rattle_std"
+            file.published = not file.tests and (unit.is_library() or unit.root in PUBLISHED)
     return units, kinds
 
 
+def folder_of(kinds, crate):
+    """The folder of the package of a crate."""
+    if crate not in kinds["root"] and crate not in kinds["package"]:
+        raise Refused(f"modules.txt: no package of the crate {crate}")
+    return pathlib.Path() if crate in kinds["root"] else pathlib.Path("packages") / crate
+
+
+def has_std_beside(unit):
+    """Whether these are tests of the library, whose package has what they need of `rattle_std` below its tests."""
+    return unit.tests is not None and unit.folder == pathlib.Path()
+
+
 def read_crate(sources, unit, crate, module, runs):
-    """Reads a crate as the root of a package, or as a module of it."""
+    """Reads a crate as the root of a package, as tests, or as a module."""
     folder = pathlib.Path("crates") / crate / "src"
     name = "lib" if (sources / folder / "lib.rt").exists() else "main"
     target = unit.folder / "src" / f"{name if crate == unit.root else module}.rs"
+    if unit.tests is not None:
+        target = unit.folder / "tests" / module / "main.rs"
     read(sources / folder / f"{name}.rt", target, folder / f"{name}.rt", unit.files, runs)
 
 
@@ -210,32 +231,41 @@ LIB_HEAD = """#![doc = include_str!("../README.md")]
 #![no_std]
 #![forbid(unsafe_code)]
 
-#[cfg(test)]
-extern crate std;
-
-#[cfg(test)]
-mod rattle_std;
-
 mod by_hand;
 {modules}
 
 pub use by_hand::smoltcp::{{self, phy, time, wire}};
+
+/// What the modules share and the tests try. It is no part of the API.
+#[doc(hidden)]
+pub mod inside {{
+{inside}
+}}
 """
 
 
 def text_of(unit, kinds, target, file):
     """What is written of a file: a line that says what made it, and its text. The root of the library has a head of its
-    own in the place of its documentation."""
+    own in the place of its documentation, and the root of its tests takes in what is beside them."""
     made, text = f"// Made from {file.path} by rust/erase.\n", str(file)
     if target == unit.folder / "src/lib.rs" and unit.root in PUBLISHED:
         return made + README + "".join(re.split(r"^(?://!.*\n)+", text, maxsplit=1, flags=re.M)) + BY_HAND
+    at = re.search(r"^(?!//!)", text, re.M).start()
+    if has_std_beside(unit) and target.name == "main.rs":
+        return made + text[:at] + STD_BESIDE + text[at:]
     if not unit.is_library() or target.name != "lib.rs":
         return made + text
     public = kinds["module"]
-    modules = "".join(f"pub mod {public[crate]};\n" if crate in public else f"mod {crate};\n"
+    modules = "".join(f"pub mod {public[crate][0]};\n" if crate in public else f"mod {crate};\n"
                       for crate in sorted(unit.crates) if crate != unit.root)
-    at = re.search(r"^(?!//!)", text, re.M).start()
-    return made + LIB_HEAD.format(modules=modules.strip()) + text[at:]
+    inside = "\n".join(f"pub use crate::{crate}::{module};" for crate, [module] in kinds["inside"].items())
+    return made + LIB_HEAD.format(modules=modules.strip(), inside=inside) + text[at:]
+
+
+STD_BESIDE = """
+#[path = "../rattle_std/mod.rs"]
+mod rattle_std;
+"""
 
 
 # The version of all packages.
@@ -252,27 +282,41 @@ description = "{description}"
 {publish}
 [dependencies]
 {needs}
-
+{tests}
 [lints]
 workspace = true
 """
 
 
-def manifest_of(unit, kinds, needs):
-    """The manifest of a package: its description is the first sentence of its documentation."""
+def dependencies_of(unit, kinds, needs):
+    """The lines of a manifest for what a crate of cargo stands on, by their names: what crates.txt lists for it, and
+    `rattle_std` where its files name that."""
+    lines = {}
+    if any("rattle_std" in file.words() for file in unit.files.values()):
+        lines["rattle_std"] = f'rattle_std = {{ path = "../../rattle_std", version = "={VERSION}" }}'
+    for need in needs[unit.root]:
+        if need in kinds["package"]:
+            lines[need] = f'{need} = {{ path = "../{need}" }}'
+        elif need in needs:
+            lines["control_wire"] = f'control_wire = {{ path = "../..", version = "={VERSION}" }}'
+        elif need != "hex":
+            lines[need] = f"{need}.workspace = true"
+    return lines
+
+
+def manifest_of(unit, tests, kinds, needs):
+    """The manifest of a package, which has these tests: its description is the first sentence of its documentation."""
     root = next(iter(unit.files.values()))
     docs = re.match(r"(?://! .*\n)+", root.source).group()
     description = re.match(r"(.+?)\.( |$)", docs.replace("//! ", "").replace("\n", " ")).group(1)
-    lines = {"control_wire": f'control_wire = {{ path = "../..", version = "={VERSION}" }}',
-             "rattle_std": f'rattle_std = {{ path = "../../rattle_std", version = "={VERSION}" }}'}
-    for need in needs[unit.root]:
-        if need in kinds["package"]:
-            lines[need] = f'{kinds["package"][need]} = {{ path = "../{kinds["package"][need]}" }}'
-        elif need not in needs and need != "hex":
-            lines[need] = f"{need}.workspace = true"
-    publish = PUBLISHED.get(unit.root, "publish = false\n")
-    return MANIFEST.format(path=root.path, name=unit.folder.name, description=description.replace('"', "'"),
-                           publish=publish, needs="\n".join(lines[need] for need in sorted(lines)), version=VERSION)
+    own, more = dependencies_of(unit, kinds, needs), {}
+    for of_tests in tests:
+        more.update(dependencies_of(of_tests, kinds, needs))
+    more = [line for need, line in sorted(more.items()) if need not in own and need != unit.root]
+    return MANIFEST.format(path=root.path, name=unit.root, description=description.replace('"', "'"),
+                           publish=PUBLISHED.get(unit.root, "publish = false\n"), version=VERSION,
+                           needs="".join(f"{line}\n" for _, line in sorted(own.items())),
+                           tests="\n".join(["[dev-dependencies]", *more, ""]) if more else "").replace("\n\n\n", "\n\n")
 
 
 def sets_test(sets):
@@ -296,22 +340,20 @@ def public_path(file):
     return f"control_wire::{file.path.parts[3].removesuffix('.rt')}"
 
 
-# What the tests of the library have no use for, and what the files of a crate without std have to bring in.
-UNUSED = re.compile(r"#!\[forbid.*\n|pub mod (env|hex|io);\n|pub use std::\{fmt, fs\};\n")
-BROUGHT = "use std::prelude::v1::*;\n"
+# What the tests of the library have no use for.
+UNUSED = re.compile(r"#!\[forbid.*\n|pub mod (env|fs|hex|io);\n|pub use std::fmt;\n")
 
 
 def std_of_tests():
-    """The files of the library with what its tests take of `rattle_std`: so the crate's package has all that they
+    """The files with what the library's tests take of `rattle_std`, below the tests: so its package has all that they
     need."""
     files, folder = {}, HERE.parent / "rattle_std" / "src"
     for name in ("lib", "alloc", "test", "text", "vec"):
         text = UNUSED.sub("", (folder / f"{name}.rs").read_text()).replace("crate::", "crate::rattle_std::")
         docs, code = re.match(r"((?://!.*\n)*\n?)((?:.|\n)*)", text).groups()
         made = f"// Made from rust/rattle_std/src/{name}.rs by rust/erase.\n"
-        brought = "pub use crate::vec;\n" if name == "lib" else BROUGHT
-        files[pathlib.Path("src/rattle_std.rs" if name == "lib" else f"src/rattle_std/{name}.rs")] = \
-            made + docs + brought + code
+        brought = "pub use crate::vec;\n" if name == "lib" else ""
+        files[pathlib.Path(f"tests/rattle_std/{'mod' if name == 'lib' else name}.rs")] = made + docs + brought + code
     return files
 
 
@@ -322,8 +364,9 @@ def write(sources, out, units, kinds):
     for unit in units:
         for target, file in unit.files.items():
             written[out / target] = text_of(unit, kinds, target, file)
-        if unit.folder.parent.name == "packages":
-            written[out / unit.folder / "Cargo.toml"] = manifest_of(unit, kinds, needs_of(sources))
+        if unit.root in kinds["package"]:
+            tests = [of_tests for of_tests in units if of_tests.tests and of_tests.folder == unit.folder]
+            written[out / unit.folder / "Cargo.toml"] = manifest_of(unit, tests, kinds, needs_of(sources))
     for path, text in written.items():
         path.parent.mkdir(parents=True, exist_ok=True)
         path.write_text(text)

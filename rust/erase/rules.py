@@ -213,7 +213,7 @@ def misses_cases(file, patterns):
             while is_inner and (outer == k or file.is_word(outer - 1) or file.text(outer - 1) == "::"):
                 outer -= 1
             takes_all = re.escape(file.joined(outer, k)) + r"[a-z_]\w*" + (r"\)" if is_inner else "")
-            if not any(re.search(rf"(^|\|){takes_all}($|\|)", text) for text in texts):
+            if not any(re.search(rf"(^|\|)({takes_all}|[a-z_]\w*)($|\|)", text) for text in texts):
                 return True
     return False
 
@@ -507,15 +507,17 @@ def comments(file, users):
 
 
 def paths(file, crates, own):
-    """The crates of the library become modules of one, and std is core."""
+    """The crates of the library become modules of one, and std is core. `crates` may have a module of a crate by itself,
+    as `a::b`."""
     words = {**crates, "crate": f"crate::{own}" if own else "crate", "std": "std" if file.runtime else "core"}
     i = 0
     while i < len(file.tokens):
         word = file.text(i)
         is_first = file.is_word(i) and file.text(i + 1) == "::" and file.text(i - 1) != "::"
         # In what a rule has put in, paths are those of the crate already.
-        if is_first and file.tokens[i].origin is not None and words.get(word, word) != word:
-            i = file.replace(i, i + 1, words[word])
+        path = words.get(f"{word}::{file.text(i + 2)}", words.get(word, word)) if is_first else word
+        if path != word and file.tokens[i].origin is not None:
+            i = file.replace(i, i + 1, path)
         else:
             i += 1
 
@@ -573,9 +575,10 @@ def parts(file, open_):
 # What must not be left, and what may stand in the library at all.
 LEFT = {"prove", "prove_eq", "prove_ne", "Global", "HostRuntime", "Abort", "Alloc", "Model", "Drop", "ghost",
         "requires", "ensures", "final", "tactic", "cycle", "alloc", "rt", "unsafe"}
-ATTRIBUTES = {"derive", "cfg", "test", "default", "inline", "cold", "allow", "must_use", "doc", "non_exhaustive"}
+ATTRIBUTES = {"derive", "default", "inline", "cold", "allow", "must_use", "doc", "non_exhaustive"}
+TEST_ATTRIBUTES = ATTRIBUTES | {"cfg", "test"}
 MACROS = {"write", "writeln", "matches", "unreachable", "bitflags"}
-TEST_MACROS = MACROS | {"assert", "assert_eq", "assert_ne", "panic", "println", "eprintln", "vec", "print"}
+RUNTIME_MACROS = MACROS | {"assert", "assert_eq", "assert_ne", "panic", "println", "eprintln", "vec", "print"}
 
 
 def check(file):
@@ -587,8 +590,8 @@ def check(file):
             file.refuse(i, f"`{token.text}` is left")
         if token.text == "#" and file.text(i + 1) in ("[", "!"):
             name = file.text(i + 2 if file.text(i + 1) == "[" else i + 3)
-            if name not in ATTRIBUTES:
+            if name not in (TEST_ATTRIBUTES if file.tests else ATTRIBUTES):
                 file.refuse(i, f"an attribute `{name}` that no rule knows")
         if token.kind == "word" and file.text(i + 1) == "!" and file.text(i + 2) in ("(", "[", "{"):
-            if token.text not in (TEST_MACROS if file.runtime else MACROS):
+            if token.text not in (RUNTIME_MACROS if file.runtime else MACROS):
                 file.refuse(i, f"a macro `{token.text}!` that no rule knows")

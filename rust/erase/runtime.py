@@ -1,12 +1,12 @@
-"""The rules for code over Rattle's runtime: tests and programs. What they name of Rattle's std and Rust's has not is in
-the crate `rattle_std`, over Rust's, of which the library has a copy for its tests."""
+"""The rules for code over Rattle's runtime: tests, programs, and what these stand on. What they name of Rattle's std and
+Rust's has not is in the crate `rattle_std`, over Rust's, of which the tests of the library have a copy beside them."""
 
 RUNTIME, PATHS = [], []
 HANDED = {"rt", "alloc"}
 MACROS = {"assert", "assert_eq", "assert_ne", "panic"}
 PRINTS = {"println", "eprintln"}
 TAKE_ALLOC = {"to_string", "concat", "to_vec", "repeat"}
-MODULES = {"alloc", "test", "io", "env"}
+MODULES = {"alloc", "test", "io", "env", "fs"}
 PRELUDE = {"Vec", "String", "try_clone"} | {f"{word}_in" for word in TAKE_ALLOC}
 
 
@@ -52,6 +52,17 @@ def reader(file, i):
     if not file.texts(i, "rt", ".", "reader", "("):
         return None
     return file.replace(i, i + 3, "io::reader")
+
+
+@rule(RUNTIME)
+def files(file, i):
+    """A function over any runtime that has files, `fn f<R: Files>(rt: &R, ..)`, is over std's: `R::File` is `fs::File`."""
+    if file.text(i) != "fn" or not file.texts(i + 2, "<", "R", ":", "Files", ">"):
+        return None
+    for k in range(file.body(i), i, -1):
+        if file.texts(k, "R", "::", "File"):
+            file.replace(k, k + 3, "fs::File")
+    return file.remove(i + 2, i + 7, comment=False)
 
 
 @rule(RUNTIME)

@@ -53,9 +53,10 @@ SHAPES = {
     "takes_alloc": (r"to_string|concat|to_vec|repeat|clone|vec|in \w+( \. alloc \( \.\. \))? ;",
                     r"to_string_in|concat_in|to_vec_in|repeat_in|try_clone|(crate :: )?rattle_std :: vec|"),
     "reader": (r"rt \. reader", r"io :: reader"),
+    "files": (r"< R : Files >|R :: File", r"(fs :: File)?"),
     "generator": (r"Rng", r"RngCore"),
     "handed": (r"let alloc = rt \. alloc \( \.\. \) ;|(, )?&? ?(rt|alloc)"
-               r"( : &? ?(impl \w+|\( \.\. \)|HostRuntime|Global))?( \. alloc \( \.\. \))?( ,)?", ""),
+               r"( : &? ?(impl \w+|\( \.\. \)|HostRuntime|Global|R))?( \. alloc \( \.\. \))?( ,)?", ""),
     "std_module": (r"std|hex", r"(crate :: )?rattle_std( :: hex)?"),
     "imports": (r"use [\w: ]*(\{ \.\. \})?( as \w+)? ;|, [\w:]+( as \w+)?|[\w:]+( as \w+)? ,", ""),
     "paths": (r"\w+", r"core|std|control_wire( :: \w+)?|crate( :: \w+)?"),
@@ -140,9 +141,19 @@ def is_flag_set(taken, _source, _start):
     return any(re.fullmatch(shape, " ".join(taken)) for shape in SETS)
 
 
+def is_any_runtime(taken, source, start):
+    """The parameter of a function over any runtime, or the type of its files, in the function's signature."""
+    if taken[0] == "<":
+        return source[start - 2] == "fn"
+    while source[start] not in ("{", "}", ";", "fn"):
+        start -= 1
+    return source[start] == "fn" and source[start + 2:start + 7] == ["<", "R", ":", "Files", ">"]
+
+
 CLOSER = {
     "clone": is_clone,
     "drop": is_drop,
+    "files": is_any_runtime,
     "flag_set": is_flag_set,
     "from_utf8": is_first_of_a_path,
     "imports": is_import,

@@ -75,7 +75,9 @@ class File:
         self.path, self.source, self.runtime = path, source, runtime
         # Whether it is of the library, and of what is published.
         self.library = self.published = not runtime
-        # What its tests name of Rattle's std.
+        # Whether it is of tests, which are in crates of their own.
+        self.tests = False
+        # By which path it names what Rattle's std has otherwise than Rust's.
         self.std = "rattle_std"
         self.tokens = tokens_of(source)
         self.edits = []

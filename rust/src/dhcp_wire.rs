@@ -2,7 +2,3 @@
 //! The Dynamic Host Configuration Protocol of IPv4.
 
 pub mod dhcpv4;
-#[cfg(test)]
-mod plain_reader;
-#[cfg(test)]
-mod testing;

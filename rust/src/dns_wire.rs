@@ -2,6 +2,4 @@
 //! The messages of the Domain Name System, and the walk over a name that is written in parts.
 
 pub mod dns;
-pub mod message;
-#[cfg(test)]
-mod testing;
+pub mod octets;

@@ -1,5 +1,5 @@
 // Made from crates/frame_wire/src/lib.rt by rust/erase.
-//! What stands below a control packet: frames of links, IP datagrams with their options and extension headers, and UDP.
+//! The layers below a control packet: frames of links, IP datagrams with their options and extension headers, and UDP.
 //!
 //! ```
 //! use control_wire::frames::{Datagram, Link, Network, UdpPacket, UdpRepr};
@@ -25,8 +25,6 @@
 
 pub mod datagram;
 pub mod link;
-#[cfg(test)]
-mod testing;
 pub mod udp;
 
 pub use datagram::{Addresses, Captured, Datagram, Extent, Head, Refusal};

@@ -14,14 +14,14 @@ pub enum Repr<'a> {
 }
 
 impl<'a> From<icmpv4::Repr<'a>> for Repr<'a> {
-    /// The same message.
+    /// Wraps an ICMPv4 message.
     fn from(message: icmpv4::Repr<'a>) -> Repr<'a> {
         Repr::Ipv4(message)
     }
 }
 
 impl<'a> From<icmpv6::Repr<'a>> for Repr<'a> {
-    /// The same message.
+    /// Wraps an ICMPv6 message.
     fn from(message: icmpv6::Repr<'a>) -> Repr<'a> {
         Repr::Ipv6(message)
     }

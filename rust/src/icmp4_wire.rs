@@ -3,5 +3,3 @@
 
 pub mod icmpv4;
 pub mod igmp;
-#[cfg(test)]
-mod testing;

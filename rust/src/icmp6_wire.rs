@@ -4,8 +4,4 @@
 pub mod icmpv6;
 pub mod mld;
 pub mod ndisc;
-#[cfg(test)]
-mod plain_reader;
-#[cfg(test)]
-mod testing;
 mod writing;

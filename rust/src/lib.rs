@@ -3,12 +3,6 @@
 #![no_std]
 #![forbid(unsafe_code)]
 
-#[cfg(test)]
-extern crate std;
-
-#[cfg(test)]
-mod rattle_std;
-
 mod by_hand;
 mod dhcp_wire;
 mod dns_wire;
@@ -21,6 +15,12 @@ pub mod record;
 mod wirebase;
 
 pub use by_hand::smoltcp::{self, phy, time, wire};
+
+/// What the modules share and the tests try. It is no part of the API.
+#[doc(hidden)]
+pub mod inside {
+    pub use crate::dns_wire::octets;
+}
 
 pub mod icmp;
 

@@ -6,8 +6,4 @@ pub mod ipv6ext_header;
 pub mod ipv6hbh;
 pub mod ipv6option;
 pub mod ndiscoption;
-#[cfg(test)]
-mod plain_reader;
-#[cfg(test)]
-mod testing;
 pub mod writing;

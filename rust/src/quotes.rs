@@ -28,8 +28,6 @@ pub mod icmpv4_error;
 pub mod icmpv6_error;
 pub mod message;
 pub mod quote;
-#[cfg(test)]
-mod testing;
 mod writing;
 
 // The fields of an error.

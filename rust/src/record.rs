@@ -32,8 +32,6 @@ pub mod rdata;
 pub mod record;
 pub mod refusal;
 pub mod strings;
-#[cfg(test)]
-mod testing;
 pub mod text;
 pub mod types;
 pub mod update;

@@ -1,6 +1,6 @@
 // Made from crates/wirebase/src/lib.rt by rust/erase.
-//! What every format of the wire stands on: the one refusal, the octets that a view is made from, checksums, spans
-//! of time, and the IP protocols and addresses.
+//! The base of every format: the one type of refusal, the octets under a view, checksums, spans of time, and the IP
+//! protocols and addresses.
 
 pub mod byte_writer;
 pub mod capabilities;
@@ -15,8 +15,6 @@ pub mod ip;
 pub mod ipv4;
 pub mod ipv6;
 pub mod octets;
-#[cfg(test)]
-mod testing;
 
 pub use byte_writer::ByteWriter;
 pub use capabilities::{Checksum, ChecksumCapabilities};

@@ -1,3 +1,4 @@
+mod first;
 mod lease;
 mod listener_version1;
 mod member;

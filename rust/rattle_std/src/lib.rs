@@ -6,13 +6,14 @@
 
 pub mod alloc;
 pub mod env;
+pub mod fs;
 pub mod hex;
 pub mod io;
 pub mod test;
 mod text;
 mod vec;
 
-pub use std::{fmt, fs};
+pub use std::fmt;
 pub use vec::filled;
 
 /// The names that Rattle's prelude has otherwise than Rust's.

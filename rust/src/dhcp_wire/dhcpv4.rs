@@ -37,13 +37,12 @@
 //! # Ok::<(), control_wire::Error>(())
 //! ```
 
-mod data;
-mod emission;
-mod found;
-mod kinds;
-mod names;
+mod boot_names;
+mod option_data;
+mod option_kinds;
 mod option_printing;
 mod options;
+mod options_seen;
 mod packet;
 mod printing;
 mod refusal;
@@ -51,8 +50,9 @@ mod repr;
 mod table;
 mod tables;
 mod value;
+mod writing;
 
-pub use kinds::{
+pub use option_kinds::{
     OPT_ALL_SUBNETS_ARE_LOCAL, OPT_ARP_CACHE_TIMEOUT, OPT_BOOT_FILE_SIZE, OPT_BOOTFILE_NAME,
     OPT_BROADCAST_ADDRESS, OPT_CLIENT_ID, OPT_COOKIE_SERVER, OPT_DEFAULT_TTL,
     OPT_DHCP_MESSAGE_TYPE, OPT_DOMAIN_NAME, OPT_DOMAIN_NAME_SERVER, OPT_END,
@@ -89,6 +89,3 @@ pub const CLIENT_PORT: u16 = 68;
 
 /// The greatest number of DNS servers that a value holds.
 pub const MAX_DNS_SERVER_COUNT: usize = 5;
-
-#[cfg(test)]
-mod tests;

@@ -45,6 +45,3 @@ pub const SERVER_PORT: u16 = 53;
 
 /// The UDP port of multicast DNS (RFC 6762 section 3).
 pub const MULTICAST_PORT: u16 = 5353;
-
-#[cfg(test)]
-mod tests;

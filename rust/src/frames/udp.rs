@@ -27,7 +27,7 @@ mod field {
     pub const PAYLOAD: usize = 8;
 }
 
-/// The bytes of the header.
+/// The length of the header in bytes.
 pub const HEADER_LEN: usize = field::PAYLOAD;
 
 /// A view of the octets of a UDP datagram.
@@ -55,16 +55,16 @@ impl<T: Octets> UdpPacket<T> {
         UdpPacket { buffer }
     }
 
-    /// The view of these octets, where they begin with a whole datagram; refused where they don't. On refusal the
-    /// buffer is dropped: to keep a `&mut [u8]`, call `new_unchecked` and then `check_len`.
+    /// The view of these octets. Refused where they don't begin with a whole datagram. On refusal the buffer is
+    /// dropped: to keep a `&mut [u8]`, call `new_unchecked` and then `check_len`.
     pub fn new_checked(buffer: T) -> Result<UdpPacket<T>> {
         let packet = UdpPacket::new_unchecked(buffer);
         packet.check_len()?;
         Ok(packet)
     }
 
-    /// Accepts octets of 8 bytes and more that hold the whole datagram by its length, which counts the header too.
-    /// Then each accessor may be called.
+    /// Accepts 8 or more octets that hold the whole datagram by its length field, which counts the header too. Then
+    /// each accessor may be called.
     pub fn check_len(&self) -> Result<()> {
         let len = self.buffer.octets().len();
         if len < HEADER_LEN {
@@ -93,12 +93,12 @@ impl<T: Octets> UdpPacket<T> {
         None
     }
 
-    /// What the view was made from, as it is now.
+    /// The buffer that the view was made from, in its present state.
     pub fn into_inner(self) -> T {
         self.buffer
     }
 
-    /// The port of the sender, or 0 where it has none. Requires at least 2 bytes.
+    /// The source port, or 0 for none. Requires at least 2 bytes.
     ///
     /// # Panics
     ///
@@ -107,7 +107,7 @@ impl<T: Octets> UdpPacket<T> {
         self.buffer.u16_at(field::SRC_PORT)
     }
 
-    /// The port of the receiver. Requires at least 4 bytes.
+    /// The destination port. Requires at least 4 bytes.
     ///
     /// # Panics
     ///
@@ -116,7 +116,7 @@ impl<T: Octets> UdpPacket<T> {
         self.buffer.u16_at(field::DST_PORT)
     }
 
-    /// The bytes of header and data. Requires at least 6 bytes.
+    /// The length of header and data in bytes. Requires at least 6 bytes.
     ///
     /// # Panics
     ///
@@ -135,7 +135,7 @@ impl<T: Octets> UdpPacket<T> {
     }
 
     /// Whether the checksum is that of the datagram with the pseudo header of these addresses. A checksum of 0 means
-    /// that there is none (RFC 768), and is no exception here: the answer is then almost always false. Requires a whole
+    /// that there is none (RFC 768), but is not excepted here: the answer is then almost always false. Requires a whole
     /// datagram.
     ///
     /// # Panics
@@ -149,7 +149,7 @@ impl<T: Octets> UdpPacket<T> {
 }
 
 impl<'a, B: AsRef<[u8]> + ?Sized> UdpPacket<&'a B> {
-    /// The data, for as long as the octets live. Requires a whole datagram.
+    /// The data, borrowed for as long as the octets are. Requires a whole datagram.
     ///
     /// # Panics
     ///
@@ -161,7 +161,7 @@ impl<'a, B: AsRef<[u8]> + ?Sized> UdpPacket<&'a B> {
 }
 
 impl<T: OctetsMut> UdpPacket<T> {
-    /// Writes the port of the sender. Requires at least 2 bytes.
+    /// Writes the source port. Requires at least 2 bytes.
     ///
     /// # Panics
     ///
@@ -170,7 +170,7 @@ impl<T: OctetsMut> UdpPacket<T> {
         self.buffer.set_u16(field::SRC_PORT, value);
     }
 
-    /// Writes the port of the receiver. Requires at least 4 bytes.
+    /// Writes the destination port. Requires at least 4 bytes.
     ///
     /// # Panics
     ///
@@ -179,7 +179,7 @@ impl<T: OctetsMut> UdpPacket<T> {
         self.buffer.set_u16(field::DST_PORT, value);
     }
 
-    /// Writes the bytes of header and data. Requires at least 6 bytes.
+    /// Writes the length of header and data in bytes. Requires at least 6 bytes.
     ///
     /// # Panics
     ///
@@ -197,7 +197,7 @@ impl<T: OctetsMut> UdpPacket<T> {
         self.buffer.set_u16(field::CHECKSUM, value);
     }
 
-    /// Lends the data for writing; the header stays. Requires a whole datagram.
+    /// The data, for writing; the header is not changed. Requires a whole datagram.
     ///
     /// # Panics
     ///
@@ -217,37 +217,37 @@ impl<T: Octets> PartialEq for UdpPacket<T> {
 
 impl<T: Octets> Eq for UdpPacket<T> {}
 
-/// Why octets are no UDP datagram that is read: the check that fails first.
+/// Why octets are refused as a UDP datagram: the check that fails first.
 #[derive(Debug, PartialEq, Eq, Clone, Copy)]
 #[non_exhaustive]
 pub enum Refusal {
     /// Fewer than 8 bytes.
     Short,
-    /// The length field is below 8, the length of the header: this many bytes.
+    /// The length field is below 8, the length of the header; this is its value.
     Length(u16),
-    /// Fewer bytes than the length field says: it says this many.
+    /// Fewer bytes than the length field says; this is its value.
     Cut(u16),
-    /// The port of the receiver is 0.
+    /// The destination port is 0.
     Port,
     /// There is no checksum over IPv6, which requires one (RFC 8200 section 8.1).
     NoChecksum,
-    /// The checksum does not hold.
+    /// The checksum is wrong.
     Checksum,
 }
 
 /// The ports of a datagram.
 #[derive(Debug, PartialEq, Eq, Clone, Copy)]
 pub struct UdpRepr {
-    /// The port of the sender, or 0 where it has none.
+    /// The source port, or 0 for none.
     pub src_port: u16,
-    /// The port of the receiver, which is not 0.
+    /// The destination port, which is not 0.
     pub dst_port: u16,
 }
 
 impl UdpRepr {
-    /// The ports of the datagram at the front of the octets. Refused where that is not whole, is to port 0, and where
-    /// `checksum_caps.udp` has the checksum verified and it does not hold. A checksum of 0 says that there is none:
-    /// where it is verified, it need not be there over IPv4 (RFC 768), and has to over IPv6 (RFC 8200 section 8.1).
+    /// The ports of the datagram at the start of the octets. Refused where it is not whole, where its destination port
+    /// is 0, and where `checksum_caps.udp` has the checksum verified and it is wrong. A checksum of 0 means that there
+    /// is none: where checksums are verified, IPv4 allows that (RFC 768), and IPv6 does not (RFC 8200 section 8.1).
     pub fn parse<B: AsRef<[u8]> + ?Sized>(
         packet: &UdpPacket<&B>,
         addresses: &Addresses,
@@ -256,7 +256,7 @@ impl UdpRepr {
         UdpRepr::read(packet, addresses, checksum_caps)
     }
 
-    // The ports of the datagram at the front of the octets.
+    // The ports of the datagram at the start of the octets.
     fn read<B: AsRef<[u8]> + ?Sized>(
         packet: &UdpPacket<&B>,
         addresses: &Addresses,
@@ -300,7 +300,7 @@ impl UdpRepr {
         Some(Refusal::Checksum)
     }
 
-    /// The ports of the datagram at the front of the octets, as [`UdpRepr::parse`] reads them, or else why it refuses
+    /// The ports of the datagram at the start of the octets, as [`UdpRepr::parse`] reads them, or else why it refuses
     /// them, as [`UdpRepr::refusal`] tells it: the check that fails first.
     pub fn parse_or_refusal<B: AsRef<[u8]> + ?Sized>(
         packet: &UdpPacket<&B>,
@@ -313,10 +313,10 @@ impl UdpRepr {
         }
     }
 
-    /// Writes the datagram of this payload over the front of the octets, with its checksum where `checksum_caps.udp`
-    /// has it computed, and else with 0 for none, which no receiver takes over IPv6; what stands behind it stays. A
-    /// checksum of 0 is written as 0xffff, which is the same sum (RFC 768). It takes 8 bytes and the payload: requires
-    /// that the octets have them, and that they are at most 65,535.
+    /// Writes the datagram of this payload at the start of the octets, with its checksum where `checksum_caps.udp` has
+    /// it computed, and else with 0 for none, which no receiver accepts over IPv6; what follows it is kept. A checksum
+    /// of 0 is written as 0xffff, which is the same sum (RFC 768). Requires that the octets have room for 8 bytes and
+    /// the payload, and that these are at most 65,535 bytes.
     ///
     /// ```
     /// use control_wire::frames::{Addresses, UdpRepr};
@@ -371,13 +371,10 @@ fn seal(octets: &mut [u8], addresses: &Addresses) {
     }
 }
 
-// Whether the datagram has its checksum, or none where it need not.
+// Whether the datagram has its checksum, or needs none.
 fn has_checksum<B: AsRef<[u8]> + ?Sized>(packet: &UdpPacket<&B>, addresses: &Addresses) -> bool {
     if packet.checksum() == 0 {
         return addresses.is_v4();
     }
     packet.verify_checksum(addresses)
 }
-
-#[cfg(test)]
-mod tests;

@@ -39,6 +39,3 @@ mod field {
 
     pub const HEADER_END: usize = 8;
 }
-
-#[cfg(test)]
-mod tests;

@@ -38,6 +38,3 @@ mod field {
 
     pub const GROUP_ADDRESS: Field = 4..8;
 }
-
-#[cfg(test)]
-mod tests;

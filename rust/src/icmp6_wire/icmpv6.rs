@@ -32,8 +32,8 @@ pub use refusal::Refusal;
 pub use repr::Repr;
 pub use tables::{DstUnreachable, Message, ParamProblem, TimeExceeded};
 
-// The bytes that an error has at the most, and those of them that it quotes behind a header, so that its packet is one
-// that every link can carry (RFC 4443 section 2.4).
+// The most bytes that an error has, and the most that it quotes after a header, so that every link can carry its packet
+// (RFC 4443 section 2.4).
 const MAX_ERROR_PACKET_LEN: usize = IPV6_MIN_MTU - IPV6_HEADER_LEN;
 
 const MAX_QUOTED_DATA: usize = MAX_ERROR_PACKET_LEN - field::HEADER_END - IPV6_HEADER_LEN;
@@ -65,14 +65,14 @@ pub(crate) mod field {
 
     pub const HEADER_END: usize = 8;
 
-    // Neighbor discovery (RFC 4861 section 4).
+    // The fields of neighbor discovery (RFC 4861 section 4).
     pub const RETRANS_TM: Field = 12..16;
 
     pub const TARGET_ADDR: Field = 8..24;
 
     pub const DEST_ADDR: Field = 24..40;
 
-    // Multicast listener discovery (RFC 3810 section 5).
+    // The fields of multicast listener discovery (RFC 3810 section 5).
     pub const QUERY_RESERVED: Field = 6..8;
 
     pub const SQRV: Field = 24..25;
@@ -83,6 +83,3 @@ pub(crate) mod field {
 
     pub const NR_MCAST_RCRDS: Field = 6..8;
 }
-
-#[cfg(test)]
-mod tests;

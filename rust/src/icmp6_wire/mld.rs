@@ -1,9 +1,9 @@
 // Made from crates/icmp6_wire/src/mld.rt by rust/erase.
 //! Multicast listener discovery, version 2 (RFC 3810).
 //!
-//! Of version 1 (RFC 2710) nothing is read. Its reports (type 131) and its done messages (type 132) are told by
-//! [`icmpv6::Refusal::UnknownType`](crate::icmpv6::Refusal::UnknownType). Its queries have the type of those of version
-//! 2, 130, and 24 bytes where those have 28 or more (RFC 3810 section 8.1): they are told by
+//! Version 1 (RFC 2710) is not read. Its reports (type 131) and its done messages (type 132) are refused with
+//! [`icmpv6::Refusal::UnknownType`](crate::icmpv6::Refusal::UnknownType). Its queries have the type of version 2, 130,
+//! and 24 bytes where those of version 2 have 28 or more (RFC 3810 section 8.1): they are refused with
 //! [`icmpv6::Refusal::Length`](crate::icmpv6::Refusal::Length).
 //!
 //! ```
@@ -40,7 +40,7 @@ pub use tables::RecordType;
 mod field {
     use crate::wirebase::Field;
 
-    // Of a query (RFC 3810 section 5.1).
+    // The fields of a query (RFC 3810 section 5.1).
     pub const MAX_RESP_CODE: Field = 4..6;
 
     pub const QUERY_MCAST_ADDR: Field = 8..24;
@@ -51,10 +51,10 @@ mod field {
 
     pub const QUERY_NUM_SRCS: Field = 26..28;
 
-    // Of a report (RFC 3810 section 5.2).
+    // The fields of a report (RFC 3810 section 5.2).
     pub const NR_MCAST_RCRDS: Field = 6..8;
 
-    // Of a record in a report.
+    // The fields of a record in a report.
     pub const RECORD_TYPE: Field = 0..1;
 
     pub const AUX_DATA_LEN: Field = 1..2;
@@ -63,6 +63,3 @@ mod field {
 
     pub const RECORD_MCAST_ADDR: Field = 4..20;
 }
-
-#[cfg(test)]
-mod tests;

@@ -1,5 +1,5 @@
 // Made from crates/icmp6_wire/src/ndisc.rt by rust/erase.
-//! Neighbor discovery (RFC 4861): what its messages have behind the checksum.
+//! Neighbor discovery (RFC 4861): the fields of its messages after the checksum.
 //!
 //! ```
 //! use control_wire::icmpv6::{Packet, Repr as Icmpv6Repr};
@@ -30,21 +30,21 @@ use crate::wirebase::{Duration, Ipv6Address, Octets, OctetsMut};
 
 mod display;
 mod flags;
-mod found;
 mod options;
+mod options_seen;
 mod reading;
 mod refusal;
 mod repr;
 
 pub use flags::{NeighborFlags, RouterFlags};
-pub(crate) use found::Found;
+pub(crate) use options_seen::OptionsSeen;
 pub(crate) use reading::{
     neighbor_advert, neighbor_solicit, redirect, router_advert, router_solicit,
 };
 pub use refusal::Refusal;
 pub use repr::Repr;
 
-// The fields behind the checksum (RFC 4861 section 4).
+// The fields after the checksum (RFC 4861 section 4).
 mod field {
     use crate::wirebase::Field;
 
@@ -96,7 +96,7 @@ impl<T: Octets> Packet<T> {
         Duration::from_secs(self.buffer.u16_at(field::ROUTER_LIFETIME) as u64)
     }
 
-    /// How long a neighbor counts as reachable, in whole milliseconds; 0 where it is not told. Requires at least 12
+    /// How long a neighbor counts as reachable, in whole milliseconds; 0 where it is unspecified. Requires at least 12
     /// bytes.
     ///
     /// # Panics
@@ -106,7 +106,7 @@ impl<T: Octets> Packet<T> {
         Duration::from_millis(self.buffer.u32_at(field::REACHABLE_TIME) as u64)
     }
 
-    /// The time between solicitations, in whole milliseconds; 0 where it is not told. Requires at least 16 bytes.
+    /// The time between solicitations, in whole milliseconds; 0 where it is unspecified. Requires at least 16 bytes.
     ///
     /// # Panics
     ///
@@ -115,7 +115,7 @@ impl<T: Octets> Packet<T> {
         Duration::from_millis(self.buffer.u32_at(field::RETRANS_TIME) as u64)
     }
 
-    /// The address that a neighbor message or a redirect speaks of. Requires at least 24 bytes.
+    /// The target address of a neighbor message or a redirect. Requires at least 24 bytes.
     ///
     /// # Panics
     ///
@@ -133,7 +133,7 @@ impl<T: Octets> Packet<T> {
         NeighborFlags::from_bits_truncate(self.buffer.u8_at(field::NEIGHBOR_FLAGS))
     }
 
-    /// The destination that a redirect redirects. Requires at least 40 bytes.
+    /// The destination address of a redirect. Requires at least 40 bytes.
     ///
     /// # Panics
     ///
@@ -144,8 +144,8 @@ impl<T: Octets> Packet<T> {
 }
 
 impl<'a, B: AsRef<[u8]> + ?Sized> Packet<&'a B> {
-    /// The options of a message of neighbor discovery in turn, those of unknown types too: what its payload is (RFC
-    /// 4861 section 4). Requires the header of the type.
+    /// The options of a message of neighbor discovery in turn, also those of unknown types: its payload (RFC 4861
+    /// section 4). Requires the header of the type.
     ///
     /// ```
     /// use control_wire::icmpv6::Packet;
@@ -186,8 +186,8 @@ impl<T: OctetsMut> Packet<T> {
         self.buffer.set_u8(field::ROUTER_FLAGS, flags.bits());
     }
 
-    /// Writes how long the sender is a default router, in whole seconds; what is past them is left out. Requires at
-    /// least 8 bytes, and 65,535 seconds at most.
+    /// Writes how long the sender is a default router, in whole seconds; a fraction is dropped. Requires at least 8
+    /// bytes, and 65,535 seconds at most.
     ///
     /// # Panics
     ///
@@ -197,8 +197,8 @@ impl<T: OctetsMut> Packet<T> {
             .set_u16(field::ROUTER_LIFETIME, value.secs() as u16);
     }
 
-    /// Writes how long a neighbor counts as reachable, in whole milliseconds; what is past them is left out. Requires
-    /// at least 12 bytes, and 4,294,967,295 milliseconds at most.
+    /// Writes how long a neighbor counts as reachable, in whole milliseconds; a fraction is dropped. Requires at least
+    /// 12 bytes, and 4,294,967,295 milliseconds at most.
     ///
     /// # Panics
     ///
@@ -208,8 +208,8 @@ impl<T: OctetsMut> Packet<T> {
             .set_u32(field::REACHABLE_TIME, value.total_millis() as u32);
     }
 
-    /// Writes the time between solicitations, in whole milliseconds; what is past them is left out. Requires at least
-    /// 16 bytes, and 4,294,967,295 milliseconds at most.
+    /// Writes the time between solicitations, in whole milliseconds; a fraction is dropped. Requires at least 16 bytes,
+    /// and 4,294,967,295 milliseconds at most.
     ///
     /// # Panics
     ///
@@ -219,7 +219,7 @@ impl<T: OctetsMut> Packet<T> {
             .set_u32(field::RETRANS_TIME, value.total_millis() as u32);
     }
 
-    /// Writes the address that the message speaks of. Requires at least 24 bytes.
+    /// Writes the target address of a neighbor message or a redirect. Requires at least 24 bytes.
     ///
     /// # Panics
     ///
@@ -237,7 +237,7 @@ impl<T: OctetsMut> Packet<T> {
         self.buffer.set_u8(field::NEIGHBOR_FLAGS, flags.bits());
     }
 
-    /// Writes the destination that a redirect redirects. Requires at least 40 bytes.
+    /// Writes the destination address of a redirect. Requires at least 40 bytes.
     ///
     /// # Panics
     ///
@@ -246,6 +246,3 @@ impl<T: OctetsMut> Packet<T> {
         self.buffer.set_bytes(field::DEST_ADDR, &value.octets());
     }
 }
-
-#[cfg(test)]
-mod tests;

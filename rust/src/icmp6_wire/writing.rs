@@ -1,5 +1,5 @@
 // Made from crates/icmp6_wire/src/writing.rt by rust/erase.
-// What messages of all three protocols are written with.
+// Writers that the messages of all three protocols share.
 
 use crate::wirebase::{ByteWriter, Ipv6Address};
 

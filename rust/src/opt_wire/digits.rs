@@ -1,9 +1,9 @@
 // Made from crates/opt_wire/src/digits.rt by rust/erase.
-//! Bytes as they print: in hexadecimal.
+//! Bytes printed in hexadecimal.
 
 use core::fmt;
 
-/// Bytes that print as two hexadecimal digits each, and none at all as `-`.
+/// Bytes that print as two hexadecimal digits each; an empty slice prints as `-`.
 #[derive(Clone, Copy)]
 pub struct Digits<'a>(pub &'a [u8]);
 

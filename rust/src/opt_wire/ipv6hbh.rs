@@ -1,5 +1,5 @@
 // Made from crates/opt_wire/src/ipv6hbh.rt by rust/erase.
-//! Hop-by-hop options headers (RFC 8200 section 4.3), from their options on.
+//! Hop-by-hop options headers (RFC 8200 section 4.3), without their first two bytes.
 //!
 //! ```
 //! use control_wire::ipv6hbh::{Header, Repr};
@@ -21,19 +21,19 @@ mod refusal;
 
 pub use refusal::Refusal;
 
-/// A view of the options of a hop-by-hop header: all that stands after its first two bytes.
+/// A view of the options of a hop-by-hop header: all its bytes after the first two.
 #[derive(Debug)]
 pub struct Header<T: Octets> {
     buffer: T,
 }
 
 impl<T: Octets> Header<T> {
-    /// The view of these octets, whatever they are.
+    /// Makes a view of `buffer`; its length is not checked.
     pub const fn new_unchecked(buffer: T) -> Header<T> {
         Header { buffer }
     }
 
-    /// The view of these octets; refused where there are none. On refusal the buffer is dropped: to keep a `&mut [u8]`,
+    /// Makes a view of `buffer`. Refused where it is empty. On refusal the buffer is dropped: to keep a `&mut [u8]`,
     /// call `new_unchecked` and then `check_len`.
     pub fn new_checked(buffer: T) -> Result<Header<T>> {
         let header = Header::new_unchecked(buffer);
@@ -41,7 +41,7 @@ impl<T: Octets> Header<T> {
         Ok(header)
     }
 
-    /// Accepts any octets but none at all.
+    /// Accepts one octet or more.
     pub fn check_len(&self) -> Result<()> {
         if self.buffer.octets().is_empty() {
             return Err(Error);
@@ -49,14 +49,14 @@ impl<T: Octets> Header<T> {
         Ok(())
     }
 
-    /// What the view was made from, as it is now.
+    /// Returns the buffer of the view.
     pub fn into_inner(self) -> T {
         self.buffer
     }
 }
 
 impl<'a, B: AsRef<[u8]> + ?Sized> Header<&'a B> {
-    /// The octets of all options, for as long as they live.
+    /// The octets of all options, for as long as the octets live.
     pub fn options(&self) -> &'a [u8] {
         let octets: &'a [u8] = self.buffer.as_ref();
         octets
@@ -78,8 +78,8 @@ pub struct Repr<'a> {
 }
 
 impl<'a> Repr<'a> {
-    /// The options of a header, the first `IPV6_HBH_MAX_OPTIONS` of them. Refused where there are no octets, and
-    /// where one of these options, or the one after them, can't be read; what follows is not looked at.
+    /// The first `IPV6_HBH_MAX_OPTIONS` options of a header. Refused where there are no octets, and where one of these
+    /// options, or the one after them, can't be read; what follows is not checked.
     pub fn parse<B: AsRef<[u8]> + ?Sized>(header: &Header<&'a B>) -> Result<Repr<'a>> {
         Repr::read(header)
     }
@@ -92,7 +92,7 @@ impl<'a> Repr<'a> {
         Ok(Repr { options })
     }
 
-    /// The bytes that the options take, by the lengths that they count.
+    /// The bytes that the options take, by their length fields.
     pub fn buffer_len(&self) -> usize {
         let options = self.options.as_slice();
         let mut len = 0;
@@ -122,8 +122,8 @@ impl<'a> Repr<'a> {
         self.options.push(ipv6option::Repr::PadN(n));
     }
 
-    /// Writes the options over the front of the octets; the others stay. Requires the bytes that they take, and that
-    /// each holds as much data as it counts.
+    /// Writes the options over the front of the octets; the other octets are unchanged. Requires the bytes that the
+    /// options take, and that each option holds as much data as its length counts.
     ///
     /// # Panics
     ///
@@ -132,7 +132,7 @@ impl<'a> Repr<'a> {
         self.emit_into(header.options_mut());
     }
 
-    /// The same into a slice.
+    /// Like `emit`, but writes into a slice.
     ///
     /// # Panics
     ///
@@ -143,8 +143,8 @@ impl<'a> Repr<'a> {
     }
 }
 
-// Reads the options of a header into a list that has none yet, up to one more than it has room for. They stay where the
-// caller has them, in place of a copy that each turn merges.
+// Reads the options of a header into an empty list, up to one more than it has room for. The list is the caller's, so
+// that it is not copied at each turn.
 #[inline(never)]
 fn read_options<'a>(
     octets: &'a [u8],
@@ -166,6 +166,3 @@ fn put_options(w: &mut ByteWriter<'_>, options: &[ipv6option::Repr<'_>]) {
         option.put(w);
     }
 }
-
-#[cfg(test)]
-mod tests;

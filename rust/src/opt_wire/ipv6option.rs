@@ -33,7 +33,7 @@ mod field {
 
     pub const LENGTH: Field = 1..2;
 
-    // The data of an option that counts so many bytes of it.
+    // The field of the data of an option, by its length.
     pub const fn data(length: u8) -> Field {
         2..2 + length as usize
     }
@@ -46,21 +46,21 @@ pub struct Ipv6Option<T: Octets> {
 }
 
 impl<T: Octets> Ipv6Option<T> {
-    /// The view of these octets, whatever they are.
+    /// Makes a view of `buffer`; its length is not checked.
     pub const fn new_unchecked(buffer: T) -> Ipv6Option<T> {
         Ipv6Option { buffer }
     }
 
-    /// The view of these octets, where they begin with a whole option; refused where they don't. On refusal the buffer
-    /// is dropped: to keep a `&mut [u8]`, call `new_unchecked` and then `check_len`.
+    /// Makes a view of `buffer`. Refused where it doesn't begin with a whole option. On refusal the buffer is dropped:
+    /// to keep a `&mut [u8]`, call `new_unchecked` and then `check_len`.
     pub fn new_checked(buffer: T) -> Result<Ipv6Option<T>> {
         let option = Ipv6Option::new_unchecked(buffer);
         option.check_len()?;
         Ok(option)
     }
 
-    /// Accepts octets that begin with a Pad1, or with a type, a length and as many bytes of data. Then each
-    /// accessor may be called, but for the length and the data of a Pad1.
+    /// Accepts octets that begin with a Pad1, or with a type, a length and as many bytes of data. Then each accessor
+    /// may be called, except those of the length and the data where the option is a Pad1.
     pub fn check_len(&self) -> Result<()> {
         let len = self.buffer.octets().len();
         if len < field::TYPE.end {
@@ -78,7 +78,7 @@ impl<T: Octets> Ipv6Option<T> {
         Ok(())
     }
 
-    /// What the view was made from, as it is now.
+    /// Returns the buffer of the view.
     pub fn into_inner(self) -> T {
         self.buffer
     }
@@ -92,7 +92,7 @@ impl<T: Octets> Ipv6Option<T> {
         Type::from(self.buffer.u8_at(field::TYPE))
     }
 
-    /// The bytes of data that the option counts. Requires at least 2 bytes.
+    /// The length field: the number of bytes of data. Requires at least 2 bytes.
     ///
     /// # Panics
     ///
@@ -124,7 +124,7 @@ impl<T: OctetsMut> Ipv6Option<T> {
         self.buffer.set_u8(field::TYPE, value.into());
     }
 
-    /// Writes the bytes of data that the option counts. Requires at least 2 bytes.
+    /// Writes the length field: the number of bytes of data. Requires at least 2 bytes.
     ///
     /// # Panics
     ///
@@ -133,7 +133,7 @@ impl<T: OctetsMut> Ipv6Option<T> {
         self.buffer.set_u8(field::LENGTH, value);
     }
 
-    /// Lends the data for writing; the other octets stay. Requires the bytes that the option counts.
+    /// Lends the data for writing; the other octets are unchanged. Requires the bytes that the option counts.
     ///
     /// # Panics
     ///
@@ -144,7 +144,7 @@ impl<T: OctetsMut> Ipv6Option<T> {
     }
 }
 
-/// Views are equal where their octets are.
+/// Views are equal where their octets are equal.
 impl<T: Octets> PartialEq for Ipv6Option<T> {
     fn eq(&self, other: &Ipv6Option<T>) -> bool {
         self.buffer.octets() == other.buffer.octets()
@@ -153,7 +153,7 @@ impl<T: Octets> PartialEq for Ipv6Option<T> {
 
 impl<T: Octets> Eq for Ipv6Option<T> {}
 
-/// The option at the front of the octets; of octets that are refused `IPv6 Extension Option (wire::Error)`.
+/// Prints the option at the front of the octets, or `IPv6 Extension Option (wire::Error)` where they are refused.
 impl<T: Octets> fmt::Display for Ipv6Option<T> {
     fn fmt(&self, f: &mut fmt::Formatter<'_>) -> fmt::Result {
         let option = Ipv6Option::new_unchecked(self.buffer.octets());
@@ -178,9 +178,9 @@ pub enum Repr<'a> {
     Unknown {
         /// The type: `Rpl`, or one without a name.
         type_: Type,
-        /// The bytes of data that the option counts.
+        /// The length field: the number of bytes of data.
         length: u8,
-        /// The data; what is past `length` is not written.
+        /// The data; bytes past `length` are not written.
         data: &'a [u8],
     },
 }
@@ -192,8 +192,8 @@ impl Default for Repr<'_> {
 }
 
 impl<'a> Repr<'a> {
-    /// The option at the front of the octets. Refused where none stands there whole, and where a router alert
-    /// doesn't count 2 bytes of data. What padding is filled with is not looked at.
+    /// The option at the front of the octets. Refused where they don't begin with a whole option, and where a router
+    /// alert has other than 2 bytes of data. The contents of padding are not checked.
     #[inline]
     pub fn parse<B: AsRef<[u8]> + ?Sized>(opt: &Ipv6Option<&'a B>) -> Result<Repr<'a>> {
         Repr::read(opt)
@@ -220,7 +220,7 @@ impl<'a> Repr<'a> {
         }
     }
 
-    /// The bytes that the option takes, by the length that it counts.
+    /// The bytes that the option takes, by its length field.
     pub const fn buffer_len(&self) -> usize {
         match *self {
             Repr::Pad1 => field::TYPE.end,
@@ -230,8 +230,8 @@ impl<'a> Repr<'a> {
         }
     }
 
-    /// Writes the option over the front of the octets; the others stay. Requires the bytes that the option takes, and
-    /// that it holds as much data as it counts.
+    /// Writes the option over the front of the octets; the other octets are unchanged. Requires the bytes that the
+    /// option takes, and that it holds as much data as its length counts.
     ///
     /// # Panics
     ///
@@ -240,7 +240,7 @@ impl<'a> Repr<'a> {
         self.emit_into(opt.buffer.octets_mut());
     }
 
-    /// The same into a slice.
+    /// Like `emit`, but writes into a slice.
     ///
     /// # Panics
     ///
@@ -290,20 +290,17 @@ impl fmt::Display for Repr<'_> {
     }
 }
 
-// What padding prints.
+// Prints padding.
 fn fmt_pad_n(f: &mut fmt::Formatter<'_>, length: u8) -> fmt::Result {
     write!(f, "IPv6 Option PadN length={length} ")
 }
 
-// What a router alert prints.
+// Prints a router alert.
 fn fmt_router_alert(f: &mut fmt::Formatter<'_>, alert: RouterAlert) -> fmt::Result {
     write!(f, "IPv6 Option RouterAlert value={}", AlertName(alert))
 }
 
-// What an option of any other type prints, whatever its data.
+// Prints an option of any other type, without its data.
 fn fmt_unknown(f: &mut fmt::Formatter<'_>, type_: Type, length: u8) -> fmt::Result {
     write!(f, "IPv6 Option {type_} length={length} ")
 }
-
-#[cfg(test)]
-mod tests;

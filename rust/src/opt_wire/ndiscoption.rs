@@ -40,7 +40,7 @@ mod field {
 
     pub const LENGTH: Field = 1..2;
 
-    pub const PREFIX_LEN: Field = 2..3;
+    pub const PREFIX_OPTION_LEN: Field = 2..3;
 
     pub const PREFIX_FLAGS: Field = 3..4;
 
@@ -56,22 +56,22 @@ mod field {
 
     pub const MTU: Field = 4..8;
 
-    // The data of an option of so many units.
+    // The field of the data of an option of `units` units.
     pub fn data(units: u8) -> Field {
         2..UNIT * units as usize
     }
 
-    // The redirected packet in an option of so many units.
+    // The field of the redirected packet in an option of `units` units.
     pub fn redirected(units: u8) -> Field {
         REDIRECTED_RESERVED.end..UNIT * units as usize
     }
 
-    // A link-layer address that is read from an option of one unit, and from a longer one.
+    // The field of the link-layer address in an option of one unit, and in a longer one.
     pub const SHORT_ADDR: Field = 2..8;
 
     pub const LONG_ADDR: Field = 2..10;
 
-    // A link-layer address of so many bytes.
+    // The field of a link-layer address of `len` bytes.
     pub fn link_layer_addr(len: usize) -> Field {
         2..2 + len
     }
@@ -84,14 +84,14 @@ pub struct NdiscOption<T: Octets> {
 }
 
 impl<T: Octets> NdiscOption<T> {
-    /// The view of these octets, whatever they are.
+    /// Makes a view of `buffer`; its length is not checked.
     pub const fn new_unchecked(buffer: T) -> NdiscOption<T> {
         NdiscOption { buffer }
     }
 
-    /// The view of these octets, where they begin with a whole option of one unit or more; refused where they don't. On
-    /// refusal the buffer is dropped: to keep a `&mut [u8]`, call `new_unchecked` and then `check_len`, which accepts
-    /// an option that counts no units too.
+    /// Makes a view of `buffer`. Refused where it doesn't begin with a whole option of one unit or more. On refusal the
+    /// buffer is dropped: to keep a `&mut [u8]`, call `new_unchecked` and then `check_len`, which accepts an option
+    /// that counts no units too.
     pub fn new_checked(buffer: T) -> Result<NdiscOption<T>> {
         let option = NdiscOption::new_unchecked(buffer);
         option.check_len()?;
@@ -101,10 +101,10 @@ impl<T: Octets> NdiscOption<T> {
         Ok(option)
     }
 
-    /// Accepts 8 octets or more that hold all the units that the option counts, which are 4 or more of a prefix and
-    /// 6 or more of a redirected header. Then each accessor of its type may be called, but for the data and the
-    /// link-layer address of an option that counts no units. Such an option is accepted here, and refused by
-    /// `new_checked` and by [`Repr::parse`].
+    /// Accepts 8 octets or more that hold all the units that the option counts: 4 or more of a prefix, 6 or more of a
+    /// redirected header. Then each accessor of its type may be called, except those of the data and the link-layer
+    /// address where the option counts no units. Such an option is accepted here, and refused by `new_checked` and by
+    /// [`Repr::parse`].
     pub fn check_len(&self) -> Result<()> {
         let len = self.buffer.octets().len();
         if len < UNIT {
@@ -122,7 +122,7 @@ impl<T: Octets> NdiscOption<T> {
         Ok(())
     }
 
-    /// What the view was made from, as it is now.
+    /// Returns the buffer of the view.
     pub fn into_inner(self) -> T {
         self.buffer
     }
@@ -145,7 +145,7 @@ impl<T: Octets> NdiscOption<T> {
         self.buffer.u8_at(field::LENGTH)
     }
 
-    /// The link-layer address of a source or target: what the option has room for, but no more than 8 bytes. Requires
+    /// The link-layer address of a source or target: the bytes that the option has room for, but at most 8. Requires
     /// those bytes, and that the option counts one unit or more.
     ///
     /// # Panics
@@ -161,7 +161,7 @@ impl<T: Octets> NdiscOption<T> {
         }
     }
 
-    /// The greatest packet of the link, in bytes. Requires at least 8 bytes.
+    /// The MTU of the link, in bytes. Requires at least 8 bytes.
     ///
     /// # Panics
     ///
@@ -170,13 +170,13 @@ impl<T: Octets> NdiscOption<T> {
         self.buffer.u32_at(field::MTU)
     }
 
-    /// The bits of a prefix that count. Requires at least 3 bytes.
+    /// The length of a prefix, in bits. Requires at least 3 bytes.
     ///
     /// # Panics
     ///
     /// May panic where what is asked for above does not hold.
     pub fn prefix_len(&self) -> u8 {
-        self.buffer.u8_at(field::PREFIX_LEN)
+        self.buffer.u8_at(field::PREFIX_OPTION_LEN)
     }
 
     /// The flags of a prefix that have a name. Requires at least 4 bytes.
@@ -257,7 +257,7 @@ impl<T: OctetsMut> NdiscOption<T> {
             .set_bytes(field::link_layer_addr(addr.len()), addr.as_bytes());
     }
 
-    /// Writes the greatest packet of the link, in bytes. Requires at least 8 bytes.
+    /// Writes the MTU of the link, in bytes. Requires at least 8 bytes.
     ///
     /// # Panics
     ///
@@ -266,13 +266,13 @@ impl<T: OctetsMut> NdiscOption<T> {
         self.buffer.set_u32(field::MTU, value);
     }
 
-    /// Writes the bits of a prefix that count. Requires at least 3 bytes.
+    /// Writes the length of a prefix, in bits. Requires at least 3 bytes.
     ///
     /// # Panics
     ///
     /// May panic where what is asked for above does not hold.
     pub fn set_prefix_len(&mut self, value: u8) {
-        self.buffer.set_u8(field::PREFIX_LEN, value);
+        self.buffer.set_u8(field::PREFIX_OPTION_LEN, value);
     }
 
     /// Writes the flags of a prefix, all their bits. Requires at least 4 bytes.
@@ -284,8 +284,8 @@ impl<T: OctetsMut> NdiscOption<T> {
         self.buffer.set_u8(field::PREFIX_FLAGS, flags.bits());
     }
 
-    /// Writes how long a prefix is on the link, in whole seconds; what is past them is left out. Requires at least 8
-    /// bytes, and 4,294,967,295 seconds at most.
+    /// Writes how long a prefix is on the link, in whole seconds; a fraction is dropped. Requires at least 8 bytes, and
+    /// 4,294,967,295 seconds at most.
     ///
     /// # Panics
     ///
@@ -295,8 +295,8 @@ impl<T: OctetsMut> NdiscOption<T> {
             .set_u32(field::VALID_LIFETIME, time.secs() as u32);
     }
 
-    /// Writes how long addresses made of a prefix are preferred, in whole seconds; what is past them is left out.
-    /// Requires at least 12 bytes, and 4,294,967,295 seconds at most.
+    /// Writes how long addresses made of a prefix are preferred, in whole seconds; a fraction is dropped. Requires at
+    /// least 12 bytes, and 4,294,967,295 seconds at most.
     ///
     /// # Panics
     ///
@@ -306,7 +306,7 @@ impl<T: OctetsMut> NdiscOption<T> {
             .set_u32(field::PREFERRED_LIFETIME, time.secs() as u32);
     }
 
-    /// Writes zeros into what is reserved in a prefix. Requires at least 16 bytes.
+    /// Writes zeros into the reserved bytes of a prefix. Requires at least 16 bytes.
     ///
     /// # Panics
     ///
@@ -324,7 +324,7 @@ impl<T: OctetsMut> NdiscOption<T> {
         self.buffer.set_bytes(field::PREFIX, &addr.octets());
     }
 
-    /// Writes zeros into what is reserved before a redirected header. Requires at least 8 bytes.
+    /// Writes zeros into the reserved bytes of a redirected header. Requires at least 8 bytes.
     ///
     /// # Panics
     ///
@@ -333,7 +333,8 @@ impl<T: OctetsMut> NdiscOption<T> {
         self.buffer.set_bytes(field::REDIRECTED_RESERVED, &[0; 6]);
     }
 
-    /// Lends the data for writing; the other octets stay. Requires the units that the option counts, one or more.
+    /// Lends the data for writing; the other octets are unchanged. Requires the units that the option counts, one or
+    /// more.
     ///
     /// # Panics
     ///
@@ -344,7 +345,7 @@ impl<T: OctetsMut> NdiscOption<T> {
     }
 }
 
-/// Views are equal where their octets are.
+/// Views are equal where their octets are equal.
 impl<T: Octets> PartialEq for NdiscOption<T> {
     fn eq(&self, other: &NdiscOption<T>) -> bool {
         self.buffer.octets() == other.buffer.octets()
@@ -353,7 +354,7 @@ impl<T: Octets> PartialEq for NdiscOption<T> {
 
 impl<T: Octets> Eq for NdiscOption<T> {}
 
-/// The option at the front of the octets; of octets that are refused `NDISC Option (wire::Error)`.
+/// Prints the option at the front of the octets, or `NDISC Option (wire::Error)` where they are refused.
 impl<T: Octets> fmt::Display for NdiscOption<T> {
     fn fmt(&self, f: &mut fmt::Formatter<'_>) -> fmt::Result {
         let option = NdiscOption::new_unchecked(self.buffer.octets());
@@ -363,6 +364,3 @@ impl<T: Octets> fmt::Display for NdiscOption<T> {
         }
     }
 }
-
-#[cfg(test)]
-mod tests;

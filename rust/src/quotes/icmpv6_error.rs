@@ -12,7 +12,7 @@ use crate::wirebase::{
 };
 pub use refusal::Refusal;
 
-/// The bytes of a packet that an error quotes at most: with the error's own headers they are 1,280, which every link
+/// The most bytes of a packet that an error quotes: with the error's own headers they make 1,280, which every link
 /// carries (RFC 4443 section 2.4(c)).
 pub const MAX_QUOTED: usize = 1232;
 
@@ -81,20 +81,20 @@ pub struct Repr<'a> {
     pub kind: Kind,
     /// The code, by the type.
     pub code: u8,
-    /// The four bytes behind the checksum: of a packet that is too big the next link's MTU, of a parameter problem the
-    /// place of the field, in bytes from the packet's first on. Of an error with extensions the first of them has the
-    /// length of what is quoted of the packet, in units of 8 bytes (RFC 4884 section 4). Else unused.
+    /// The four bytes after the checksum: of packet too big the next link's MTU, of a parameter problem the offset of
+    /// the field, in bytes from the start of the packet. In an error with extensions the first byte is the length of
+    /// the quoted packet, in units of 8 bytes (RFC 4884 section 4). Else unused.
     pub rest: u32,
-    /// All that stands behind the header: the packet that is quoted, of version 6, from its header on. A router may
-    /// append zeros and extensions to a destination that is unreachable and to a time that was exceeded, which stand
-    /// here too (RFC 4884 sections 4 and 7). An error that is written has at most the first 1,232 bytes.
+    /// All that follows the header: the packet that is quoted, of version 6, from its header on. A router may append
+    /// zeros and extensions to destination unreachable and time exceeded; these are part of `quoted` too (RFC 4884
+    /// sections 4 and 7). An error that is written has at most the first 1,232 bytes.
     pub quoted: &'a [u8],
 }
 
 impl<'a> Repr<'a> {
     /// The error in the octets of a message from `src_addr` to `dst_addr`. Refused where they are fewer than 8, where
-    /// their checksum is to be verified and is not good, where the type is not that of an error, and where what stands
-    /// behind the header does not begin with a header of version 6, 40 bytes. Its payload length is not looked at.
+    /// their checksum is to be verified and is wrong, where the type is not that of an error, and where what follows
+    /// the header does not begin with a header of version 6, 40 bytes. Its payload length is not looked at.
     pub fn parse(
         src_addr: &Ipv6Address,
         dst_addr: &Ipv6Address,
@@ -132,8 +132,7 @@ impl<'a> Repr<'a> {
         }
     }
 
-    /// The MTU of the next link, in bytes, of a packet that is too big for it (RFC 4443 section 3.2). None for every
-    /// other error.
+    /// The MTU of the next link, in bytes, in packet too big (RFC 4443 section 3.2). None for every other error.
     pub fn mtu(&self) -> Option<u32> {
         match self.kind {
             Kind::PktTooBig => Some(self.rest),
@@ -141,8 +140,8 @@ impl<'a> Repr<'a> {
         }
     }
 
-    /// The place of the byte that a parameter problem is about, counted from the first byte of the quoted packet on; it
-    /// may be past what is quoted (RFC 4443 section 3.4). None for every other error.
+    /// The offset of the byte that a parameter problem is about, from the start of the quoted packet; it may be past
+    /// the end of the quote (RFC 4443 section 3.4). None for every other error.
     pub fn pointer(&self) -> Option<u32> {
         match self.kind {
             Kind::ParamProblem => Some(self.rest),
@@ -150,15 +149,15 @@ impl<'a> Repr<'a> {
         }
     }
 
-    /// The bytes that the error takes, at most 1,240.
+    /// The length of the error in bytes, at most 1,240.
     pub fn buffer_len(&self) -> usize {
         field::HEADER_END + self.quotable().len()
     }
 
-    /// Writes the error over the front of the octets, as far as they go, and then, where the capabilities have it
-    /// computed, the checksum of all of them as a message from `src_addr` to `dst_addr`; the others stay. Requires at
-    /// least 8 bytes. Give exactly `buffer_len()`: in a longer buffer the checksum covers what follows the error. Of
-    /// what is quoted at most 1,232 bytes are written.
+    /// Writes the error at the start of the octets, cut at their end, and then, where the capabilities ask for it, the
+    /// checksum of all octets as a message from `src_addr` to `dst_addr`. The others keep their values. Requires at
+    /// least 8 bytes. Give exactly `buffer_len()`: in a longer buffer the checksum covers what follows the error. At
+    /// most 1,232 bytes of `quoted` are written.
     ///
     /// # Panics
     ///
@@ -174,7 +173,7 @@ impl<'a> Repr<'a> {
         seal(octets, src_addr, dst_addr, checksum_caps);
     }
 
-    // Writes the error, with the checksum zero.
+    // Writes the error with a checksum of zero.
     fn write(&self, octets: &mut [u8]) {
         write_error(
             octets,
@@ -185,7 +184,7 @@ impl<'a> Repr<'a> {
         );
     }
 
-    // What is quoted where the error is written.
+    // The part of `quoted` that is written.
     fn quotable(&self) -> &'a [u8] {
         &self.quoted[..self.quoted.len().min(MAX_QUOTED)]
     }
@@ -196,7 +195,7 @@ pub(crate) fn is_packet_front(octets: &[u8]) -> bool {
     octets.len() >= IPV6_HEADER_LEN && octets[0] / 16 == 6
 }
 
-// Whether the octets carry their checksum, as a message from the one address to the other.
+// Whether the octets have a good checksum, as a message from the one address to the other.
 fn is_good(octets: &[u8], src_addr: &Ipv6Address, dst_addr: &Ipv6Address) -> bool {
     checksum::is_good(octets, sum_before(octets, src_addr, dst_addr))
 }
@@ -214,11 +213,8 @@ fn seal(
     }
 }
 
-// The sum of the pseudo header that stands before these octets.
+// The sum of the pseudo header for these octets.
 fn sum_before(octets: &[u8], src_addr: &Ipv6Address, dst_addr: &Ipv6Address) -> u16 {
     let len = octets.len() as u64 % (1 << 32);
     checksum::pseudo_header_v6(src_addr, dst_addr, IpProtocol::Icmpv6, len as u32)
 }
-
-#[cfg(test)]
-mod tests;

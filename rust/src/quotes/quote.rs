@@ -1,5 +1,5 @@
 // Made from crates/quote_wire/src/quote.rt by rust/erase.
-//! What an error quotes of a datagram: the fields of its header, and all that stands behind it.
+//! The quote in an error: the fields of the quoted header, and all that follows it.
 
 mod refusal;
 
@@ -21,13 +21,13 @@ const FIXED_END: usize = 20;
 // The version, the traffic class and the flow label of an IPv6 header.
 const FIRST_WORD: Field = 0..4;
 
-/// What an ICMPv4 error quotes (RFC 792): the header of the datagram that it is about (RFC 791 section 3.1), and all
-/// that stands behind it, which begins with as much of its payload as is quoted.
+/// The quote in an ICMPv4 error (RFC 792): the header of the datagram that the error is about (RFC 791 section 3.1),
+/// and all that follows it, which begins with the quoted part of the payload.
 #[derive(Debug, PartialEq, Eq, Clone, Copy)]
 pub struct Ipv4Quote<'a> {
     /// The type of service: the differentiated services field and the congestion notification (RFC 2474, RFC 3168).
     pub type_of_service: u8,
-    /// The bytes that the whole datagram had, header and payload.
+    /// The length of the whole datagram, header and payload, in bytes.
     pub total_len: u16,
     /// The identification, by which a probe finds its answer.
     pub ident: u16,
@@ -35,9 +35,9 @@ pub struct Ipv4Quote<'a> {
     pub dont_frag: bool,
     /// Whether more fragments follow.
     pub more_frags: bool,
-    /// Where the payload stands in that of the whole datagram, in bytes.
+    /// The offset of the payload in that of the unfragmented datagram, in bytes.
     pub frag_offset: u16,
-    /// The hops that were left.
+    /// The hops that are left.
     pub hop_limit: u8,
     /// The protocol of the payload.
     pub next_header: IpProtocol,
@@ -47,16 +47,16 @@ pub struct Ipv4Quote<'a> {
     pub dst_addr: Ipv4Address,
     /// The options, 0 to 40 bytes.
     pub options: &'a [u8],
-    /// All that stands behind the header: the payload, as much of it as is quoted, and where a router appends
-    /// extensions to its error, such as MPLS labels, these too (RFC 4884 sections 4 and 7). They stand behind the first
-    /// 128 bytes of the datagram or more, with zeros in front where it has fewer. Nothing is cut at `total_len`, which
-    /// may be less than is there; the second byte of the error's `rest` tells where extensions begin.
+    /// All that follows the header: the quoted part of the payload and, where a router appends extensions to its error,
+    /// such as MPLS labels, these too (RFC 4884 sections 4 and 7). Extensions follow at least 128 bytes of the
+    /// datagram, padded with zeros where it has fewer. Nothing is cut at `total_len`, which may be smaller; the second
+    /// byte of the error's `rest` tells where extensions begin.
     pub payload: &'a [u8],
 }
 
 impl<'a> Ipv4Quote<'a> {
-    /// What these octets quote, those of `icmpv4_error::Repr::quoted`. Refused where they are not the front of a
-    /// datagram of version 4: a header of 20 bytes or more by its own length, and 8 bytes or more behind it.
+    /// The quote in these octets, which are `icmpv4_error::Repr::quoted`. Refused where they are not the start of a
+    /// datagram of version 4: a header of 20 bytes or more by its own length, and 8 bytes or more after it.
     pub fn parse(octets: &'a [u8]) -> Result<Ipv4Quote<'a>> {
         if !is_datagram(octets) {
             return Err(Error);
@@ -88,7 +88,7 @@ impl fmt::Display for Ipv4Quote<'_> {
     }
 }
 
-// What is printed of the fields up to the fragment offset.
+// The fields up to the fragment offset, as they are printed.
 fn fmt_front(f: &mut fmt::Formatter<'_>, header: &Ipv4Quote<'_>) -> fmt::Result {
     write!(
         f,
@@ -102,7 +102,7 @@ fn fmt_front(f: &mut fmt::Formatter<'_>, header: &Ipv4Quote<'_>) -> fmt::Result 
     )
 }
 
-// What is printed of the others.
+// The fields after the fragment offset, as they are printed.
 fn fmt_back(f: &mut fmt::Formatter<'_>, header: &Ipv4Quote<'_>) -> fmt::Result {
     write!(
         f,
@@ -116,8 +116,8 @@ fn fmt_back(f: &mut fmt::Formatter<'_>, header: &Ipv4Quote<'_>) -> fmt::Result {
     )
 }
 
-/// What an ICMPv6 error quotes (RFC 4443 section 3): the header of the packet that it is about (RFC 8200 section 3),
-/// and all that stands behind it, which begins with as much of its payload as is quoted, extension headers included.
+/// The quote in an ICMPv6 error (RFC 4443 section 3): the header of the packet that the error is about (RFC 8200
+/// section 3), and all that follows it, which begins with the quoted part of the payload, extension headers included.
 ///
 /// ```
 /// use control_wire::quotes::quote::Ipv6Quote;
@@ -136,26 +136,26 @@ pub struct Ipv6Quote<'a> {
     pub traffic_class: u8,
     /// The flow label, 20 bits.
     pub flow_label: u32,
-    /// The bytes of the whole packet's payload.
+    /// The length of the whole packet's payload in bytes.
     pub payload_len: u16,
     /// The protocol of the payload, or its first extension header.
     pub next_header: IpProtocol,
-    /// The hops that were left.
+    /// The hops that are left.
     pub hop_limit: u8,
     /// The address of the sender.
     pub src_addr: Ipv6Address,
     /// The address of the receiver.
     pub dst_addr: Ipv6Address,
-    /// All that stands behind the header: the payload, as much of it as is quoted, and where a router appends
-    /// extensions to its error, these too (RFC 4884 sections 4 and 7). They stand behind the first 128 bytes of the
-    /// packet or more, with zeros in front where it has fewer. Nothing is cut at `payload_len`, which may be less than
-    /// is there; the first byte of the error's `rest` tells where extensions begin.
+    /// All that follows the header: the quoted part of the payload and, where a router appends extensions to its error,
+    /// these too (RFC 4884 sections 4 and 7). Extensions follow at least 128 bytes of the packet, padded with zeros
+    /// where it has fewer. Nothing is cut at `payload_len`, which may be smaller; the first byte of the error's `rest`
+    /// tells where extensions begin.
     pub payload: &'a [u8],
 }
 
 impl<'a> Ipv6Quote<'a> {
-    /// What these octets quote, those of `icmpv6_error::Repr::quoted`. Refused where they do not begin with a header of
-    /// version 6, 40 bytes.
+    /// The quote in these octets, which are `icmpv6_error::Repr::quoted`. Refused where they do not begin with a header
+    /// of version 6, 40 bytes.
     pub fn parse(octets: &'a [u8]) -> Result<Ipv6Quote<'a>> {
         if !is_packet_front(octets) {
             return Err(Error);

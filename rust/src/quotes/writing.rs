@@ -1,14 +1,14 @@
 // Made from crates/quote_wire/src/writing.rt by rust/erase.
-//! How the errors of both protocols are written.
+//! Writing of errors, for both protocols.
 
 use crate::wirebase::{ByteWriter, icmp};
 
-// Writes an error of this type over the front of the octets, as far as they go, with the checksum zero.
+// Writes an error of this type at the start of the octets, cut at their end, with a checksum of zero.
 pub(crate) fn write_error(octets: &mut [u8], number: u8, code: u8, rest: u32, quoted: &[u8]) {
     put_error(&mut ByteWriter::new(octets), number, code, rest, quoted);
 }
 
-// The same through a writer.
+// Writes the error through a writer.
 fn put_error(w: &mut ByteWriter<'_>, number: u8, code: u8, rest: u32, quoted: &[u8]) {
     icmp::put_header(w, number, code, rest.to_be_bytes());
     w.put_front(quoted);

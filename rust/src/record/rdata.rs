@@ -1,5 +1,5 @@
 // Made from crates/record_wire/src/rdata.rt by rust/erase.
-//! The data of resource records by their type (RFC 1035 sections 3.3 and 3.4, RFC 2782, RFC 3596), and of the types in
+//! The data of resource records by their type (RFC 1035 sections 3.3 and 3.4, RFC 2782, RFC 3596), and of all types in
 //! which a receiver expects compressed names (RFC 3597 section 4, RFC 6762 section 18.14).
 
 pub mod fields;
@@ -11,7 +11,7 @@ use crate::record::{classes, multicast, types};
 use crate::wirebase::{Error, Ipv4Address, Ipv6Address, Octets, Result};
 use core::fmt;
 
-// The data of MX and SRV in front of a name, and of SOA behind two names.
+// The data of MX and SRV before a name, and of SOA after two names.
 mod field {
     use crate::wirebase::Field;
 
@@ -82,7 +82,7 @@ pub enum RData<'a> {
     },
     /// Who is responsible for a zone (RFC 1035 section 3.3.13).
     Soa(Authority<'a>),
-    /// Strings of up to 255 bytes, each behind its length, one at least (RFC 1035 section 3.3.14): `TxtStrings` gives
+    /// Strings of up to 255 bytes, each after its length, one at least (RFC 1035 section 3.3.14): `TxtStrings` gives
     /// them in turn.
     Txt(&'a [u8]),
     /// Fields and one name or two, of type MINFO, RP, AFSDB, RT, SIG, PX, NXT, NAPTR, KX or NSEC.
@@ -100,18 +100,18 @@ pub struct Authority<'a> {
     pub mailbox: &'a [u8],
     /// The zone's version.
     pub serial: u32,
-    /// How long a copy is good before it is looked after.
+    /// The time after which a copy is refreshed.
     pub refresh: u32,
-    /// How long to wait where that failed.
+    /// The time after which a failed refresh is tried again.
     pub retry: u32,
-    /// How long a copy is good at the most.
+    /// The time for which a copy is valid at most.
     pub expire: u32,
-    /// The least time to live of the zone's records; of answers that there is none (RFC 2308 section 4).
+    /// The least time to live of the zone's records; for negative answers (RFC 2308 section 4).
     pub minimum: u32,
 }
 
-/// Addresses as addresses, numbers by their names, names and strings by their length; of fields around names all but
-/// the names as a zone file has them.
+/// Addresses print as addresses, numbers by their names, names and strings by their length; of fields around names all
+/// but the names print as in a zone file.
 impl fmt::Display for RData<'_> {
     fn fmt(&self, f: &mut fmt::Formatter<'_>) -> fmt::Result {
         match self {
@@ -158,7 +158,7 @@ impl fmt::Display for Authority<'_> {
     }
 }
 
-/// How the data of a type is laid out: what contracts say of data names it, and no call takes or gives it.
+/// The layout of a type's data: for contracts only, no call takes or returns it.
 #[derive(Debug, PartialEq, Eq, Clone, Copy)]
 pub(crate) enum Layout {
     /// An IPv4 address.
@@ -183,7 +183,7 @@ pub(crate) enum Layout {
 
 impl<'a> RData<'a> {
     /// The data of a record of this type and class. Refused where the bytes are not laid out as the type has it:
-    /// [`RData::refusal`] says why. Of a record of multicast DNS, [`RData::parse_multicast`] reads it.
+    /// [`RData::refusal`] says why. For a record of multicast DNS, [`RData::parse_multicast`] reads it.
     pub fn parse(type_: Type, class: u16, octets: &'a [u8]) -> Result<RData<'a>> {
         read(find_layout(type_, class), octets)
     }
@@ -195,8 +195,8 @@ impl<'a> RData<'a> {
     }
 }
 
-// How the data of this type and class is laid out. Inlined, where a caller goes by the layout at once, one jump finds
-// both.
+// The layout of the data of this type and class. Inlined: a caller that branches on the layout at once needs one jump
+// for both.
 #[inline(always)]
 fn find_layout(type_: Type, class: u16) -> Layout {
     match type_ {
@@ -219,7 +219,7 @@ fn find_layout(type_: Type, class: u16) -> Layout {
     }
 }
 
-// The layout of fields in front of one name or two and behind them.
+// The layout of fields before one name or two and after them.
 fn form(front: FrontForm, has_two: bool, rest: RestForm) -> Layout {
     Layout::Fields(Form {
         front,
@@ -323,7 +323,7 @@ fn read_strings(octets: &[u8]) -> Result<RData<'_>> {
     Ok(RData::Txt(octets))
 }
 
-// These types are rare: apart, their fields cost the others nothing.
+// These types are rare: in a function of their own, their fields cost the others nothing.
 #[inline(never)]
 fn read_fields(form: Form, octets: &[u8]) -> Result<RData<'_>> {
     Ok(RData::Fields(fields::read(form, octets)?))
@@ -337,7 +337,7 @@ fn is_name(octets: &[u8]) -> bool {
     }
 }
 
-// Whether these bytes are strings, each behind its length.
+// Whether these bytes are strings, each after its length.
 fn are_strings(octets: &[u8]) -> bool {
     let mut left = octets;
     while !left.is_empty() {
@@ -349,13 +349,10 @@ fn are_strings(octets: &[u8]) -> bool {
     true
 }
 
-// What stands behind the string at the front of octets. None where no whole string stands.
+// What follows the string at the start of octets. None where there is no whole string.
 fn behind_string(octets: &[u8]) -> Option<&[u8]> {
     match octets {
         [len, rest @ ..] if *len as usize <= rest.len() => Some(&rest[*len as usize..]),
         _ => None,
     }
 }
-
-#[cfg(test)]
-mod tests;

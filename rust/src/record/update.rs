@@ -47,6 +47,3 @@ impl<'a> RData<'a> {
 pub(crate) fn is_without_data(class: u16, octets: &[u8]) -> bool {
     octets.is_empty() && matches!(class, classes::NONE | classes::ANY)
 }
-
-#[cfg(test)]
-mod tests;

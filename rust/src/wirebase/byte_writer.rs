@@ -4,7 +4,7 @@
 use crate::wirebase::octets::OctetsMut;
 use byteorder::{BigEndian, ByteOrder};
 
-/// Writes from the front of what it is made from on.
+/// A writer from the front of its target on.
 pub struct Cursor<T> {
     buffer: T,
     position: usize,
@@ -96,7 +96,7 @@ impl Cursor<&mut [u8]> {
         self.put_bytes(&bytes);
     }
 
-    /// Writes so many zeros. Requires that as many bytes are free.
+    /// Writes `count` zeros. Requires that as many bytes are free.
     ///
     /// # Panics
     ///
@@ -113,7 +113,8 @@ impl Cursor<&mut [u8]> {
 }
 
 impl<T: OctetsMut> Cursor<T> {
-    /// Lends the next bytes: what they hold at the end is written. Requires that as many are free.
+    /// Lends the next bytes for writing; what they hold at the end of the borrow is written. Requires that as many are
+    /// free.
     ///
     /// # Panics
     ///

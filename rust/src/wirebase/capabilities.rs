@@ -1,7 +1,7 @@
 // Made from crates/wirebase/src/capabilities.rt by rust/erase.
 //! Which checksums are verified and computed here, and which are left to the device.
 
-/// Who takes care of a protocol's checksum: in both directions this library, or in one, or in none.
+/// Whether this library handles a protocol's checksum: in both directions, in one, or in none.
 #[derive(Debug, Default, Clone, Copy, PartialEq, Eq)]
 pub enum Checksum {
     /// Verified when a packet is read, and computed when one is written.
@@ -33,18 +33,18 @@ impl Checksum {
     }
 }
 
-/// What is done about the checksum of each protocol.
+/// How the checksum of each protocol is handled.
 #[derive(Debug, Clone, Copy, PartialEq, Eq)]
 pub struct ChecksumCapabilities {
-    /// The header's checksum of IPv4.
+    /// The checksum of the IPv4 header.
     pub ipv4: Checksum,
-    /// That of UDP, with the pseudo header of IPv4 or IPv6.
+    /// The checksum of UDP, with the pseudo header of IPv4 or IPv6.
     pub udp: Checksum,
-    /// That of TCP, which nothing here reads or writes: the field is smoltcp's.
+    /// The checksum of TCP, which nothing here reads or writes: the field is there because smoltcp has it.
     pub tcp: Checksum,
-    /// That of ICMPv4.
+    /// The checksum of ICMPv4.
     pub icmpv4: Checksum,
-    /// That of ICMPv6, with the pseudo header of IPv6.
+    /// The checksum of ICMPv6, with the pseudo header of IPv6.
     pub icmpv6: Checksum,
 }
 
@@ -73,6 +73,3 @@ impl Default for ChecksumCapabilities {
         }
     }
 }
-
-#[cfg(test)]
-mod tests;

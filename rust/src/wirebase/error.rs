@@ -1,5 +1,5 @@
 // Made from crates/wirebase/src/error.rt by rust/erase.
-//! The one refusal.
+//! The one type of refusal.
 
 use core::fmt;
 
@@ -15,6 +15,3 @@ impl fmt::Display for Error {
 
 /// A value, or the refusal of the octets that it should have been read from.
 pub type Result<T> = core::result::Result<T, Error>;
-
-#[cfg(test)]
-mod tests;

@@ -3,9 +3,6 @@
 
 use core::fmt::{self, Display};
 
-#[cfg(test)]
-mod tests;
-
 /// The greatest number of bytes of a hardware address.
 pub const MAX_HARDWARE_ADDRESS_LEN: usize = 8;
 
@@ -128,7 +125,7 @@ impl fmt::Display for HexColons<'_> {
     }
 }
 
-// Prints each byte as two digits, behind a colon.
+// Prints each byte as two digits, after a colon.
 fn fmt_behind_colons(f: &mut fmt::Formatter<'_>, bytes: &[u8]) -> fmt::Result {
     for byte in bytes {
         write!(f, ":{}", HexByte(*byte))?;

@@ -1,5 +1,5 @@
 // Made from crates/wirebase/src/hardware.rt by rust/erase.
-//! The kinds of hardware that a protocol of one hardware type or another speaks of.
+//! Kinds of hardware, by their assigned numbers.
 
 use core::fmt;
 
@@ -39,6 +39,3 @@ impl fmt::Display for Hardware {
         }
     }
 }
-
-#[cfg(test)]
-mod tests;

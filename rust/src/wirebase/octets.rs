@@ -9,11 +9,11 @@ pub type Field = Range<usize>;
 
 /// What holds octets: all that lends a slice of them. The proofs are of `&[u8]` and `&mut [u8]`.
 pub trait Octets {
-    /// The slice that is referred to.
+    /// The slice itself.
     fn octets(&self) -> &[u8];
 
-    /// The octets from one place up to another. Requires that the places are in order and that the octets reach the
-    /// second.
+    /// The octets from one place up to another. Requires that `from` is at most `to`, and `to` at most the number of
+    /// octets.
     ///
     /// # Panics
     ///
@@ -22,7 +22,7 @@ pub trait Octets {
         &self.octets()[from..to]
     }
 
-    /// The octets of a field. Requires that they are there.
+    /// The octets of a field. Requires that the field is within the octets.
     ///
     /// # Panics
     ///
@@ -31,7 +31,7 @@ pub trait Octets {
         self.range(field.start, field.end)
     }
 
-    /// The octet in a field of one. Requires that it is there.
+    /// The octet in a field of one. Requires that the field is within the octets.
     ///
     /// # Panics
     ///
@@ -40,7 +40,7 @@ pub trait Octets {
         self.range(field.start, field.end)[0]
     }
 
-    /// The number in a field of two octets, the higher first. Requires that they are there.
+    /// The number in a field of two octets, the higher first. Requires that the field is within the octets.
     ///
     /// # Panics
     ///
@@ -49,7 +49,7 @@ pub trait Octets {
         BigEndian::read_u16(self.range(field.start, field.end))
     }
 
-    /// The number in a field of four octets, the highest first. Requires that they are there.
+    /// The number in a field of four octets, the highest first. Requires that the field is within the octets.
     ///
     /// # Panics
     ///
@@ -61,15 +61,16 @@ pub trait Octets {
 
 /// What holds octets that may be written: all that lends a slice of them so. The proofs are of `&mut [u8]`.
 pub trait OctetsMut: Octets {
-    /// Lends the octets from one place up to another for writing; the others stay. Requires that the places are in
-    /// order and that the octets reach the second.
+    /// Lends the octets from one place up to another for writing; the other octets are unchanged. Requires that `from`
+    /// is at most `to`, and `to` at most the number of octets.
     ///
     /// # Panics
     ///
     /// May panic where what is asked for above does not hold.
     fn range_mut(&mut self, from: usize, to: usize) -> &mut [u8];
 
-    /// Lends the octets of a field for writing; the others stay. Requires that they are there.
+    /// Lends the octets of a field for writing; the other octets are unchanged. Requires that the field is within the
+    /// octets.
     ///
     /// # Panics
     ///
@@ -84,7 +85,7 @@ pub trait OctetsMut: Octets {
         self.range_mut(0, len)
     }
 
-    /// Writes an octet into a field of one. Requires that it is there.
+    /// Writes an octet into a field of one. Requires that the field is within the octets.
     ///
     /// # Panics
     ///
@@ -93,7 +94,7 @@ pub trait OctetsMut: Octets {
         self.range_mut(field.start, field.end)[0] = value;
     }
 
-    /// Writes a number into a field of two octets, the higher first. Requires that they are there.
+    /// Writes a number into a field of two octets, the higher first. Requires that the field is within the octets.
     ///
     /// # Panics
     ///
@@ -102,7 +103,7 @@ pub trait OctetsMut: Octets {
         BigEndian::write_u16(self.range_mut(field.start, field.end), value);
     }
 
-    /// Writes a number into a field of four octets, the highest first. Requires that they are there.
+    /// Writes a number into a field of four octets, the highest first. Requires that the field is within the octets.
     ///
     /// # Panics
     ///
@@ -111,7 +112,7 @@ pub trait OctetsMut: Octets {
         BigEndian::write_u32(self.range_mut(field.start, field.end), value);
     }
 
-    /// Writes octets into a field of as many. Requires that they are there.
+    /// Writes octets into a field of as many. Requires that the field is within the octets.
     ///
     /// # Panics
     ///

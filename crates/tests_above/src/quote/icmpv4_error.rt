@@ -1,8 +1,7 @@
 //! Errors of ICMPv4: what a traceroute and a path MTU discovery get, and what they send.
 
 use quote_wire::icmpv4_error::{Kind, Repr};
-use wirebase::ChecksumCapabilities;
-use wirebase::capabilities::Checksum;
+use wirebase::{Checksum, ChecksumCapabilities};
 
 mod printing;
 mod reading;

@@ -5,8 +5,7 @@ use quote_wire::icmpv6_error::{Kind, MAX_QUOTED, Refusal, Repr};
 use quote_wire::quote;
 use quote_wire::quote::Ipv6Quote;
 use std::process::Abort;
-use wirebase::capabilities::Checksum;
-use wirebase::{ChecksumCapabilities, Error, IpProtocol, Ipv6Address};
+use wirebase::{Checksum, ChecksumCapabilities, Error, IpProtocol, Ipv6Address};
 
 // The addresses that the error is sent from and to.
 fn from() -> Ipv6Address {

@@ -1,5 +1,5 @@
 use crate::testing::{same, same_of};
-use wirebase::capabilities::*;
+use wirebase::{Checksum, ChecksumCapabilities};
 
 #[test]
 fn directions_of_each_case(rt: HostRuntime) {

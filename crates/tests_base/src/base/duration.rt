@@ -1,5 +1,5 @@
 use crate::testing::{prints, same, same_of, takes_writes};
-use wirebase::duration::Duration;
+use wirebase::Duration;
 
 #[test]
 fn parts(rt: HostRuntime) {

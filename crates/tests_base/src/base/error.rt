@@ -1,5 +1,5 @@
 use crate::testing::{prints, takes_writes};
-use wirebase::error::Error;
+use wirebase::Error;
 
 #[test]
 fn prints_its_name(rt: HostRuntime) {

@@ -1,5 +1,5 @@
 use crate::testing::{prints, same, same_of, takes_writes};
-use wirebase::ethernet::{EthernetAddress, MAX_HARDWARE_ADDRESS_LEN, RawHardwareAddress};
+use wirebase::{EthernetAddress, MAX_HARDWARE_ADDRESS_LEN, RawHardwareAddress};
 
 const ADDRESS: EthernetAddress = EthernetAddress([0x52, 0x54, 0x00, 0x12, 0x34, 0x56]);
 

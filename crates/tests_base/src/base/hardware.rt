@@ -1,5 +1,5 @@
 use crate::testing::{prints, same, same_of};
-use wirebase::hardware::Hardware;
+use wirebase::Hardware;
 
 #[test]
 fn hardware_by_its_number(rt: HostRuntime) {

@@ -1,5 +1,5 @@
 use crate::testing::{prints, same};
-use wirebase::ip::IpProtocol;
+use wirebase::IpProtocol;
 
 #[test]
 fn protocols_and_their_numbers(rt: HostRuntime) {

@@ -3,10 +3,8 @@ ghost use Rattle.std.specs.Prelude.{◌≡◌, ◌≤◌, length};
 use crate::testing::{prints, same, same_of, takes_writes};
 use byteorder::{BigEndian, ByteOrder};
 use std::test::Fail;
-use wirebase::capabilities::{Checksum, ChecksumCapabilities};
 use wirebase::checksum::{self, pseudo_header_v4};
-use wirebase::ip::IpProtocol;
-use wirebase::ipv4::{Ipv4Address, Ipv4Packet, Ipv4Repr};
+use wirebase::{Checksum, ChecksumCapabilities, IpProtocol, Ipv4Address, Ipv4Packet, Ipv4Repr};
 
 #[test]
 fn addresses_in_decimal(rt: HostRuntime) {

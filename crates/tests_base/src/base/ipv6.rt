@@ -3,11 +3,9 @@ ghost use Rattle.std.specs.Prelude.{◌≡◌, ◌≤◌, length};
 use crate::testing::{holds_of, prints, same, same_of, takes_writes};
 use std::alloc::Global;
 use std::test::Fail;
-use wirebase::checksum;
-use wirebase::ip::IpProtocol;
-use wirebase::ipv6::{
+use wirebase::{
     IPV6_HEADER_LEN, IPV6_LINK_LOCAL_ALL_NODES, IPV6_LINK_LOCAL_ALL_ROUTERS, IPV6_MIN_MTU,
-    Ipv6Address, Ipv6Packet, Ipv6Refusal, Ipv6Repr,
+    IpProtocol, Ipv6Address, Ipv6Packet, Ipv6Refusal, Ipv6Repr, checksum,
 };
 
 // The address of these groups.

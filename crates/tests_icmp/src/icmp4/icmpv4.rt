@@ -3,8 +3,7 @@
 ghost use Rattle.std.specs.Prelude.{◌≡◌, ◌≤◌, length};
 
 use icmp4_wire::icmpv4::{DstUnreachable, Packet, Repr};
-use wirebase::capabilities::Checksum;
-use wirebase::{ChecksumCapabilities, IpProtocol, Ipv4Address, Ipv4Repr, Result};
+use wirebase::{Checksum, ChecksumCapabilities, IpProtocol, Ipv4Address, Ipv4Repr, Result};
 
 mod damaged;
 mod printing;

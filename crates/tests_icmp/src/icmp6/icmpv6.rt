@@ -5,8 +5,7 @@ use crate::icmp6::plain_reader::compare_damaged;
 use crate::testing::{holds_of, reads, same_of};
 use icmp6_wire::icmpv6::{Packet, Repr};
 use std::process::Abort;
-use wirebase::capabilities::Checksum;
-use wirebase::{ChecksumCapabilities, Ipv6Address};
+use wirebase::{Checksum, ChecksumCapabilities, Ipv6Address};
 
 mod errors;
 mod fields;

@@ -232,6 +232,3 @@ impl TryFrom<Time> for SystemTime {
             .ok_or(TimeOutOfRange)
     }
 }
-
-#[cfg(test)]
-mod tests;

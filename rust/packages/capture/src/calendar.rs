@@ -1,7 +1,7 @@
 // Made from crates/capture/src/calendar.rt by rust/erase.
 //! Days as dates of the calendar.
 
-// The calendar begins anew after so many years, of so many days.
+// The calendar repeats after this many years, which have this many days.
 const CYCLE_YEARS: u64 = 400;
 
 const CYCLE_DAYS: u64 = 146_097;
@@ -17,7 +17,7 @@ pub struct Date {
     pub day: u64,
 }
 
-/// The date so many days after 1970-01-01.
+/// The date this many days after 1970-01-01.
 pub fn date_of(days: u64) -> Date {
     let day = days % CYCLE_DAYS;
     let years = years_in(day);
@@ -25,8 +25,8 @@ pub fn date_of(days: u64) -> Date {
     date_in_year(year, day - days_in_years(years))
 }
 
-// How many years from 1970 on pass whole in so many days. A year has 365 days at least, and fewer than a year's are
-// those of the leap days.
+// The number of whole years from 1970 on in this many days. A year has at least 365 days, and the leap days of that
+// many years are fewer than a year has.
 fn years_in(days: u64) -> u64 {
     let years = days / 365;
     if days_in_years(years) > days {
@@ -36,13 +36,13 @@ fn years_in(days: u64) -> u64 {
     }
 }
 
-// How many days so many years from 1970 on have.
+// The number of days in this many years from 1970 on.
 fn days_in_years(years: u64) -> u64 {
     let last = 1969 + years;
     365 * years + last / 4 - last / 100 + last / 400 - 477
 }
 
-// The date so many days after a year's first.
+// The date this many days after the first of a year.
 fn date_in_year(year: u64, days: u64) -> Date {
     let mut left = days;
     for months in 0..11 {
@@ -63,7 +63,7 @@ fn date_in_year(year: u64, days: u64) -> Date {
     }
 }
 
-// How many days a month has.
+// The number of days of a month.
 fn month_days(year: u64, month: u64) -> u64 {
     match month {
         2 => {

@@ -13,13 +13,13 @@ use rattle_std::io::BufRead;
 #[allow(unused_imports)]
 use rattle_std::prelude::*;
 
-/// The most bytes that are kept of a packet.
+/// The most bytes of a packet that are kept.
 pub const MOST_OCTETS: u32 = 262_144;
 
 /// The most interfaces of a section.
 pub const MOST_INTERFACES: usize = 65_536;
 
-/// What a capture says of a packet.
+/// What a capture tells of a packet.
 #[derive(Debug, PartialEq, Eq, Clone, Copy)]
 pub struct Record {
     /// The number of the packet; the first is 1.
@@ -28,13 +28,13 @@ pub struct Record {
     pub time: Option<Time>,
     /// The type of the link.
     pub link_type: u16,
-    /// How many of its bytes are kept: at most `MOST_OCTETS`.
+    /// The number of its bytes that are kept: at most `MOST_OCTETS`.
     pub captured_len: u32,
-    /// The bytes that it had.
+    /// The packet's original length in bytes.
     pub original_len: u32,
 }
 
-/// What comes next in a capture.
+/// The next item of a capture.
 #[derive(Debug, PartialEq, Eq, Clone, Copy)]
 pub enum Next {
     /// A record; `Capture::octets` are its packet's bytes.
@@ -67,12 +67,12 @@ enum Step {
     Ended(Ending),
 }
 
-/// A capture file, read from its front on. What it keeps is the record or block that was read last, and the interfaces
-/// of the section: at most 4 MB, whatever the file holds.
+/// A capture file, read from its start. It keeps the record or block that was read last and the interfaces of the
+/// section: at most 4 MB, whatever the file holds.
 pub struct Capture {
     stage: Stage,
     interfaces: Vec<Interface>,
-    // The record or block that was read last, and where its packet stands.
+    // The record or block that was read last, and the place of its packet.
     octets: Vec<u8>,
     start: usize,
     end: usize,
@@ -81,7 +81,7 @@ pub struct Capture {
 }
 
 impl Capture {
-    /// A capture of which nothing is read.
+    /// A capture of which nothing is read yet.
     pub fn new() -> Capture {
         Capture {
             stage: Stage::Start,
@@ -93,7 +93,7 @@ impl Capture {
         }
     }
 
-    /// Reads on to the next record. Where the capture has ended, it says so again at each further call.
+    /// Reads the next record. Where the capture has ended, each further call says so again.
     pub fn next<R: BufRead>(&mut self, input: &mut R) -> Result<Next, Fault> {
         for _ in 0..u64::MAX {
             match self.read_step(input)? {
@@ -108,10 +108,10 @@ impl Capture {
         Err(Fault::Read)
     }
 
-    /// Whether these octets, which the input's buffer shows, have the whole record or block of the next packet, and the
-    /// blocks before it that hold none, so that `next` need not wait for more. It is false at the start of a capture,
-    /// and before a packet whose record or block is longer than is kept; at the end it is true. A program that prints
-    /// packets as they come writes out its output where this is false, before it reads on.
+    /// Whether these octets, which the input's buffer has, are enough for `next` not to wait: they hold the whole
+    /// record or block of the next packet, and the blocks before it that hold none. It is false at the start of a
+    /// capture, and before a packet whose record or block is longer than is kept; at the end it is true. A program that
+    /// prints packets as they come writes out its output where this is false, before it reads on.
     #[inline]
     pub fn shows_next(&self, shown: &[u8]) -> bool {
         match self.stage {
@@ -185,7 +185,7 @@ impl Capture {
         }
     }
 
-    // Reads the next block of a section, of which some bytes may be read.
+    // Reads the next block of a section, of which some bytes may have been read.
     fn read_block<R: BufRead>(&mut self, input: &mut R, section: Order) -> Result<Step, Fault> {
         let block: Taken<Head> = read_unit(input, &mut self.octets, section)?;
         match block {
@@ -251,6 +251,3 @@ impl Capture {
         }
     }
 }
-
-#[cfg(test)]
-mod tests;

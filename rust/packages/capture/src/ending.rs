@@ -4,22 +4,22 @@
 use rattle_std::io::Error;
 use std::fmt;
 
-/// What ends the records of a capture.
+/// The ending of a capture's records.
 #[derive(Debug, PartialEq, Eq, Clone, Copy)]
 pub enum Ending {
-    /// The capture ends behind a whole record.
+    /// The capture ends after a whole record.
     Whole,
     /// The capture ends within a record or a block.
     Cut,
-    /// A record or a block is greater than what is kept.
+    /// A record or a block is larger than what is kept.
     TooLarge,
     /// A section describes more interfaces than are kept.
     TooManyInterfaces,
-    /// A block contradicts itself or what stands before it, by the check that fails first.
+    /// A block contradicts itself or what is before it, by the check that fails first.
     Malformed(Refusal),
-    /// The file or the section has a version that is not read.
+    /// The file or the section has an unsupported version.
     Version,
-    /// The bytes begin neither as a pcap nor as a pcapng file does.
+    /// The bytes begin neither as a pcap file nor as a pcapng file.
     NotACapture,
 }
 
@@ -27,23 +27,23 @@ pub enum Ending {
 #[derive(Debug, PartialEq, Eq, Clone, Copy)]
 #[non_exhaustive]
 pub enum Refusal {
-    /// A section header tells neither order of bytes.
+    /// A section header has neither byte order's magic number.
     ByteOrder,
-    /// A block's length, this one, is below 12 or no multiple of four.
+    /// A block's length is below 12 or no multiple of four; this is the length.
     Length(u32),
-    /// The length at the end of a block is not the one at its front.
+    /// The length at the end of a block differs from that at its start.
     ClosingLength,
     /// A block has fewer bytes than its kind requires.
     Short,
-    /// A block is of a kind, by its number, that holds no packet.
+    /// A block is of a kind that holds no packet; this is the kind's number.
     Kind(u32),
-    /// A packet names an interface, by its number, that is not described before it.
+    /// A packet names an interface that is not described before it; this is the interface's number.
     Interface(u32),
-    /// A packet of so many bytes is longer than its block.
+    /// A packet is longer than its block; this is the packet's length in bytes.
     CapturedLength(u32),
 }
 
-/// What ends the reading before the capture does.
+/// What ends the reading before the capture ends.
 #[derive(Debug, PartialEq, Eq, Clone, Copy)]
 pub enum Fault {
     /// The input could not be read.
@@ -52,14 +52,14 @@ pub enum Fault {
     Memory,
 }
 
-/// What an input tells that could not be read.
+/// The error of an input that could not be read.
 impl From<Error> for Fault {
     fn from(_error: Error) -> Fault {
         Fault::Read
     }
 }
 
-/// What ended the capture, of a file that is named before it.
+/// What ended the capture, after the name of its file.
 impl fmt::Display for Ending {
     fn fmt(&self, f: &mut fmt::Formatter<'_>) -> fmt::Result {
         match self {
@@ -74,7 +74,7 @@ impl fmt::Display for Ending {
     }
 }
 
-/// The check that failed, with the number that was met.
+/// The check that failed, with the number that was found.
 impl fmt::Display for Refusal {
     fn fmt(&self, f: &mut fmt::Formatter<'_>) -> fmt::Result {
         match self {
@@ -93,7 +93,7 @@ impl fmt::Display for Refusal {
     }
 }
 
-/// What ended the reading.
+/// The fault that ended the reading.
 impl fmt::Display for Fault {
     fn fmt(&self, f: &mut fmt::Formatter<'_>) -> fmt::Result {
         match self {

@@ -9,8 +9,6 @@ mod packet;
 pub mod pcap;
 pub mod pcapng;
 mod reader;
-#[cfg(test)]
-mod testing;
 mod text;
 mod time;
 mod unit;

@@ -1,20 +1,20 @@
 // Made from crates/capture/src/order.rt by rust/erase.
-//! The order of the bytes of a number.
+//! The byte order of numbers.
 
 use byteorder::{BigEndian, ByteOrder, LittleEndian};
 use control_wire::{Field, Octets};
 
-/// The order in which the machine that wrote a file keeps the bytes of a number.
+/// The byte order of the machine that wrote a file.
 #[derive(Debug, PartialEq, Eq, Clone, Copy)]
 pub enum Order {
-    /// The highest byte first.
+    /// Big-endian: the highest byte first.
     Big,
-    /// The lowest byte first.
+    /// Little-endian: the lowest byte first.
     Little,
 }
 
 impl Order {
-    /// The number in a field of two bytes. Requires that they are there.
+    /// The number in a field of two bytes. Requires at least two bytes.
     ///
     /// # Panics
     ///
@@ -27,7 +27,7 @@ impl Order {
         }
     }
 
-    /// The number in a field of four bytes. Requires that they are there.
+    /// The number in a field of four bytes. Requires at least four bytes.
     ///
     /// # Panics
     ///
@@ -41,7 +41,7 @@ impl Order {
         }
     }
 
-    /// The signed number in the first eight bytes. Requires that they are there.
+    /// The signed number in the first eight bytes. Requires at least eight bytes.
     ///
     /// # Panics
     ///

@@ -10,10 +10,10 @@ pub struct Packet {
     pub time: Option<Time>,
     /// The type of the link.
     pub link_type: u16,
-    /// The bytes that it had.
+    /// The packet's original length in bytes.
     pub original_len: u32,
-    /// Where its bytes begin in the record or block.
+    /// The offset of its bytes in the record or block.
     pub start: usize,
-    /// How many of them are kept.
+    /// The number of its bytes that are kept.
     pub captured_len: u32,
 }

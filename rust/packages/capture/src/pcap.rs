@@ -29,13 +29,13 @@ mod field {
     pub const ORIGINAL_LEN: Field = 12..16;
 }
 
-/// The bytes of a file's header.
+/// The length of a file's header in bytes.
 pub const FILE_HEADER_LEN: usize = field::LINK_TYPE.end;
 
-/// The bytes of a record's header.
+/// The length of a record's header in bytes.
 pub const RECORD_HEADER_LEN: usize = field::ORIGINAL_LEN.end;
 
-/// What the fractions of the seconds count.
+/// The unit of the fractions of seconds.
 #[derive(Debug, PartialEq, Eq, Clone, Copy)]
 pub enum Precision {
     /// Microseconds.
@@ -47,17 +47,17 @@ pub enum Precision {
 /// The header of a file.
 #[derive(Debug, PartialEq, Eq, Clone, Copy)]
 pub struct FileHeader {
-    /// The order of the bytes of the numbers behind the magic number.
+    /// The byte order of the numbers after the magic number.
     pub order: Order,
-    /// What the fractions of the seconds count.
+    /// The unit of the fractions of seconds.
     pub precision: Precision,
     /// The type of the link that each packet was captured on.
     pub link_type: u16,
 }
 
 impl FileHeader {
-    /// The header at the front of the octets, of version 2.4. Refused where they begin with no magic number
-    /// (`NotACapture`), are fewer than 24 (`Cut`), or are of another version (`Version`).
+    /// Parses the header at the start of the octets, of version 2.4. Refused where they do not begin with a magic
+    /// number (`NotACapture`), are fewer than 24 (`Cut`), or are of another version (`Version`).
     pub fn parse(octets: &[u8]) -> Result<FileHeader, Ending> {
         let Some((order, precision)) = magic(octets) else {
             return Err(Ending::NotACapture);
@@ -76,7 +76,7 @@ impl FileHeader {
     }
 }
 
-// The order and the precision that the magic number tells.
+// The byte order and the precision of a magic number.
 fn magic(octets: &[u8]) -> Option<(Order, Precision)> {
     if octets.len() < field::MAGIC.end {
         return None;
@@ -95,16 +95,16 @@ fn magic(octets: &[u8]) -> Option<(Order, Precision)> {
 pub struct RecordHeader {
     /// The whole seconds since 1970-01-01 00:00:00 UTC.
     pub seconds: u32,
-    /// The microseconds or nanoseconds past them.
+    /// The microseconds or nanoseconds after them.
     pub fraction: u32,
-    /// The bytes of the packet that the file keeps.
+    /// The number of bytes of the packet in the file.
     pub captured_len: u32,
-    /// The bytes that the packet had.
+    /// The packet's original length in bytes.
     pub original_len: u32,
 }
 
 impl RecordHeader {
-    /// The header at the front of the octets. Requires at least 16 bytes.
+    /// Parses the header at the start of the octets. Requires at least 16 bytes.
     ///
     /// # Panics
     ///
@@ -156,7 +156,7 @@ impl UnitHead for RecordHeader {
     }
 }
 
-/// The packet of a record with this header, whose bytes stand behind it.
+/// The packet of a record with this header, whose bytes follow it.
 pub fn packet(file: &FileHeader, head: &RecordHeader) -> Packet {
     Packet {
         time: Some(Time::of_fraction(

@@ -18,10 +18,10 @@ mod field {
 
     pub const TOTAL_LEN: Field = 4..8;
 
-    // What all blocks have in front.
+    // The head of every block.
     pub const HEAD_END: usize = 12;
 
-    // Of a section header.
+    // A section header.
     pub const BYTE_ORDER: Field = 8..12;
 
     pub const MAJOR: Field = 12..14;
@@ -30,21 +30,21 @@ mod field {
 
     pub const SECTION_END: usize = 28;
 
-    // Of an interface description.
+    // An interface description.
     pub const LINK_TYPE: Field = 8..10;
 
     pub const SNAP_LEN: Field = 12..16;
 
     pub const OPTIONS: usize = 16;
 
-    // Of an option.
+    // An option.
     pub const CODE: Field = 0..2;
 
     pub const LENGTH: Field = 2..4;
 
     pub const VALUE: usize = 4;
 
-    // Of a packet.
+    // An enhanced or an obsolete packet.
     pub const INTERFACE: Field = 8..12;
 
     pub const SHORT_INTERFACE: Field = 8..10;
@@ -59,25 +59,25 @@ mod field {
 
     pub const PACKET: usize = 28;
 
-    // Of a simple packet.
+    // A simple packet.
     pub const SIMPLE_ORIGINAL_LEN: Field = 8..12;
 
     pub const SIMPLE_PACKET: usize = 12;
 
-    // The bytes of the length that ends a block.
+    // The length in bytes of the field that ends a block.
     pub const TRAILER: usize = 4;
 }
 
-/// The bytes of a block's kind, the first of it.
+/// The length in bytes of a block's kind, its first field.
 pub const KIND_LEN: usize = field::KIND.end;
 
-/// The bytes that each block has in front: its kind, its length, and four more.
+/// The length in bytes of what each block begins with: its kind, its length, and four more.
 pub const HEAD_LEN: usize = field::HEAD_END;
 
 /// The most bytes of a block that is read.
 pub const MOST_BLOCK_OCTETS: u32 = 524_288;
 
-/// The kind of a section header, the same in both orders of bytes.
+/// The kind of a section header, equal in both byte orders.
 pub const SECTION: u32 = 0x0a0d_0d0a;
 
 /// The kind of an interface description.
@@ -92,29 +92,30 @@ pub const SIMPLE_PACKET: u32 = 3;
 /// The kind of an enhanced packet.
 pub const ENHANCED_PACKET: u32 = 6;
 
-// The code of the option that tells a resolution, and the resolution where none tells one: microseconds.
+// `if_tsresol`, and its default of 10^-6 s.
 const IF_TSRESOL: u16 = 9;
 
 const MICROSECONDS: u8 = 6;
 
-// The code of the option that tells what is added to each time.
+// `if_tsoffset`.
 const IF_TSOFFSET: u16 = 14;
 
-/// What stands in front of a block.
+/// The head of a block.
 #[derive(Debug, PartialEq, Eq, Clone, Copy)]
 pub struct Head {
-    /// The order of the bytes of its numbers: a section header has its own.
+    /// The byte order of its numbers: a section header has its own.
     pub order: Order,
-    /// What kind of block it is.
+    /// The kind of the block.
     pub kind: u32,
-    /// The bytes of the block: 12 or more, and four times a number.
+    /// The length of the block in bytes: 12 or more, and a multiple of four.
     pub total_len: u32,
 }
 
 impl Head {
-    /// The head at the front of the octets, in a section of this order. Refused where there are no octets (`Whole`),
-    /// fewer than 12 (`Cut`), where a section header tells no order of bytes or the length is no block's (`Malformed`,
-    /// with `ByteOrder` or `Length`), and where a block that is read has more than `MOST_BLOCK_OCTETS` (`TooLarge`).
+    /// Parses the head at the start of the octets, in a section of this byte order. Refused where there are no octets
+    /// (`Whole`), fewer than 12 (`Cut`), where a section header has no valid byte order or the length is not that of a
+    /// block (`Malformed`, with `ByteOrder` or `Length`), and where a block that is read has more than
+    /// `MOST_BLOCK_OCTETS` (`TooLarge`).
     pub fn parse(section: Order, octets: &[u8]) -> Result<Head, Ending> {
         if octets.is_empty() {
             return Err(Ending::Whole);
@@ -157,7 +158,7 @@ impl UnitHead for Head {
     }
 }
 
-// The order of the bytes of a block of this kind.
+// The byte order of a block of this kind.
 fn order_of(section: Order, kind: u32, octets: &[u8]) -> Option<Order> {
     if kind != SECTION {
         return Some(section);
@@ -187,7 +188,7 @@ pub fn holds_packet(kind: u32) -> bool {
     matches!(kind, OBSOLETE_PACKET | SIMPLE_PACKET | ENHANCED_PACKET)
 }
 
-/// Whether the octets show the next packet of a section of this order: they begin with a whole block that holds a
+/// Whether the octets have the next packet of a section of this byte order: they begin with a whole block that holds a
 /// packet, of at most `MOST_BLOCK_OCTETS` bytes, or with whole blocks before it.
 #[inline]
 pub fn shows_packet(section: Order, octets: &[u8]) -> bool {
@@ -220,7 +221,7 @@ fn begins_packet(section: Order, octets: &[u8]) -> bool {
         && total_len as usize <= octets.len()
 }
 
-/// Whether the last four bytes of a block are its length again. Requires at least 12 bytes.
+/// Whether the last four bytes of a block repeat its length. Requires at least 12 bytes.
 ///
 /// # Panics
 ///
@@ -243,14 +244,15 @@ pub fn check_section(order: Order, block: &[u8]) -> Result<(), Ending> {
     Ok(())
 }
 
-/// What an interface description says.
+/// An interface description.
 #[derive(Debug, PartialEq, Eq, Clone, Copy)]
 pub struct Interface {
     /// The type of the link.
     pub link_type: u16,
-    /// The most bytes that are kept of a packet, or 0 where all are.
+    /// The most bytes of a packet that are kept, or 0 where all are.
     pub snap_len: u32,
-    /// What the times count: below 128 a number of decimal digits of a second, from 128 on of binary ones.
+    /// The resolution of the times: below 128 a number of decimal digits of a second, from 128 on 128 more than a
+    /// number of binary digits.
     pub resolution: u8,
     /// The seconds that are added to each time.
     pub offset: i64,
@@ -258,7 +260,7 @@ pub struct Interface {
 
 impl Interface {
     /// The interface that a block describes. Refused where the block is shorter than 20 bytes (`Short`). Options that
-    /// are cut short are not looked at.
+    /// are cut short are ignored.
     pub fn parse(order: Order, block: &[u8]) -> Result<Interface, Refusal> {
         let len = block.len();
         if len < field::OPTIONS + field::TRAILER {
@@ -274,7 +276,7 @@ impl Interface {
     }
 }
 
-// The resolution that options tell, or else microseconds.
+// The resolution that the options give, or else microseconds.
 fn resolution(order: Order, options: &[u8]) -> u8 {
     match first_option(order, options, IF_TSRESOL, 1) {
         Some(value) => value[0],
@@ -282,7 +284,7 @@ fn resolution(order: Order, options: &[u8]) -> u8 {
     }
 }
 
-// The seconds that options add to each time, or else none.
+// The seconds that the options add to each time, or else 0.
 fn offset(order: Order, options: &[u8]) -> i64 {
     match first_option(order, options, IF_TSOFFSET, 8) {
         Some(value) => order.i64_of(value),
@@ -290,7 +292,7 @@ fn offset(order: Order, options: &[u8]) -> i64 {
     }
 }
 
-// The value of the first option of a code whose value has so many bytes.
+// The value of the first option of this code whose value has this many bytes.
 fn first_option(order: Order, options: &[u8], code: u16, len: u16) -> Option<&[u8]> {
     let mut rest = options;
     while rest.len() >= field::VALUE {

@@ -1,12 +1,12 @@
 // Made from crates/capture/src/reader.rt by rust/erase.
-//! Bytes of an input, so many at a time.
+//! Reading of an input in blocks of bounded size.
 
 use crate::ending::Fault;
 use rattle_std::io::{BufRead, ErrorKind};
 #[allow(unused_imports)]
 use rattle_std::prelude::*;
 
-/// Reads until there are so many octets, or the input has ended. It doesn't look at the input where there are as many.
+/// Reads until there are this many octets, or the input has ended. Does not read where there are enough already.
 ///
 /// # Panics
 ///
@@ -25,7 +25,7 @@ pub fn fill<R: BufRead>(input: &mut R, octets: &mut Vec<u8>, count: usize) -> Re
     Err(Fault::Read)
 }
 
-// Takes what is at hand of so many octets, and answers whether these are all or the input has ended.
+// Takes buffered octets up to this many, and returns whether these are all or the input has ended.
 fn take_part<R: BufRead>(
     input: &mut R,
     octets: &mut Vec<u8>,
@@ -43,7 +43,7 @@ fn take_part<R: BufRead>(
     Ok(ended)
 }
 
-/// Passes over so many octets, or over all where there are fewer, and answers whether there were as many.
+/// Passes over this many octets, or over all where there are fewer, and returns whether there were enough.
 pub fn skip<R: BufRead>(input: &mut R, count: usize) -> Result<bool, Fault> {
     let mut missing = count;
     for _ in 0..u64::MAX {
@@ -56,8 +56,7 @@ pub fn skip<R: BufRead>(input: &mut R, count: usize) -> Result<bool, Fault> {
     Err(Fault::Read)
 }
 
-// Passes over what is at hand of so many octets; answers how many these are, and whether they are all or the input has
-// ended.
+// Passes over buffered octets up to this many; returns their number, and whether they are all or the input has ended.
 fn skip_part<R: BufRead>(input: &mut R, missing: usize) -> Result<(usize, bool), Fault> {
     let Some(shown) = look(input)? else {
         return Ok((0, false));
@@ -68,7 +67,7 @@ fn skip_part<R: BufRead>(input: &mut R, missing: usize) -> Result<(usize, bool),
     Ok((count, count == missing || len == 0))
 }
 
-/// What the input's buffer shows, or none where the reading of more was interrupted, so that it is to be tried again.
+/// The octets in the input's buffer, or none where the read was interrupted and is to be tried again.
 pub fn look<R: BufRead>(input: &mut R) -> Result<Option<&[u8]>, Fault> {
     match input.fill_buf() {
         Ok(shown) => Ok(Some(shown)),

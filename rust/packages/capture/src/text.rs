@@ -1,5 +1,5 @@
 // Made from crates/capture/src/text.rt by rust/erase.
-//! What packets, headers and descriptions print: what they are, and then their fields by name.
+//! How packets, headers and descriptions print: what they are, and then their fields by name.
 
 use crate::capture::{Next, Record};
 use crate::order::Order;

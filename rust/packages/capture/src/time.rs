@@ -28,9 +28,9 @@ const NANO_DIGITS: u8 = 9;
 pub struct Time {
     /// The whole seconds.
     pub seconds: u64,
-    /// The nanoseconds past them, fewer than 1,000,000,000.
+    /// The nanoseconds after them, fewer than 1,000,000,000.
     pub nanoseconds: u32,
-    /// To how many decimal digits of a second its file tells it, 0 to 9: 6 where the file counts microseconds.
+    /// The number of decimal digits of a second in its file, 0 to 9: 6 where the file counts microseconds.
     pub digits: u8,
 }
 
@@ -42,22 +42,24 @@ impl Time {
         digits: 0,
     };
 
-    /// The time of a second and a fraction behind it, which may be more than a second.
+    /// The time of a second and a fraction after it, which may be more than a second.
     pub fn of_fraction(seconds: u32, fraction: u32, precision: Precision) -> Time {
         match precision {
             Precision::Micro => Time::of_micros(seconds as u64 * MICROS_A_SECOND + fraction as u64),
-            Precision::Nano => Time::of_nanos(seconds as u64 * NANOS_A_SECOND + fraction as u64),
+            Precision::Nano => {
+                Time::of_nanos_u64(seconds as u64 * NANOS_A_SECOND + fraction as u64)
+            }
         }
     }
 
-    /// The time of so many units of a resolution, less what is below a nanosecond. A resolution below 128 is a number
-    /// of decimal digits, and one from 128 on is 128 more than a number of binary digits.
+    /// The time of this many units of a resolution, rounded down to nanoseconds. A resolution below 128 is a number of
+    /// decimal digits, and one from 128 on is 128 more than a number of binary digits.
     pub fn of_ticks(ticks: u64, resolution: u8) -> Time {
-        // What nearly all captures count needs no more than 64 bits.
+        // 64 bits are enough for nearly all captures.
         match resolution {
             6 => Time::of_micros(ticks),
-            9 => Time::of_nanos(ticks),
-            _ => Time::of_nanoseconds(nanoseconds(ticks, resolution), digits(resolution)),
+            9 => Time::of_nanos_u64(ticks),
+            _ => Time::of_nanos_u128(nanoseconds(ticks, resolution), digits(resolution)),
         }
     }
 
@@ -66,10 +68,14 @@ impl Time {
         self.seconds as u128 * NANOS + self.nanoseconds as u128
     }
 
-    // The time so many seconds later, or earlier where they are negative. One before 1970 is 1970-01-01, and the
-    // seconds are at most what 64 bits hold.
+    /// The time `seconds` later, or earlier where they are negative, as by the option if_tsoffset of an interface of
+    /// pcapng. A time before 1970 becomes 1970-01-01, and one whose seconds exceed 64 bits gets the greatest of them.
+    ///
+    /// # Panics
+    ///
+    /// May panic where what is asked for above does not hold.
     #[inline]
-    pub(crate) fn moved(self, seconds: i64) -> Time {
+    pub fn moved(self, seconds: i64) -> Time {
         if seconds == 0 {
             return self;
         }
@@ -81,7 +87,7 @@ impl Time {
         }
     }
 
-    // The same of any seconds.
+    // The time moved by any number of seconds.
     fn shifted(self, seconds: i64) -> Time {
         if seconds < 0 {
             return self.earlier(seconds.unsigned_abs());
@@ -89,7 +95,7 @@ impl Time {
         self.later(seconds as u64)
     }
 
-    // The time so many seconds later, whose seconds are at most what 64 bits hold.
+    // The time this many seconds later, where the seconds are limited to 64 bits.
     fn later(self, seconds: u64) -> Time {
         Time {
             seconds: self.seconds.saturating_add(seconds),
@@ -98,7 +104,7 @@ impl Time {
         }
     }
 
-    // The time so many seconds earlier, or 1970-01-01 where that is before it.
+    // The time this many seconds earlier, or 1970-01-01 where that is before it.
     fn earlier(self, seconds: u64) -> Time {
         match self.seconds.checked_sub(seconds) {
             Some(seconds) => Time {
@@ -114,7 +120,7 @@ impl Time {
         }
     }
 
-    // The time of so many microseconds.
+    // The time of this many microseconds.
     fn of_micros(micros: u64) -> Time {
         Time {
             seconds: micros / MICROS_A_SECOND,
@@ -123,8 +129,8 @@ impl Time {
         }
     }
 
-    // The time of so many nanoseconds that 64 bits hold.
-    fn of_nanos(nanos: u64) -> Time {
+    // The time of a number of nanoseconds that 64 bits hold.
+    fn of_nanos_u64(nanos: u64) -> Time {
         Time {
             seconds: nanos / NANOS_A_SECOND,
             nanoseconds: (nanos % NANOS_A_SECOND) as u32,
@@ -132,8 +138,8 @@ impl Time {
         }
     }
 
-    // The time of so many nanoseconds, told to so many digits.
-    fn of_nanoseconds(nanoseconds: u128, digits: u8) -> Time {
+    // The time of this many nanoseconds, with this many digits.
+    fn of_nanos_u128(nanoseconds: u128, digits: u8) -> Time {
         Time {
             seconds: (nanoseconds / NANOS) as u64,
             nanoseconds: (nanoseconds % NANOS) as u32,
@@ -142,8 +148,8 @@ impl Time {
     }
 }
 
-// The parts of a time that is moved by any seconds, out of the way of nearly all captures, whose times are not moved.
-// They are two numbers, since a time of three would go through memory in each capture.
+// The parts of a time that is moved. A function of its own, since nearly all captures move no times. It returns two
+// numbers, since a time of three would go through memory in each capture.
 #[inline(never)]
 fn moved_parts(seconds: u64, nanoseconds: u32, by: i64) -> (u64, u32) {
     let time = Time {
@@ -185,12 +191,12 @@ impl From<Time> for Duration {
     }
 }
 
-// The digits of a second that a resolution tells.
+// The number of digits of a second in a resolution.
 fn digits(resolution: u8) -> u8 {
     (resolution % 128).min(NANO_DIGITS)
 }
 
-// The whole nanoseconds in so many units of a resolution.
+// The whole nanoseconds in this many units of a resolution.
 fn nanoseconds(ticks: u64, resolution: u8) -> u128 {
     let scaled = ticks as u128 * NANOS;
     if resolution < 128 {

@@ -1,5 +1,5 @@
 // Made from crates/capture/src/unit.rt by rust/erase.
-//! The records and blocks of an input: taken in one step where its buffer shows the whole of one, else read in parts.
+//! The records and blocks of an input: taken in one step where its buffer has the whole of one, else read in parts.
 
 use crate::ending::{Ending, Fault};
 use crate::order::Order;
@@ -8,12 +8,12 @@ use rattle_std::io::BufRead;
 #[allow(unused_imports)]
 use rattle_std::prelude::*;
 
-/// What stands in front of a record or a block, and says how long that is.
+/// The head of a record or a block, which says how long that is.
 pub trait UnitHead: Copy {
-    /// How many bytes it has.
+    /// Its length in bytes.
     const LEN: usize;
 
-    /// The head at the front of the octets. Refused where the capture ends at it.
+    /// The head at the start of the octets. Refused where the capture ends at it.
     fn of(order: Order, octets: &[u8]) -> Result<Self, Ending>;
 
     /// The bytes of the record or block, with the head.
@@ -23,7 +23,7 @@ pub trait UnitHead: Copy {
     /// May panic where what is asked for above does not hold.
     fn unit_len(&self) -> usize;
 
-    /// Whether these are read, and not passed over.
+    /// Whether such records or blocks are read, and not passed over.
     fn is_read(&self) -> bool;
 }
 
@@ -38,7 +38,7 @@ pub enum Taken<H> {
     Ended(Ending),
 }
 
-/// Reads the octets of the next record or block, of which some may be read, or passes over it.
+/// Reads the octets of the next record or block, of which some may have been read, or passes over it.
 ///
 /// # Panics
 ///
@@ -50,19 +50,19 @@ pub fn read_unit<R: BufRead, H: UnitHead>(
     order: Order,
 ) -> Result<Taken<H>, Fault> {
     if !octets.as_slice().is_empty() {
-        return read_parts(input, octets, order);
+        return read_record_parts(input, octets, order);
     }
     let Some(shown) = look(input)? else {
-        return read_parts(input, octets, order);
+        return read_record_parts(input, octets, order);
     };
     if shown.is_empty() {
         return Ok(Taken::Ended(Ending::Whole));
     }
     let Some(front) = shown.get(..H::LEN) else {
-        return read_parts(input, octets, order);
+        return read_record_parts(input, octets, order);
     };
     let Ok(head) = H::of(order, front) else {
-        return read_parts(input, octets, order);
+        return read_record_parts(input, octets, order);
     };
     let len = head.unit_len();
     if shown.len() < len {
@@ -83,7 +83,7 @@ pub fn read_unit<R: BufRead, H: UnitHead>(
 }
 
 // Reads the octets of the next record or block, its head first and then the rest, or passes over it.
-fn read_parts<R: BufRead, H: UnitHead>(
+fn read_record_parts<R: BufRead, H: UnitHead>(
     input: &mut R,
     octets: &mut Vec<u8>,
     order: Order,

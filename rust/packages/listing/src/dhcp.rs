@@ -1,5 +1,5 @@
 // Made from crates/listing/src/dhcp.rt by rust/erase.
-//! Packets of DHCP.
+//! DHCP packets.
 
 use crate::printer::{Value, field, line};
 use arrayvec::ArrayVec;
@@ -8,7 +8,7 @@ use control_wire::{EthernetAddress, Ipv4Address};
 use rattle_std::io;
 use rattle_std::io::Write;
 
-/// Prints what a packet says.
+/// Prints the fields of a packet.
 pub fn show_dhcp<W: Write>(output: &mut W, packet: &[u8]) -> io::Result<()> {
     let Ok(packet) = Repr::parse(&Packet::new_unchecked(packet)) else {
         return line(output, "refused");

@@ -1,5 +1,5 @@
 // Made from crates/listing/src/endpoint.rt by rust/erase.
-//! Where packets come from and go to: addresses, and ports where there are any.
+//! The source or destination of a packet: an address, and a port where there is one.
 
 mod digits;
 mod groups;
@@ -10,7 +10,7 @@ use control_wire::{Ipv4Address, Ipv6Address};
 use rattle_std::io;
 use rattle_std::io::Write;
 
-// How many octets the text of an endpoint takes at the most, and some beyond.
+// The size of a buffer for the text of an endpoint, a few octets more than the longest.
 const ROOM: usize = 64;
 
 /// Writes an address of IPv4, and its port where there is one, as `192.0.2.1:53`.
@@ -32,7 +32,7 @@ fn put_v4(room: &mut [u8; ROOM], address: Ipv4Address, port: Option<u16>) -> usi
     let end_d = put_octet(room, end_c, d);
     match port {
         Some(port) => {
-            // It stands over the last dot.
+            // A colon is written over the last dot.
             room[end_d - 1] = b':';
             put_port(room, end_d, port)
         }
@@ -40,8 +40,8 @@ fn put_v4(room: &mut [u8; ROOM], address: Ipv4Address, port: Option<u16>) -> usi
     }
 }
 
-/// Writes an address of IPv6, as `2001:db8::1`, and in brackets where a port stands behind it, as `[2001:db8::1]:53`
-/// (RFC 5952 sections 4 and 6).
+/// Writes an IPv6 address, as `2001:db8::1`, and in brackets where a port follows it, as `[2001:db8::1]:53` (RFC 5952
+/// sections 4 and 6).
 pub fn write_v6<W: Write>(
     output: &mut W,
     address: Ipv6Address,
@@ -63,6 +63,3 @@ fn put_v6(room: &mut [u8; ROOM], address: Ipv6Address, port: Option<u16>) -> usi
     room[end + 1] = b':';
     put_port(room, end + 2, port)
 }
-
-#[cfg(test)]
-mod tests;

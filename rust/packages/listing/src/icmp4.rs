@@ -1,5 +1,5 @@
 // Made from crates/listing/src/icmp4.rt by rust/erase.
-//! Messages of ICMPv4.
+//! ICMPv4 messages.
 
 use crate::page::{MARGIN, Page, write_indented};
 use crate::printer::{field, line, part_field};
@@ -44,8 +44,8 @@ pub fn show_message<W: Write>(output: &mut W, message: &Repr<'_>) -> io::Result<
     }
 }
 
-/// Prints a message that was read, each line behind two spaces. The page has room for what is indented; of an echo most
-/// is data, which is written at once.
+/// Prints a message that was read, each line after two spaces. The page is a buffer for text that is indented; the
+/// data, most of an echo, is written at once.
 pub fn show_indented<W: Write>(
     output: &mut W,
     page: &mut Page,
@@ -76,7 +76,7 @@ fn show_indented_other<W: Write>(
     write_indented(output, page.as_slice())
 }
 
-/// Prints an echo of either ICMP behind its name, each line behind two spaces. Requires that the name is of one line.
+/// Prints an echo of either ICMP after its name, each line after two spaces. Requires that the name is of one line.
 pub fn show_indented_echo<W: Write>(
     output: &mut W,
     name: &str,
@@ -91,7 +91,7 @@ pub fn show_indented_echo<W: Write>(
     part_field(output, MARGIN, "data", data)
 }
 
-/// Prints an echo of either ICMP behind its name.
+/// Prints an echo of either ICMP after its name.
 pub fn show_echo<W: Write>(
     output: &mut W,
     name: &str,

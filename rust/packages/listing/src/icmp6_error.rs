@@ -1,5 +1,5 @@
 // Made from crates/listing/src/icmp6_error.rt by rust/erase.
-//! Errors of ICMPv6, with what they quote.
+//! ICMPv6 errors, with what they quote.
 
 use crate::printer::part_field;
 use crate::quote::{show_head, show_ipv6_quote};
@@ -8,11 +8,11 @@ use control_wire::quotes::quote::Ipv6Quote;
 use rattle_std::io;
 use rattle_std::io::Write;
 
-/// Prints an error and what it quotes, each line behind a margin. Requires that it quotes the front of a packet, as
-/// each error does that `Repr::parse` gives.
+/// Prints an error and what it quotes, each line after a margin. Requires that it quotes the start of a packet, as each
+/// error does that `Repr::parse` gives.
 pub fn show_error<W: Write>(output: &mut W, margin: &str, error: &Repr<'_>) -> io::Result<()> {
     let Ok(quote) = Ipv6Quote::parse(error.quoted) else {
-        // The front of a packet is never refused.
+        // The start of a packet is never refused.
         return Ok(());
     };
     show_quoting(output, margin, error, &quote)
@@ -30,7 +30,7 @@ fn show_quoting<W: Write>(
     show_ipv6_quote(output, margin, quote)
 }
 
-// Prints what the four bytes behind the checksum say.
+// Prints what the four bytes after the checksum say.
 fn show_rest<W: Write>(output: &mut W, margin: &str, error: &Repr<'_>) -> io::Result<()> {
     match error.kind {
         Kind::PktTooBig => part_field(output, margin, "mtu", error.rest),
@@ -48,6 +48,3 @@ fn name_of(kind: Kind) -> &'static str {
         Kind::ParamProblem => "ParamProblem",
     }
 }
-
-#[cfg(test)]
-mod tests;

@@ -1,5 +1,5 @@
 // Made from crates/listing/src/igmp.rt by rust/erase.
-//! Messages of IGMP.
+//! IGMP messages.
 
 use crate::printer::{Value, field, line};
 use control_wire::igmp::{IgmpVersion, Packet, Repr};

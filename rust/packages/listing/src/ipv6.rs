@@ -1,5 +1,5 @@
 // Made from crates/listing/src/ipv6.rt by rust/erase.
-//! Addresses and headers of IPv6, which stand in messages of several formats.
+//! IPv6 addresses and headers, which occur in messages of several formats.
 
 use crate::printer::{Value, part_field};
 use control_wire::{Ipv6Address, Ipv6Repr};

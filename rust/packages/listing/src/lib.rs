@@ -1,11 +1,12 @@
 // Made from crates/listing/src/lib.rt by rust/erase.
-//! Listings: what packets hold, printed a name or a field a line, behind `name=`.
+//! Listings: what packets hold, printed a name or a field a line, after `name=`.
 //!
-//! Each `show_` prints what the grammar reads in some octets, or `refused` where it reads nothing.
+//! Each `show_` function prints what the grammar reads in some octets, or `refused` where it reads nothing.
 
 pub mod dhcp;
 pub mod endpoint;
 pub mod hbh;
+mod hex_digits;
 pub mod icmp4;
 pub mod icmp4_error;
 pub mod icmp6;
@@ -19,13 +20,8 @@ pub mod ndisc;
 pub mod ndopt;
 pub mod number;
 pub mod page;
-mod pairs;
 pub mod ports;
 pub mod printer;
 pub mod question;
 pub mod quote;
-#[cfg(test)]
-mod testing;
-#[cfg(test)]
-mod tests;
 mod zone;

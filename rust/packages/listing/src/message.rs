@@ -16,9 +16,9 @@ use control_wire::record::{Entries, Entry, Record, Section};
 use rattle_std::io;
 use rattle_std::io::Write;
 
-/// Prints a message, each line behind the margin: the fields of its header, and then each question and record, up to
-/// the last, or to one that does not read; then it answers why. In multicast DNS the top bit of a class is no part of
-/// it (RFC 6762 sections 5.4 and 10.2).
+/// Prints a message, each line after the margin: the fields of its header, and then each question and record, up to the
+/// last, or to one that can't be read, and then returns the reason. In multicast DNS the top bit of a class is no part
+/// of it (RFC 6762 sections 5.4 and 10.2).
 pub fn show_message<W: Write>(
     output: &mut W,
     margin: &str,
@@ -89,6 +89,3 @@ fn show_any_record<'a, W: Write>(
     }
     show_record(output, margin, is_multicast, packet, section, record)
 }
-
-#[cfg(test)]
-mod tests;

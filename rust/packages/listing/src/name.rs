@@ -20,7 +20,7 @@ fn from(octets: &[u8], offset: usize) -> &[u8] {
     &octets[offset..]
 }
 
-// Prints what a walk gives.
+// Prints the results of a walk.
 fn show_labels<W: Write>(output: &mut W, mut labels: NameIter<'_>) -> io::Result<()> {
     loop {
         match labels.next() {

@@ -8,7 +8,7 @@ use control_wire::ndiscoption::{NdiscOption, PrefixInformation, RedirectedHeader
 use rattle_std::io;
 use rattle_std::io::Write;
 
-/// Prints the option at the front of the octets.
+/// Prints the option at the start of the octets.
 pub fn show_ndopt<W: Write>(output: &mut W, packet: &[u8]) -> io::Result<()> {
     let Ok(option) = read(packet) else {
         return line(output, "refused");
@@ -16,7 +16,7 @@ pub fn show_ndopt<W: Write>(output: &mut W, packet: &[u8]) -> io::Result<()> {
     show_option(output, &option)
 }
 
-// The option at the front of the octets.
+// The option at the start of the octets.
 fn read(packet: &[u8]) -> Result<Repr<'_>> {
     Repr::parse(&NdiscOption::new_checked(packet)?)
 }
@@ -84,7 +84,7 @@ pub fn show_prefix<W: Write>(
     part_field(output, part, "prefix", prefix.prefix)
 }
 
-/// Prints a redirected packet, as a part whose name and a dot are `part`, and the same of its header.
+/// Prints a redirected packet and its header, as a part whose name and a dot are `part`.
 pub fn show_redirected<W: Write>(
     output: &mut W,
     header_part: &str,

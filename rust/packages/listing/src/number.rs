@@ -4,7 +4,7 @@
 use rattle_std::io;
 use rattle_std::io::Write;
 
-// How many digits the greatest number has.
+// The number of digits of the largest number.
 const DIGITS: usize = 20;
 
 // The numbers from 0 to 99 in two digits each.
@@ -21,7 +21,7 @@ pub fn write_number<W: Write>(output: &mut W, number: u64) -> io::Result<()> {
     output.write_all(&room[start..])
 }
 
-// Puts the digits of a number at the room's end, from the last to the first, and answers where they begin.
+// Puts the digits of a number at the buffer's end, from the last to the first, and returns their start.
 fn put_digits(number: u64, room: &mut [u8; DIGITS]) -> usize {
     let mut start = DIGITS;
     let mut left = number;
@@ -37,7 +37,7 @@ fn put_digits(number: u64, room: &mut [u8; DIGITS]) -> usize {
     start
 }
 
-// Puts the last two digits of a number in front of what a room holds from `start` on, and answers where they begin.
+// Puts the last two digits of a number before those that a buffer holds from `start` on, and returns their start.
 #[inline(always)]
 fn put_two(number: u64, room: &mut [u8; DIGITS], start: usize) -> usize {
     room[start - 2..start].copy_from_slice(&two_digits(number));

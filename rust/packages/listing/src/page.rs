@@ -7,21 +7,21 @@ use rattle_std::io::Write;
 #[allow(unused_imports)]
 use rattle_std::prelude::*;
 
-/// What stands before each line of an indented text.
+/// The text before each line of an indented text.
 pub const MARGIN: &str = "  ";
 
-/// A text that is put together before it is written. It takes each write as one: a `Vec` takes it in a loop.
+/// A text that is put together before it is written. It takes each write at once, where a `Vec` takes it in a loop.
 pub struct Page {
     octets: Vec<u8>,
 }
 
 impl Page {
-    /// A page without a text.
+    /// An empty page.
     pub fn new() -> Page {
         Page { octets: Vec::new() }
     }
 
-    /// Takes the text away; the room that it had stays.
+    /// Removes the text; the memory is kept.
     pub fn clear(&mut self) {
         self.octets.clear();
     }
@@ -48,7 +48,7 @@ impl Write for Page {
     }
 }
 
-/// Writes each line of a text behind two spaces. The text's last line may have no LF.
+/// Writes each line of a text after two spaces. The text's last line may have no LF.
 pub fn write_indented<W: Write>(output: &mut W, text: &[u8]) -> io::Result<()> {
     let mut rest = text;
     while !rest.is_empty() {
@@ -60,13 +60,10 @@ pub fn write_indented<W: Write>(output: &mut W, text: &[u8]) -> io::Result<()> {
     Ok(())
 }
 
-// How many octets the first line of a text has.
+// The number of octets of the first line of a text.
 fn line_len(text: &[u8]) -> usize {
     match memchr(b'\n', text) {
         Some(end) => end + 1,
         None => text.len(),
     }
 }
-
-#[cfg(test)]
-mod tests;

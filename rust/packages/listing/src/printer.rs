@@ -1,16 +1,16 @@
 // Made from crates/listing/src/printer.rt by rust/erase.
-//! What each value is printed with: names and fields, one a line.
+//! Printing of values: names and fields, one a line.
 
 use crate::endpoint::write_v4;
+use crate::hex_digits::encode;
 use crate::number::write_number;
-use crate::pairs::encode;
 use control_wire::{Duration, Ipv4Address};
 use rattle_std::io;
 use rattle_std::io::Write;
 
-/// What may stand behind a field's name: a number, truth value, text, octets, or none of these.
+/// The value after a field's name: a number, truth value, text or octets, or no value.
 pub trait Value {
-    /// Writes the value as it is printed, without a line's end.
+    /// Writes the value as it is printed, without a newline.
     fn write_to<W: Write>(self, output: &mut W) -> io::Result<()>;
 }
 
@@ -79,7 +79,7 @@ impl<V: Value> Value for Option<V> {
     }
 }
 
-// How many octets are turned into digits at a time, and the digits of these.
+// The number of octets that are converted to digits at a time, and the digits of these.
 const OCTETS: usize = 64;
 
 const DIGITS: usize = 2 * OCTETS;
@@ -97,7 +97,7 @@ impl Value for &[u8] {
     }
 }
 
-// Writes the digits of so many octets at the most.
+// Writes the digits of at most this many octets.
 fn write_digits<W: Write>(output: &mut W, octets: &[u8]) -> io::Result<()> {
     let mut room = [0u8; DIGITS];
     let digits = &mut room[..2 * octets.len()];
@@ -105,14 +105,14 @@ fn write_digits<W: Write>(output: &mut W, octets: &[u8]) -> io::Result<()> {
     output.write_all(digits)
 }
 
-/// Prints a line of its own: a variant's name, a value that has none, or an answer that is no value.
+/// Prints a line of its own: a variant's name, a value without a name, or a result that is no value.
 pub fn line<V: Value, W: Write>(output: &mut W, value: V) -> io::Result<()> {
     value.write_to(output)?;
     output.write_all(b"\n")
 }
 
-/// Prints a field, or a variant with one unnamed value, as `name=value`. Most callers know the name, so that inlined it
-/// is copied without a call.
+/// Prints a field, or a variant with one unnamed value, as `name=value`. Inlined: most callers know the name, and copy
+/// it without a call.
 #[inline(always)]
 pub fn field<V: Value, W: Write>(output: &mut W, name: &str, value: V) -> io::Result<()> {
     output.write_all(name.as_bytes())?;
@@ -120,7 +120,7 @@ pub fn field<V: Value, W: Write>(output: &mut W, name: &str, value: V) -> io::Re
     line(output, value)
 }
 
-/// Prints a field of a part, whose name and a dot, `part`, stand before the field's name.
+/// Prints a field of a part, after `part`: the part's name and a dot, which precede the field's name.
 #[inline(always)]
 pub fn part_field<V: Value, W: Write>(
     output: &mut W,

@@ -6,7 +6,7 @@ use control_wire::dns::Question;
 use rattle_std::io;
 use rattle_std::io::Write;
 
-/// Prints the question at the front of the octets, and how many octets stand behind it.
+/// Prints the question at the start of the octets, and returns the number of octets after it.
 pub fn show_question<W: Write>(output: &mut W, packet: &[u8]) -> io::Result<()> {
     let Ok((rest, question)) = Question::parse(packet) else {
         return line(output, "refused");

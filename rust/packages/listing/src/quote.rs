@@ -1,5 +1,5 @@
 // Made from crates/listing/src/quote.rt by rust/erase.
-//! What errors of ICMP print of themselves, and of the datagram that they quote.
+//! What ICMP errors print of themselves, and of the datagram that they quote.
 
 use crate::ports::ports_of;
 use crate::printer::{Value, line, part_field};
@@ -7,7 +7,7 @@ use control_wire::quotes::quote::{Ipv4Quote, Ipv6Quote};
 use rattle_std::io;
 use rattle_std::io::Write;
 
-/// Prints the name of an error's type and its code, each behind a margin.
+/// Prints the name of an error's type and its code, each after a margin.
 pub(crate) fn show_head<W: Write>(
     output: &mut W,
     margin: &str,
@@ -19,7 +19,7 @@ pub(crate) fn show_head<W: Write>(
     part_field(output, margin, "code", code)
 }
 
-/// Prints what an error of ICMPv4 quotes, each line behind a margin.
+/// Prints what an ICMPv4 error quotes, each line after a margin.
 pub fn show_ipv4_quote<W: Write>(
     output: &mut W,
     margin: &str,
@@ -48,7 +48,7 @@ fn show_ipv4_path<W: Write>(output: &mut W, margin: &str, quote: &Ipv4Quote<'_>)
     quoted_field(output, margin, "dst_addr", quote.dst_addr)
 }
 
-// The ports of what is quoted; a fragment that is not the first begins with no header.
+// The ports in a quote; a fragment that is not the first begins with no header.
 fn ipv4_ports_of(quote: &Ipv4Quote<'_>) -> Option<(u16, u16)> {
     if quote.frag_offset == 0 {
         ports_of(quote.next_header, quote.payload)
@@ -57,7 +57,7 @@ fn ipv4_ports_of(quote: &Ipv4Quote<'_>) -> Option<(u16, u16)> {
     }
 }
 
-/// Prints what an error of ICMPv6 quotes, each line behind a margin.
+/// Prints what an ICMPv6 error quotes, each line after a margin.
 pub fn show_ipv6_quote<W: Write>(
     output: &mut W,
     margin: &str,
@@ -95,7 +95,7 @@ fn show_ports<W: Write>(output: &mut W, margin: &str, ports: Option<(u16, u16)>)
     }
 }
 
-// Prints a field of what is quoted.
+// Prints a field of a quote.
 fn quoted_field<V: Value, W: Write>(
     output: &mut W,
     margin: &str,

@@ -14,25 +14,25 @@ use rattle_std::io;
 use rattle_std::io::Write;
 pub use string::strings;
 
-/// Writes a value behind a space.
+/// Writes a value after a space.
 pub fn word<V: Value, W: Write>(output: &mut W, value: V) -> io::Result<()> {
     output.write_all(b" ")?;
     value.write_to(output)
 }
 
-/// Writes an address behind a space.
+/// Writes an address after a space.
 pub fn ipv6_word<W: Write>(output: &mut W, address: Ipv6Address) -> io::Result<()> {
     output.write_all(b" ")?;
     write_v6(output, address, None)
 }
 
-/// Writes a name behind a space.
+/// Writes a name after a space.
 pub fn name_word<W: Write>(output: &mut W, name: &NameText) -> io::Result<()> {
     output.write_all(b" ")?;
     name.write_to(output)
 }
 
-/// Writes data of any type behind a space: the number of bytes, and these in hexadecimal.
+/// Writes data of any type after a space: the number of bytes, and these in hexadecimal.
 pub fn generic<W: Write>(output: &mut W, octets: &[u8]) -> io::Result<()> {
     word(output, "\\#")?;
     if octets.is_empty() {

@@ -1,36 +1,20 @@
 // Made from crates/wiredump/src/main.rt by rust/erase.
-//! Prints what packets hold, one line of standard input each.
+//! Prints what packets hold, each packet in a line of standard input.
 //!
 //! A line says how to read a packet and gives its octets in hexadecimal, as `hbh 010400000000`.
 
-mod command;
-mod fault;
-mod glance;
-mod line;
-mod pairs;
-mod reading;
-mod run;
-mod search;
-mod shape;
-#[cfg(test)]
-mod testing;
-#[cfg(test)]
-mod tests;
-mod words;
-
-pub use fault::Fault;
+use dump_lines::{Fault, run, status};
 use rattle_std::{env, io};
-pub use run::{run, run_onto, status};
 use std::process::ExitCode;
 
-// The status where an argument was given.
+// The exit status where an argument is given.
 const USAGE_STATUS: u8 = 2;
 
-// Whether there is an argument beside the program's name.
+// Whether there is an argument after the program's name.
 fn has_arguments() -> Result<bool, Fault> {
     match env::args() {
         Ok(mut arguments) => Ok(arguments.nth(1).is_some()),
-        // One that is no text is one.
+        // An argument that is not UTF-8 counts too.
         Err(error) if error.kind() == io::ErrorKind::InvalidData => Ok(true),
         Err(error) if error.kind() == io::ErrorKind::OutOfMemory => Err(Fault::Memory),
         Err(_) => Err(Fault::Read),

@@ -1,5 +1,5 @@
 // Made from crates/workloads/src/awkward.rt by rust/erase.
-//! Untrusted input: packets that are made to take long, and packets that are refused.
+//! Untrusted input: packets that take long to read, and packets that are refused.
 
 mod frames;
 mod names;
@@ -10,13 +10,13 @@ use crate::random::{Pool, Random};
 use control_wire::checksum;
 use rattle_std::io;
 
-// How often a chain of pointers and a capture are read, which take as long as many packets.
+// A chain of pointers and a capture take as long as many packets, and are read once in this many rounds.
 const CHAIN_EVERY: u32 = 64;
 
 const CAPTURE_EVERY: u32 = 16;
 
-/// Reads packets of all kinds, in each round others, and gives a digest of what was read.
-// Apart from the other jobs: inlined beside them, its code decides which registers theirs have.
+/// Reads packets of all kinds, in each round others, and returns a digest of what was read.
+// Not inlined: beside the other jobs, this code would change the registers that theirs get.
 #[inline(never)]
 pub fn digest(seed: u64, rounds: u32) -> io::Result<u64> {
     let mut random = Random::new(seed);

@@ -1,6 +1,6 @@
 // Made from crates/workloads/src/digest.rt by rust/erase.
-//! A digest of results: another result almost surely gives another digest. The modules below add the values that jobs
-//! read, each with all its fields: their patterns name every field, so that a new one cannot be left out.
+//! A digest of results: a different result almost surely gives a different digest. The modules below add the values
+//! that jobs read, each with all its fields: their patterns name every field, so that a new one cannot be left out.
 
 pub mod frames;
 pub mod groups;
@@ -13,13 +13,13 @@ pub mod since_start;
 
 use byteorder::{ByteOrder, LittleEndian};
 
-// How far the digest is turned before a word is added to it.
+// The rotation of the digest before a word is added to it.
 const TURN: u32 = 5;
 
-// What stands for what is missing: no number of 32 bits.
+// The digest of a missing value: no number of 32 bits.
 const MISSING: u64 = 0x1_0000_0000;
 
-// The bytes that are added of the front of data.
+// The number of leading bytes that are added of data.
 const FRONT_LEN: usize = 64;
 
 /// What was digested so far.
@@ -82,14 +82,13 @@ impl Digest {
         self.add(octets.len() as u64);
     }
 
-    /// Adds how many bytes there are and the first 64 of them: for data whose checksum is among these, or is added too.
+    /// Adds the number of bytes and the first 64 of them: for data whose checksum is among these, or is added too.
     pub fn add_front(&mut self, octets: &[u8]) {
         self.add_octets(&octets[..octets.len().min(FRONT_LEN)]);
         self.add(octets.len() as u64);
     }
 
-    /// Adds how many bytes there are and the first and the last 8 of them: for the part of a packet that is read
-    /// further.
+    /// Adds the number of bytes and the first and the last 8 of them: for the part of a packet that is read further.
     pub fn add_ends(&mut self, octets: &[u8]) {
         let len = octets.len();
         if len < 8 {

@@ -13,11 +13,11 @@ use crate::random::{Pool, Random};
 use crate::responses::message::Letters;
 use rattle_std::io::{self, BufReader};
 
-// The bytes of a buffer that many records do not fit.
+// The size of a buffer that is too small for many records.
 const SHORT_BUFFER_LEN: usize = 512;
 
-/// Writes a capture in each round, another each time, reads it, and gives a digest of what was read.
-// Apart from the other jobs: inlined beside them, its code decides which registers theirs have.
+/// Writes a capture in each round, another each time, reads it, and returns a digest of what was read.
+// Not inlined: beside the other jobs, this code would change the registers that theirs get.
 #[inline(never)]
 pub fn digest(seed: u64, rounds: u32) -> io::Result<u64> {
     let mut random = Random::new(seed);
@@ -38,7 +38,7 @@ pub fn digest(seed: u64, rounds: u32) -> io::Result<u64> {
     Ok(digest.value())
 }
 
-// Reads a capture by turns where it stands, through a buffer of std's size, and through a short one.
+// Reads a capture: by turns in place, through a buffer of std's size, and through a short one.
 fn read(turn: u32, octets: &[u8], digest: &mut Digest) -> io::Result<()> {
     let mut input = octets;
     match turn % 3 {

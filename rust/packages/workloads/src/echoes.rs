@@ -23,13 +23,13 @@ const COMMON_LEN: u32 = 1_344;
 
 const LONG_LEN: usize = 65_507;
 
-// How often an echo has as much data as IPv4 carries.
+// How often an echo has as much data as IPv4 can carry.
 const LONG_EVERY: u32 = 1_024;
 
 // The lengths of what has a checksum: a header, a header with options, a segment, and packets of links.
 const SUMMED_LENGTHS: [usize; 6] = [20, 40, 64, 576, 1_500, 9_000];
 
-// The kinds of error that are sent, of which `icmpv4` reads all but the last one.
+// The kinds of errors that are sent; `icmpv4` reads all but the last one.
 const KINDS: [icmpv4_error::Kind; 4] = [
     icmpv4_error::Kind::DstUnreachable,
     icmpv4_error::Kind::TimeExceeded,
@@ -46,7 +46,7 @@ const KINDS_V6: [icmpv6_error::Kind; 4] = [
 
 // The buffers of a host.
 struct Buffers {
-    // A datagram of IPv4 and a packet of IPv6, about which errors are sent.
+    // A datagram of IPv4 and an IPv6 packet, about which errors are sent.
     datagram: [u8; PACKET_LEN],
     packet: [u8; PACKET_LEN],
     // What a peer sends, and what the host answers.
@@ -54,7 +54,7 @@ struct Buffers {
     reply: [u8; PACKET_LEN],
 }
 
-/// Answers echoes and sends errors, each round others, and gives a digest of what was read and written.
+/// Answers echoes and sends errors, each round others, and returns a digest of what was read and written.
 pub fn digest(seed: u64, rounds: u32) -> io::Result<u64> {
     let mut random = Random::new(seed);
     let pool = Pool::new(&mut random)?;
@@ -118,7 +118,7 @@ fn low(number: u64) -> u16 {
     (number % 65_536) as u16
 }
 
-// An address of a host that the number gives.
+// An address of a host that the number determines.
 fn address(number: u64) -> Ipv6Address {
     let interface = low(number >> 16);
     Ipv6Address::new(0x2001, 0xdb8, 0, low(number), 0, 0, 0, interface)
@@ -258,8 +258,8 @@ fn write_packet(number: u64, packet: &mut [u8]) {
     BigEndian::write_u64(&mut packet[40..48], number.wrapping_mul(5));
 }
 
-// Sends an error about a datagram, and reads it both with the bytes that it quotes and what they hold, and with
-// the header that they have.
+// Sends an error about a datagram, and reads it twice: with the quoted bytes and the fields in these, and with the
+// quoted header alone.
 fn send_error(number: u64, datagram: &[u8], reply: &mut [u8], digest: &mut Digest) {
     let caps = ChecksumCapabilities::default();
     let error = icmpv4_error::Repr {
@@ -290,7 +290,7 @@ fn send_error(number: u64, datagram: &[u8], reply: &mut [u8], digest: &mut Diges
     }
 }
 
-// The same about a packet of IPv6.
+// An error about an IPv6 packet.
 fn send_error_v6(number: u64, quoted: &[u8], reply: &mut [u8], digest: &mut Digest) {
     let caps = ChecksumCapabilities::default();
     let own = address(number);

@@ -1,6 +1,6 @@
 // Made from crates/workloads/src/hosts.rt by rust/erase.
 //! Hosts and routers of a link speak with their neighbors: solicitations and advertisements, reports of multicast
-//! groups of both families, and the hop-by-hop header that reports stand behind.
+//! groups of both families, and the hop-by-hop header before reports.
 
 use crate::digest::Digest;
 use crate::digest::groups::{add_address_record, add_igmp};
@@ -32,7 +32,7 @@ const SOURCE_LEN: usize = 16;
 // a label of security, a request of rate, a trace, MPL, a long packet and a home address.
 const OTHER_OPTIONS: [u8; 8] = [0x63, 0x04, 0x07, 0x26, 0x31, 0x6d, 0xc2, 0xc9];
 
-/// Exchanges messages, in each round others, and gives a digest of what was read and written.
+/// Exchanges messages, in each round others, and returns a digest of what was read and written.
 pub fn digest(seed: u64, rounds: u32) -> io::Result<u64> {
     let mut random = Random::new(seed);
     let pool = Pool::new(&mut random)?;
@@ -63,7 +63,7 @@ fn lowest(number: u64) -> u8 {
     (number % 256) as u8
 }
 
-// A link-local address that the number gives.
+// A link-local address that the number determines.
 fn host(number: u64) -> Ipv6Address {
     Ipv6Address::new(
         0xfe80,
@@ -77,12 +77,12 @@ fn host(number: u64) -> Ipv6Address {
     )
 }
 
-// A multicast group of the link that the number gives.
+// A multicast group of the link that the number determines.
 fn group(number: u64) -> Ipv6Address {
     Ipv6Address::new(0xff02, 0, 0, 0, 0, 1, low(number >> 16), low(number))
 }
 
-// An address on an Ethernet that the number gives.
+// An address on an Ethernet that the number determines.
 fn link_address(number: u64) -> RawHardwareAddress {
     let address = EthernetAddress([
         0x52,
@@ -336,7 +336,7 @@ fn exchange_member(message: &igmp::Repr, packet: &mut [u8], digest: &mut Digest)
     }
 }
 
-// Writes the header that a report stands behind, with up to seven options more, and reads it.
+// Writes the header before a report, with up to seven options more, and reads it.
 fn lead(random: &mut Random, pool: &Pool, packet: &mut [u8], digest: &mut Digest) {
     let number = random.next();
     let mut header = ipv6hbh::Repr::mldv2_router_alert();
@@ -360,7 +360,7 @@ fn push_option<'a>(header: &mut ipv6hbh::Repr<'a>, option: ipv6option::Repr<'a>)
     let _ = header.options.try_push(option);
 }
 
-// An option that the number gives.
+// An option that the number determines.
 fn option(pool: &Pool, number: u64) -> ipv6option::Repr<'_> {
     match number % 8 {
         0 => ipv6option::Repr::Pad1,

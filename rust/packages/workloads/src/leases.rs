@@ -20,7 +20,7 @@ const OTHER_KINDS: [u8; 12] = [12, 60, 77, 43, 15, 42, 119, 121, 125, 81, 93, 94
 // What a client requests of a server (RFC 2132 section 9.8).
 const REQUESTED: [u8; 12] = [1, 3, 6, 15, 26, 28, 42, 51, 54, 58, 59, 119];
 
-/// Leases addresses, in each round to another client, and gives a digest of what was read.
+/// Leases addresses, in each round to another client, and returns a digest of what was read.
 pub fn digest(seed: u64, rounds: u32) -> io::Result<u64> {
     let mut random = Random::new(seed);
     let pool = Pool::new(&mut random)?;
@@ -62,7 +62,7 @@ fn lowest(number: u64) -> u8 {
     (number % 256) as u8
 }
 
-// An address of a private network that the number gives.
+// An address of a private network that the number determines.
 fn address(number: u64) -> Ipv4Address {
     Ipv4Address::new(
         10,

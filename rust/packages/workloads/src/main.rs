@@ -1,7 +1,7 @@
 // Made from crates/workloads/src/main.rt by rust/erase.
 //! The jobs that a user of the library waits for, for measurements.
 //!
-//! `workloads JOB SEED [ROUNDS]` does a job on the input that the seed gives, and prints a digest of its results.
+//! `workloads JOB SEED [ROUNDS]` does a job on the input that the seed determines, and prints a digest of its results.
 //! Without a number of rounds it does as many as take some seconds. With no word each job is done on a small input.
 
 mod awkward;
@@ -59,7 +59,7 @@ impl Job {
         }
     }
 
-    // How many rounds a measurement has where no word says it, each on other input.
+    // The number of rounds of a measurement where none is given, each on other input.
     fn rounds(self) -> u32 {
         match self {
             Job::Dump => 8_000,
@@ -71,7 +71,7 @@ impl Job {
         }
     }
 
-    // Does the job, and gives a digest of its results.
+    // Does the job, and returns a digest of its results.
     fn digest(self, seed: u64, rounds: u32) -> io::Result<u64> {
         match self {
             Job::Dump => dump::digest(seed, rounds),

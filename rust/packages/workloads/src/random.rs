@@ -1,5 +1,5 @@
 // Made from crates/workloads/src/random.rt by rust/erase.
-//! Numbers and bytes that a seed gives.
+//! Numbers and bytes that a seed determines.
 
 use rand_core::{RngCore, SeedableRng};
 use rand_xoshiro::Xoshiro256PlusPlus;
@@ -16,7 +16,7 @@ pub struct Random {
 }
 
 impl Random {
-    /// The generator that a seed gives.
+    /// The generator that a seed determines.
     pub fn new(seed: u64) -> Random {
         Random {
             generator: Xoshiro256PlusPlus::seed_from_u64(seed),
@@ -51,7 +51,7 @@ impl Pool {
         Ok(Pool { octets })
     }
 
-    /// So many bytes of the pool, at most 65,536, from a place on that the number gives.
+    /// This many bytes of the pool, at most 65,536, from a place on that the number determines.
     pub fn part(&self, number: u64, len: usize) -> &[u8] {
         let octets = self.octets.as_slice();
         let start = ((number % 65_536) as usize).min(octets.len());

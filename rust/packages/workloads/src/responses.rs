@@ -18,7 +18,7 @@ const MOST_LEN: usize = 1_500;
 // The most octets of a name that is asked for.
 const NAME_LEN: usize = 72;
 
-/// Reads a response and a query in each round, others each time, and gives a digest of what was read.
+/// Reads a response and a query in each round, others each time, and returns a digest of what was read.
 pub fn digest(seed: u64, rounds: u32) -> io::Result<u64> {
     let mut random = Random::new(seed);
     let letters = Letters::new(&mut random)?;

@@ -6,8 +6,8 @@ use super::printing::Kinds;
 use super::value::{OptionAddresses, OptionValue, first_address};
 use core::fmt;
 
-/// The name of the kind and the data by its format, as `lease-time=3600`; a kind that has no name here prints its
-/// number, as `option-224=01:02`.
+/// Prints the name of the kind and the data by its format, as `lease-time=3600`; a kind that has no name here prints
+/// its number, as `option-224=01:02`.
 impl fmt::Display for DhcpOption<'_> {
     fn fmt(&self, f: &mut fmt::Formatter<'_>) -> fmt::Result {
         let kind = self.kind;
@@ -19,9 +19,10 @@ impl fmt::Display for DhcpOption<'_> {
     }
 }
 
-/// Addresses and numbers with commas between them, a type of message by its name, a text in quotation marks, and other
-/// data as two hexadecimal digits a byte, with colons between them. In a text a quotation mark and a backslash stand
-/// behind a backslash, and a byte that is no visible character of ASCII and no space is printed as `\x` and two digits.
+/// Prints addresses and numbers with commas between them, a type of message by its name, a text in quotation marks, and
+/// other data as two hexadecimal digits a byte, with colons between them. In a text, a quotation mark and a backslash
+/// are printed after a backslash, and a byte that is neither a visible character of ASCII nor a space is printed as
+/// `\x` and two digits.
 impl fmt::Display for OptionValue<'_> {
     fn fmt(&self, f: &mut fmt::Formatter<'_>) -> fmt::Result {
         match *self {
@@ -52,7 +53,7 @@ impl fmt::Display for Addresses<'_> {
     }
 }
 
-// Prints each address behind a comma.
+// Prints each address after a comma.
 fn fmt_more_addresses(f: &mut fmt::Formatter<'_>, octets: &[u8]) -> fmt::Result {
     for address in OptionAddresses::new(octets) {
         write!(f, ",{address}")?;
@@ -121,13 +122,10 @@ impl fmt::Display for HexColons<'_> {
     }
 }
 
-// Prints each byte as two digits, behind a colon.
+// Prints each byte as two digits, after a colon.
 fn fmt_behind_colons(f: &mut fmt::Formatter<'_>, octets: &[u8]) -> fmt::Result {
     for byte in octets {
         write!(f, ":{}", HexByte(*byte))?;
     }
     Ok(())
 }
-
-#[cfg(test)]
-mod tests;

@@ -1,8 +1,8 @@
 // Made from crates/dhcp_wire/src/dhcpv4/options.rt by rust/erase.
 //! Options, read in turn and written in turn (RFC 2132 section 2).
 
-use super::data::Data;
-use super::kinds::{OPT_END, OPT_PAD};
+use super::option_data::Data;
+use super::option_kinds::{OPT_END, OPT_PAD};
 use crate::wirebase::{ByteWriter, Error, Result};
 use byteorder::{ByteOrder, LittleEndian};
 
@@ -27,10 +27,10 @@ pub struct DhcpOption<'a> {
     pub data: &'a [u8],
 }
 
-/// The options of a packet in turn. Padding is skipped; the end mark and an option that is cut off end them for good.
+/// The options of a packet in turn. Padding is skipped; the end mark, and an option that is cut off, are the end.
 #[derive(Debug, Clone)]
 pub struct OptionsIter<'a> {
-    // The octets after the options that were given.
+    // The octets after the options that were given already.
     rest: &'a [u8],
 }
 
@@ -58,7 +58,7 @@ impl<'a> Iterator for OptionsIter<'a> {
     }
 }
 
-// The octets from the first on that is no padding. Most options have none before them.
+// The octets from the first one on that isn't padding. Most options have no padding before them.
 #[inline]
 fn after_padding(octets: &[u8]) -> &[u8] {
     if octets.is_empty() || octets[0] != OPT_PAD {
@@ -67,8 +67,8 @@ fn after_padding(octets: &[u8]) -> &[u8] {
     past_words(octets)
 }
 
-// The same, eight octets at a time: the lowest bit that is set in a word of them is in the first that is no padding. It
-// stands apart, so that a loop over options stays small.
+// `after_padding`, eight octets at a time: the lowest set bit of the little-endian word is in the first octet that
+// isn't padding. Never inlined, to keep the option loop small.
 #[inline(never)]
 fn past_words(octets: &[u8]) -> &[u8] {
     let mut rest = octets;
@@ -82,7 +82,7 @@ fn past_words(octets: &[u8]) -> &[u8] {
     past_octets(rest)
 }
 
-// The same, octet by octet.
+// `after_padding`, octet by octet.
 fn past_octets(octets: &[u8]) -> &[u8] {
     for (i, kind) in octets.iter().enumerate() {
         if *kind != OPT_PAD {
@@ -119,7 +119,7 @@ impl<'a> DhcpOptionWriter<'a> {
     }
 
     /// Writes an option: its kind, the number of bytes of its data, and the data. Refused where the data has more than
-    /// 255 bytes, and where fewer bytes are free than that takes; then nothing changes.
+    /// 255 bytes, and where fewer bytes are free than the option takes; then nothing changes.
     pub fn emit(&mut self, option: DhcpOption<'_>) -> Result<()> {
         self.emit_data(option.kind, option.data)
     }
@@ -135,7 +135,7 @@ impl<'a> DhcpOptionWriter<'a> {
         Ok(())
     }
 
-    // Writes an option of this kind with the data that a field of a value gives, where it is there.
+    // Writes an option of this kind whose data is a field of a value, where the field is there.
     pub(super) fn put<D: Data>(&mut self, kind: u8, field: Option<D>) -> Result<()> {
         match field {
             Some(data) => self.emit_data(kind, data),
@@ -143,7 +143,7 @@ impl<'a> DhcpOptionWriter<'a> {
         }
     }
 
-    // Writes an option of this kind with these data, or refuses it, as `emit`.
+    // Writes an option of this kind with this data; refused as by `emit`.
     fn emit_data<D: Data>(&mut self, kind: u8, body: D) -> Result<()> {
         let start = self.position;
         let len = body.len();

@@ -50,7 +50,7 @@ pub struct Packet<T: Octets> {
     pub(super) buffer: T,
 }
 
-/// Views are equal exactly when their octets are.
+/// Views are equal exactly when their octets are equal.
 impl<T: Octets> PartialEq for Packet<T> {
     fn eq(&self, other: &Packet<T>) -> bool {
         self.buffer.octets() == other.buffer.octets()
@@ -60,13 +60,13 @@ impl<T: Octets> PartialEq for Packet<T> {
 impl<T: Octets> Eq for Packet<T> {}
 
 impl<T: Octets> Packet<T> {
-    /// The view of these octets, whatever they are.
+    /// Makes a view of `buffer`; its length is not checked.
     pub const fn new_unchecked(buffer: T) -> Packet<T> {
         Packet { buffer }
     }
 
-    /// The view of these octets, where they are 240 or more; refused where they are fewer. On refusal the buffer is
-    /// dropped: to keep a `&mut [u8]`, call `new_unchecked` and then `check_len`.
+    /// Makes a view of `buffer`. Refused where it has fewer than 240 octets. On refusal the buffer is dropped: to keep
+    /// a `&mut [u8]`, call `new_unchecked` and then `check_len`.
     pub fn new_checked(buffer: T) -> Result<Packet<T>> {
         let packet = Packet::new_unchecked(buffer);
         packet.check_len()?;
@@ -81,7 +81,7 @@ impl<T: Octets> Packet<T> {
         Ok(())
     }
 
-    /// What the view was made from, as it is now.
+    /// Returns the buffer of the view.
     pub fn into_inner(self) -> T {
         self.buffer
     }
@@ -194,7 +194,7 @@ impl<T: Octets> Packet<T> {
         ipv4_address(self.buffer.field(field::GIADDR))
     }
 
-    /// The flags that have a name; the other bits are not looked at. Requires at least 12 bytes.
+    /// The flags that have a name; the other bits are ignored. Requires at least 12 bytes.
     ///
     /// # Panics
     ///
@@ -368,8 +368,8 @@ impl<T: OctetsMut> Packet<T> {
         self.buffer.set_u16(field::FLAGS, value.bits());
     }
 
-    /// A writer over the options: over all octets from 240 on, which are free. What it leaves there the view then
-    /// holds. Requires at least 240 bytes.
+    /// A writer over the options: all octets from 240 on, which are free. The view then holds what is written there.
+    /// Requires at least 240 bytes.
     ///
     /// # Panics
     ///

@@ -1,12 +1,12 @@
 // Made from crates/dhcp_wire/src/dhcpv4/printing.rt by rust/erase.
-//! Packets as texts.
+//! Prints packets.
 
 use super::repr::Repr;
 use crate::wirebase::{EthernetAddress, Ipv4Address};
 use core::fmt;
 
-/// The type of the message, and each field by its name, as `DHCPv4 DISCOVER xid=1 secs=0 ..`; an option that is not
-/// there is left out.
+/// Prints the type of the message, and each field by its name, as `DHCPv4 DISCOVER xid=1 secs=0 ..`; an option that is
+/// absent is left out.
 impl fmt::Display for Repr<'_> {
     fn fmt(&self, f: &mut fmt::Formatter<'_>) -> fmt::Result {
         self.fmt_fixed(f)?;
@@ -16,14 +16,14 @@ impl fmt::Display for Repr<'_> {
 }
 
 impl Repr<'_> {
-    // What the fixed part prints, and the addresses that options give.
+    // Prints the fixed part, and the addresses given by options.
     fn fmt_fixed(&self, f: &mut fmt::Formatter<'_>) -> fmt::Result {
         self.fmt_exchange(f)?;
         self.fmt_hosts(f)?;
         self.fmt_networks(f)
     }
 
-    // What the type of the message prints, the numbers of the fixed part, and the client's hardware address.
+    // Prints the type of the message, the numbers of the fixed part, and the client's hardware address.
     fn fmt_exchange(&self, f: &mut fmt::Formatter<'_>) -> fmt::Result {
         write!(
             f,
@@ -32,7 +32,7 @@ impl Repr<'_> {
         )
     }
 
-    // What the addresses of client and server print.
+    // Prints the addresses of client and server.
     fn fmt_hosts(&self, f: &mut fmt::Formatter<'_>) -> fmt::Result {
         write!(
             f,
@@ -41,7 +41,7 @@ impl Repr<'_> {
         )
     }
 
-    // What the addresses print that options give, and the rest of the fixed part.
+    // Prints the addresses given by options, and the rest of the fixed part.
     fn fmt_networks(&self, f: &mut fmt::Formatter<'_>) -> fmt::Result {
         write!(
             f,
@@ -56,13 +56,13 @@ impl Repr<'_> {
         )
     }
 
-    // What the lists print.
+    // Prints the lists.
     fn fmt_lists(&self, f: &mut fmt::Formatter<'_>) -> fmt::Result {
         self.fmt_requests(f)?;
         self.fmt_servers(f)
     }
 
-    // What the list of requested options prints.
+    // Prints the list of requested options.
     fn fmt_requests(&self, f: &mut fmt::Formatter<'_>) -> fmt::Result {
         match self.parameter_request_list {
             Some(kinds) => write!(f, " parameter_request_list={}", Kinds(kinds)),
@@ -70,7 +70,7 @@ impl Repr<'_> {
         }
     }
 
-    // What the list of servers prints.
+    // Prints the list of servers.
     fn fmt_servers(&self, f: &mut fmt::Formatter<'_>) -> fmt::Result {
         match &self.dns_servers {
             Some(servers) => write!(f, " dns_servers={}", Addresses(servers.as_slice())),
@@ -78,13 +78,13 @@ impl Repr<'_> {
         }
     }
 
-    // What the numbers print that options give, and how many additional options there are.
+    // Prints the numbers given by options, and the number of additional options.
     fn fmt_numbers(&self, f: &mut fmt::Formatter<'_>) -> fmt::Result {
         self.fmt_times(f)?;
         fmt_count(f, self.additional_options.len())
     }
 
-    // What the numbers print that options give.
+    // Prints the numbers given by options.
     fn fmt_times(&self, f: &mut fmt::Formatter<'_>) -> fmt::Result {
         let max_size = match self.max_size {
             Some(size) => Some(size as u32),
@@ -101,7 +101,7 @@ impl Repr<'_> {
     }
 }
 
-// What so many additional options print.
+// Prints the number of additional options.
 fn fmt_count(f: &mut fmt::Formatter<'_>, count: usize) -> fmt::Result {
     if count == 0 {
         return Ok(());
@@ -109,7 +109,7 @@ fn fmt_count(f: &mut fmt::Formatter<'_>, count: usize) -> fmt::Result {
     write!(f, " additional_options={count}")
 }
 
-// A field behind a space, its name and `=`, where it is there: an address of IPv4.
+// An optional field that is printed after a space, its name and `=`: an address of IPv4.
 #[derive(Clone, Copy)]
 struct NamedIpv4<'a>(&'a str, Option<Ipv4Address>);
 
@@ -122,7 +122,7 @@ impl fmt::Display for NamedIpv4<'_> {
     }
 }
 
-// The same of an address of Ethernet.
+// An optional field that is printed after a space, its name and `=`: an address of Ethernet.
 #[derive(Clone, Copy)]
 struct NamedEthernet<'a>(&'a str, Option<EthernetAddress>);
 
@@ -135,7 +135,7 @@ impl fmt::Display for NamedEthernet<'_> {
     }
 }
 
-// The same of a number.
+// An optional field that is printed after a space, its name and `=`: a number.
 #[derive(Clone, Copy)]
 struct NamedNumber<'a>(&'a str, Option<u32>);
 
@@ -162,7 +162,7 @@ impl fmt::Display for Kinds<'_> {
     }
 }
 
-// Prints each kind behind a comma.
+// Prints each kind after a comma.
 fn fmt_more_kinds(f: &mut fmt::Formatter<'_>, kinds: &[u8]) -> fmt::Result {
     for kind in kinds {
         write!(f, ",{kind}")?;
@@ -184,7 +184,7 @@ impl fmt::Display for Addresses<'_> {
     }
 }
 
-// Prints each address behind a comma.
+// Prints each address after a comma.
 fn fmt_more_addresses(f: &mut fmt::Formatter<'_>, addresses: &[Ipv4Address]) -> fmt::Result {
     for address in addresses {
         write!(f, ",{address}")?;

@@ -1,34 +1,33 @@
 // Made from crates/dhcp_wire/src/dhcpv4/refusal.rt by rust/erase.
 //! Why octets are refused.
 
-use super::found::{ETHERNET, Found, IDENTIFIER_LEN};
-use super::kinds::{OPT_CLIENT_ID, OPT_DHCP_MESSAGE_TYPE, OPT_END, OPT_PAD};
+use super::option_kinds::{OPT_CLIENT_ID, OPT_DHCP_MESSAGE_TYPE, OPT_END, OPT_PAD};
 use super::options::DhcpOption;
+use super::options_seen::{ETHERNET, IDENTIFIER_LEN, OptionsSeen};
 use super::packet::{Packet, field};
 use super::repr::{ETHERNET_LEN, MAGIC_NUMBER, Repr};
 use super::tables::{MessageType, OpCode};
 use crate::wirebase::Octets;
 use core::fmt;
 
-/// Why octets are no packet that [`Repr::parse`] reads: the check that fails first.
+/// Why [`Repr::parse`] refuses octets as a packet: the first check that fails.
 #[derive(Debug, PartialEq, Eq, Clone, Copy)]
 #[non_exhaustive]
 pub enum Refusal {
     /// Fewer than 240 bytes.
     Short,
-    /// The type of hardware, by its number, is not that of Ethernet, 1 (RFC 2131 section 2).
+    /// The hardware type is this number, not that of Ethernet, 1 (RFC 2131 section 2).
     HardwareType(u8),
-    /// A hardware address has so many bytes, and not the 6 of Ethernet (RFC 2131 section 2).
+    /// The length of a hardware address is this number of bytes, not the 6 of Ethernet (RFC 2131 section 2).
     HardwareLen(u8),
-    /// The magic cookie of DHCP does not stand before the options (RFC 2131 section 3).
+    /// The number before the options is not the magic cookie of DHCP (RFC 2131 section 3).
     MagicCookie,
-    /// The first client identifier of 7 bytes that is not of Ethernet is of this type of hardware (RFC 2132 section
-    /// 9.14).
+    /// The first client identifier of 7 bytes that is not of Ethernet has this hardware type (RFC 2132 section 9.14).
     ClientIdentifier(u8),
-    /// No type of message has the operation of the packet, and the last one does not go with this operation (RFC 2131
-    /// section 3).
+    /// No type of message fits the operation of the packet: the last one is this, and does not fit this operation (RFC
+    /// 2131 section 3).
     Operation(MessageType, OpCode),
-    /// No type of message has the operation of the packet, and the last one has so many bytes, and not 1 (RFC 2132
+    /// No type of message fits the operation of the packet, and the last one has this number of bytes, not 1 (RFC 2132
     /// section 9.6).
     MessageTypeLen(usize),
     /// There is no type of message, and the options end within an option of this kind (RFC 2132 section 2).
@@ -61,12 +60,12 @@ impl fmt::Display for Refusal {
 }
 
 impl<'a> Repr<'a> {
-    /// Why [`Repr::parse`] refuses this packet, by the check that fails first; None where it reads it.
+    /// Why [`Repr::parse`] refuses this packet, by the first check that fails; None where it reads it.
     pub fn refusal<B: AsRef<[u8]> + ?Sized>(packet: &Packet<&'a B>) -> Option<Refusal> {
         if let Some(refusal) = header_refusal(packet) {
             return Some(refusal);
         }
-        let mut found = Found {
+        let mut found = OptionsSeen {
             message_type: None,
             repr: Repr::of(packet),
         };
@@ -79,8 +78,8 @@ impl<'a> Repr<'a> {
         Some(type_refusal(packet))
     }
 
-    /// What a packet says, as [`Repr::parse`] reads it, or else why it refuses it, as [`Repr::refusal`] tells it: the
-    /// check that fails first.
+    /// The value of a packet, as [`Repr::parse`] reads it, or why it is refused, as [`Repr::refusal`] answers: the
+    /// first check that fails.
     pub fn parse_or_refusal<B: AsRef<[u8]> + ?Sized>(
         packet: &Packet<&'a B>,
     ) -> core::result::Result<Repr<'a>, Refusal> {
@@ -91,7 +90,7 @@ impl<'a> Repr<'a> {
     }
 }
 
-// Why a packet has no header that is read.
+// Why the header of a packet is refused.
 fn header_refusal<B: AsRef<[u8]> + ?Sized>(packet: &Packet<&B>) -> Option<Refusal> {
     if packet.check_len().is_err() {
         return Some(Refusal::Short);
@@ -110,7 +109,7 @@ fn header_refusal<B: AsRef<[u8]> + ?Sized>(packet: &Packet<&B>) -> Option<Refusa
     None
 }
 
-// Which client identifier refuses a packet.
+// Why a packet is refused for a client identifier.
 fn identifier_refusal<B: AsRef<[u8]> + ?Sized>(packet: &Packet<&B>) -> Option<Refusal> {
     for option in packet.options() {
         if let Some(hardware) = other_hardware(option) {
@@ -129,7 +128,7 @@ fn other_hardware(option: DhcpOption<'_>) -> Option<u8> {
     None
 }
 
-// Why a packet has no type of message that has its operation.
+// Why a packet has no type of message that fits its operation.
 fn type_refusal<B: AsRef<[u8]> + ?Sized>(packet: &Packet<&B>) -> Refusal {
     let Some(data) = last_type_in(packet) else {
         return end_refusal(packet);
@@ -181,6 +180,3 @@ fn cut_kind(octets: &[u8]) -> Option<u8> {
     }
     None
 }
-
-#[cfg(test)]
-mod tests;

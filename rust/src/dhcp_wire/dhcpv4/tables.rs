@@ -4,7 +4,7 @@
 use bitflags::Flags as _;
 use core::fmt;
 
-/// What a packet is, one byte (RFC 2131 section 2).
+/// The operation of a packet, one byte (RFC 2131 section 2).
 #[derive(Debug, PartialEq, Eq, PartialOrd, Ord, Clone, Copy)]
 pub enum OpCode {
     /// From a client.
@@ -148,7 +148,8 @@ bitflags::bitflags! {
     }
 }
 
-/// `broadcast` where the answer is to be sent to everyone, and else `-`. Bits that have no name are not told.
+/// Prints `broadcast` where the answer is to be sent to everyone, and `-` otherwise. Bits that have no name are not
+/// printed.
 impl fmt::Display for Flags {
     fn fmt(&self, f: &mut fmt::Formatter<'_>) -> fmt::Result {
         if self.bits() & 0x8000 == 0 {

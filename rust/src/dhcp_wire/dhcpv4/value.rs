@@ -20,7 +20,7 @@ pub enum OptionValue<'a> {
     Seconds(u32),
     /// A number of 2 bytes.
     Number(u16),
-    /// A number of 1 byte; where it is a truth, 0 is false and 1 is true.
+    /// A number of 1 byte; where it is a boolean, 0 is false and 1 is true.
     Byte(u8),
     /// The type of the message: 1 byte.
     MessageType(MessageType),
@@ -98,7 +98,7 @@ fn message_type(body: &[u8]) -> OptionValue<'_> {
     OptionValue::MessageType(MessageType::from(body[0]))
 }
 
-/// The addresses in the data of an option in turn. Fewer than four bytes at their end are none.
+/// The addresses in the data of an option in turn. Fewer than four bytes at the end are ignored.
 ///
 /// ```
 /// use control_wire::Ipv4Address;
@@ -111,7 +111,7 @@ fn message_type(body: &[u8]) -> OptionValue<'_> {
 /// ```
 #[derive(Debug, Clone)]
 pub struct OptionAddresses<'a> {
-    // The octets behind the addresses that were given.
+    // The octets after the addresses that were given already.
     left: &'a [u8],
 }
 
@@ -136,7 +136,7 @@ impl Iterator for OptionAddresses<'_> {
     }
 }
 
-// The first address, and what stands behind it. None where there are fewer than four octets.
+// The first address, and what follows it. None where there are fewer than four octets.
 pub(super) fn first_address(octets: &[u8]) -> Option<(Ipv4Address, &[u8])> {
     if octets.len() < 4 {
         return None;
@@ -145,7 +145,7 @@ pub(super) fn first_address(octets: &[u8]) -> Option<(Ipv4Address, &[u8])> {
     Some((address, past_address(octets)))
 }
 
-// What stands behind the first address.
+// What follows the first address.
 fn past_address(octets: &[u8]) -> &[u8] {
     &octets[4..]
 }

@@ -1,5 +1,5 @@
 // Made from crates/dns_wire/src/dns/display.rt by rust/erase.
-//! What messages and their parts print, by the names of IANA's registry of DNS parameters.
+//! Prints messages and their parts, by the names of IANA's registry of DNS parameters.
 
 use super::{Flags, Opcode, Packet, Question, Rcode, Record, RecordData, Repr, Type};
 use crate::wirebase::Octets;
@@ -66,9 +66,9 @@ impl fmt::Display for Type {
     }
 }
 
-/// The name of the kind of query, or its number where it has none, as `OPCODE7`. It goes by the number: of
-/// [`Opcode::Status`], which is 1, it is `IQUERY`, and of `Opcode::Unknown(2)` it is `STATUS` (RFC 1035 section 4.1.1);
-/// 4 is `NOTIFY` (RFC 1996), 5 `UPDATE` (RFC 2136) and 6 `DSO` (RFC 8490).
+/// The name of the kind of query, or its number where it has none, as `OPCODE7`. The name is that of the number:
+/// [`Opcode::Status`], which is 1, prints as `IQUERY`, and `Opcode::Unknown(2)` as `STATUS` (RFC 1035 section 4.1.1); 4
+/// is `NOTIFY` (RFC 1996), 5 `UPDATE` (RFC 2136) and 6 `DSO` (RFC 8490).
 impl fmt::Display for Opcode {
     fn fmt(&self, f: &mut fmt::Formatter<'_>) -> fmt::Result {
         let name = match u8::from(*self) {
@@ -105,7 +105,8 @@ impl fmt::Display for Rcode {
     }
 }
 
-/// The question, as `DNS question name_len=12 type=A`. Its name is told by the bytes that it takes where it stands.
+/// Prints the question, as `DNS question name_len=12 type=A`, where `name_len` is the number of bytes that its name
+/// takes in the message.
 impl fmt::Display for Question<'_> {
     fn fmt(&self, f: &mut fmt::Formatter<'_>) -> fmt::Result {
         let name_len = self.name.len();
@@ -114,7 +115,8 @@ impl fmt::Display for Question<'_> {
     }
 }
 
-/// The type of the record, and its address or the bytes that its data take, as `A addr=192.0.2.1` or `SOA len=38`.
+/// Prints the type of the record, and its address or the bytes that its data take, as `A addr=192.0.2.1` or `SOA
+/// len=38`.
 impl fmt::Display for RecordData<'_> {
     fn fmt(&self, f: &mut fmt::Formatter<'_>) -> fmt::Result {
         match self {
@@ -132,8 +134,8 @@ impl fmt::Display for RecordData<'_> {
     }
 }
 
-/// The record, as `DNS record name_len=2 ttl=202 A addr=192.0.2.1`. Its name is told by the bytes that it takes where
-/// it stands, and its time to live is in seconds.
+/// Prints the record, as `DNS record name_len=2 ttl=202 A addr=192.0.2.1`, where `name_len` is the number of bytes that
+/// its name takes in the message, and `ttl` is in seconds.
 impl fmt::Display for Record<'_> {
     fn fmt(&self, f: &mut fmt::Formatter<'_>) -> fmt::Result {
         let name_len = self.name.len();
@@ -144,7 +146,7 @@ impl fmt::Display for Record<'_> {
 }
 
 /// The names of the flags that are set, with commas between them, as `rd,ad`; `-` where none is set. Bits that have no
-/// name are not told.
+/// name are not printed.
 impl fmt::Display for Flags {
     fn fmt(&self, f: &mut fmt::Formatter<'_>) -> fmt::Result {
         fmt_flags(f, FLAG_NAMES, self.bits())
@@ -165,7 +167,7 @@ const FLAG_NAMES: &[(&str, u16)] = &[
 // Prints the names of the flags that are set, with commas between them, or `-` where none is set.
 fn fmt_flags(f: &mut fmt::Formatter<'_>, names: &[(&str, u16)], bits: u16) -> fmt::Result {
     let mut front = "";
-    // What is printed where no more are set.
+    // Printed at the end, where no flag is set.
     let mut none = "-";
     let mut left = names;
     while let [(name, bit), rest @ ..] = left {
@@ -179,8 +181,8 @@ fn fmt_flags(f: &mut fmt::Formatter<'_>, names: &[(&str, u16)], bits: u16) -> fm
     f.write_str(none)
 }
 
-/// The query, as `DNS query id=4660 opcode=QUERY flags=rd name_len=12 type=A`. The name of its question is told by the
-/// bytes that it takes.
+/// Prints the query, as `DNS query id=4660 opcode=QUERY flags=rd name_len=12 type=A`, where `name_len` is the number of
+/// bytes that the name of its question takes.
 impl fmt::Display for Repr<'_> {
     fn fmt(&self, f: &mut fmt::Formatter<'_>) -> fmt::Result {
         let Repr {
@@ -198,9 +200,9 @@ impl fmt::Display for Repr<'_> {
     }
 }
 
-/// The header of the message (RFC 1035 section 4.1.1), as `DNS id=4660 opcode=QUERY flags=rd rcode=NOERROR questions=1
-/// answers=0 authorities=0 additionals=0`; of fewer than 12 octets `DNS (wire::Error)`. Questions and records are told
-/// by their counts alone.
+/// Prints the header of the message (RFC 1035 section 4.1.1), as `DNS id=4660 opcode=QUERY flags=rd rcode=NOERROR
+/// questions=1 answers=0 authorities=0 additionals=0`, or `DNS (wire::Error)` where there are fewer than 12 octets. Of
+/// questions and records only the numbers are printed.
 impl<T: Octets> fmt::Display for Packet<T> {
     fn fmt(&self, f: &mut fmt::Formatter<'_>) -> fmt::Result {
         if let Err(error) = self.check_len() {
@@ -211,7 +213,7 @@ impl<T: Octets> fmt::Display for Packet<T> {
     }
 }
 
-// What is printed of a header.
+// The header, to be printed.
 struct Header {
     id: u16,
     opcode: Opcode,
@@ -236,7 +238,7 @@ impl fmt::Display for Header {
     }
 }
 
-// How many questions and records a header tells.
+// The numbers of questions and records in a header, to be printed.
 struct Counts {
     questions: u16,
     answers: u16,

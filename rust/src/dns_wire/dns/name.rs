@@ -1,7 +1,7 @@
 // Made from crates/dns_wire/src/dns/name.rt by rust/erase.
 //! The walk over a name that may go on elsewhere in its message (RFC 1035 section 4.1.4).
 
-use crate::dns_wire::dns::part::{Front, follow, read_front};
+use crate::dns_wire::dns::part::{NamePart, follow, read_front};
 use crate::wirebase::{Error, Result};
 
 /// The labels of a name. The first pointer leads to any place of the message, and each later one to below the place
@@ -22,12 +22,12 @@ impl<'a> Iterator for NameIter<'a> {
     fn next(&mut self) -> Option<Result<&'a [u8]>> {
         loop {
             match read_front(self.left) {
-                Front::Label(label, rest) => {
+                NamePart::Label(label, rest) => {
                     self.left = rest;
                     self.steps += 1;
                     return Some(Ok(label));
                 }
-                Front::Pointer(target) => {
+                NamePart::Pointer(target) => {
                     let Some((left, reach)) = follow(self.reach, target) else {
                         break;
                     };
@@ -35,8 +35,8 @@ impl<'a> Iterator for NameIter<'a> {
                     self.reach = reach;
                     self.steps += 1;
                 }
-                Front::End => return None,
-                Front::Torn => break,
+                NamePart::End => return None,
+                NamePart::Torn => break,
             }
         }
         // From here on the end of a name is read, so that the error is given once.
@@ -63,6 +63,3 @@ pub(crate) fn walk<'a>(message: &'a [u8], slice: &'a [u8]) -> NameIter<'a> {
         steps: 0,
     }
 }
-
-#[cfg(test)]
-mod tests;

@@ -25,7 +25,7 @@ mod field {
 /// The bytes of the header.
 pub(crate) const HEADER_LEN: usize = 12;
 
-// The bits of the word of flags that are flags, and those of the kind of query.
+// The bits of the word of flags that are flags, and those that are the kind of query.
 const FLAG_BITS: u16 = 0x87b0;
 
 const OPCODE_BITS: u16 = 0x7800;
@@ -51,13 +51,13 @@ pub struct Packet<T: Octets> {
 }
 
 impl<T: Octets> Packet<T> {
-    /// The view of these octets, whatever they are.
+    /// Makes a view of `buffer`; its length is not checked.
     pub const fn new_unchecked(buffer: T) -> Packet<T> {
         Packet { buffer }
     }
 
-    /// The view of these octets, where they are 12 or more; refused where they are fewer. On refusal the buffer is
-    /// dropped: to keep a `&mut [u8]`, call `new_unchecked` and then `check_len`.
+    /// Makes a view of `buffer`. Refused where it has fewer than 12 octets. On refusal the buffer is dropped: to keep a
+    /// `&mut [u8]`, call `new_unchecked` and then `check_len`.
     pub fn new_checked(buffer: T) -> Result<Packet<T>> {
         let packet = Packet::new_unchecked(buffer);
         packet.check_len()?;
@@ -72,7 +72,7 @@ impl<T: Octets> Packet<T> {
         Ok(())
     }
 
-    /// What the view was made from, as it is now.
+    /// Returns the buffer of the view.
     pub fn into_inner(self) -> T {
         self.buffer
     }
@@ -241,7 +241,7 @@ impl<T: OctetsMut> Packet<T> {
         self.buffer.set_u16(field::ADDITIONAL_COUNT, value);
     }
 
-    /// Lends the questions and records for writing; the header stays. Requires at least 12 bytes.
+    /// Lends the questions and records for writing; the header is unchanged. Requires at least 12 bytes.
     ///
     /// # Panics
     ///
@@ -252,7 +252,7 @@ impl<T: OctetsMut> Packet<T> {
     }
 }
 
-/// Views are equal where their octets are.
+/// Views are equal where their octets are equal.
 impl<T: Octets> PartialEq for Packet<T> {
     fn eq(&self, other: &Packet<T>) -> bool {
         self.buffer.octets() == other.buffer.octets()

@@ -5,7 +5,7 @@ use crate::dns_wire::dns::part::split_name;
 use crate::dns_wire::dns::tables::Type;
 use crate::wirebase::{ByteWriter, Error, Octets, Result};
 
-// What stands behind the name of a question.
+// The fields after the name of a question.
 mod field {
     use crate::wirebase::Field;
 
@@ -29,8 +29,8 @@ pub struct Question<'a> {
 }
 
 impl<'a> Question<'a> {
-    /// What stands behind the question at the front of the octets, and the question. Refused where they do not begin
-    /// with a name of one part, a type and the class of the internet.
+    /// The octets after the question at the front, and the question. Refused where the octets do not begin with a name
+    /// of one part, a type and the class of the internet.
     pub fn parse(buffer: &'a [u8]) -> Result<(&'a [u8], Question<'a>)> {
         Question::read(buffer)
     }
@@ -57,7 +57,8 @@ impl<'a> Question<'a> {
         self.name.len() + field::END
     }
 
-    /// Writes the question over the front of the octets; the others stay. Requires as many octets as it takes.
+    /// Writes the question over the front of the octets; the other octets are unchanged. Requires as many octets as it
+    /// takes.
     ///
     /// # Panics
     ///

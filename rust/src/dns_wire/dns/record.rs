@@ -6,7 +6,7 @@ use crate::dns_wire::dns::question::CLASS_IN;
 use crate::dns_wire::dns::tables::Type;
 use crate::wirebase::{Error, Ipv4Address, Ipv6Address, Octets, Result};
 
-// What stands behind the name of a record.
+// The fields after the name of a record.
 mod field {
     use crate::wirebase::Field;
 
@@ -28,14 +28,14 @@ pub struct Record<'a> {
     pub name: &'a [u8],
     /// How long the record may be kept, in seconds.
     pub ttl: u32,
-    /// What the record says of the name.
+    /// What the record says about the name.
     pub data: RecordData<'a>,
 }
 
 impl<'a> Record<'a> {
-    /// What stands behind the record at the front of the octets, and the record. Refused where they do not begin with
-    /// a name of one part, a type, the class of the internet, a time to live, a length and as many bytes; and where
-    /// these bytes are no data of the type.
+    /// The octets after the record at the front, and the record. Refused where the octets do not begin with a name of
+    /// one part, a type, the class of the internet, a time to live, a length and as many bytes; and where these bytes
+    /// are not data of the type.
     pub fn parse(buffer: &'a [u8]) -> Result<(&'a [u8], Record<'a>)> {
         let (name, after) = split_name(buffer)?;
         let (rest, ttl, data) = read_behind_name(after)?;
@@ -43,7 +43,7 @@ impl<'a> Record<'a> {
     }
 }
 
-// What stands behind the record, its time to live and its data; the octets begin behind its name.
+// The octets after the record, its time to live and its data; `octets` begin after its name.
 fn read_behind_name(octets: &[u8]) -> Result<(&[u8], u32, RecordData<'_>)> {
     if octets.len() < field::END {
         return Err(Error);
@@ -61,7 +61,7 @@ fn read_behind_name(octets: &[u8]) -> Result<(&[u8], u32, RecordData<'_>)> {
     Ok((&behind[len..], octets.u32_at(field::TTL), data))
 }
 
-/// What a record holds.
+/// The data of a record.
 #[derive(Debug, PartialEq, Eq, Clone, Copy)]
 pub enum RecordData<'a> {
     /// The IPv4 address of the name (RFC 1035 section 3.4.1).
@@ -75,7 +75,8 @@ pub enum RecordData<'a> {
 }
 
 impl<'a> RecordData<'a> {
-    /// The data of a record of this type. Refused where an IPv4 address hasn't 4 bytes, or an IPv6 address 16.
+    /// The data of a record of this type. Refused where an IPv4 address has other than 4 bytes, or an IPv6 address
+    /// other than 16.
     pub fn parse(type_: Type, data: &'a [u8]) -> Result<RecordData<'a>> {
         match type_ {
             Type::A => {

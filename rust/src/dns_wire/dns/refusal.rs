@@ -1,13 +1,13 @@
 // Made from crates/dns_wire/src/dns/refusal.rt by rust/erase.
-//! Why octets are no question, no record, no data or no whole name: the check that fails first.
+//! Why octets are refused as a question, a record, data or a whole name: the first check that fails.
 
 use super::{Packet, Question, Record, RecordData, Type};
-use crate::dns_wire::dns::part::{Front, LABEL_END, POINTER, follow, read_front};
+use crate::dns_wire::dns::part::{LABEL_END, NamePart, POINTER, follow, read_front};
 use crate::dns_wire::dns::question::CLASS_IN;
 use crate::wirebase::Octets;
 use core::fmt;
 
-// What stands behind the name of a question or of a record.
+// The fields after the name of a question or of a record.
 mod field {
     use crate::wirebase::Field;
 
@@ -26,33 +26,33 @@ mod field {
 #[derive(Debug, PartialEq, Eq, Clone, Copy)]
 #[non_exhaustive]
 pub enum NameRefusal {
-    /// The bytes end where a label, byte 0 or a pointer is to stand.
+    /// The bytes end where a label, byte 0 or a pointer has to begin.
     NoEnd,
-    /// A label of fewer bytes than its length says. Behind a pointer the bytes end where the pointer before it led to,
+    /// A label of fewer bytes than its length says. After a pointer the bytes end where the pointer before it led to,
     /// since no byte of the message is read twice.
     LabelCut,
     /// A byte of 64 to 191, which is neither the length of a label nor the first byte of a pointer.
     LabelType(u8),
     /// The first byte of a pointer, and no second.
     PointerCut,
-    /// A pointer to this place of the message, which is not in front of the place that the pointer before it led to, as
-    /// in a loop; or, of the first pointer, is not in the message.
+    /// A pointer to this place of the message, which is not before the place that the pointer before it led to, as in a
+    /// loop; or, of the first pointer, is not in the message.
     Pointer(usize),
 }
 
-/// Why octets are no [`Question`], no [`Record`] or no [`RecordData`].
+/// Why octets are refused as a [`Question`], a [`Record`] or [`RecordData`].
 #[derive(Debug, PartialEq, Eq, Clone, Copy)]
 #[non_exhaustive]
 pub enum Refusal {
     /// They begin with no part of a name. This is never [`NameRefusal::Pointer`], for no pointer is followed.
     Name(NameRefusal),
-    /// Fewer bytes stand behind the name than the fixed fields take, 4 of a question and 10 of a record.
+    /// Fewer bytes follow the name than the fixed fields take, 4 of a question and 10 of a record.
     Short,
     /// A class that is not that of the internet, by its number.
     Class(u16),
     /// Fewer bytes of data than the record's length says.
     Length,
-    /// The data of a record of type A that are not 4 bytes, or of type AAAA that are not 16: how many they are.
+    /// The data of a record of type A are not 4 bytes, or of type AAAA not 16: this number of bytes.
     AddressLength(usize),
 }
 
@@ -93,7 +93,7 @@ impl<T: Octets> Packet<T> {
 }
 
 impl Question<'_> {
-    /// Why [`Question::parse`] refuses these octets, by the check that fails first; None where it reads them. A
+    /// Why [`Question::parse`] refuses these octets, by the first check that fails; None where it reads them. A
     /// question has no data, so this is [`Refusal::Name`], [`Refusal::Short`] or [`Refusal::Class`].
     pub fn refusal(buffer: &[u8]) -> Option<Refusal> {
         let after = match split_or_why(buffer) {
@@ -112,7 +112,7 @@ impl Question<'_> {
 }
 
 impl Record<'_> {
-    /// Why [`Record::parse`] refuses these octets, by the check that fails first; None where it reads them.
+    /// Why [`Record::parse`] refuses these octets, by the first check that fails; None where it reads them.
     pub fn refusal(buffer: &[u8]) -> Option<Refusal> {
         match split_or_why(buffer) {
             Ok((_, after)) => why_not_behind_name(after),
@@ -121,7 +121,7 @@ impl Record<'_> {
     }
 }
 
-// Why these octets, which begin behind the name of a record, do not go on as one.
+// Why these octets, which follow the name of a record, are not the rest of one.
 fn why_not_behind_name(octets: &[u8]) -> Option<Refusal> {
     if octets.len() < field::RECORD_END {
         return Some(Refusal::Short);
@@ -153,7 +153,7 @@ impl RecordData<'_> {
     }
 }
 
-// The part of a name at the front of a text, and what stands behind it; or why there is none.
+// The part of a name at the front of a text, and what follows it; or why there is none.
 fn split_or_why(text: &[u8]) -> Result<(&[u8], &[u8]), NameRefusal> {
     let len = part_len_or_why(text)?;
     Ok((&text[..len], &text[len..]))
@@ -164,36 +164,36 @@ fn part_len_or_why(text: &[u8]) -> Result<usize, NameRefusal> {
     let mut left = text;
     loop {
         match read_front(left) {
-            Front::Label(_, rest) => left = rest,
-            Front::Pointer(_) => return Ok(text.len() - left.len() + 2),
-            Front::End => return Ok(text.len() - left.len() + 1),
-            Front::Torn => return Err(why_torn(left)),
+            NamePart::Label(_, rest) => left = rest,
+            NamePart::Pointer(_) => return Ok(text.len() - left.len() + 2),
+            NamePart::End => return Ok(text.len() - left.len() + 1),
+            NamePart::Torn => return Err(why_torn(left)),
         }
     }
 }
 
-// Why the name that begins in a text and may go on in a message breaks.
+// Why the name that begins in a text, and may go on in a message, breaks.
 fn why_broken(message: &[u8], text: &[u8]) -> Option<NameRefusal> {
     let mut left = text;
     // The open bytes of the message: a pointer leads to one of them.
     let mut reach = message;
     loop {
         match read_front(left) {
-            Front::Label(_, rest) => left = rest,
-            Front::Pointer(place) => {
+            NamePart::Label(_, rest) => left = rest,
+            NamePart::Pointer(place) => {
                 let Some((next, open_bytes)) = follow(reach, place) else {
                     return Some(NameRefusal::Pointer(place));
                 };
                 left = next;
                 reach = open_bytes;
             }
-            Front::End => return None,
-            Front::Torn => return Some(why_torn(left)),
+            NamePart::End => return None,
+            NamePart::Torn => return Some(why_torn(left)),
         }
     }
 }
 
-// Why nothing whole stands at the front of a text.
+// Why a text begins with no whole label or mark.
 fn why_torn(text: &[u8]) -> NameRefusal {
     let Some(&first) = text.first() else {
         return NameRefusal::NoEnd;

@@ -15,7 +15,7 @@ pub struct Repr<'a> {
     pub opcode: Opcode,
     /// The flags of the header.
     pub flags: Flags,
-    /// What is asked.
+    /// The question.
     pub question: Question<'a>,
 }
 
@@ -29,8 +29,8 @@ impl<'a> Repr<'a> {
         HEADER_LEN + self.question.buffer_len()
     }
 
-    /// Writes the query over the front of the octets; the others stay. Requires as many octets as it takes, flags that
-    /// have a name, and a kind of query below 16.
+    /// Writes the query over the front of the octets; the other octets are unchanged. Requires as many octets as it
+    /// takes, flags that have a name, and a kind of query below 16.
     ///
     /// # Panics
     ///
@@ -39,7 +39,7 @@ impl<'a> Repr<'a> {
         self.emit_into(packet.buffer.octets_mut());
     }
 
-    /// The same into a slice.
+    /// Like `emit`, but writes into a slice.
     ///
     /// # Panics
     ///

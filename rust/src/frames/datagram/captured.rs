@@ -1,40 +1,39 @@
 // Made from crates/frame_wire/src/datagram/captured.rt by rust/erase.
-//! Datagrams as far as a capture has them.
+//! Datagrams as far as they were captured.
 
 use super::{Addresses, Datagram, Head, Refusal, head_v4, read_v6};
 use crate::frames::link::behind;
 use crate::wirebase::{IPV6_HEADER_LEN, Ipv4Packet, Ipv6Packet};
 
-/// How much of a datagram is there.
+/// How much of a datagram was captured.
 #[derive(Debug, PartialEq, Eq, Clone, Copy)]
 pub enum Extent {
     /// All of it.
     Whole,
-    /// Its front.
+    /// Its start.
     Cut {
-        /// How many bytes its own length counts that are not there, 1 or more.
+        /// The number of missing bytes by the datagram's own length, 1 or more.
         missing: usize,
     },
-    /// A datagram of IPv4 whose total length is 0, as a machine captures it that leaves segmentation to its network
-    /// card: the payload is all that the octets have, and whether they have all of it is not known.
+    /// An IPv4 datagram whose total length is 0, as captured on a machine that leaves segmentation to its network card:
+    /// the payload extends to the end of the octets, and whether that is all of it is not known.
     Unstated,
 }
 
-/// A datagram as far as a capture has it.
+/// A datagram as far as it was captured.
 #[derive(Debug, PartialEq, Eq, Clone, Copy)]
 pub struct Captured<'a> {
     /// The datagram. Its payload ends early where it is cut.
     pub datagram: Datagram<'a>,
-    /// How much of it is there.
+    /// How much of it was captured.
     pub extent: Extent,
 }
 
 impl<'a> Captured<'a> {
-    /// The datagram of IPv4 at the front of the octets, as far as it is there. A whole one is what `Datagram::parse_v4`
-    /// reads. One that ends behind the octets has the payload that is there, and it is told how many bytes are missing.
-    /// One with a total length of 0 is taken to end where the octets do. Refused with `Cut` where the header itself,
-    /// with its options, is cut, and where `Datagram::parse_v4` refuses for another reason; a fragment is a `Fragment`,
-    /// also where it is cut.
+    /// The IPv4 datagram at the start of the octets, whole or cut. A whole one is read as `Datagram::parse_v4` reads
+    /// it. One that goes on past the octets has the payload that is there, and the number of missing bytes. One with a
+    /// total length of 0 ends with the octets. Refused with `Cut` where the header itself, with its options, is cut,
+    /// and where `Datagram::parse_v4` refuses for another reason; a fragment is a `Fragment`, also where it is cut.
     pub fn parse_v4(octets: &'a [u8]) -> Result<Captured<'a>, Refusal> {
         match Datagram::parse_v4(octets) {
             Ok(datagram) => Ok(Captured {
@@ -62,10 +61,10 @@ impl<'a> Captured<'a> {
         }
     }
 
-    /// The datagram of IPv6 at the front of the octets, as far as it is there. A whole one is what `Datagram::parse_v6`
-    /// reads. One that ends behind the octets has the payload that is there, and it is told how many bytes are missing.
-    /// Refused with `Cut` where a header that extends IPv6 is cut, and where `Datagram::parse_v6` refuses for another
-    /// reason; a fragment is a `Fragment`, also where it is cut.
+    /// The IPv6 datagram at the start of the octets, whole or cut. A whole one is read as `Datagram::parse_v6` reads
+    /// it. One that goes on past the octets has the payload that is there, and the number of missing bytes. Refused
+    /// with `Cut` where a header that extends IPv6 is cut, and where `Datagram::parse_v6` refuses for another reason; a
+    /// fragment is a `Fragment`, also where it is cut.
     pub fn parse_v6(octets: &'a [u8]) -> Result<Captured<'a>, Refusal> {
         match Datagram::parse_v6(octets) {
             Ok(datagram) => Ok(Captured {
@@ -78,7 +77,7 @@ impl<'a> Captured<'a> {
     }
 }
 
-// A datagram of IPv4 of which all octets behind the header are payload.
+// An IPv4 datagram of which all octets after the header are payload.
 fn open_v4<'a>(octets: &'a [u8], head: Head) -> Result<Datagram<'a>, Refusal> {
     let packet = Ipv4Packet::new_unchecked(octets);
     let header_len = packet.header_len() as usize;
@@ -97,7 +96,7 @@ fn open_v4<'a>(octets: &'a [u8], head: Head) -> Result<Datagram<'a>, Refusal> {
     })
 }
 
-// A datagram of IPv6 that lacks some of its bytes.
+// An IPv6 datagram that lacks some of its bytes.
 fn cut_v6<'a>(octets: &'a [u8], head: Head) -> Result<Captured<'a>, Refusal> {
     let payload_len = Ipv6Packet::new_unchecked(octets).payload_len() as usize;
     match read_v6(octets, behind(octets, IPV6_HEADER_LEN)) {

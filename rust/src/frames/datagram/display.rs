@@ -4,7 +4,7 @@
 use super::{Addresses, Captured, Datagram, Extent, Head, Refusal};
 use core::fmt;
 
-/// Where a datagram comes from and where it goes to, as `192.0.2.1 > 192.0.2.2`.
+/// The source and the destination, as `192.0.2.1 > 192.0.2.2`.
 impl fmt::Display for Addresses {
     fn fmt(&self, f: &mut fmt::Formatter<'_>) -> fmt::Result {
         match self {
@@ -14,7 +14,7 @@ impl fmt::Display for Addresses {
     }
 }
 
-/// What is known of a datagram: the fields of a fragment are printed only where there is an identification.
+/// The fields of a fragment are printed only where there is an identification.
 impl fmt::Display for Head {
     fn fmt(&self, f: &mut fmt::Formatter<'_>) -> fmt::Result {
         let addresses = self.addresses;
@@ -51,7 +51,7 @@ impl fmt::Display for Refusal {
     }
 }
 
-/// The addresses, the protocol, the hop limit, and the bytes of the payload.
+/// The addresses, the protocol, the hop limit, and the number of bytes of the payload.
 impl fmt::Display for Datagram<'_> {
     fn fmt(&self, f: &mut fmt::Formatter<'_>) -> fmt::Result {
         let addresses = self.addresses;
@@ -65,7 +65,7 @@ impl fmt::Display for Datagram<'_> {
     }
 }
 
-/// How much is there.
+/// How much was captured.
 impl fmt::Display for Extent {
     fn fmt(&self, f: &mut fmt::Formatter<'_>) -> fmt::Result {
         match self {
@@ -76,7 +76,7 @@ impl fmt::Display for Extent {
     }
 }
 
-/// The datagram, and how much of it is there.
+/// The datagram, and how much of it was captured.
 impl fmt::Display for Captured<'_> {
     fn fmt(&self, f: &mut fmt::Formatter<'_>) -> fmt::Result {
         let datagram = &self.datagram;
@@ -84,6 +84,3 @@ impl fmt::Display for Captured<'_> {
         write!(f, "{datagram} {extent}")
     }
 }
-
-#[cfg(test)]
-mod tests;

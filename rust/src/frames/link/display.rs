@@ -30,7 +30,7 @@ impl fmt::Display for Network {
     }
 }
 
-/// The network, how many VLAN tags there are, and the bytes of the payload.
+/// The network, the number of VLAN tags, and the number of bytes of the payload.
 impl fmt::Display for Frame<'_> {
     fn fmt(&self, f: &mut fmt::Formatter<'_>) -> fmt::Result {
         let network = self.network;
@@ -53,6 +53,3 @@ impl fmt::Display for Refusal {
         }
     }
 }
-
-#[cfg(test)]
-mod tests;

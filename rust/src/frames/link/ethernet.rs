@@ -4,7 +4,7 @@
 use super::Link;
 use crate::wirebase::{EthernetAddress, Octets};
 
-// The bytes of the two addresses and of the type behind them.
+// The bytes of the two addresses and the type.
 const HEADER_LEN: usize = 14;
 
 /// The header of a frame of Ethernet (IEEE 802.3 clause 3.1.1).
@@ -21,18 +21,18 @@ const HEADER_LEN: usize = 14;
 /// ```
 #[derive(Debug, PartialEq, Eq, Clone, Copy)]
 pub struct EthernetHeader {
-    /// Where the frame goes to.
+    /// The destination.
     pub destination: EthernetAddress,
-    /// Where it comes from.
+    /// The source.
     pub source: EthernetAddress,
-    /// The number behind the addresses. From 1,536 on it is an EtherType: that of the payload, or that of the outermost
+    /// The number after the addresses. From 1,536 on it is an EtherType: that of the payload, or that of the outermost
     /// VLAN tag where the frame has tags. Up to 1,500 it is the length of a frame of IEEE 802.3, in bytes.
     pub kind: u16,
 }
 
 impl Link {
-    /// The header of a frame of Ethernet, which has 14 bytes. None where the link is another one, and where the octets
-    /// are fewer; what stands behind the header is not looked at.
+    /// The Ethernet header of a frame, which has 14 bytes. None where the link is another one, and where the octets are
+    /// fewer; what follows the header is not looked at.
     pub fn ethernet(self, octets: &[u8]) -> Option<EthernetHeader> {
         if self != Link::Ethernet || octets.len() < HEADER_LEN {
             return None;

@@ -1,24 +1,24 @@
 // Made from crates/frame_wire/src/link/refusal.rt by rust/erase.
-//! Why octets are refused.
+//! Why frames are refused.
 
 use super::{Frame, Link, behind, family, payload_of, ppp, protocol, raw, untagged};
 use crate::wirebase::Octets;
 
-/// Why octets are no frame of a link that is read: the check that fails first.
+/// Why octets are refused as a frame of their link: the check that fails first.
 #[derive(Debug, PartialEq, Eq, Clone, Copy)]
 #[non_exhaustive]
 pub enum Refusal {
     /// Fewer bytes than the header of the link has.
     Short,
-    /// A VLAN tag of four bytes ends behind the octets.
+    /// The octets end within a VLAN tag of four bytes.
     Tag,
-    /// A protocol of PPP, of one byte where that is odd and else of two, ends behind the octets.
+    /// The octets end within a protocol of PPP, which has one byte where that is odd, and else two.
     Protocol,
-    /// The PPPoE version is not 1 but this one (RFC 2516 section 4).
+    /// The PPPoE version is not 1 (RFC 2516 section 4); this is its number.
     SessionVersion(u8),
-    /// The PPPoE type is not 1 but this one.
+    /// The PPPoE type is not 1; this is its number.
     SessionType(u8),
-    /// The PPPoE code is not 0, which session data has, but this one.
+    /// The PPPoE code is not 0, the code of session data; this is its number.
     SessionCode(u8),
 }
 

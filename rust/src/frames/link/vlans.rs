@@ -1,5 +1,5 @@
 // Made from crates/frame_wire/src/link/vlans.rt by rust/erase.
-//! The VLAN tags of a frame in turn.
+//! Iteration over the VLAN tags of a frame.
 
 use super::{Frame, behind};
 
@@ -13,7 +13,7 @@ pub struct VlanTag {
     pub priority: u8,
     /// Whether the frame is among the first to be dropped (DEI).
     pub drop_eligible: bool,
-    /// The number of the VLAN, 0 to 4,095 (VID); 0 is none, and the tag has a priority alone.
+    /// The number of the VLAN, 0 to 4,095 (VID); 0 is no VLAN: the tag has a priority alone.
     pub number: u16,
 }
 
@@ -34,7 +34,7 @@ pub struct VlanTag {
 /// ```
 #[derive(Debug, Clone)]
 pub struct VlanTags<'a> {
-    // The octets behind the tags that were given.
+    // The octets after the tags that were returned.
     left: &'a [u8],
 }
 

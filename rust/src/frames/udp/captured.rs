@@ -1,12 +1,12 @@
 // Made from crates/frame_wire/src/udp/captured.rt by rust/erase.
-//! UDP datagrams as far as a capture has them.
+//! UDP datagrams as far as they were captured.
 
 use super::{HEADER_LEN, Refusal, UdpPacket};
 use crate::frames::datagram::Extent;
 use crate::frames::link::behind;
 use core::fmt;
 
-/// A UDP datagram as far as a capture has it.
+/// A UDP datagram as far as it was captured.
 ///
 /// ```
 /// use control_wire::frames::{CapturedUdp, Extent};
@@ -20,22 +20,22 @@ use core::fmt;
 /// ```
 #[derive(Debug, PartialEq, Eq, Clone, Copy)]
 pub struct CapturedUdp<'a> {
-    /// The port of the sender, or 0 where it has none.
+    /// The source port, or 0 for none.
     pub src_port: u16,
-    /// The port of the receiver.
+    /// The destination port.
     pub dst_port: u16,
-    /// The data. They end early where the datagram is cut.
+    /// The data; cut where the datagram is.
     pub payload: &'a [u8],
-    /// How much of the datagram is there: `Whole` or `Cut`.
+    /// How much of the datagram was captured: `Whole` or `Cut`.
     pub extent: Extent,
 }
 
 impl<'a> CapturedUdp<'a> {
-    /// The datagram at the front of the octets, as far as it is there; what stands behind it is no part. A whole one is
-    /// what `UdpPacket::check_len` accepts. One that ends behind the octets has the data that are there, and it is told
-    /// how many bytes are missing. Refused with `Short` where fewer than 8 bytes are there, and with `Length` where the
-    /// length is below 8. No checksum is verified, which a datagram that is cut can't have; `UdpRepr::parse` verifies
-    /// that of a whole one.
+    /// The datagram at the start of the octets, whole or cut; what follows it is ignored. A whole one is what
+    /// `UdpPacket::check_len` accepts. One that goes on past the octets has the data that are there, and the number of
+    /// missing bytes. Refused with `Short` where fewer than 8 bytes are there, and with `Length` where the length is
+    /// below 8. No checksum is verified, since that of a cut datagram can't be; `UdpRepr::parse` verifies that of a
+    /// whole one.
     pub fn parse(octets: &'a [u8]) -> Result<CapturedUdp<'a>, Refusal> {
         let packet = UdpPacket::new_unchecked(octets);
         match packet.refusal() {
@@ -58,7 +58,7 @@ impl<'a> CapturedUdp<'a> {
     }
 }
 
-/// The ports, the bytes of the data that are there, and how much of the datagram that is.
+/// The ports, the number of captured bytes of data, and how much of the datagram was captured.
 impl fmt::Display for CapturedUdp<'_> {
     fn fmt(&self, f: &mut fmt::Formatter<'_>) -> fmt::Result {
         let src_port = self.src_port;

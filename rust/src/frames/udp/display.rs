@@ -26,6 +26,3 @@ impl fmt::Display for Refusal {
         }
     }
 }
-
-#[cfg(test)]
-mod tests;

@@ -15,13 +15,13 @@ pub struct Packet<T: Octets> {
 }
 
 impl<T: Octets> Packet<T> {
-    /// The view of these octets, whatever they are.
+    /// Makes a view of `buffer`; its length is not checked.
     pub const fn new_unchecked(buffer: T) -> Packet<T> {
         Packet { buffer }
     }
 
-    /// The view of these octets, where they are 8 or more; refused where they are fewer. On refusal the buffer is
-    /// dropped: to keep a `&mut [u8]`, call `new_unchecked` and then `check_len`.
+    /// Makes a view of `buffer`. Refused where it has fewer than 8 octets. On refusal the buffer is dropped: to keep a
+    /// `&mut [u8]`, call `new_unchecked` and then `check_len`.
     pub fn new_checked(buffer: T) -> Result<Packet<T>> {
         let packet = Packet::new_unchecked(buffer);
         packet.check_len()?;
@@ -36,7 +36,7 @@ impl<T: Octets> Packet<T> {
         Ok(())
     }
 
-    /// What the view was made from, as it is now.
+    /// Returns the buffer of the view.
     pub fn into_inner(self) -> T {
         self.buffer
     }
@@ -100,14 +100,14 @@ impl<T: Octets> Packet<T> {
         field::HEADER_END
     }
 
-    /// Whether the octets, as many as they are, carry their checksum (RFC 1071).
+    /// Whether all the octets together carry their checksum (RFC 1071).
     pub fn verify_checksum(&self) -> bool {
         checksum::is_good(self.buffer.octets(), 0)
     }
 }
 
 impl<'a, B: AsRef<[u8]> + ?Sized> Packet<&'a B> {
-    /// What stands after the header, for as long as the octets live. Requires at least 8 bytes.
+    /// What follows the header, for as long as the octets live. Requires at least 8 bytes.
     ///
     /// # Panics
     ///
@@ -172,7 +172,7 @@ impl<T: OctetsMut> Packet<T> {
         checksum::fill(self.buffer.octets_mut(), field::CHECKSUM, 0);
     }
 
-    /// Lends what stands after the header for writing; the header stays. Requires at least 8 bytes.
+    /// Lends what follows the header for writing; the header is unchanged. Requires at least 8 bytes.
     ///
     /// # Panics
     ///
@@ -183,7 +183,7 @@ impl<T: OctetsMut> Packet<T> {
     }
 }
 
-/// Views are equal where their octets are.
+/// Views are equal where their octets are equal.
 impl<T: Octets> PartialEq for Packet<T> {
     fn eq(&self, other: &Packet<T>) -> bool {
         self.buffer.octets() == other.buffer.octets()
@@ -192,8 +192,8 @@ impl<T: Octets> PartialEq for Packet<T> {
 
 impl<T: Octets> Eq for Packet<T> {}
 
-/// The message in the octets, its checksum verified; of octets that are refused `ICMPv4 (wire::Error)`, and behind that
-/// their type and their code by name, where they have both.
+/// Prints the message in the octets, its checksum verified; where they are refused, `ICMPv4 (wire::Error)`, and after
+/// that their type and their code by name, where they have both.
 impl<T: Octets> fmt::Display for Packet<T> {
     fn fmt(&self, f: &mut fmt::Formatter<'_>) -> fmt::Result {
         let packet = Packet::new_unchecked(self.buffer.octets());
@@ -205,7 +205,7 @@ impl<T: Octets> fmt::Display for Packet<T> {
 }
 
 impl<B: AsRef<[u8]> + ?Sized> Packet<&B> {
-    // What is printed of octets that are refused.
+    // Prints octets that are refused.
     fn fmt_unread(&self, f: &mut fmt::Formatter<'_>) -> fmt::Result {
         if self.buffer.as_ref().len() < field::CODE.end {
             return write!(f, "ICMPv4 (wire::Error)");

@@ -1,5 +1,5 @@
 // Made from crates/icmp4_wire/src/icmpv4/refusal.rt by rust/erase.
-//! Why octets are no message (RFC 792).
+//! Why octets are refused as a message (RFC 792).
 
 use super::packet::Packet;
 use super::repr::Repr;
@@ -10,7 +10,7 @@ use core::fmt;
 // The bytes of an IPv4 header without options.
 const IPV4_HEADER_LEN: usize = 20;
 
-/// Why octets are no message that [`Repr::parse`] reads: the check that fails first.
+/// Why [`Repr::parse`] refuses octets as a message: the first check that fails.
 #[derive(Debug, PartialEq, Eq, Clone, Copy)]
 #[non_exhaustive]
 pub enum Refusal {
@@ -25,17 +25,17 @@ pub enum Refusal {
     UnknownCode(u8),
     /// An error that does not quote a whole IPv4 header: fewer than 20 bytes, or fewer than the header's own length.
     QuotedHeader,
-    /// An error whose quoted header is longer than the total length that stands in it.
+    /// An error whose quoted header is longer than the total length that it gives.
     QuotedLength,
     /// An error that quotes fewer bytes than the total length in the quoted header, as routers may. The errors of the
     /// module `quotes` read those.
     QuoteCut,
-    /// An error that quotes fewer than 8 bytes behind the header (RFC 792).
+    /// An error that quotes fewer than 8 bytes after the header (RFC 792).
     QuotedData,
 }
 
 impl<'a> Repr<'a> {
-    /// The message in the octets, or why [`Repr::parse`] refuses them, by the check that fails first.
+    /// The message in the octets, or why [`Repr::parse`] refuses them, by the first check that fails.
     ///
     /// ```
     /// use control_wire::ChecksumCapabilities;
@@ -58,7 +58,7 @@ impl<'a> Repr<'a> {
         }
     }
 
-    /// Why [`Repr::parse`] refuses these octets, by the check that fails first; None exactly where it reads them.
+    /// Why [`Repr::parse`] refuses these octets, by the first check that fails; None exactly where it reads them.
     pub fn refusal<B: AsRef<[u8]> + ?Sized>(
         packet: &Packet<&B>,
         checksum_caps: &ChecksumCapabilities,
@@ -67,7 +67,7 @@ impl<'a> Repr<'a> {
     }
 }
 
-// The check that fails first in octets that are not read.
+// The first check that fails in octets that are not read.
 fn why<B: AsRef<[u8]> + ?Sized>(
     packet: &Packet<&B>,
     checksum_caps: &ChecksumCapabilities,
@@ -85,7 +85,7 @@ fn why<B: AsRef<[u8]> + ?Sized>(
     }
 }
 
-// The check that fails first in what an error quotes.
+// The first check that fails in what an error quotes.
 fn why_no_quote(octets: &[u8]) -> Refusal {
     let len = octets.len();
     if len < IPV4_HEADER_LEN {

@@ -10,10 +10,10 @@ use crate::wirebase::{
 };
 use core::fmt;
 
-// The bytes of a header as an error quotes it, which has no options.
+// The bytes of a quoted header without options.
 const QUOTED_HEADER_LEN: usize = 20;
 
-// The bytes that stand at least behind the header that an error quotes.
+// The least number of bytes that an error quotes after the header.
 const MIN_QUOTED_DATA: usize = 8;
 
 /// A message (RFC 792).
@@ -55,29 +55,29 @@ pub enum Repr<'a> {
     DstUnreachable {
         /// Why, by the code.
         reason: DstUnreachable,
-        /// The header of the packet that the error speaks of.
+        /// The header of the packet that the error is about.
         header: Ipv4Repr,
-        /// What stands behind the quoted header.
+        /// What follows the quoted header.
         data: &'a [u8],
     },
     /// An error: a time of the quoted packet was exceeded.
     TimeExceeded {
         /// Why, by the code.
         reason: TimeExceeded,
-        /// The header of the packet that the error speaks of.
+        /// The header of the packet that the error is about.
         header: Ipv4Repr,
-        /// What stands behind the quoted header.
+        /// What follows the quoted header.
         data: &'a [u8],
     },
 }
 
 impl<'a> Repr<'a> {
-    /// The message in the octets. Refused where they are fewer than 8, where their checksum is to be verified and
-    /// isn't good, and where it is none of these messages; an echo has code 0, and an error quotes a packet that is
-    /// whole by its own lengths, with 8 bytes or more behind its header. All that stands behind that header is the
-    /// data, and its bytes are the `payload_len`.
-    // Always inlined, so that a caller matches on the fields where they were read: a value that is handed back is
-    // written and copied. A responder, which drops errors, has no code that reads them then.
+    /// The message in the octets. Refused where they are fewer than 8, where their checksum is to be verified and isn't
+    /// good, and where they are none of these messages: an echo has code 0, and an error quotes a packet that is whole
+    /// by its own lengths, with 8 bytes or more after its header. The data is all that follows that header, and
+    /// `payload_len` is its length.
+    // Always inlined, so that a caller matches on the fields where they were read: a returned value is written and
+    // copied. A responder that drops errors then has no code that reads them.
     #[inline(always)]
     pub fn parse<B: AsRef<[u8]> + ?Sized>(
         packet: &Packet<&'a B>,
@@ -121,7 +121,7 @@ impl<'a> Repr<'a> {
         }
     }
 
-    /// The bytes that the message takes. Requires that a `usize` holds their number.
+    /// The bytes that the message takes. Requires that their number fits a `usize`.
     ///
     /// # Panics
     ///
@@ -147,8 +147,8 @@ impl<'a> Repr<'a> {
         self.emit_into(packet.buffer.octets_mut(), checksum_caps);
     }
 
-    /// The same into a slice. Give it exactly `buffer_len()` bytes: in a longer one the checksum covers what follows
-    /// the message, in a shorter one an echo is cut.
+    /// Like `emit`, but writes into a slice. Give exactly `buffer_len()` bytes: in a longer one the checksum covers
+    /// what follows the message, in a shorter one an echo is cut.
     ///
     /// # Panics
     ///
@@ -164,7 +164,7 @@ impl<'a> Repr<'a> {
         self.put(&mut w, checksum_caps);
     }
 
-    // The same with this writer.
+    // Writes the message with this writer, with the checksum zero.
     fn put(&self, w: &mut ByteWriter<'_>, checksum_caps: &ChecksumCapabilities) {
         match *self {
             Repr::EchoRequest {
@@ -204,7 +204,7 @@ impl<'a> Repr<'a> {
     }
 }
 
-/// The message: an echo by its numbers and the bytes of its data, an error by its reason.
+/// Prints the message: an echo by its numbers and the length of its data, an error by its reason.
 impl fmt::Display for Repr<'_> {
     fn fmt(&self, f: &mut fmt::Formatter<'_>) -> fmt::Result {
         match self {
@@ -234,7 +234,7 @@ impl fmt::Display for Repr<'_> {
     }
 }
 
-// The header that an error quotes, and all that stands behind it (RFC 792).
+// The header that an error quotes, and all that follows it (RFC 792).
 fn read_quote(octets: &[u8]) -> Result<(Ipv4Repr, &[u8])> {
     let packet = Ipv4Packet::new_checked(octets)?;
     let header_len = packet.header_len() as usize;

@@ -210,7 +210,7 @@ impl fmt::Display for DstUnreachable {
     }
 }
 
-/// What a redirect speaks of: its code, one byte (RFC 792).
+/// What a redirect is about: its code, one byte (RFC 792).
 #[derive(Debug, PartialEq, Eq, PartialOrd, Ord, Clone, Copy)]
 pub enum Redirect {
     /// The network.

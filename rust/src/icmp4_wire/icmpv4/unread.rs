@@ -1,5 +1,5 @@
 // Made from crates/icmp4_wire/src/icmpv4/unread.rt by rust/erase.
-//! What is printed of octets that are refused: their type and their code, by the names of their cases.
+//! Prints octets that are refused: their type and their code, by the names of their cases.
 
 use super::{DstUnreachable, Message, TimeExceeded};
 use core::fmt;
@@ -96,7 +96,7 @@ impl fmt::Display for TimeExceededName {
     }
 }
 
-// What a number without a name prints.
+// Prints a number without a name.
 fn fmt_unknown(f: &mut fmt::Formatter<'_>, number: u8) -> fmt::Result {
     write!(f, "Unknown({number})")
 }

@@ -6,10 +6,10 @@ use crate::wirebase::Duration;
 // The bit of a code that has an exponent and a mantissa: a code without it is a number of tenths of a second.
 const FLOATING: u8 = 0x80;
 
-// The tenths of a second that the last code, 0xff, stands for.
+// The tenths of a second of the last code, 0xff.
 const LONGEST: u64 = 31_744;
 
-// The time that a code stands for (RFC 3376 section 4.1.1).
+// The time of a code (RFC 3376 section 4.1.1).
 #[inline]
 pub(super) fn duration_of_code(code: u8) -> Duration {
     let tenths = if code < FLOATING {
@@ -22,7 +22,7 @@ pub(super) fn duration_of_code(code: u8) -> Duration {
     Duration::from_millis(100 * tenths)
 }
 
-// The code of the longest time that is within this one (RFC 3376 section 4.1.1).
+// The code of the longest time that does not exceed this one (RFC 3376 section 4.1.1).
 #[inline]
 pub(super) fn code_of_duration(duration: Duration) -> u8 {
     let tenths = (duration.total_millis() / 100).min(LONGEST) as u16;

@@ -14,13 +14,13 @@ pub struct Packet<T: Octets> {
 }
 
 impl<T: Octets> Packet<T> {
-    /// The view of these octets, whatever they are.
+    /// Makes a view of `buffer`; its length is not checked.
     pub const fn new_unchecked(buffer: T) -> Packet<T> {
         Packet { buffer }
     }
 
-    /// The view of these octets, where they are 8 or more; refused where they are fewer. On refusal the buffer is
-    /// dropped: to keep a `&mut [u8]`, call `new_unchecked` and then `check_len`.
+    /// Makes a view of `buffer`. Refused where it has fewer than 8 octets. On refusal the buffer is dropped: to keep a
+    /// `&mut [u8]`, call `new_unchecked` and then `check_len`.
     pub fn new_checked(buffer: T) -> Result<Packet<T>> {
         let packet = Packet::new_unchecked(buffer);
         packet.check_len()?;
@@ -35,7 +35,7 @@ impl<T: Octets> Packet<T> {
         Ok(())
     }
 
-    /// What the view was made from, as it is now.
+    /// Returns the buffer of the view.
     pub fn into_inner(self) -> T {
         self.buffer
     }
@@ -49,7 +49,7 @@ impl<T: Octets> Packet<T> {
         Message::from(self.buffer.u8_at(field::TYPE))
     }
 
-    /// The code of the longest time to answer a query in (RFC 3376 section 4.1.1). Requires at least 2 bytes.
+    /// The code of the maximum response time of a query (RFC 3376 section 4.1.1). Requires at least 2 bytes.
     ///
     /// # Panics
     ///
@@ -67,7 +67,7 @@ impl<T: Octets> Packet<T> {
         self.buffer.u16_at(field::CHECKSUM)
     }
 
-    /// The group that the message speaks of. Requires at least 8 bytes.
+    /// The group of the message. Requires at least 8 bytes.
     ///
     /// # Panics
     ///
@@ -76,7 +76,7 @@ impl<T: Octets> Packet<T> {
         Ipv4Address::from_octets(self.buffer.field(field::GROUP_ADDRESS).try_into().unwrap())
     }
 
-    /// Whether the octets, as many as they are, carry their checksum (RFC 1071).
+    /// Whether all the octets together carry their checksum (RFC 1071).
     pub fn verify_checksum(&self) -> bool {
         checksum::is_good(self.buffer.octets(), 0)
     }
@@ -92,7 +92,7 @@ impl<T: OctetsMut> Packet<T> {
         self.buffer.set_u8(field::TYPE, value.into());
     }
 
-    /// Writes the code of the longest time to answer a query in (RFC 3376 section 4.1.1). Requires at least 2 bytes.
+    /// Writes the code of the maximum response time of a query (RFC 3376 section 4.1.1). Requires at least 2 bytes.
     ///
     /// # Panics
     ///
@@ -110,7 +110,7 @@ impl<T: OctetsMut> Packet<T> {
         self.buffer.set_u16(field::CHECKSUM, value);
     }
 
-    /// Writes the group that the message speaks of. Requires at least 8 bytes.
+    /// Writes the group of the message. Requires at least 8 bytes.
     ///
     /// # Panics
     ///
@@ -129,7 +129,7 @@ impl<T: OctetsMut> Packet<T> {
     }
 }
 
-/// The message at the front of the octets; of octets that are refused `IGMP (wire::Error)`.
+/// Prints the message at the front of the octets, or `IGMP (wire::Error)` where they are refused.
 impl<T: Octets> fmt::Display for Packet<T> {
     fn fmt(&self, f: &mut fmt::Formatter<'_>) -> fmt::Result {
         let packet = Packet::new_unchecked(self.buffer.octets());

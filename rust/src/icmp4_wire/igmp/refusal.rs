@@ -1,5 +1,5 @@
 // Made from crates/icmp4_wire/src/igmp/refusal.rt by rust/erase.
-//! Why octets are no message (RFC 2236 section 2).
+//! Why octets are refused as a message (RFC 2236 section 2).
 
 use super::packet::Packet;
 use super::repr::Repr;
@@ -7,7 +7,7 @@ use super::tables::Message;
 use crate::wirebase::Ipv4Address;
 use core::fmt;
 
-/// Why octets are no message that [`Repr::parse`] reads: the check that fails first.
+/// Why [`Repr::parse`] refuses octets as a message: the first check that fails.
 #[derive(Debug, PartialEq, Eq, Clone, Copy)]
 #[non_exhaustive]
 pub enum Refusal {
@@ -22,7 +22,7 @@ pub enum Refusal {
 }
 
 impl Repr {
-    /// The message at the front of the octets, or why [`Repr::parse`] refuses them, by the check that fails first.
+    /// The message at the front of the octets, or why [`Repr::parse`] refuses them, by the first check that fails.
     ///
     /// ```
     /// use control_wire::igmp::{Packet, Refusal, Repr};
@@ -41,13 +41,13 @@ impl Repr {
         }
     }
 
-    /// Why [`Repr::parse`] refuses these octets, by the check that fails first; None exactly where it reads them.
+    /// Why [`Repr::parse`] refuses these octets, by the first check that fails; None exactly where it reads them.
     pub fn refusal<B: AsRef<[u8]> + ?Sized>(packet: &Packet<&B>) -> Option<Refusal> {
         Repr::parse_or_refusal(packet).err()
     }
 }
 
-// The check that fails first in octets that are not read.
+// The first check that fails in octets that are not read.
 fn why<B: AsRef<[u8]> + ?Sized>(packet: &Packet<&B>) -> Refusal {
     if packet.check_len().is_err() {
         return Refusal::Short;

@@ -10,7 +10,7 @@ use crate::wirebase::{
 };
 use core::fmt;
 
-/// The version of the protocol that a query or a report speaks.
+/// The version of the protocol of a query or a report.
 #[derive(Debug, PartialEq, Eq, Clone, Copy)]
 pub enum IgmpVersion {
     /// RFC 1112 appendix I.
@@ -35,15 +35,15 @@ pub enum IgmpVersion {
 /// ```
 #[derive(Debug, PartialEq, Eq, Clone, Copy)]
 pub enum Repr {
-    /// A router asks which groups have members, or whether this one has. A query of version 3 begins with the same 8
-    /// bytes, and has 12 or more (RFC 3376 section 7.1): it is read as one of version 2, or of version 1 where its code
-    /// is 0, and what stands behind these bytes is left out. The length of the octets tells it.
+    /// A router asks which groups have members, or whether this one has. A query of version 3 begins with these 8 bytes
+    /// too, and has 12 or more (RFC 3376 section 7.1): it is read as one of version 2, or of version 1 where its code
+    /// is 0, and the bytes that follow are ignored. Only the number of octets tells it apart.
     MembershipQuery {
-        /// The longest time to answer in.
+        /// The maximum response time.
         max_resp_time: Duration,
         /// The group, or 0.0.0.0 for all.
         group_addr: Ipv4Address,
-        /// The version of the query, by its code alone: 1 where that is 0, and else 2.
+        /// The version of the query, by its code alone: 1 where the code is 0, and otherwise 2.
         version: IgmpVersion,
     },
     /// A host is a member of a group.
@@ -62,8 +62,8 @@ pub enum Repr {
 
 impl Repr {
     /// The message at the front of the octets. Refused where they are fewer than 8, where the type has no name, and
-    /// where the group is neither 0.0.0.0 nor multicast. The checksum is not verified; the code of a report
-    /// or of a leave message is not looked at.
+    /// where the group is neither 0.0.0.0 nor multicast. The checksum is not verified; the code of a report or of a
+    /// leave message is not checked.
     #[inline]
     pub fn parse<B: AsRef<[u8]> + ?Sized>(packet: &Packet<&B>) -> Result<Repr> {
         Repr::read(packet)
@@ -73,8 +73,8 @@ impl Repr {
     #[inline]
     fn read<B: AsRef<[u8]> + ?Sized>(packet: &Packet<&B>) -> Result<Repr> {
         packet.check_len()?;
-        // In front of the match, so that each value is made once it is known to be good: in the other order a host
-        // that reads queries pays for a copy.
+        // Before the match, so that each value is made once it is known to be good: in the other order a host that
+        // reads queries pays for a copy.
         let group_addr = packet.group_addr();
         let allowed = is_group(group_addr);
         if !allowed {
@@ -100,8 +100,9 @@ impl Repr {
         field::GROUP_ADDRESS.end
     }
 
-    /// Writes the message over the front of the octets, with the checksum of all of them; the others stay. Requires at
-    /// least 8 bytes. Give exactly 8: in a longer buffer the checksum covers what follows the message.
+    /// Writes the message over the front of the octets, with the checksum of all of them; the other octets are
+    /// unchanged. Requires at least 8 bytes. Give exactly 8: in a longer buffer the checksum covers what follows the
+    /// message.
     ///
     /// # Panics
     ///
@@ -110,7 +111,8 @@ impl Repr {
         self.emit_into(packet.buffer.octets_mut());
     }
 
-    /// The same into a slice. Give it exactly 8 bytes: in a longer one the checksum covers what follows the message.
+    /// Like `emit`, but writes into a slice. Give exactly 8 bytes: in a longer one the checksum covers what follows the
+    /// message.
     ///
     /// # Panics
     ///
@@ -198,7 +200,7 @@ fn put_message(w: &mut ByteWriter<'_>, message: Message, code: u8, group: Ipv4Ad
     icmp::put_header(w, message.into(), code, group.octets());
 }
 
-// Whether a message may speak of this group: of none, 0.0.0.0, or of a multicast address.
+// Whether a message may have this group: 0.0.0.0, for none, or a multicast address.
 #[inline]
 pub(super) fn is_group(address: Ipv4Address) -> bool {
     address.is_unspecified() || address.is_multicast()

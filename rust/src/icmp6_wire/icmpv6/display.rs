@@ -1,11 +1,11 @@
 // Made from crates/icmp6_wire/src/icmpv6/display.rt by rust/erase.
-//! What messages print, each in one line.
+//! Messages printed, each in one line.
 
 use super::repr::Repr;
 use core::fmt;
 
-/// An error with its reason and the word behind its checksum, an echo with its numbers and the bytes of its data, as
-/// `ICMPv6 echo request id=18 seq=1 len=56`, and a message of another protocol as it prints alone.
+/// Prints an error with its reason and the word after its checksum, an echo with its numbers and the length of its
+/// data, as `ICMPv6 echo request id=18 seq=1 len=56`, and a message of another protocol as that protocol's value.
 impl fmt::Display for Repr<'_> {
     fn fmt(&self, f: &mut fmt::Formatter<'_>) -> fmt::Result {
         match self {

@@ -12,13 +12,13 @@ pub struct Packet<T: Octets> {
 }
 
 impl<T: Octets> Packet<T> {
-    /// The view of these octets, whatever they are.
+    /// Makes a view of `buffer`; its length is not checked.
     pub const fn new_unchecked(buffer: T) -> Packet<T> {
         Packet { buffer }
     }
 
-    /// The view of these octets, where they begin with a header of a type that is read here; refused where they don't.
-    /// On refusal the buffer is dropped: to keep a `&mut [u8]`, call `new_unchecked` and then `check_len`.
+    /// Makes a view of `buffer`. Refused where it doesn't begin with a header of a type that is read here. On refusal
+    /// the buffer is dropped: to keep a `&mut [u8]`, call `new_unchecked` and then `check_len`.
     pub fn new_checked(buffer: T) -> Result<Packet<T>> {
         let packet = Packet::new_unchecked(buffer);
         packet.check_len()?;
@@ -39,8 +39,8 @@ impl<T: Octets> Packet<T> {
             return Err(Error);
         }
         let kind = self.msg_type();
-        // In front of the length: behind it, the compiler sets the length of a query before it looks up the type, for
-        // messages of all types.
+        // Before the check of the length: after it, the compiler computes the length of a query before it looks up the
+        // type, for messages of all types.
         if let Message::RplControl | Message::Unknown(_) = kind {
             return Err(Error);
         }
@@ -50,7 +50,7 @@ impl<T: Octets> Packet<T> {
         Ok(kind)
     }
 
-    /// What the view was made from, as it is now.
+    /// Returns the buffer of the view.
     pub fn into_inner(self) -> T {
         self.buffer
     }
@@ -135,8 +135,8 @@ impl<T: Octets> Packet<T> {
         header_len_of(self.msg_type())
     }
 
-    /// Whether the octets, as many as they are, carry the checksum of a message from `src_addr` to `dst_addr` (RFC 4443
-    /// section 2.3).
+    /// Whether all the octets together carry the checksum of a message from `src_addr` to `dst_addr` (RFC 4443 section
+    /// 2.3).
     pub fn verify_checksum(&self, src_addr: &Ipv6Address, dst_addr: &Ipv6Address) -> bool {
         let octets = self.buffer.octets();
         checksum::is_good(octets, sum_before(octets, src_addr, dst_addr))
@@ -144,7 +144,7 @@ impl<T: Octets> Packet<T> {
 }
 
 impl<'a, B: AsRef<[u8]> + ?Sized> Packet<&'a B> {
-    /// What stands after the header, for as long as the octets live. Requires the header of the type.
+    /// What follows the header, for as long as the octets live. Requires the header of the type.
     ///
     /// # Panics
     ///
@@ -153,7 +153,7 @@ impl<'a, B: AsRef<[u8]> + ?Sized> Packet<&'a B> {
         self.behind(self.msg_type())
     }
 
-    // The same where the type is known.
+    // `payload` where the type is known.
     pub(crate) fn behind(&self, kind: Message) -> &'a [u8] {
         &self.buffer.as_ref()[header_len_of(kind)..]
     }
@@ -178,10 +178,10 @@ impl<T: OctetsMut> Packet<T> {
         self.buffer.set_u8(field::CODE, value);
     }
 
-    /// Writes zeros where a message of the type that is there has something reserved: of router and neighbor
-    /// solicitations, neighbor advertisements and redirects the word behind the checksum, of a query for listeners two
-    /// bytes and the upper half of the byte with the flag, of a report two bytes. Requires one of these types, and the
-    /// bytes up to what is reserved: 8, 25 of a query, 6 of a report.
+    /// Writes zeros into the reserved fields of a message, by its type: of router and neighbor solicitations, neighbor
+    /// advertisements and redirects the word after the checksum; of a query for listeners two bytes, and the upper half
+    /// of the byte with the flag; of a report two bytes. Requires one of these types, and the bytes up to the end of
+    /// these fields: 8, 25 of a query, 6 of a report.
     ///
     /// # Panics
     ///
@@ -254,7 +254,7 @@ impl<T: OctetsMut> Packet<T> {
         fill(self.buffer.octets_mut(), src_addr, dst_addr);
     }
 
-    /// Lends what stands after the header for writing; the header stays. Requires the header of the type.
+    /// Lends what follows the header for writing; the header is unchanged. Requires the header of the type.
     ///
     /// # Panics
     ///
@@ -266,7 +266,7 @@ impl<T: OctetsMut> Packet<T> {
     }
 }
 
-/// Views are equal where their octets are.
+/// Views are equal where their octets are equal.
 impl<T: Octets> PartialEq for Packet<T> {
     fn eq(&self, other: &Packet<T>) -> bool {
         self.buffer.octets() == other.buffer.octets()
@@ -292,7 +292,7 @@ fn header_len_of(kind: Message) -> usize {
     }
 }
 
-/// Writes the checksum of a message from `src_addr` to `dst_addr` that is all the octets. Requires at least 4 bytes.
+/// Writes the checksum of all the octets as a message from `src_addr` to `dst_addr`. Requires at least 4 bytes.
 ///
 /// # Panics
 ///
@@ -302,7 +302,7 @@ pub(crate) fn fill(octets: &mut [u8], src_addr: &Ipv6Address, dst_addr: &Ipv6Add
     checksum::fill(octets, field::CHECKSUM, sum);
 }
 
-// The sum of the pseudo header that stands before these octets.
+// The sum of the pseudo header of these octets.
 fn sum_before(octets: &[u8], src_addr: &Ipv6Address, dst_addr: &Ipv6Address) -> u16 {
     let len = octets.len() as u64 % (1 << 32);
     checksum::pseudo_header_v6(src_addr, dst_addr, IpProtocol::Icmpv6, len as u32)

@@ -1,6 +1,5 @@
 // Made from crates/icmp6_wire/src/icmpv6/quote.rt by rust/erase.
-//! What an error quotes: a packet that was sent, from its header on, as much of it as the error may carry (RFC 4443
-//! section 2.4).
+//! The packet that an error quotes, from its header on, as much of it as the error may carry (RFC 4443 section 2.4).
 
 use super::tables::Message;
 use super::{MAX_QUOTED_DATA, field};
@@ -24,7 +23,7 @@ pub(super) fn write_error(
     put_error(&mut ByteWriter::new(octets), kind, code, word, quoted, data);
 }
 
-// The same through a writer.
+// Writes an error of this type with a writer.
 fn put_error(
     w: &mut ByteWriter<'_>,
     kind: Message,
@@ -38,12 +37,12 @@ fn put_error(
     w.put_bytes(quotable(data));
 }
 
-// The data that an error may quote.
+// The part of the data that an error may quote.
 fn quotable(data: &[u8]) -> &[u8] {
     &data[..data.len().min(MAX_QUOTED_DATA)]
 }
 
-// The header that an error quotes, and all that stands behind it (RFC 4443 section 3).
+// The header that an error quotes, and all that follows it (RFC 4443 section 3).
 pub(super) fn read_quote(octets: &[u8]) -> (Ipv6Repr, &[u8]) {
     let packet = Ipv6Packet::new_unchecked(octets);
     let header = Ipv6Repr {

@@ -8,7 +8,7 @@ use super::repr::Repr;
 use super::tables::Message;
 use crate::wirebase::{Error, IPV6_HEADER_LEN, Result};
 
-// The error in octets of such a type, of a packet that is too big of code 0.
+// The error in octets of such a type, where a packet that is too big has code 0.
 #[inline(always)]
 pub(super) fn read_error<'a, B: AsRef<[u8]> + ?Sized>(
     packet: &Packet<&'a B>,
@@ -66,7 +66,7 @@ pub(super) fn read_echo_request<'a, B: AsRef<[u8]> + ?Sized>(packet: &Packet<&'a
     }
 }
 
-// The same of an echo reply.
+// The echo reply in octets of that type and of code 0.
 #[inline(always)]
 pub(super) fn read_echo_reply<'a, B: AsRef<[u8]> + ?Sized>(packet: &Packet<&'a B>) -> Repr<'a> {
     Repr::EchoReply {
@@ -76,7 +76,7 @@ pub(super) fn read_echo_reply<'a, B: AsRef<[u8]> + ?Sized>(packet: &Packet<&'a B
     }
 }
 
-// What stands behind the header of an error or an echo, which has 8 bytes.
+// What follows the header of an error or an echo, which has 8 bytes.
 #[inline(always)]
 fn behind_header<'a, B: AsRef<[u8]> + ?Sized>(packet: &Packet<&'a B>) -> &'a [u8] {
     &packet.buffer.as_ref()[field::HEADER_END..]

@@ -1,5 +1,5 @@
 // Made from crates/icmp6_wire/src/icmpv6/refusal.rt by rust/erase.
-//! Why octets are no message: the check that fails first.
+//! Why octets are refused as a message: the first check that fails.
 
 use super::field;
 use super::packet::Packet;
@@ -11,27 +11,27 @@ use crate::icmp6_wire::ndisc;
 use crate::wirebase::{ChecksumCapabilities, IPV6_HEADER_LEN, Ipv6Address};
 use core::fmt;
 
-/// Why octets are no message that [`Repr::parse`] reads: the check that fails first.
+/// Why [`Repr::parse`] refuses octets as a message: the first check that fails.
 #[derive(Debug, PartialEq, Eq, Clone, Copy)]
 #[non_exhaustive]
 pub enum Refusal {
     /// Fewer than 8 bytes.
     Short,
-    /// The type, by its number, is none of those that are read: errors of types 1 to 4, echoes, messages of neighbor
-    /// discovery, and of multicast listener discovery queries (130) and reports of version 2 (143). Those of version 1
-    /// (RFC 2710) are 131 for a report and 132 for a done message.
+    /// The type, by its number, is none of those that are read: errors (1 to 4), echoes, messages of neighbor
+    /// discovery, and of multicast listener discovery queries (130) and reports of version 2 (143). Version 1 (RFC
+    /// 2710) has types 131, for a report, and 132, for a done message.
     UnknownType(u8),
-    /// Fewer bytes than the header of the type has, as 28 of a query of multicast listener discovery; one of version 1
-    /// has 24.
+    /// Fewer bytes than the header of the type has, such as 28 of a query of multicast listener discovery; one of
+    /// version 1 has 24.
     Length,
     /// The checksum does not hold (RFC 4443 section 2.3).
     Checksum,
     /// An error quotes fewer bytes than an IPv6 header has, 40.
     Quote,
-    /// The code, by its number, is not 0 in a message of a type that has no other.
+    /// The code, by its number, is not 0, in a message of a type that has no other code.
     Code(u8),
-    /// What follows the header of a message of neighbor discovery is not whole options: one of the reasons that tell of
-    /// an option.
+    /// What follows the header of a message of neighbor discovery is not whole options: one of the reasons about an
+    /// option.
     Ndisc(ndisc::Refusal),
 }
 
@@ -50,8 +50,8 @@ impl fmt::Display for Refusal {
 }
 
 impl<'a> Repr<'a> {
-    /// The message in the octets, which goes from `src_addr` to `dst_addr`, or why [`Repr::parse`] refuses them, by the
-    /// check that fails first.
+    /// The message in the octets, from `src_addr` to `dst_addr`, or why [`Repr::parse`] refuses them, by the first
+    /// check that fails.
     ///
     /// ```
     /// use control_wire::icmpv6::{Packet, Refusal, Repr};
@@ -77,7 +77,7 @@ impl<'a> Repr<'a> {
         }
     }
 
-    /// Why [`Repr::parse`] refuses these octets, by the check that fails first; None where it reads them.
+    /// Why [`Repr::parse`] refuses these octets, by the first check that fails; None where it reads them.
     pub fn refusal<B: AsRef<[u8]> + ?Sized>(
         src_addr: &Ipv6Address,
         dst_addr: &Ipv6Address,
@@ -105,8 +105,8 @@ impl<'a> Repr<'a> {
     }
 }
 
-// The check that fails first in octets that are not read. `refusal` tells one of all such octets, so `Short` never
-// stands in for it.
+// The first check that fails in octets that are not read. `refusal` finds one in all such octets, so `Short` is never
+// answered in its place.
 fn why<B: AsRef<[u8]> + ?Sized>(
     src_addr: &Ipv6Address,
     dst_addr: &Ipv6Address,
@@ -119,7 +119,7 @@ fn why<B: AsRef<[u8]> + ?Sized>(
     }
 }
 
-// Why octets with the header of an error are none.
+// Why octets that hold the header of an error are refused.
 fn error_refusal<B: AsRef<[u8]> + ?Sized>(packet: &Packet<&B>, kind: Message) -> Option<Refusal> {
     match read_error(packet, kind) {
         Ok(_) => None,
@@ -132,7 +132,7 @@ fn error_refusal<B: AsRef<[u8]> + ?Sized>(packet: &Packet<&B>, kind: Message) ->
     }
 }
 
-// Why octets with the header of another message are none.
+// Why octets that hold the header of another message are refused.
 fn other_refusal<B: AsRef<[u8]> + ?Sized>(packet: &Packet<&B>, kind: Message) -> Option<Refusal> {
     let code = packet.msg_code();
     if code != 0 {

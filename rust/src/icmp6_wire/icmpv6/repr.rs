@@ -8,7 +8,7 @@ use super::tables::{DstUnreachable, Message, ParamProblem, TimeExceeded};
 use super::{ECHO_REPLY, ECHO_REQUEST, field};
 use crate::icmp6_wire::mld::{read_query, read_report};
 use crate::icmp6_wire::ndisc::{
-    Found, neighbor_advert, neighbor_solicit, redirect, router_advert, router_solicit,
+    OptionsSeen, neighbor_advert, neighbor_solicit, redirect, router_advert, router_solicit,
 };
 use crate::icmp6_wire::{mld, ndisc};
 use crate::wirebase::{
@@ -42,27 +42,27 @@ pub enum Repr<'a> {
     DstUnreachable {
         /// Why, by the code.
         reason: DstUnreachable,
-        /// The header of the packet that the error speaks of.
+        /// The header of the packet that the error is about.
         header: Ipv6Repr,
-        /// What stands behind the quoted header.
+        /// What follows the quoted header.
         data: &'a [u8],
     },
     /// An error: the quoted packet is longer than the next link can carry.
     PktTooBig {
-        /// The bytes of the largest packet that it can.
+        /// The bytes of the largest packet that the link can carry.
         mtu: u32,
-        /// The header of the packet that the error speaks of.
+        /// The header of the packet that the error is about.
         header: Ipv6Repr,
-        /// What stands behind the quoted header.
+        /// What follows the quoted header.
         data: &'a [u8],
     },
     /// An error: a time of the quoted packet was exceeded.
     TimeExceeded {
         /// Why, by the code.
         reason: TimeExceeded,
-        /// The header of the packet that the error speaks of.
+        /// The header of the packet that the error is about.
         header: Ipv6Repr,
-        /// What stands behind the quoted header.
+        /// What follows the quoted header.
         data: &'a [u8],
     },
     /// An error: a field of the quoted packet makes no sense.
@@ -71,9 +71,9 @@ pub enum Repr<'a> {
         reason: ParamProblem,
         /// The place of the field, counted from the quoted packet's first byte.
         pointer: u32,
-        /// The header of the packet that the error speaks of.
+        /// The header of the packet that the error is about.
         header: Ipv6Repr,
-        /// What stands behind the quoted header.
+        /// What follows the quoted header.
         data: &'a [u8],
     },
     /// An echo request.
@@ -101,12 +101,12 @@ pub enum Repr<'a> {
 }
 
 impl<'a> Repr<'a> {
-    /// The message in the octets, which goes from `src_addr` to `dst_addr`. Refused where they don't begin with the
-    /// header of a type that is read here, where their checksum is to be verified and isn't good, and where the message
-    /// is none of these. Of all but three errors the code is 0: those of an unreachable destination, an exceeded time
-    /// and a parameter problem. An error quotes a whole header, whose version and payload length are not looked at, and
-    /// all that stands behind that header is the data. A message of neighbor discovery is read by `ndisc::Repr::parse`,
-    /// a query and a report by `mld::Repr::parse`.
+    /// The message in the octets, from `src_addr` to `dst_addr`. Refused where they don't begin with the header of a
+    /// type that is read here, where their checksum is to be verified and isn't good, and where they are none of these
+    /// messages. The code is 0 in all but three errors: an unreachable destination, an exceeded time and a parameter
+    /// problem. An error quotes a whole header, whose version and payload length are not checked, and its data is all
+    /// that follows that header. A message of neighbor discovery is read by `ndisc::Repr::parse`, a query and a report
+    /// by `mld::Repr::parse`.
     #[inline]
     pub fn parse<B: AsRef<[u8]> + ?Sized>(
         src_addr: &Ipv6Address,
@@ -114,11 +114,12 @@ impl<'a> Repr<'a> {
         packet: &Packet<&'a B>,
         checksum_caps: &ChecksumCapabilities,
     ) -> Result<Repr<'a>> {
-        // In front of all else, so that octets which are too few cost next to nothing.
+        // Checked first, so that too few octets cost next to nothing.
         if packet.buffer.as_ref().len() < field::HEADER_END {
             return Err(Error);
         }
-        // Echoes apart, since they are the most: the function for the others has their places to clear.
+        // Echoes are read apart, since they are the most frequent: the function for the others clears room for their
+        // values.
         let kind = packet.buffer.as_ref()[field::TYPE.start];
         if kind == ECHO_REQUEST || kind == ECHO_REPLY {
             return Repr::read_echo(src_addr, dst_addr, packet, checksum_caps);
@@ -145,8 +146,8 @@ impl<'a> Repr<'a> {
         Ok(read_echo_reply(packet))
     }
 
-    // The message in the octets, of another type than an echo. It takes the octets, not their view, which in Rust is of
-    // any type that lends octets: so it is no part of `parse`, which is inlined where echoes are read.
+    // The message in the octets, of a type other than an echo. It takes the octets and not the view, whose type is
+    // generic in Rust, so that it is not compiled into `parse`, which is inlined where echoes are read.
     fn read(
         src_addr: &Ipv6Address,
         dst_addr: &Ipv6Address,
@@ -164,9 +165,9 @@ impl<'a> Repr<'a> {
         if packet.msg_code() != 0 {
             return Err(Error);
         }
-        // Each arm returns, and what it returns is made by calls that have one way out: the value is then written once,
-        // where the caller has room for it. The parsers of both protocols have these arms again, since a value that one
-        // function made for both would be copied.
+        // Each arm returns the result of a call that has one way out, so that the value is written once, in the
+        // caller's slot. The parsers of both protocols repeat these arms, since a value that one function made for both
+        // would be copied.
         if !kind.is_ndisc() {
             match kind {
                 Message::MldQuery => return Ok(Repr::Mld(read_query(packet))),
@@ -174,7 +175,7 @@ impl<'a> Repr<'a> {
                 _ => return Err(Error),
             }
         }
-        let mut found = Found::nothing();
+        let mut found = OptionsSeen::nothing();
         found.note_all(packet.behind(kind))?;
         match kind {
             Message::RouterSolicit => return Ok(Repr::Ndisc(router_solicit(packet, &found))),
@@ -186,8 +187,8 @@ impl<'a> Repr<'a> {
         }
     }
 
-    /// The bytes that the message takes, of an error at most 1,240; of a report by its records those before them, 8.
-    /// Requires that a `usize` holds their number.
+    /// The bytes that the message takes, at most 1,240 of an error; of a report given by its records the 8 bytes before
+    /// them. Requires that their number fits a `usize`.
     ///
     /// # Panics
     ///
@@ -199,8 +200,7 @@ impl<'a> Repr<'a> {
         }
     }
 
-    /// The bytes that the packet of the message has, of an error at most 1,240. Requires that a `usize` holds their
-    /// number.
+    /// The bytes of the packet of the message, at most 1,240 of an error. Requires that their number fits a `usize`.
     ///
     /// # Panics
     ///
@@ -244,8 +244,8 @@ impl<'a> Repr<'a> {
         );
     }
 
-    /// The same into a slice. Give it exactly `packet_len()` bytes: in a longer one the checksum covers what follows
-    /// the message, in a shorter one an echo is cut.
+    /// Like `emit`, but writes into a slice. Give exactly `packet_len()` bytes: in a longer one the checksum covers
+    /// what follows the message, in a shorter one an echo is cut.
     ///
     /// # Panics
     ///

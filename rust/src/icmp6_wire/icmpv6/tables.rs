@@ -39,7 +39,7 @@ pub enum Message {
 }
 
 impl Message {
-    /// Whether messages of this type tell of an error: the highest bit of their number is clear (RFC 4443 section 2.1).
+    /// Whether messages of this type are errors: the highest bit of their number is clear (RFC 4443 section 2.1).
     pub fn is_error(&self) -> bool {
         u8::from(*self) < 0x80
     }

@@ -1,12 +1,12 @@
 // Made from crates/icmp6_wire/src/mld/display.rt by rust/erase.
-//! What messages and records print, each in one line, octets in hexadecimal.
+//! Messages and records printed, each in one line, octets in hexadecimal.
 
 use super::{AddressRecordRepr, Repr};
 use crate::opt_wire::digits::Digits;
 use core::fmt;
 
-/// The message with its fields, as `MLD report nr_mcast_addr_rcrds=0 data=-`. In place of data a list has each record
-/// in parentheses.
+/// Prints the message with its fields, as `MLD report nr_mcast_addr_rcrds=0 data=-`. A report given by its records has
+/// each record in parentheses in place of `data`.
 impl fmt::Display for Repr<'_> {
     fn fmt(&self, f: &mut fmt::Formatter<'_>) -> fmt::Result {
         match self {
@@ -49,7 +49,7 @@ impl fmt::Display for Repr<'_> {
     }
 }
 
-// The fields of a query behind its flag.
+// The fields of a query after its flag.
 #[derive(Clone, Copy)]
 struct Counts<'a> {
     qrv: u8,
@@ -71,7 +71,7 @@ impl fmt::Display for Counts<'_> {
     }
 }
 
-// What records print, each in parentheses behind a space.
+// Prints each record in parentheses after a space.
 fn fmt_records(f: &mut fmt::Formatter<'_>, records: &[AddressRecordRepr<'_>]) -> fmt::Result {
     for record in records {
         write!(f, " ({record})")?;
@@ -79,8 +79,8 @@ fn fmt_records(f: &mut fmt::Formatter<'_>, records: &[AddressRecordRepr<'_>]) ->
     Ok(())
 }
 
-/// The record with its fields, as
-/// `MLD record record_type=MODE_IS_EXCLUDE aux_data_len=0 num_srcs=0 mcast_addr=ff02::2 payload=-`.
+/// Prints the record with its fields, as `MLD record record_type=MODE_IS_EXCLUDE aux_data_len=0 num_srcs=0
+/// mcast_addr=ff02::2 payload=-`.
 impl fmt::Display for AddressRecordRepr<'_> {
     fn fmt(&self, f: &mut fmt::Formatter<'_>) -> fmt::Result {
         let AddressRecordRepr {

@@ -10,17 +10,17 @@ const ADDRESS_LEN: usize = 16;
 const WORD_LEN: usize = 4;
 
 /// The records of a report in turn, each with its sources and its auxiliary data as its payload. Where the octets end
-/// before a record does, one refusal, which tells the check that fails first, and then the end for good. What stands
-/// behind the last record is left out (RFC 3810 section 5.2.11).
+/// before a record does, one refusal is given, with the first check that fails, and then the end. What follows the last
+/// record is ignored (RFC 3810 section 5.2.11).
 #[derive(Debug, Clone)]
 pub struct Records<'a> {
-    // How many records are left, and the octets behind those that were given.
+    // How many records are left, and the octets after those that were given already.
     left: u16,
     rest: &'a [u8],
 }
 
 impl<'a> Records<'a> {
-    /// So many records in these octets: the `nr_mcast_addr_rcrds` and the `data` of a report.
+    /// The first `count` records in `octets`: the `nr_mcast_addr_rcrds` and the `data` of a report.
     ///
     /// ```
     /// use control_wire::mld::{RecordRefusal, RecordType, Records};
@@ -64,8 +64,8 @@ impl<'a> Iterator for Records<'a> {
     }
 }
 
-// The record at the front, with its sources and its auxiliary data, and what stands behind it; or why the octets end
-// before it does.
+// The record at the front, with its sources and its auxiliary data, and what follows it; or why the octets end before
+// it does.
 fn split_record(octets: &[u8]) -> Result<(AddressRecordRepr<'_>, &[u8]), RecordRefusal> {
     if octets.len() < field::RECORD_MCAST_ADDR.end {
         return Err(RecordRefusal::Short);
@@ -93,13 +93,13 @@ impl<'a> AddressRecordRepr<'a> {
 /// The sources of a record or of a query in turn (RFC 3810 sections 5.2.9 and 5.1.11).
 #[derive(Debug, Clone)]
 pub struct Sources<'a> {
-    // The octets behind the sources that were given.
+    // The octets after the sources that were given already.
     rest: &'a [u8],
 }
 
 impl<'a> Sources<'a> {
-    /// So many addresses in these octets, as many of them as the octets hold whole: the `num_srcs` and the `data` of a
-    /// query. What stands behind them is left out (RFC 3810 section 5.1.12).
+    /// The first `count` addresses in `octets`, or as many as they hold whole: the `num_srcs` and the `data` of a
+    /// query. What follows them is ignored (RFC 3810 section 5.1.12).
     ///
     /// ```
     /// use control_wire::Ipv6Address;

@@ -8,11 +8,11 @@ use crate::wirebase::{Duration, Ipv6Address, Octets, OctetsMut};
 // The bit of a code that has an exponent and a mantissa: a code without it is a number of milliseconds.
 const FLOATING: u16 = 0x8000;
 
-// The bit of the flag S; the robustness variable is what stands below it.
+// The bit of the flag S; the bits below it are the robustness variable.
 const S_FLAG: u8 = 0x08;
 
 impl<T: Octets> Packet<T> {
-    /// The code of the longest time to answer a query in (RFC 3810 section 5.1.3). Requires at least 6 bytes.
+    /// The code of the maximum response time of a query (RFC 3810 section 5.1.3). Requires at least 6 bytes.
     ///
     /// # Panics
     ///
@@ -21,7 +21,7 @@ impl<T: Octets> Packet<T> {
         self.buffer.u16_at(field::MAX_RESP_CODE)
     }
 
-    /// The longest time to answer a query in, by its code (RFC 3810 section 5.1.3): whole milliseconds, at most
+    /// The maximum response time of a query, by its code (RFC 3810 section 5.1.3): whole milliseconds, at most
     /// 8,387.584 seconds. Requires at least 6 bytes.
     ///
     /// # Panics
@@ -99,7 +99,7 @@ impl<T: Octets> Packet<T> {
 }
 
 impl<T: OctetsMut> Packet<T> {
-    /// Writes the code of the longest time to answer a query in. Requires at least 6 bytes.
+    /// Writes the code of the maximum response time of a query. Requires at least 6 bytes.
     ///
     /// # Panics
     ///

@@ -13,13 +13,13 @@ pub struct AddressRecord<T: Octets> {
 }
 
 impl<T: Octets> AddressRecord<T> {
-    /// The view of these octets, whatever they are.
+    /// Makes a view of `buffer`; its length is not checked.
     pub const fn new_unchecked(buffer: T) -> AddressRecord<T> {
         AddressRecord { buffer }
     }
 
-    /// The view of these octets, where they are 20 or more; refused where they are fewer. On refusal the buffer is
-    /// dropped: to keep a `&mut [u8]`, call `new_unchecked` and then `check_len`.
+    /// Makes a view of `buffer`. Refused where it has fewer than 20 octets. On refusal the buffer is dropped: to keep a
+    /// `&mut [u8]`, call `new_unchecked` and then `check_len`.
     pub fn new_checked(buffer: T) -> Result<AddressRecord<T>> {
         let record = AddressRecord::new_unchecked(buffer);
         record.check_len()?;
@@ -34,7 +34,7 @@ impl<T: Octets> AddressRecord<T> {
         Ok(())
     }
 
-    /// What the view was made from, as it is now.
+    /// Returns the buffer of the view.
     pub fn into_inner(self) -> T {
         self.buffer
     }
@@ -82,8 +82,8 @@ impl<T: Octets> AddressRecord<T> {
 }
 
 impl<'a, B: AsRef<[u8]> + ?Sized> AddressRecord<&'a B> {
-    /// What stands after the fields, sources and auxiliary data, for as long as the octets live. Requires at least 20
-    /// bytes.
+    /// The octets after the fields, which are sources and auxiliary data, for as long as the octets live. Requires at
+    /// least 20 bytes.
     ///
     /// # Panics
     ///
@@ -131,7 +131,7 @@ impl<T: OctetsMut> AddressRecord<T> {
             .set_bytes(field::RECORD_MCAST_ADDR, &value.octets());
     }
 
-    /// Lends what stands after the fields for writing; the fields stay. Requires at least 20 bytes.
+    /// Lends the octets after the fields for writing; the fields are unchanged. Requires at least 20 bytes.
     ///
     /// # Panics
     ///
@@ -142,7 +142,7 @@ impl<T: OctetsMut> AddressRecord<T> {
     }
 }
 
-/// Views are equal where their octets are.
+/// Views are equal where their octets are equal.
 impl<T: Octets> PartialEq for AddressRecord<T> {
     fn eq(&self, other: &AddressRecord<T>) -> bool {
         self.buffer.octets() == other.buffer.octets()
@@ -154,7 +154,7 @@ impl<T: Octets> Eq for AddressRecord<T> {}
 /// A record of a report (RFC 3810 section 5.2).
 #[derive(Debug, PartialEq, Eq, Clone, Copy)]
 pub struct AddressRecordRepr<'a> {
-    /// What the record says of the group.
+    /// What the record says about the group.
     pub record_type: RecordType,
     /// The words of 4 bytes that the auxiliary data has.
     pub aux_data_len: u8,
@@ -162,8 +162,8 @@ pub struct AddressRecordRepr<'a> {
     pub num_srcs: u16,
     /// The group.
     pub mcast_addr: Ipv6Address,
-    /// What stands after the fields: sources, which [`AddressRecordRepr::sources`] gives in turn, and auxiliary data.
-    /// It is not written.
+    /// The octets after the fields: sources, which [`AddressRecordRepr::sources`] gives in turn, and auxiliary data.
+    /// They are not written.
     pub payload: &'a [u8],
 }
 
@@ -180,7 +180,7 @@ impl<'a> AddressRecordRepr<'a> {
     }
 
     /// The record at the front of the octets; refused where they are fewer than 20. The counts are not compared with
-    /// what stands after them.
+    /// the octets after the fields.
     pub fn parse<B: AsRef<[u8]> + ?Sized>(
         view: &AddressRecord<&'a B>,
     ) -> Result<AddressRecordRepr<'a>> {
@@ -208,13 +208,13 @@ impl<'a> AddressRecordRepr<'a> {
         }
     }
 
-    /// The bytes that the record takes, without what stands after its fields: 20.
+    /// The bytes that the record takes, without its payload: 20.
     pub fn buffer_len(&self) -> usize {
         field::RECORD_MCAST_ADDR.end
     }
 
-    /// Writes the record over the front of the octets, without what stands after its fields; the others stay. Requires
-    /// at least 20 bytes, and a multicast address.
+    /// Writes the record over the front of the octets, without its payload; the other octets are unchanged. Requires at
+    /// least 20 bytes, and a multicast address.
     ///
     /// # Panics
     ///
@@ -223,7 +223,7 @@ impl<'a> AddressRecordRepr<'a> {
         self.emit_into(view.buffer.octets_mut());
     }
 
-    /// The same into a slice.
+    /// Like `emit`, but writes into a slice.
     ///
     /// # Panics
     ///
@@ -232,8 +232,7 @@ impl<'a> AddressRecordRepr<'a> {
         self.write(octets);
     }
 
-    // Writes the fields, for the report around the record too, of whose code it becomes a part where the two are
-    // compiled apart.
+    // Writes the fields. Inlined, also into the report around the record where the two are in different codegen units.
     #[inline]
     pub(super) fn write(&self, octets: &mut [u8]) {
         let mut w = ByteWriter::new(octets);

@@ -1,11 +1,11 @@
 // Made from crates/icmp6_wire/src/mld/refusal.rt by rust/erase.
-//! Why octets are no message and no record: the check that fails first.
+//! Why octets are refused as a message or as a record: the first check that fails.
 
 use super::{AddressRecord, AddressRecordRepr, Repr};
 use crate::icmp6_wire::icmpv6::{Packet, field};
 use core::fmt;
 
-/// Why octets are no message that [`Repr::parse`] reads: the check that fails first.
+/// Why [`Repr::parse`] refuses octets as a message: the first check that fails.
 #[derive(Debug, PartialEq, Eq, Clone, Copy)]
 #[non_exhaustive]
 pub enum Refusal {
@@ -27,15 +27,15 @@ impl fmt::Display for Refusal {
     }
 }
 
-/// Why octets are no record that [`AddressRecordRepr::parse`] reads or that [`Records`](super::Records) gives: the
-/// check that fails first.
+/// Why [`AddressRecordRepr::parse`] refuses octets, or why [`Records`](super::Records) gives no record: the first check
+/// that fails.
 #[derive(Debug, PartialEq, Eq, Clone, Copy)]
 #[non_exhaustive]
 pub enum RecordRefusal {
     /// Fewer than 20 bytes.
     Short,
-    /// Fewer bytes than the sources and the auxiliary data that the record counts take. [`Records`](super::Records)
-    /// alone tells it: `parse` does not compare the counts with what stands after them.
+    /// Fewer bytes than the sources and the auxiliary data that the record counts. Only [`Records`](super::Records)
+    /// gives this reason: `parse` does not compare the counts with the octets after the fields.
     Cut,
 }
 
@@ -51,7 +51,7 @@ impl fmt::Display for RecordRefusal {
 }
 
 impl Repr<'_> {
-    /// Why [`Repr::parse`] refuses these octets, by the check that fails first; None where it reads them.
+    /// Why [`Repr::parse`] refuses these octets, by the first check that fails; None where it reads them.
     pub fn refusal<B: AsRef<[u8]> + ?Sized>(packet: &Packet<&B>) -> Option<Refusal> {
         match Repr::read(packet) {
             Ok(_) => None,
@@ -60,7 +60,7 @@ impl Repr<'_> {
     }
 }
 
-// Why octets are no message, which don't begin with a whole header of either type.
+// Why octets that don't begin with a whole header of either type are refused.
 fn why(octets: &[u8]) -> Refusal {
     if octets.len() < field::HEADER_END {
         return Refusal::Short;

@@ -34,7 +34,7 @@ use crate::wirebase::{ByteWriter, Error, Ipv6Address, OctetsMut, Result, icmp};
 pub enum Repr<'a> {
     /// A router asks which groups have listeners, or whether this one has.
     Query {
-        /// The code of the longest time to answer in, which `icmpv6::Packet::max_resp_time` gives.
+        /// The code of the maximum response time, which `icmpv6::Packet::max_resp_time` gives.
         max_resp_code: u16,
         /// The group, or `::` for all.
         mcast_addr: Ipv6Address,
@@ -46,20 +46,20 @@ pub enum Repr<'a> {
         qqic: u8,
         /// The number of sources.
         num_srcs: u16,
-        /// The sources, which [`Sources::new`](super::Sources::new) gives in turn, and what stands behind them.
+        /// The sources, which [`Sources::new`](super::Sources::new) gives in turn, and what follows them.
         data: &'a [u8],
     },
     /// A host reports what it listens to.
     Report {
         /// The number of records.
         nr_mcast_addr_rcrds: u16,
-        /// The records, which [`Records`](super::Records) gives in turn, and what stands behind them.
+        /// The records, which [`Records`](super::Records) gives in turn, and what follows them.
         data: &'a [u8],
     },
-    /// A report to be written, by its records, of which the fields alone are written. So [`Records`](super::Records)
-    /// gives back those that count neither sources nor auxiliary data, with an empty payload; for one that counts some
-    /// it takes the record behind it, or finds it cut. A report of records with sources is written as `Report`, whose
-    /// data has them.
+    /// A report to be written from its records, of which only the fields are written. So [`Records`](super::Records)
+    /// gives back those that count neither sources nor auxiliary data, with an empty payload; for a record that counts
+    /// some, it takes the next record as these, or finds the record cut. A report of records with sources is written as
+    /// `Report`, whose data holds them.
     ReportRecordReprs(&'a [AddressRecordRepr<'a>]),
 }
 
@@ -79,8 +79,8 @@ impl<'a> Repr<'a> {
         }
     }
 
-    /// The bytes that the message takes; of a list of records those before it, 8. Requires that a `usize` holds their
-    /// number.
+    /// The bytes that the message takes; of a list of records the 8 bytes before them. Requires that their number fits
+    /// a `usize`.
     ///
     /// # Panics
     ///
@@ -92,8 +92,7 @@ impl<'a> Repr<'a> {
         }
     }
 
-    /// The bytes that the packet of the message has, a list of records counted. Requires that a `usize` holds their
-    /// number.
+    /// The bytes of the packet of the message, with a list of records. Requires that their number fits a `usize`.
     ///
     /// # Panics
     ///
@@ -108,9 +107,9 @@ impl<'a> Repr<'a> {
         }
     }
 
-    /// Writes the message over the front of the octets, with the checksum zero; the others stay. Requires exactly
-    /// `packet_len()` bytes, of a list of records at least as many; a robustness variable below 8; and at most 65,535
-    /// records, each of a group. What records count behind their fields is not written.
+    /// Writes the message over the front of the octets, with the checksum zero; the other octets are unchanged.
+    /// Requires exactly `packet_len()` bytes, of a list of records at least as many; a robustness variable below 8; and
+    /// at most 65,535 records, each of a group. The payloads of records are not written.
     ///
     /// # Panics
     ///
@@ -119,7 +118,7 @@ impl<'a> Repr<'a> {
         self.emit_into(packet.buffer.octets_mut());
     }
 
-    /// The same into a slice. Give it exactly `packet_len()` bytes.
+    /// Like `emit`, but writes into a slice. Give exactly `packet_len()` bytes.
     ///
     /// # Panics
     ///
@@ -134,7 +133,7 @@ impl<'a> Repr<'a> {
         self.put(&mut w);
     }
 
-    // The same with this writer.
+    // Writes the message with this writer.
     fn put(&self, w: &mut ByteWriter<'_>) {
         match *self {
             Repr::Query {
@@ -207,7 +206,7 @@ fn put_query(
     w.put_bytes(data);
 }
 
-// Writes a report of so many records, which the data holds.
+// Writes a report of `count` records, which the data holds.
 fn put_report(w: &mut ByteWriter<'_>, count: u16, data: &[u8]) {
     put_report_header(w, count);
     w.put_bytes(data);
@@ -219,7 +218,7 @@ fn put_list(w: &mut ByteWriter<'_>, records: &[AddressRecordRepr<'_>]) {
     put_records(w, records);
 }
 
-// Writes the header of a report of so many records.
+// Writes the header of a report of `count` records.
 fn put_report_header(w: &mut ByteWriter<'_>, count: u16) {
     let [a, b] = count.to_be_bytes();
     icmp::put_header(w, Message::MldReport.into(), 0, [0, 0, a, b]);

@@ -3,7 +3,7 @@
 
 use core::fmt;
 
-/// What a record tells of the sources that a listener asks of a group, one byte (RFC 3810 section 5.2.12).
+/// What a record says about the sources that a listener asks of a group, one byte (RFC 3810 section 5.2.12).
 #[derive(Debug, PartialEq, Eq, PartialOrd, Ord, Clone, Copy)]
 pub enum RecordType {
     /// It listens to these sources alone.

@@ -1,5 +1,5 @@
 // Made from crates/icmp6_wire/src/ndisc/display.rt by rust/erase.
-//! What messages print, each in one line.
+//! Messages printed, each in one line.
 
 use super::Repr;
 use crate::opt_wire::digits::Digits;
@@ -7,8 +7,8 @@ use crate::opt_wire::ndiscoption::{PrefixInformation, RedirectedHeader};
 use crate::wirebase::{Duration, RawHardwareAddress};
 use core::fmt;
 
-/// The message with its fields and the options that are there, flags by their names and octets in hexadecimal, as
-/// `NDISC neighbor solicitation target_addr=fe80::2 lladdr=52:54:00:12:34:56`.
+/// Prints the message with its fields and the options that are there, flags by their names and octets in hexadecimal,
+/// as `NDISC neighbor solicitation target_addr=fe80::2 lladdr=52:54:00:12:34:56`.
 impl fmt::Display for Repr<'_> {
     fn fmt(&self, f: &mut fmt::Formatter<'_>) -> fmt::Result {
         match self {
@@ -112,7 +112,7 @@ impl fmt::Display for RouterOptions {
     }
 }
 
-// Fields that are there or not, with their names in front: nothing where they are not.
+// Optional fields, each printed after its name; nothing is printed of one that is absent.
 
 #[derive(Clone, Copy)]
 struct LinkAddress(Option<RawHardwareAddress>);

@@ -16,7 +16,7 @@ bitflags::bitflags! {
     }
 }
 
-/// The names of the flags that are set, as `managed,other`; `-` where none is. Bits without a name are not told.
+/// The names of the flags that are set, as `managed,other`; `-` where none is. Bits without a name are not printed.
 impl fmt::Display for RouterFlags {
     fn fmt(&self, f: &mut fmt::Formatter<'_>) -> fmt::Result {
         let managed = self.bits() & 0x80 != 0;
@@ -45,7 +45,8 @@ bitflags::bitflags! {
     }
 }
 
-/// The names of the flags that are set, as `solicited,override`; `-` where none is. Bits without a name are not told.
+/// The names of the flags that are set, as `solicited,override`; `-` where none is. Bits without a name are not
+/// printed.
 impl fmt::Display for NeighborFlags {
     fn fmt(&self, f: &mut fmt::Formatter<'_>) -> fmt::Result {
         let router = self.bits() & 0x80 != 0;

@@ -1,5 +1,5 @@
 // Made from crates/icmp6_wire/src/ndisc/options.rt by rust/erase.
-//! The options of a message that is written, each there or not.
+//! Writes the options of a message, each of which may be absent.
 
 use crate::opt_wire::ndiscoption::{PrefixInformation, RedirectedHeader, Type};
 use crate::opt_wire::writing;
@@ -32,7 +32,7 @@ pub(super) fn mtu_len(mtu: &Option<u32>) -> usize {
 // The bytes of the option of a prefix.
 pub(super) fn prefix_len(prefix_info: &Option<PrefixInformation>) -> usize {
     match prefix_info {
-        Some(_) => writing::PREFIX_LEN,
+        Some(_) => writing::PREFIX_OPTION_LEN,
         None => 0,
     }
 }

@@ -1,26 +1,26 @@
 // Made from crates/icmp6_wire/src/ndisc/reading.rt by rust/erase.
-//! Messages made from the octets of a packet and what its options say, by their types.
+//! Makes messages from the octets of a packet and its options, by their types.
 
-use super::found::Found;
+use super::options_seen::OptionsSeen;
 use super::repr::Repr;
 use crate::icmp6_wire::icmpv6::Packet;
 
-// The router solicitation in octets of that type, whose options say this.
+// The router solicitation in octets of that type, with these options.
 #[inline(always)]
 pub(crate) fn router_solicit<'a, B: AsRef<[u8]> + ?Sized>(
     packet: &Packet<&'a B>,
-    found: &Found<'a>,
+    found: &OptionsSeen<'a>,
 ) -> Repr<'a> {
     Repr::RouterSolicit {
         lladdr: found.source,
     }
 }
 
-// The same of a router advertisement.
+// The router advertisement in octets of that type, with these options.
 #[inline(always)]
 pub(crate) fn router_advert<'a, B: AsRef<[u8]> + ?Sized>(
     packet: &Packet<&'a B>,
-    found: &Found<'a>,
+    found: &OptionsSeen<'a>,
 ) -> Repr<'a> {
     Repr::RouterAdvert {
         hop_limit: packet.current_hop_limit(),
@@ -34,11 +34,11 @@ pub(crate) fn router_advert<'a, B: AsRef<[u8]> + ?Sized>(
     }
 }
 
-// The same of a neighbor solicitation.
+// The neighbor solicitation in octets of that type, with these options.
 #[inline(always)]
 pub(crate) fn neighbor_solicit<'a, B: AsRef<[u8]> + ?Sized>(
     packet: &Packet<&'a B>,
-    found: &Found<'a>,
+    found: &OptionsSeen<'a>,
 ) -> Repr<'a> {
     Repr::NeighborSolicit {
         target_addr: packet.target_addr(),
@@ -46,11 +46,11 @@ pub(crate) fn neighbor_solicit<'a, B: AsRef<[u8]> + ?Sized>(
     }
 }
 
-// The same of a neighbor advertisement.
+// The neighbor advertisement in octets of that type, with these options.
 #[inline(always)]
 pub(crate) fn neighbor_advert<'a, B: AsRef<[u8]> + ?Sized>(
     packet: &Packet<&'a B>,
-    found: &Found<'a>,
+    found: &OptionsSeen<'a>,
 ) -> Repr<'a> {
     Repr::NeighborAdvert {
         flags: packet.neighbor_flags(),
@@ -59,11 +59,11 @@ pub(crate) fn neighbor_advert<'a, B: AsRef<[u8]> + ?Sized>(
     }
 }
 
-// The same of a redirect.
+// The redirect in octets of that type, with these options.
 #[inline(always)]
 pub(crate) fn redirect<'a, B: AsRef<[u8]> + ?Sized>(
     packet: &Packet<&'a B>,
-    found: &Found<'a>,
+    found: &OptionsSeen<'a>,
 ) -> Repr<'a> {
     Repr::Redirect {
         target_addr: packet.target_addr(),

@@ -1,20 +1,20 @@
 // Made from crates/icmp6_wire/src/ndisc/refusal.rt by rust/erase.
-//! Why octets are no message: the check that fails first.
+//! Why octets are refused as a message: the first check that fails.
 
 use super::Repr;
-use super::found::split_block;
+use super::options_seen::split_block;
 use crate::icmp6_wire::icmpv6::{Packet, field};
 use crate::opt_wire::writing::UNIT;
 use core::fmt;
 
-/// Why octets are no message that [`Repr::parse`] reads: the check that fails first. A place is counted in bytes from
-/// the front of the message, and the length of an option in units of 8 bytes (RFC 4861 section 4.6).
+/// Why [`Repr::parse`] refuses octets as a message: the first check that fails. A place is counted in bytes from the
+/// front of the message, and the length of an option in units of 8 bytes (RFC 4861 section 4.6).
 #[derive(Debug, PartialEq, Eq, Clone, Copy)]
 #[non_exhaustive]
 pub enum Refusal {
     /// Fewer than 8 bytes.
     Short,
-    /// The type, by its number, is none of neighbor discovery.
+    /// The type, by its number, is not one of neighbor discovery.
     UnknownType(u8),
     /// Fewer bytes than the header of the type has.
     Length,
@@ -66,7 +66,7 @@ impl fmt::Display for Refusal {
 }
 
 impl Repr<'_> {
-    /// Why [`Repr::parse`] refuses these octets, by the check that fails first; None where it reads them.
+    /// Why [`Repr::parse`] refuses these octets, by the first check that fails; None where it reads them.
     pub fn refusal<B: AsRef<[u8]> + ?Sized>(packet: &Packet<&B>) -> Option<Refusal> {
         match Repr::read(packet) {
             Ok(_) => None,
@@ -75,7 +75,7 @@ impl Repr<'_> {
     }
 }
 
-// Why octets are no message, which don't begin with a whole header of neighbor discovery with whole options behind it.
+// Why octets that don't begin with a whole header of neighbor discovery, followed by whole options, are refused.
 fn why(octets: &[u8]) -> Refusal {
     if octets.len() < field::HEADER_END {
         return Refusal::Short;
@@ -91,7 +91,7 @@ fn why(octets: &[u8]) -> Refusal {
     why_option(octets, header_len)
 }
 
-// The first of the options behind a header of so many bytes that is none.
+// Why the first option that is not whole, after a header of `header_len` bytes, is refused.
 fn why_option(octets: &[u8], header_len: usize) -> Refusal {
     let mut place = header_len;
     let mut rest = &octets[header_len..];
@@ -102,7 +102,7 @@ fn why_option(octets: &[u8], header_len: usize) -> Refusal {
     fault(rest, place)
 }
 
-// What is wrong with the option at the front of these octets, which stand at this place of a message.
+// What is wrong with the option at the front of `rest`, which begins at `place` in the message.
 fn fault(rest: &[u8], place: usize) -> Refusal {
     let kind = rest[0];
     if rest.len() < UNIT {

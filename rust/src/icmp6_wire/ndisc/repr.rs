@@ -3,11 +3,11 @@
 
 use super::field;
 use super::flags::{NeighborFlags, RouterFlags};
-use super::found::Found;
 use super::options::{
     mtu_len, prefix_len, put_mtu, put_prefix, put_redirected, put_source, put_target,
     redirected_len, source_len, target_len,
 };
+use super::options_seen::OptionsSeen;
 use super::reading::{neighbor_advert, neighbor_solicit, redirect, router_advert, router_solicit};
 use crate::icmp6_wire::icmpv6::{Message, Packet};
 use crate::icmp6_wire::writing::put_address;
@@ -16,7 +16,7 @@ use crate::wirebase::{
     ByteWriter, Duration, Error, Ipv6Address, OctetsMut, RawHardwareAddress, Result, icmp,
 };
 
-/// A message (RFC 4861 section 4). Its options are there or not; of several of one kind the last is read.
+/// A message (RFC 4861 section 4). Each option may be absent; of several of one kind the last is read.
 ///
 /// ```
 /// use control_wire::icmpv6::Packet;
@@ -50,34 +50,34 @@ pub enum Repr<'a> {
         flags: RouterFlags,
         /// How long the sender is a default router, sent in whole seconds.
         router_lifetime: Duration,
-        /// How long a neighbor counts as reachable, sent in whole milliseconds; 0 where it is not told.
+        /// How long a neighbor counts as reachable, sent in whole milliseconds; 0 where it is unspecified.
         reachable_time: Duration,
-        /// The time between solicitations, sent in whole milliseconds; 0 where it is not told.
+        /// The time between solicitations, sent in whole milliseconds; 0 where it is unspecified.
         retrans_time: Duration,
         /// The link-layer address of the sender.
         lladdr: Option<RawHardwareAddress>,
-        /// The greatest packet of the link, in bytes.
+        /// The MTU of the link, in bytes.
         mtu: Option<u32>,
-        /// A prefix of the link, of an option: the last one.
+        /// A prefix of the link: the last such option.
         prefix_info: Option<PrefixInformation>,
     },
     /// A host asks for the link-layer address of the neighbor that has an address.
     NeighborSolicit {
-        /// The address that is looked for.
+        /// The address whose link-layer address is asked for.
         target_addr: Ipv6Address,
         /// The link-layer address of the sender.
         lladdr: Option<RawHardwareAddress>,
     },
-    /// A neighbor tells its link-layer address.
+    /// A neighbor gives its link-layer address.
     NeighborAdvert {
         /// The flags.
         flags: NeighborFlags,
-        /// The address that is told of.
+        /// The address whose link-layer address is given.
         target_addr: Ipv6Address,
         /// The link-layer address of the target.
         lladdr: Option<RawHardwareAddress>,
     },
-    /// A router tells of a better first hop.
+    /// A router announces a better first hop.
     Redirect {
         /// The better first hop.
         target_addr: Ipv6Address,
@@ -91,9 +91,9 @@ pub enum Repr<'a> {
 }
 
 impl<'a> Repr<'a> {
-    /// The message in the octets. Refused where they don't begin with the header of their type, where that is none of
-    /// neighbor discovery, and where what follows isn't whole options one after another. An option that can't be read
-    /// is left out, and so are flags without a name; neither code nor checksum is looked at.
+    /// The message in the octets. Refused where they don't begin with the header of their type, where that type is none
+    /// of neighbor discovery, and where what follows isn't whole options one after another. An option that can't be
+    /// read is dropped, and so are flags without a name; code and checksum are not checked.
     pub fn parse<B: AsRef<[u8]> + ?Sized>(packet: &Packet<&'a B>) -> Result<Repr<'a>> {
         Repr::read(packet)
     }
@@ -101,9 +101,9 @@ impl<'a> Repr<'a> {
     // The message in the octets.
     pub(super) fn read<B: AsRef<[u8]> + ?Sized>(packet: &Packet<&'a B>) -> Result<Repr<'a>> {
         let kind = packet.checked_type()?;
-        let mut found = Found::nothing();
+        let mut found = OptionsSeen::nothing();
         found.note_all(packet.behind(kind))?;
-        // A return in each arm: the value is then written once, where the caller has room for it.
+        // Each arm returns, so that the value is written once, in the caller's slot.
         match kind {
             Message::RouterSolicit => {
                 return Ok(router_solicit(packet, &found));
@@ -126,7 +126,8 @@ impl<'a> Repr<'a> {
         }
     }
 
-    /// The bytes that the message takes: whole units behind its header. Requires that a `usize` holds their number.
+    /// The bytes that the message takes: its header, and whole units of options. Requires that their number fits a
+    /// `usize`.
     ///
     /// # Panics
     ///
@@ -166,10 +167,10 @@ impl<'a> Repr<'a> {
         }
     }
 
-    /// Writes the message over the front of the octets, with the checksum zero; the others stay. Times are cut to their
-    /// whole units. Requires the bytes that the message takes; a lifetime of at most 65,535 seconds, and times of at
-    /// most 4,294,967,295 milliseconds; of a prefix lifetimes of at most 4,294,967,295 seconds; and of a redirected
-    /// packet that it counts its data as its payload, at most 1,992 bytes.
+    /// Writes the message over the front of the octets, with the checksum zero; the other octets are unchanged. Times
+    /// are rounded down to their whole units. Requires the bytes that the message takes; a lifetime of at most 65,535
+    /// seconds, and times of at most 4,294,967,295 milliseconds; of a prefix lifetimes of at most 4,294,967,295
+    /// seconds; and of a redirected packet that it counts its data as its payload, at most 1,992 bytes.
     ///
     /// # Panics
     ///
@@ -178,7 +179,7 @@ impl<'a> Repr<'a> {
         self.emit_into(packet.buffer.octets_mut());
     }
 
-    /// The same into a slice.
+    /// Like `emit`, but writes into a slice.
     ///
     /// # Panics
     ///

@@ -1,21 +1,21 @@
 // Made from crates/opt_wire/src/ipv6ext_header/refusal.rt by rust/erase.
-//! Why octets are no header, check by check.
+//! Why octets are refused as a header.
 
 use super::{Header, Repr, end_of, field};
 use core::fmt;
 
-/// Why octets are no header that [`Repr::parse`] reads (RFC 8200 section 4.3): the check that fails first.
+/// Why [`Repr::parse`] refuses octets as a header (RFC 8200 section 4.3): the first check that fails.
 #[derive(Debug, PartialEq, Eq, Clone, Copy)]
 #[non_exhaustive]
 pub enum Refusal {
     /// Fewer than 8 bytes.
     Short,
-    /// Fewer bytes than the length counts, which is this many with the first 8.
+    /// Fewer bytes than the length counts, which is this number of bytes, with the first 8.
     Cut(usize),
 }
 
 impl<'a> Repr<'a> {
-    /// Why [`Repr::parse`] refuses these octets, by the check that fails first; None exactly where it reads them.
+    /// Why [`Repr::parse`] refuses these octets, by the first check that fails; None exactly where it reads them.
     pub fn refusal<B: AsRef<[u8]> + ?Sized>(header: &Header<&'a B>) -> Option<Refusal> {
         let len = header.buffer.as_ref().len();
         if len < field::MIN_END {

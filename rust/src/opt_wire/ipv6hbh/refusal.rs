@@ -1,5 +1,5 @@
 // Made from crates/opt_wire/src/ipv6hbh/refusal.rt by rust/erase.
-//! Why octets are no options of a hop-by-hop header, check by check (RFC 8200 section 4.3).
+//! Why octets are refused as options of a hop-by-hop header (RFC 8200 section 4.3).
 
 use super::{Header, Repr};
 use crate::opt_wire::ipv6option;
@@ -7,23 +7,23 @@ use crate::opt_wire::ipv6option::refusal::behind_first;
 use crate::wirebase::IPV6_HBH_MAX_OPTIONS;
 use core::fmt;
 
-/// Why octets are no options that [`Repr::parse`] reads: the check that fails first.
+/// Why [`Repr::parse`] refuses octets: the first check that fails.
 #[derive(Debug, PartialEq, Eq, Clone, Copy)]
 #[non_exhaustive]
 pub enum Refusal {
     /// No bytes.
     Empty,
-    /// An option that is not read, among those that a header keeps and the one after them.
+    /// An option that is refused, among those that a header keeps and the one after them.
     Option {
-        /// How many options stand before it.
+        /// The number of options before it.
         index: usize,
-        /// Why it is not read.
+        /// Why it is refused.
         refusal: ipv6option::Refusal,
     },
 }
 
 impl<'a> Repr<'a> {
-    /// Why [`Repr::parse`] refuses these octets, by the check that fails first; None exactly where it reads them.
+    /// Why [`Repr::parse`] refuses these octets, by the first check that fails; None exactly where it reads them.
     pub fn refusal<B: AsRef<[u8]> + ?Sized>(header: &Header<&'a B>) -> Option<Refusal> {
         let octets = header.options();
         if octets.is_empty() {
@@ -33,7 +33,7 @@ impl<'a> Repr<'a> {
     }
 }
 
-// The first option that is not read, among those that a header keeps and the one after them.
+// The first option that is refused, among those that a header keeps and the one after them.
 fn first_bad(octets: &[u8]) -> Option<Refusal> {
     let mut rest = octets;
     for index in 0..IPV6_HBH_MAX_OPTIONS + 1 {
@@ -48,7 +48,8 @@ fn first_bad(octets: &[u8]) -> Option<Refusal> {
     None
 }
 
-/// A short phrase, as `option 0: a length of 3 is not allowed for RouterAlert`, of the first option.
+/// A short phrase with the number of options before the refused one, as `option 0: a length of 3 is not allowed for
+/// RouterAlert`.
 impl fmt::Display for Refusal {
     fn fmt(&self, f: &mut fmt::Formatter<'_>) -> fmt::Result {
         match *self {
@@ -58,7 +59,7 @@ impl fmt::Display for Refusal {
     }
 }
 
-/// How many options there are, and each in parentheses.
+/// The number of options, and each option in parentheses.
 impl fmt::Display for Repr<'_> {
     fn fmt(&self, f: &mut fmt::Formatter<'_>) -> fmt::Result {
         let options = self.options.as_slice();
@@ -68,7 +69,7 @@ impl fmt::Display for Repr<'_> {
     }
 }
 
-// What options print, each in parentheses behind a space.
+// Prints each option in parentheses after a space.
 fn fmt_options(f: &mut fmt::Formatter<'_>, options: &[ipv6option::Repr<'_>]) -> fmt::Result {
     for option in options {
         write!(f, " ({option})")?;

@@ -4,20 +4,20 @@
 use super::{Ipv6Option, Repr};
 use crate::wirebase::Result;
 
-/// The options of a hop-by-hop or destination options header in turn: each as [`Repr::parse`] reads it, from the front
-/// of the octets to their end. Where it refuses what follows, one refusal comes, and then the end for good.
+/// The options of a hop-by-hop or destination options header in turn, each as [`Repr::parse`] reads it, from the front
+/// of the octets to their end. At the first place where it reads none, one refusal is given, and then the end.
 #[derive(Debug, Clone)]
 pub struct Ipv6OptionsIterator<'a> {
-    // The octets after the options that were given.
+    // The octets after the options that were given already.
     data: &'a [u8],
     hit_error: bool,
 }
 
 impl<'a> Ipv6OptionsIterator<'a> {
-    /// The options in these octets, which are what stands behind the first two bytes of the header. The first option
-    /// begins at the front, and each other one where the one before it ends. At the first place where [`Repr::parse`]
-    /// reads none, since no option stands whole there or a router alert doesn't count 2 bytes of data, one refusal
-    /// comes, and then the end. Where no refusal comes, the options take up all the octets.
+    /// The options in `octets`, which are those after the first two bytes of the header. The first option begins at the
+    /// front, and each other one where the one before it ends. At the first place where [`Repr::parse`] reads none,
+    /// because no whole option begins there or a router alert has other than 2 bytes of data, one refusal is given, and
+    /// then the end. Where no refusal is given, the options take up all the octets.
     pub fn new(octets: &'a [u8]) -> Ipv6OptionsIterator<'a> {
         Ipv6OptionsIterator {
             data: octets,

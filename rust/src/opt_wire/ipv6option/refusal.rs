@@ -1,25 +1,25 @@
 // Made from crates/opt_wire/src/ipv6option/refusal.rt by rust/erase.
-//! Why octets begin with no option, check by check (RFC 8200 section 4.2, RFC 2711 section 2.1).
+//! Why octets are refused as an option (RFC 8200 section 4.2, RFC 2711 section 2.1).
 
 use super::{Ipv6Option, Repr, RouterAlert, Type, field};
 use core::fmt;
 
-/// Why octets begin with no option that [`Repr::parse`] reads: the check that fails first.
+/// Why [`Repr::parse`] refuses octets as an option: the first check that fails.
 #[derive(Debug, PartialEq, Eq, Clone, Copy)]
 #[non_exhaustive]
 pub enum Refusal {
     /// No bytes.
     Empty,
-    /// A type that is not a Pad1, and no length behind it.
+    /// A type other than Pad1, without a length after it.
     Short,
-    /// Fewer bytes than the length counts, which is this many with the type and the length.
+    /// Fewer bytes than the length counts, which is this number of bytes, with the type and the length.
     Cut(usize),
     /// A length, in bytes, that the type does not allow: a router alert of other than 2 bytes of data.
     Length(Type, u8),
 }
 
 impl<'a> Repr<'a> {
-    /// Why [`Repr::parse`] refuses these octets, by the check that fails first; None exactly where it reads them.
+    /// Why [`Repr::parse`] refuses these octets, by the first check that fails; None exactly where it reads them.
     pub fn refusal<B: AsRef<[u8]> + ?Sized>(opt: &Ipv6Option<&'a B>) -> Option<Refusal> {
         match Repr::parse(opt) {
             Ok(_) => None,
@@ -28,7 +28,7 @@ impl<'a> Repr<'a> {
     }
 }
 
-// Why the octets, which begin with no option, don't.
+// The first check that fails in octets that don't begin with an option.
 fn why_none<B: AsRef<[u8]> + ?Sized>(opt: &Ipv6Option<&B>) -> Refusal {
     let len = opt.buffer.as_ref().len();
     if len == 0 {
@@ -44,7 +44,7 @@ fn why_none<B: AsRef<[u8]> + ?Sized>(opt: &Ipv6Option<&B>) -> Refusal {
     Refusal::Length(Type::RouterAlert, opt.data_len())
 }
 
-// The octets behind the option at the front of these, or why none stands there.
+// The octets after the option at the front, or why they don't begin with an option.
 
 pub(crate) fn behind_first(octets: &[u8]) -> Result<&[u8], Refusal> {
     let opt = Ipv6Option::new_unchecked(octets);

@@ -1,5 +1,5 @@
 // Made from crates/opt_wire/src/ipv6option/tables.rt by rust/erase.
-//! The numbers of options, of router alerts and of what an unknown option asks (RFC 8200 section 4.2, RFC 2711).
+//! The numbers of options, of router alerts, and of the treatment of unknown options (RFC 8200 section 4.2, RFC 2711).
 
 use core::fmt;
 
@@ -56,7 +56,7 @@ impl fmt::Display for Type {
     }
 }
 
-/// What a router alert tells of the packet, two bytes (RFC 2711 section 2.1).
+/// What a router alert announces that the packet holds, two bytes (RFC 2711 section 2.1).
 #[derive(Debug, PartialEq, Eq, PartialOrd, Ord, Clone, Copy)]
 pub enum RouterAlert {
     /// A message of multicast listener discovery.
@@ -70,7 +70,7 @@ pub enum RouterAlert {
 }
 
 impl RouterAlert {
-    /// The bytes of a router alert's data: it is one number of two bytes (RFC 2711 section 2.1).
+    /// The bytes of a router alert's data: one number of two bytes (RFC 2711 section 2.1).
     pub const DATA_LEN: u8 = 2;
 }
 
@@ -96,7 +96,7 @@ impl From<RouterAlert> for u16 {
     }
 }
 
-/// What the router alert tells of, or its number.
+/// The name of what the router alert announces, or its number.
 impl fmt::Display for RouterAlert {
     fn fmt(&self, f: &mut fmt::Formatter<'_>) -> fmt::Result {
         let words = match *self {
@@ -109,7 +109,7 @@ impl fmt::Display for RouterAlert {
     }
 }
 
-// A router alert as it prints in an option.
+// A router alert as it is printed in an option.
 pub(super) struct AlertName(pub(super) RouterAlert);
 
 impl fmt::Display for AlertName {
@@ -124,8 +124,8 @@ impl fmt::Display for AlertName {
     }
 }
 
-/// What a node does with a packet that has an option of a type that it does not know: the two highest bits of the
-/// type (RFC 8200 section 4.2), by which `as u8` gives each.
+/// What a node does with a packet that has an option of a type that it does not know: the two highest bits of the type
+/// (RFC 8200 section 4.2). `as u8` gives these bits in their places.
 #[derive(Debug, PartialEq, Eq, PartialOrd, Ord, Hash, Clone, Copy)]
 pub enum FailureType {
     /// Skip the option and go on.

@@ -5,13 +5,13 @@ use super::refusal::why_none;
 use super::{NdiscOption, Refusal, Repr};
 use crate::opt_wire::writing::UNIT;
 
-/// The options of a message of neighbor discovery in turn, those of unknown types too.
+/// The options of a message of neighbor discovery in turn, also those of unknown types.
 ///
-/// A whole option in which [`Repr::parse`] reads none is answered by the reason, and the one behind it comes next: a
-/// prefix of more than 4 units, an MTU of other than 1, or a redirected header that holds no whole packet of version 6.
-/// Where the octets end before an option does, or where one counts fewer units than its type has, as none at all, the
-/// reason comes once, and then the end for good. Hosts discard such a message (RFC 4861 section 6.1). The reason is
-/// the check that fails first, as [`Repr::refusal`] tells it.
+/// For a whole option that [`Repr::parse`] refuses, the reason is given, and then the next option: a prefix of more
+/// than 4 units, an MTU of other than 1, or a redirected header that holds no whole packet of version 6. Where the
+/// octets end before an option does, or an option has fewer units than its type requires, or none, the reason is given
+/// once, and then the end. Hosts discard such a message (RFC 4861 section 6.1). The reason is the first check that
+/// fails, as in [`Repr::refusal`].
 ///
 /// ```
 /// use control_wire::ndiscoption::{NdiscOptions, Refusal, Repr, Type};
@@ -29,12 +29,12 @@ use crate::opt_wire::writing::UNIT;
 /// ```
 #[derive(Debug, Clone)]
 pub struct NdiscOptions<'a> {
-    // The octets behind the options that were given.
+    // The octets after the options that were given already.
     rest: &'a [u8],
 }
 
 impl<'a> NdiscOptions<'a> {
-    /// The options in these octets, which are what stands behind the fields of a message: `icmpv6::Packet::payload`.
+    /// The options in `octets`, which are those after the fields of a message: `icmpv6::Packet::payload`.
     pub fn new(octets: &'a [u8]) -> NdiscOptions<'a> {
         NdiscOptions { rest: octets }
     }
@@ -60,7 +60,7 @@ impl<'a> Iterator for NdiscOptions<'a> {
     }
 }
 
-// The option in a block, or why none is read there.
+// The option in a block, or why the block is refused.
 #[inline(always)]
 fn read_block(block: &[u8]) -> Result<Repr<'_>, Refusal> {
     let option = NdiscOption::new_unchecked(block);
@@ -70,7 +70,7 @@ fn read_block(block: &[u8]) -> Result<Repr<'_>, Refusal> {
     }
 }
 
-// The block at the front, and what stands behind it; or why the octets don't begin with a block.
+// The block at the front and the octets after it, or why they don't begin with a block.
 fn split_block(octets: &[u8]) -> Result<(&[u8], &[u8]), Refusal> {
     let Ok(option) = NdiscOption::new_checked(octets) else {
         return Err(why_none(&NdiscOption::new_unchecked(octets)));

@@ -1,12 +1,12 @@
 // Made from crates/opt_wire/src/ndiscoption/refusal.rt by rust/erase.
-//! Why octets begin with no option of neighbor discovery, check by check (RFC 4861 section 4.6).
+//! Why octets are refused as an option of neighbor discovery (RFC 4861 section 4.6).
 
 use super::{NdiscOption, Repr, Type};
 use crate::opt_wire::writing::UNIT;
 use crate::wirebase::{IPV6_HEADER_LEN, Ipv6Packet};
 use core::fmt;
 
-/// Why octets begin with no option that [`Repr::parse`] reads: the check that fails first.
+/// Why [`Repr::parse`] refuses octets as an option: the first check that fails.
 #[derive(Debug, PartialEq, Eq, Clone, Copy)]
 #[non_exhaustive]
 pub enum Refusal {
@@ -14,20 +14,20 @@ pub enum Refusal {
     Short,
     /// A length of 0, whatever the type.
     Zero,
-    /// Fewer bytes than the length counts, which is this many.
+    /// Fewer bytes than the length counts, which is this number of bytes.
     Cut(usize),
     /// A length, in units of 8 bytes, that the type does not allow: a prefix of other than 4 units, a redirected header
     /// of fewer than 6, or an MTU of other than 1.
     Length(Type, u8),
-    /// A redirected packet of fewer bytes than it counts, which is this many with its header.
+    /// A redirected packet of fewer bytes than its header counts, which is this number of bytes, with the header.
     PacketCut(usize),
-    /// A redirected packet of this version, and not of 6.
+    /// A redirected packet of this version, not 6.
     PacketVersion(u8),
 }
 
 impl<'a> Repr<'a> {
-    /// Why [`Repr::parse`] refuses these octets, by the check that fails first; None exactly where it reads them. A
-    /// length of 0 is told before a length that the type does not allow.
+    /// Why [`Repr::parse`] refuses these octets, by the first check that fails; None exactly where it reads them. A
+    /// length of 0 is checked before a length that the type does not allow.
     pub fn refusal<B: AsRef<[u8]> + ?Sized>(opt: &NdiscOption<&'a B>) -> Option<Refusal> {
         match Repr::parse(opt) {
             Ok(_) => None,
@@ -36,7 +36,7 @@ impl<'a> Repr<'a> {
     }
 }
 
-// Why the octets, which begin with no option, don't.
+// The first check that fails in octets that don't begin with an option.
 pub(super) fn why_none<B: AsRef<[u8]> + ?Sized>(opt: &NdiscOption<&B>) -> Refusal {
     let len = opt.buffer.as_ref().len();
     if len < UNIT {
@@ -56,7 +56,7 @@ pub(super) fn why_none<B: AsRef<[u8]> + ?Sized>(opt: &NdiscOption<&B>) -> Refusa
     }
 }
 
-// Why a redirected header is none.
+// Why the octets are refused as a redirected header.
 fn why_not_redirected<B: AsRef<[u8]> + ?Sized>(opt: &NdiscOption<&B>) -> Refusal {
     let units = opt.data_len();
     if units < 6 {

@@ -11,24 +11,24 @@ use crate::wirebase::{
 };
 use core::fmt;
 
-/// A prefix of addresses (RFC 4861 section 4.6.2). Its times are sent in whole seconds.
+/// A prefix of addresses (RFC 4861 section 4.6.2). Its times are written in whole seconds.
 #[derive(Debug, PartialEq, Eq, Clone, Copy)]
 pub struct PrefixInformation {
-    /// The bits of the prefix that count.
+    /// The length of the prefix, in bits.
     pub prefix_len: u8,
     /// What the prefix is for.
     pub flags: PrefixInfoFlags,
     /// How long the prefix is on the link.
     pub valid_lifetime: Duration,
-    /// How long addresses made of it are preferred.
+    /// How long addresses made of the prefix are preferred.
     pub preferred_lifetime: Duration,
-    /// The prefix, as the address that begins with it.
+    /// The prefix, as an address that begins with it.
     pub prefix: Ipv6Address,
 }
 
 impl PrefixInformation {
-    /// Whether hosts may make themselves addresses of the prefix (RFC 4862 section 5.5.3, a to c): it has the flag for
-    /// it, is not that of link-local addresses, and is not preferred for longer than it is valid.
+    /// Whether hosts may make addresses of the prefix (RFC 4862 section 5.5.3, a to c): its flag for that is set, it is
+    /// not the link-local prefix, and it is not preferred for longer than it is valid.
     pub fn is_valid_prefix_info(&self) -> bool {
         self.flags.contains(PrefixInfoFlags::ADDRCONF)
             && !self.prefix.is_link_local()
@@ -36,7 +36,7 @@ impl PrefixInformation {
     }
 }
 
-/// All fields in their order, with times in seconds.
+/// Prints all fields in their order, with times in seconds.
 impl fmt::Display for PrefixInformation {
     fn fmt(&self, f: &mut fmt::Formatter<'_>) -> fmt::Result {
         let PrefixInformation {
@@ -54,16 +54,16 @@ impl fmt::Display for PrefixInformation {
     }
 }
 
-/// The packet that a redirect speaks of (RFC 4861 section 4.6.3).
+/// The packet that a redirect quotes (RFC 4861 section 4.6.3).
 #[derive(Debug, PartialEq, Eq, Clone, Copy)]
 pub struct RedirectedHeader<'a> {
     /// The header of that packet.
     pub header: Ipv6Repr,
-    /// The payload, all the bytes that the header counts.
+    /// The payload: all the bytes that the header counts.
     pub data: &'a [u8],
 }
 
-/// The header, the bytes that it counts, and the payload in hexadecimal.
+/// Prints the header, the length of its payload, and the payload in hexadecimal.
 impl fmt::Display for RedirectedHeader<'_> {
     fn fmt(&self, f: &mut fmt::Formatter<'_>) -> fmt::Result {
         write!(
@@ -85,9 +85,9 @@ pub enum Repr<'a> {
     TargetLinkLayerAddr(RawHardwareAddress),
     /// A prefix of the link.
     PrefixInformation(PrefixInformation),
-    /// The packet that a redirect speaks of.
+    /// The packet that a redirect quotes.
     RedirectedHeader(RedirectedHeader<'a>),
-    /// The greatest packet of the link, in bytes.
+    /// The MTU of the link, in bytes.
     Mtu(u32),
     /// An option of any other type.
     Unknown {
@@ -95,15 +95,15 @@ pub enum Repr<'a> {
         type_: u8,
         /// The units of 8 bytes that the option counts.
         length: u8,
-        /// The data behind type and length: 8 * `length` - 2 bytes.
+        /// The data after type and length: 8 * `length` - 2 bytes.
         data: &'a [u8],
     },
 }
 
 impl<'a> Repr<'a> {
     /// The option at the front of the octets. Refused where they don't begin with a whole option of one unit or more,
-    /// where a prefix counts other than 4 units or an MTU other than 1, and where a redirected header is none of a
-    /// whole packet of version 6. Flags without a name are left out; reserved bytes and padding are not looked at.
+    /// where a prefix has other than 4 units or an MTU other than 1, and where a redirected header doesn't hold a whole
+    /// packet of version 6. Flags without a name are dropped; reserved bytes and padding are not checked.
     #[inline(always)]
     pub fn parse<B: AsRef<[u8]> + ?Sized>(opt: &NdiscOption<&'a B>) -> Result<Repr<'a>> {
         Repr::read(opt)
@@ -117,7 +117,7 @@ impl<'a> Repr<'a> {
         if length == 0 {
             return Err(Error);
         }
-        // A return in each arm: the value is then written once, where the caller has room for it.
+        // Each arm returns, so that the value is written once, in the caller's slot.
         match opt.option_type() {
             Type::SourceLinkLayerAddr => {
                 return Ok(Repr::SourceLinkLayerAddr(opt.link_layer_addr()));
@@ -157,8 +157,7 @@ impl<'a> Repr<'a> {
         }
     }
 
-    /// The bytes that the option takes, by the units that it counts: whole units. Requires that a `usize` holds their
-    /// number.
+    /// The bytes that the option takes: whole units. Requires that their number fits a `usize`.
     ///
     /// # Panics
     ///
@@ -167,17 +166,17 @@ impl<'a> Repr<'a> {
         match self {
             Repr::SourceLinkLayerAddr(addr) => writing::link_layer_addr_len(addr),
             Repr::TargetLinkLayerAddr(addr) => writing::link_layer_addr_len(addr),
-            Repr::PrefixInformation(_) => writing::PREFIX_LEN,
+            Repr::PrefixInformation(_) => writing::PREFIX_OPTION_LEN,
             Repr::RedirectedHeader(redirected) => writing::redirected_len(redirected),
             Repr::Mtu(_) => writing::MTU_LEN,
             Repr::Unknown { length, .. } => UNIT * *length as usize,
         }
     }
 
-    /// Writes the option over the front of the octets, its reserved bytes and its padding zero; the others stay.
-    /// Requires the bytes that the option takes; times of 4,294,967,295 seconds at most; that a redirected header
-    /// counts its data as the payload, 1,992 bytes at most; and that the data of an unknown option, which counts one
-    /// unit or more, fills those units.
+    /// Writes the option over the front of the octets, its reserved bytes and its padding zero; the other octets are
+    /// unchanged. Requires the bytes that the option takes; times of 4,294,967,295 seconds at most; that a redirected
+    /// header counts its data as the payload, 1,992 bytes at most; and that the data of an unknown option, which counts
+    /// one unit or more, fills those units.
     ///
     /// # Panics
     ///
@@ -186,7 +185,7 @@ impl<'a> Repr<'a> {
         self.emit_into(opt.buffer.octets_mut());
     }
 
-    /// The same into a slice.
+    /// Like `emit`, but writes into a slice.
     ///
     /// # Panics
     ///
@@ -221,15 +220,15 @@ impl<'a> Repr<'a> {
 }
 
 impl<'a, B: AsRef<[u8]> + ?Sized> NdiscOption<&'a B> {
-    // The redirected packet.
+    // The octets of the redirected packet.
     pub(super) fn redirected(&self) -> &'a [u8] {
         let octets: &'a [u8] = self.buffer.as_ref();
         &octets[field::redirected(self.data_len())]
     }
 }
 
-// The header of a packet, and its payload. It stands apart, so that a parser has no registers and no places in memory
-// for them when it reads one of the other options.
+// The header of a packet, and its payload. A function of its own, so that a parser needs no registers and no stack for
+// them when it reads one of the other options.
 #[inline(never)]
 fn read_redirected(octets: &[u8]) -> Result<(Ipv6Repr, &[u8])> {
     let packet = Ipv6Packet::new_checked(octets)?;
@@ -237,7 +236,7 @@ fn read_redirected(octets: &[u8]) -> Result<(Ipv6Repr, &[u8])> {
     Ok((header, packet.payload()))
 }
 
-/// All that the option has, as `NDISC Option: MTU mtu=1500`; the data of an option of unknown type in hexadecimal.
+/// Prints the fields, as `NDISC Option: MTU mtu=1500`; the data of an option of unknown type in hexadecimal.
 impl fmt::Display for Repr<'_> {
     fn fmt(&self, f: &mut fmt::Formatter<'_>) -> fmt::Result {
         match self {
@@ -259,7 +258,7 @@ impl fmt::Display for Repr<'_> {
     }
 }
 
-// What a prefix prints.
+// Prints a prefix.
 fn fmt_prefix(f: &mut fmt::Formatter<'_>, info: &PrefixInformation) -> fmt::Result {
     let PrefixInformation {
         prefix_len,
@@ -275,7 +274,7 @@ fn fmt_prefix(f: &mut fmt::Formatter<'_>, info: &PrefixInformation) -> fmt::Resu
     )
 }
 
-// What an option of any other type prints.
+// Prints an option of unknown type.
 fn fmt_unknown(f: &mut fmt::Formatter<'_>, type_: u8, length: u8, data: &[u8]) -> fmt::Result {
     write!(
         f,

@@ -13,9 +13,9 @@ pub enum Type {
     TargetLinkLayerAddr,
     /// A prefix of addresses on the link.
     PrefixInformation,
-    /// The packet that a redirect speaks of.
+    /// The packet that a redirect quotes.
     RedirectedHeader,
-    /// The greatest packet of the link.
+    /// The MTU of the link.
     Mtu,
     /// Any other type, by its number.
     Unknown(u8),
@@ -51,7 +51,7 @@ impl From<Type> for u8 {
     }
 }
 
-/// What the option has, or the number of an unknown type.
+/// The name of the type, or the number of an unknown type.
 impl fmt::Display for Type {
     fn fmt(&self, f: &mut fmt::Formatter<'_>) -> fmt::Result {
         let words = match self {
@@ -78,7 +78,7 @@ bitflags::bitflags! {
     }
 }
 
-/// The names of the flags that are set, as `on_link,addrconf`; `-` where none is. Bits without a name are not told.
+/// The names of the flags that are set, as `on_link,addrconf`; `-` where none is. Bits without a name are not printed.
 impl fmt::Display for PrefixInfoFlags {
     fn fmt(&self, f: &mut fmt::Formatter<'_>) -> fmt::Result {
         let on_link = self.bits() & 0x80 != 0;

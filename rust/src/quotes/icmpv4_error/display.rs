@@ -5,9 +5,9 @@ use super::{Kind, Repr};
 use crate::wirebase::Ipv4Address;
 use core::fmt;
 
-/// The type by its name, the code and what it says, the next hop's MTU, the gateway or the pointer where the error
-/// tells one, and the number of bytes that are quoted, as
-/// `ICMPv4 redirect code=1 (redirect for the host) gateway=192.0.2.1 quoted=28`.
+/// The type by its name, the code and its meaning, the next hop's MTU, the gateway or the pointer where the error has
+/// one, and the number of quoted bytes, as `ICMPv4 redirect code=1 (redirect for the host) gateway=192.0.2.1
+/// quoted=28`.
 impl fmt::Display for Repr<'_> {
     fn fmt(&self, f: &mut fmt::Formatter<'_>) -> fmt::Result {
         let kind = self.kind;
@@ -43,7 +43,7 @@ impl fmt::Display for Kind {
     }
 }
 
-// What is told or not, with its name in front: nothing where it is not.
+// An optional field after its name; nothing where it is None.
 
 #[derive(Clone, Copy)]
 struct Mtu(Option<u16>);

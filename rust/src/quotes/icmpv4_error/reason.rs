@@ -1,11 +1,10 @@
 // Made from crates/quote_wire/src/icmpv4_error/reason.rt by rust/erase.
-//! What the codes of errors say (RFC 792, RFC 1122 section 3.2.2, RFC 1812 section 5.2.7.1).
+//! The meanings of the codes of errors (RFC 792, RFC 1122 section 3.2.2, RFC 1812 section 5.2.7.1).
 
 use super::{Kind, Repr};
 
 impl Repr<'_> {
-    /// What the code says, in the words that `icmpv4::DstUnreachable` and its like print; None for a code that has
-    /// none.
+    /// The meaning of the code, in the words of `icmpv4::DstUnreachable` and its like; None for a code without one.
     pub fn reason(&self) -> Option<&'static str> {
         match self.kind {
             Kind::DstUnreachable => unreachable(self.code),
@@ -40,7 +39,7 @@ fn unreachable(code: u8) -> Option<&'static str> {
     }
 }
 
-// For which datagrams another gateway is better.
+// The datagrams for which another gateway is better.
 fn redirect(code: u8) -> Option<&'static str> {
     match code {
         0 => Some("redirect for the network"),
@@ -51,7 +50,7 @@ fn redirect(code: u8) -> Option<&'static str> {
     }
 }
 
-// Which time was exceeded.
+// The time that was exceeded.
 fn time_exceeded(code: u8) -> Option<&'static str> {
     match code {
         0 => Some("time-to-live exceeded in transit"),

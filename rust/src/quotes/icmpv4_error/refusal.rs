@@ -7,17 +7,17 @@ use crate::quotes::{field, quote};
 use crate::wirebase::{ChecksumCapabilities, Octets, checksum};
 use core::fmt;
 
-/// Why octets are no error that [`Repr::parse`] reads: the check that fails first.
+/// Why [`Repr::parse`] refuses octets: the check that fails first.
 #[derive(Debug, PartialEq, Eq, Clone, Copy)]
 #[non_exhaustive]
 pub enum Refusal {
     /// Fewer than 8 bytes.
     Short,
-    /// The checksum is to be verified, and does not hold.
+    /// The checksum is to be verified, and is wrong.
     Checksum,
     /// The type is not that of an error; this is its number.
     UnknownType(u8),
-    /// What stands behind the header is not the front of an IPv4 datagram, for this reason.
+    /// What follows the header is not the start of an IPv4 datagram, for this reason.
     Quote(quote::Refusal),
 }
 

@@ -4,8 +4,8 @@
 use super::{Kind, Repr};
 use core::fmt;
 
-/// The type by its name, the code and what it says, the next link's MTU or the pointer where the error tells one, and
-/// the number of bytes that are quoted, as `ICMPv6 packet too big code=0 mtu=1280 quoted=48`.
+/// The type by its name, the code and its meaning, the next link's MTU or the pointer where the error has one, and the
+/// number of quoted bytes, as `ICMPv6 packet too big code=0 mtu=1280 quoted=48`.
 impl fmt::Display for Repr<'_> {
     fn fmt(&self, f: &mut fmt::Formatter<'_>) -> fmt::Result {
         let kind = self.kind;
@@ -36,7 +36,7 @@ impl fmt::Display for Kind {
     }
 }
 
-// What is told or not, with its name in front: nothing where it is not.
+// An optional field after its name; nothing where it is None.
 
 #[derive(Clone, Copy)]
 struct Mtu(Option<u32>);

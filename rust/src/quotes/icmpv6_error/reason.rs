@@ -1,11 +1,10 @@
 // Made from crates/quote_wire/src/icmpv6_error/reason.rt by rust/erase.
-//! What the codes of errors say (RFC 4443 sections 3.1, 3.3 and 3.4).
+//! The meanings of the codes of errors (RFC 4443 sections 3.1, 3.3 and 3.4).
 
 use super::{Kind, Repr};
 
 impl Repr<'_> {
-    /// What the code says, in the words that `icmpv6::DstUnreachable` and its like print; None for a code that has
-    /// none.
+    /// The meaning of the code, in the words of `icmpv6::DstUnreachable` and its like; None for a code without one.
     pub fn reason(&self) -> Option<&'static str> {
         match self.kind {
             Kind::DstUnreachable => unreachable(self.code),
@@ -30,7 +29,7 @@ fn unreachable(code: u8) -> Option<&'static str> {
     }
 }
 
-// Which time was exceeded.
+// The time that was exceeded.
 fn time_exceeded(code: u8) -> Option<&'static str> {
     match code {
         0 => Some("hop limit exceeded in transit"),

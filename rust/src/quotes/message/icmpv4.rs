@@ -40,19 +40,19 @@ pub enum Icmpv4Message<'a> {
     Message(icmpv4::Repr<'a>),
 }
 
-/// Why octets are no message that [`Icmpv4Message::parse`] reads: the check that fails first.
+/// Why [`Icmpv4Message::parse`] refuses octets: the check that fails first.
 #[derive(Debug, PartialEq, Eq, Clone, Copy)]
 #[non_exhaustive]
 pub enum Icmpv4Refusal {
-    /// Their type is that of an error, and they are none.
+    /// The type is that of an error, but the octets are no error, for this reason.
     Error(icmpv4_error::Refusal),
-    /// Their type is that of no error, and they are no other message.
+    /// The type is not that of an error, and the octets are no other message, for this reason.
     Message(icmpv4::Refusal),
 }
 
 impl<'a> Icmpv4Message<'a> {
     /// The message in the octets. An error is read as `icmpv4_error::Repr::parse` reads it, and every other message as
-    /// `icmpv4::Repr::parse` does; refused where the one of the two that the type asks for refuses.
+    /// `icmpv4::Repr::parse` does; refused where that parser refuses it.
     pub fn parse(
         octets: &'a [u8],
         checksum_caps: &ChecksumCapabilities,
@@ -100,7 +100,7 @@ fn has_error_type(octets: &[u8]) -> bool {
     }
 }
 
-/// What the error or the other message prints.
+/// How the error or the other message prints.
 impl fmt::Display for Icmpv4Message<'_> {
     fn fmt(&self, f: &mut fmt::Formatter<'_>) -> fmt::Result {
         match self {

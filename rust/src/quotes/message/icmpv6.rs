@@ -42,20 +42,20 @@ pub enum Icmpv6Message<'a> {
     Message(icmpv6::Repr<'a>),
 }
 
-/// Why octets are no message that [`Icmpv6Message::parse`] reads: the check that fails first.
+/// Why [`Icmpv6Message::parse`] refuses octets: the check that fails first.
 #[derive(Debug, PartialEq, Eq, Clone, Copy)]
 #[non_exhaustive]
 pub enum Icmpv6Refusal {
-    /// Their type is that of an error, and they are none.
+    /// The type is that of an error, but the octets are no error, for this reason.
     Error(icmpv6_error::Refusal),
-    /// Their type is that of no error, and they are no other message.
+    /// The type is not that of an error, and the octets are no other message, for this reason.
     Message(icmpv6::Refusal),
 }
 
 impl<'a> Icmpv6Message<'a> {
     /// The message in the octets, which were sent from `src_addr` to `dst_addr`. An error is read as
-    /// `icmpv6_error::Repr::parse` reads it, and every other message as `icmpv6::Repr::parse` does; refused where the
-    /// one of the two that the type asks for refuses.
+    /// `icmpv6_error::Repr::parse` reads it, and every other message as `icmpv6::Repr::parse` does; refused where that
+    /// parser refuses it.
     pub fn parse(
         src_addr: &Ipv6Address,
         dst_addr: &Ipv6Address,
@@ -114,7 +114,7 @@ fn has_error_type(octets: &[u8]) -> bool {
     }
 }
 
-/// What the error or the other message prints.
+/// How the error or the other message prints.
 impl fmt::Display for Icmpv6Message<'_> {
     fn fmt(&self, f: &mut fmt::Formatter<'_>) -> fmt::Result {
         match self {

@@ -1,5 +1,5 @@
 // Made from crates/quote_wire/src/quote/refusal.rt by rust/erase.
-//! Why octets quote no packet.
+//! Why octets hold no quote of a packet.
 
 use super::{FIXED_END, Ipv4Quote, Ipv6Quote};
 use crate::quotes::icmpv4_error::is_datagram;
@@ -7,17 +7,18 @@ use crate::quotes::icmpv6_error::is_packet_front;
 use crate::wirebase::{IPV6_HEADER_LEN, Ipv4Packet, Ipv6Packet};
 use core::fmt;
 
-/// Why octets quote no packet that [`Ipv4Quote::parse`] or [`Ipv6Quote::parse`] reads: the check that fails first.
+/// Why [`Ipv4Quote::parse`] or [`Ipv6Quote::parse`] refuses octets: the check that fails first.
 #[derive(Debug, PartialEq, Eq, Clone, Copy)]
 #[non_exhaustive]
 pub enum Refusal {
-    /// Fewer bytes than the header has: of IPv4 fewer than 20 or than its own length, of IPv6 fewer than 40.
+    /// Fewer bytes than the header has: for IPv4 fewer than 20 or than its own length field says, for IPv6 fewer than
+    /// 40.
     Short,
-    /// The header is of another version than 4 or 6 respectively, by its number.
+    /// The header's version is not 4 or 6 respectively; this is its number.
     Version(u8),
-    /// The header of IPv4 has fewer than 20 bytes by its own length; these are the bytes.
+    /// The IPv4 header's own length is below 20; this is that length in bytes.
     Length(u8),
-    /// Fewer than 8 bytes stand behind the header of IPv4 (RFC 792).
+    /// Fewer than 8 bytes follow the IPv4 header (RFC 792).
     Data,
 }
 
@@ -41,7 +42,7 @@ impl Ipv6Quote<'_> {
     }
 }
 
-// The check that fails first in octets that are not the front of an IPv4 datagram.
+// The check that fails first in octets that are not the start of an IPv4 datagram.
 pub(crate) fn why_no_datagram(octets: &[u8]) -> Refusal {
     if octets.len() < FIXED_END {
         return Refusal::Short;
@@ -61,7 +62,7 @@ pub(crate) fn why_no_datagram(octets: &[u8]) -> Refusal {
     Refusal::Data
 }
 
-// The check that fails first in octets that do not begin with a header of IPv6.
+// The check that fails first in octets that do not begin with an IPv6 header.
 pub(crate) fn why_no_packet(octets: &[u8]) -> Refusal {
     if octets.len() < IPV6_HEADER_LEN {
         return Refusal::Short;

@@ -1,21 +1,22 @@
 // Made from crates/record_wire/src/name/dotted.rt by rust/erase.
-//! The text of a name whose bytes all stand for themselves, straight from the message.
+//! The text of a name without escapes, written straight from the message.
 
 use crate::dns_wire::dns::Packet;
-use crate::dns_wire::message::{Front, follow, octets_of, read_front};
+use crate::dns_wire::octets::{NamePart, follow, octets_of, read_front};
 use crate::record::name::MAX_POINTERS;
 
-/// The room that the text of any name of such bytes has.
+/// The size of the buffer that holds the text of any such name.
 pub const ROOM_LEN: usize = 256;
 
-// The most octets of labels and dots (RFC 1035 section 2.3.4): dots stand for lengths, and byte 0 has no text.
+// The most octets of labels and dots (RFC 1035 section 2.3.4): a dot takes the place of each length, and byte 0 has no
+// text.
 const MOST: usize = 254;
 
-// Of a label of no more bytes, so many are copied.
+// A label of up to this many bytes is copied as a block of this size.
 const PIECE: usize = 16;
 
 /// Puts the text of the name that begins in `bytes`, and goes on where its pointers lead in the message, into the
-/// room's front, each label before a dot, or a dot alone for the root, and answers its length. None where no name is
+/// buffer, each label with a dot after it, or a dot alone for the root, and returns its length. None where no name is
 /// read, and where a byte of a label is not a letter, a digit, `-` or `_`, since its text may need a backslash then.
 pub fn put_dotted<'a, B: AsRef<[u8]> + ?Sized>(
     room: &mut [u8; ROOM_LEN],
@@ -25,8 +26,8 @@ pub fn put_dotted<'a, B: AsRef<[u8]> + ?Sized>(
     put_text(room, octets_of(packet), bytes)
 }
 
-// The same of the octets of a message. A pointer leads to one of the bytes that are open, and leaves those below that
-// place open, so this ends.
+// Puts the text of a name into the buffer, over the octets of the message. A pointer leads to one of the bytes that are
+// open, and leaves only those below that place open, so this ends.
 fn put_text(room: &mut [u8; ROOM_LEN], message: &[u8], bytes: &[u8]) -> Option<usize> {
     let mut at = 0;
     let mut dots = 0;
@@ -36,7 +37,7 @@ fn put_text(room: &mut [u8; ROOM_LEN], message: &[u8], bytes: &[u8]) -> Option<u
     let mut reach = message;
     loop {
         match read_front(left) {
-            Front::Label(label, rest) => {
+            NamePart::Label(label, rest) => {
                 let Some(end) = put_label(room, at, label, &left[1..]) else {
                     return None;
                 };
@@ -44,7 +45,7 @@ fn put_text(room: &mut [u8; ROOM_LEN], message: &[u8], bytes: &[u8]) -> Option<u
                 dots += 1;
                 left = rest;
             }
-            Front::Pointer(target) => {
+            NamePart::Pointer(target) => {
                 let Some((next, open)) = follow(reach, target) else {
                     return None;
                 };
@@ -55,24 +56,24 @@ fn put_text(room: &mut [u8; ROOM_LEN], message: &[u8], bytes: &[u8]) -> Option<u
                 left = next;
                 reach = open;
             }
-            Front::End => {
+            NamePart::End => {
                 if at == 0 {
                     room[0] = b'.';
                     return Some(1);
                 }
-                // No dot is usual, and none but these may stand there.
+                // A dot is not usual, so the only dots are those between labels.
                 if count_usual(&room[..at]) + dots != at {
                     return None;
                 }
                 return Some(at);
             }
-            Front::Torn => return None,
+            NamePart::Torn => return None,
         }
     }
 }
 
-// Puts a label and a dot behind the first octets of a room, `at` of them, and answers how many there are then. The
-// label stands at the front of `ahead`. None where a name has no room for them.
+// Puts a label and a dot after the first octets of a buffer, `at` of them, and returns how many there are then. The
+// label is at the start of `ahead`. None where a name has no room for them.
 #[inline(always)]
 fn put_label(room: &mut [u8; ROOM_LEN], at: usize, label: &[u8], ahead: &[u8]) -> Option<usize> {
     let end = at + label.len();
@@ -84,8 +85,8 @@ fn put_label(room: &mut [u8; ROOM_LEN], at: usize, label: &[u8], ahead: &[u8]) -
     Some(end + 1)
 }
 
-// Puts a label behind the first octets of a room, `at` of them. Of most labels sixteen bytes are copied, since a length
-// that the compiler knows costs less: what stands behind the label has no meaning.
+// Puts a label after the first `at` octets of a buffer. For most labels sixteen bytes are copied, since a copy of
+// constant length is cheaper: the bytes after the label have no meaning.
 #[inline(always)]
 fn copy_label(room: &mut [u8; ROOM_LEN], at: usize, label: &[u8], ahead: &[u8]) {
     let end = at + label.len();
@@ -96,7 +97,7 @@ fn copy_label(room: &mut [u8; ROOM_LEN], at: usize, label: &[u8], ahead: &[u8]) 
     }
 }
 
-// How many bytes of a text are usual. It looks at each, since a branch at a byte would cost more.
+// The number of usual bytes at the start of a text. Each byte is looked at, since a branch at a byte would cost more.
 fn count_usual(text: &[u8]) -> usize {
     let mut count = 0;
     for byte in text {
@@ -125,6 +126,3 @@ static USUAL: [bool; 256] = [
     F, F, F, F, F, F, F, F, F, F, F, F, F, F, F, F, F, F, F, F, F, F, F, F, F, F, F, F, F, F, F, F,
     F, F, F, F, F, F, F, F, F, F, F, F, F, F, F, F, F, F, F, F, F, F, F, F, F, F, F, F, F, F, F, F,
 ];
-
-#[cfg(test)]
-mod tests;

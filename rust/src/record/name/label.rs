@@ -8,7 +8,7 @@ use arrayvec::ArrayVec;
 /// The most bytes that a label has (RFC 1035 section 2.3.4).
 pub(super) const MAX_LABEL_LEN: usize = 63;
 
-/// The label at the front of octets, and what stands behind it. None at byte 0, and where no whole label stands.
+/// The label at the start of octets, and what follows it. None at byte 0, and where there is no whole label.
 pub(super) fn split_label(octets: &[u8]) -> Option<(&[u8], &[u8])> {
     match octets {
         [len @ 1..=63, rest @ ..] if *len as usize <= rest.len() => {
@@ -22,12 +22,12 @@ pub(super) fn split_label(octets: &[u8]) -> Option<(&[u8], &[u8])> {
 /// The labels of a name in turn, each without its length.
 #[derive(Debug, Clone)]
 pub struct Labels<'a> {
-    // The octets behind the labels that were given.
+    // The octets after the labels that were given.
     left: &'a [u8],
 }
 
 impl<'a> Labels<'a> {
-    // The labels at the front of these octets.
+    // The labels at the start of these octets.
     pub(super) fn new(octets: &'a [u8]) -> Labels<'a> {
         Labels { left: octets }
     }
@@ -47,7 +47,7 @@ impl<'a> Iterator for Labels<'a> {
     }
 }
 
-/// Writes a label behind its length. Refused where there is no room; then less may be written.
+/// Writes a label after its length. Refused where there is no room; then less may be written.
 ///
 /// # Panics
 ///
@@ -62,8 +62,8 @@ pub(super) fn push_label(octets: &mut ArrayVec<u8, MAX_NAME_LEN>, label: &[u8]) 
     Ok(())
 }
 
-/// Writes labels behind the others. Refused where no name has room for them, which byte 0 ends. Of none nothing is
-/// copied: between two pointers often no label stands.
+/// Writes labels after the others. Refused where no name has room for them, which byte 0 ends. Where there are none,
+/// nothing is copied: two pointers often have no label between them.
 ///
 /// # Panics
 ///

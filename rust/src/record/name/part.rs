@@ -1,17 +1,17 @@
 // Made from crates/record_wire/src/name/part.rt by rust/erase.
 //! The labels in a part of a name (RFC 1035 section 4.1.4).
 
-use crate::dns_wire::message::{Front, read_front};
+use crate::dns_wire::octets::{NamePart, read_front};
 use crate::record::name::MAX_NAME_LEN;
 
-/// How many bytes the whole labels at the front of a text take, which are copied as one, and what stands behind them: a
-/// label too, where it would end behind the most octets that the labels of a name have.
+/// The number of bytes of the whole labels at the start of a text, which are copied at once, and what follows them:
+/// also a label, where the labels with it would have more octets than a name has.
 #[inline]
-pub(super) fn read_labels(text: &[u8]) -> (usize, Front<'_>) {
+pub(super) fn read_labels(text: &[u8]) -> (usize, NamePart<'_>) {
     let mut left = text;
     loop {
         match read_front(left) {
-            Front::Label(_, rest) if text.len() - rest.len() < MAX_NAME_LEN => left = rest,
+            NamePart::Label(_, rest) if text.len() - rest.len() < MAX_NAME_LEN => left = rest,
             front => return (text.len() - left.len(), front),
         }
     }

@@ -1,8 +1,8 @@
 // Made from crates/record_wire/src/name/refusal.rt by rust/erase.
-//! Why no name begins in octets: the check that fails first.
+//! Why names are refused: the check that fails first.
 
 use crate::dns_wire::dns::Packet;
-use crate::dns_wire::message::octets_of;
+use crate::dns_wire::octets::octets_of;
 use crate::record::name::{Name, put_name};
 use crate::record::refusal::PartRefusal;
 use arrayvec::ArrayVec;
@@ -14,10 +14,10 @@ use core::{fmt, result};
 pub enum NameRefusal {
     /// The name is cut, or has a label of another kind.
     Part(PartRefusal),
-    /// A pointer to this place leads nowhere or round: out of the message, or, behind another pointer, not to below the
-    /// place that the one before it led to (RFC 1035 section 4.1.4).
+    /// A pointer to this place leads nowhere or in a circle: out of the message, or, after another pointer, not to
+    /// below the place that the one before it led to (RFC 1035 section 4.1.4).
     Pointer(usize),
-    /// The name follows more than [`crate::record::name::MAX_POINTERS`] pointers, with labels between them or not.
+    /// The name has more than [`crate::record::name::MAX_POINTERS`] pointers, with or without labels between them.
     TooManyPointers,
     /// The name has more than 255 octets (RFC 1035 section 2.3.4).
     TooLong,
@@ -38,8 +38,8 @@ impl fmt::Display for NameRefusal {
 }
 
 impl Name {
-    /// The name, as [`Name::read`] reads it, or else why it refuses this, as [`Name::read_refusal`] tells it: the check
-    /// that fails first.
+    /// The name, as [`Name::read`] reads it, or why it is refused, as [`Name::read_refusal`] tells: the check that
+    /// fails first.
     pub fn read_or_refusal<'a, B: AsRef<[u8]> + ?Sized>(
         packet: &Packet<&'a B>,
         bytes: &'a [u8],

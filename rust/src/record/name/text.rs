@@ -12,9 +12,9 @@ pub(super) fn is_root(text: &[u8]) -> bool {
     matches!(text, [b'.'])
 }
 
-/// Writes the labels of a text, with dots between them and a last dot allowed, where nothing stands yet. Refused where
-/// the text is none, where a label is empty or has more than 63 bytes, and where they have more than 255 octets. It
-/// stands apart, so that the root is read without the room that a label's text takes.
+/// Writes the labels of a text, with dots between them and a last dot allowed, to an empty name. Refused where the text
+/// is malformed, where a label is empty or has more than 63 bytes, and where they have more than 255 octets. A function
+/// of its own, so that the root is read without the buffer for a label's text.
 ///
 /// # Panics
 ///
@@ -33,7 +33,7 @@ pub(super) fn put_labels(octets: &mut ArrayVec<u8, MAX_NAME_LEN>, text: &[u8]) -
     }
 }
 
-/// What stands behind the text of a label.
+/// What follows the text of a label.
 #[derive(Clone, Copy)]
 pub(super) enum Behind<'a> {
     /// The end, or a last dot.
@@ -44,7 +44,7 @@ pub(super) enum Behind<'a> {
     Other,
 }
 
-/// What stands behind the text of a label.
+/// What follows the text of a label.
 pub(super) fn read_behind(text: &[u8]) -> Behind<'_> {
     match text {
         [] => Behind::End,
@@ -54,8 +54,8 @@ pub(super) fn read_behind(text: &[u8]) -> Behind<'_> {
     }
 }
 
-/// Reads a label's text, up to where no more characters stand, and gives what stands there. Refused where the label
-/// would be empty or has more than 63 bytes.
+/// Reads a label's text up to where no character follows, and returns the rest. Refused where the label would be empty
+/// or has more than 63 bytes.
 pub(super) fn read_label(text: &[u8]) -> Result<(ArrayVec<u8, MAX_LABEL_LEN>, &[u8])> {
     let mut label = ArrayVec::new();
     let mut left = text;
@@ -71,7 +71,7 @@ pub(super) fn read_label(text: &[u8]) -> Result<(ArrayVec<u8, MAX_LABEL_LEN>, &[
     Ok((label, left))
 }
 
-/// The byte that the first character of a text stands for, and what stands behind the character.
+/// The byte that the first character of a text denotes, and what follows the character.
 pub(super) fn read_byte(text: &[u8]) -> Option<(u8, &[u8])> {
     match text {
         [b'\\', rest @ ..] => read_quoted(rest),
@@ -80,7 +80,7 @@ pub(super) fn read_byte(text: &[u8]) -> Option<(u8, &[u8])> {
     }
 }
 
-// The same of what stands behind a backslash.
+// The byte that the text after a backslash denotes, and what follows it.
 fn read_quoted(text: &[u8]) -> Option<(u8, &[u8])> {
     match text {
         [digit, rest @ ..] if digit.is_ascii_digit() => read_number(*digit, rest),
@@ -89,7 +89,7 @@ fn read_quoted(text: &[u8]) -> Option<(u8, &[u8])> {
     }
 }
 
-// The same of what stands behind the first of three digits.
+// The byte that three digits denote, of which the first is given, and what follows them.
 fn read_number(first: u8, text: &[u8]) -> Option<(u8, &[u8])> {
     match text {
         [second, third, rest @ ..] if second.is_ascii_digit() && third.is_ascii_digit() => {
@@ -111,23 +111,24 @@ fn digit_value(digit: u8) -> u16 {
 // A bit for each byte, the first word's lowest for byte 0: whether it is visible and has no meaning of its own.
 const PLAIN: [u64; 4] = [0xf7ff_bcea_0000_0000, 0x7fff_ffff_efff_fffe, 0, 0];
 
-// Whether a byte is written as itself. A look-up, since a name's bytes are of no order that a processor could foresee.
+// Whether a byte is written as itself. A table: a branch for each byte would be mispredicted.
 fn is_plain(byte: u8) -> bool {
     PLAIN[(byte / 64) as usize] >> (byte % 64) & 1 == 1
 }
 
-// Whether a byte has a meaning of its own in a zone file.
+// Whether a byte has a special meaning in a zone file.
 fn is_special(byte: u8) -> bool {
     matches!(byte, b'"' | b'$' | b'(' | b')' | b'.' | b';' | b'@' | b'\\')
 }
 
-// The most octets of text that are written at once, since each write costs a call, and the most that a character has.
+// The most octets of text that are written at once, since each write costs a call, and the most octets that a character
+// has.
 const PIECE_LEN: usize = 64;
 
 const CHARACTER_LEN: usize = 4;
 
-/// Writes the labels in octets with dots between them, and a dot alone where there are none. It stands apart, so that
-/// the root is written without the room that a piece takes.
+/// Writes the labels in octets with dots between them, and a dot alone where there are none. A function of its own, so
+/// that the root is written without the buffer for a piece.
 #[inline(never)]
 pub(super) fn fmt_labels(f: &mut fmt::Formatter<'_>, octets: &[u8]) -> fmt::Result {
     let Some((first, rest)) = split_label(octets) else {
@@ -150,8 +151,8 @@ pub(super) fn fmt_labels(f: &mut fmt::Formatter<'_>, octets: &[u8]) -> fmt::Resu
     }
 }
 
-// Puts the text of a label behind what waits, which has this length, and gives the length of what waits then. The
-// length is no part of the piece, so that it stays in a register.
+// Puts the text of a label after the bytes that wait, `len` of them, and returns how many then wait. That number is not
+// a field of the piece, so that it stays in a register.
 fn put_label(
     f: &mut fmt::Formatter<'_>,
     piece: &mut [u8; PIECE_LEN],
@@ -171,7 +172,7 @@ fn put_label(
     Ok(len)
 }
 
-// Writes what waits, where there is no room for the longest character behind it.
+// Writes the bytes that wait, where the longest character does not fit after them.
 fn make_room(
     f: &mut fmt::Formatter<'_>,
     piece: &[u8; PIECE_LEN],
@@ -184,14 +185,14 @@ fn make_room(
     Ok(0)
 }
 
-/// Writes what waits.
+/// Writes the bytes that wait.
 pub(crate) fn write_piece(f: &mut fmt::Formatter<'_>, text: &[u8]) -> fmt::Result {
     // ASCII is UTF-8.
     f.write_str(core::str::from_utf8(text).unwrap_or(""))
 }
 
-// Puts a byte behind a backslash: itself where it has a meaning of its own, and else its number. Gives the length of
-// what waits then. It stands apart, so that the loop over plain characters stays small.
+// Puts a byte after a backslash: itself where it has a meaning of its own, and else its number. Returns the number of
+// bytes that then wait in the piece. A function of its own, so that the loop over plain characters stays small.
 #[inline(never)]
 fn put_quoted(piece: &mut [u8; PIECE_LEN], waiting: usize, byte: u8) -> usize {
     piece[waiting] = b'\\';

@@ -1,5 +1,5 @@
 // Made from crates/record_wire/src/name/text_refusal.rt by rust/erase.
-//! Why a text is that of no name: the check that fails first.
+//! Why texts of names are refused: the check that fails first.
 
 use crate::record::name::MAX_NAME_LEN;
 use crate::record::name::label::push_label;
@@ -7,20 +7,20 @@ use crate::record::name::text::{Behind, read_behind, read_byte, read_label};
 use arrayvec::ArrayVec;
 use core::fmt;
 
-/// Why [`crate::record::Name::from_text`] refuses a text, which it reads from its front on: the check that fails first.
+/// Why [`crate::record::Name::from_text`] refuses a text, which is read from its start: the check that fails first.
 #[derive(Debug, PartialEq, Eq, Clone, Copy)]
 #[non_exhaustive]
 pub enum NameTextRefusal {
-    /// A label has no bytes: the text is empty or begins with a dot, or two dots stand side by side.
+    /// A label has no bytes: the text is empty or begins with a dot, or two dots are adjacent.
     EmptyLabel,
     /// A label has more than 63 bytes (RFC 1035 section 2.3.4).
     LongLabel,
     /// The name has more than 255 octets (RFC 1035 section 2.3.4).
     TooLong,
-    /// A backslash with neither a visible character but a digit behind it, nor three digits of a number up to 255 (RFC
-    /// 1035 section 5.1).
+    /// A backslash that is followed neither by a visible character other than a digit nor by three digits of a number
+    /// up to 255 (RFC 1035 section 5.1).
     Escape,
-    /// This byte, which stands for itself behind a backslash alone, or not at all: it has a meaning of its own, or is
+    /// This byte, which needs a backslash before it or can't be written as itself: it has a meaning of its own, or is
     /// not visible.
     Byte(u8),
 }
@@ -40,7 +40,7 @@ impl fmt::Display for NameTextRefusal {
     }
 }
 
-/// Why a text is that of no name.
+/// Why a text is no name.
 ///
 /// # Panics
 ///
@@ -63,7 +63,7 @@ pub(super) fn why_no_text(text: &[u8]) -> NameTextRefusal {
     }
 }
 
-// Why no label of 1 to 63 bytes stands at the front of a text.
+// Why a text does not begin with a label of 1 to 63 bytes.
 fn why_no_label(text: &[u8]) -> NameTextRefusal {
     match read_byte(text) {
         Some(_) => NameTextRefusal::LongLabel,
@@ -71,7 +71,7 @@ fn why_no_label(text: &[u8]) -> NameTextRefusal {
     }
 }
 
-// Why no character stands at the front of a text.
+// Why a text does not begin with a character.
 fn why_no_character(text: &[u8]) -> NameTextRefusal {
     match text {
         [] => NameTextRefusal::EmptyLabel,
@@ -80,6 +80,3 @@ fn why_no_character(text: &[u8]) -> NameTextRefusal {
         [byte, ..] => NameTextRefusal::Byte(*byte),
     }
 }
-
-#[cfg(test)]
-mod tests;

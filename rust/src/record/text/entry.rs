@@ -24,7 +24,7 @@ pub enum EntryText<'a> {
     },
     /// A record.
     Record {
-        /// The section that it stands in.
+        /// The section that the record is in.
         section: Section,
         /// The record, with its names read.
         text: RecordText<'a>,
@@ -37,7 +37,7 @@ pub enum EntryText<'a> {
 impl<'a> Entry<'a> {
     /// The entry with its names read, which prints its line. A message is one of multicast DNS where it came from or
     /// goes to port 5353 of UDP (RFC 6762 section 3), which its octets do not tell: the top bit of a class is a flag
-    /// there (RFC 6762 sections 5.4 and 10.2), and a part of the class elsewhere. Refused where a name does not read,
+    /// there (RFC 6762 sections 5.4 and 10.2), and a part of the class elsewhere. Refused where a name can't be read,
     /// that of a question as [`TextRefusal::Owner`], and where the data of a record is not laid out as its type has it.
     ///
     /// ```
@@ -132,8 +132,8 @@ fn flushes_cache(record: &Record<'_>, is_multicast: bool) -> bool {
     is_multicast && record.flushes_cache()
 }
 
-/// The section, the question or the record as a zone file has it, and behind it ` ; unicast-response` or
-/// ` ; cache-flush` where its flag is set.
+/// The section, the question or the record as a zone file has it, and after it ` ; unicast-response` or ` ;
+/// cache-flush` where its flag is set.
 impl fmt::Display for EntryText<'_> {
     fn fmt(&self, f: &mut fmt::Formatter<'_>) -> fmt::Result {
         match self {
@@ -159,6 +159,3 @@ impl fmt::Display for EntryText<'_> {
         }
     }
 }
-
-#[cfg(test)]
-mod tests;

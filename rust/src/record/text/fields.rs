@@ -1,6 +1,6 @@
 // Made from crates/record_wire/src/text/fields.rt by rust/erase.
-//! Data with fields in front of one name or two and behind them, as a zone file has it (RFC 1035 section 5.1, RFC 1183,
-//! RFC 2163, RFC 2230, RFC 2535 section 7.2, RFC 3403 section 4.1, RFC 4034 sections 3.2 and 4.2).
+//! Data with fields before one name or two and after them, as a zone file has it (RFC 1035 section 5.1, RFC 1183, RFC
+//! 2163, RFC 2230, RFC 2535 section 7.2, RFC 3403 section 4.1, RFC 4034 sections 3.2 and 4.2).
 
 use crate::dns_wire::dns::{Packet, Type};
 use crate::record::name::Name;
@@ -12,16 +12,16 @@ use core::{fmt, result};
 /// The fields of data with one name or two, with each name read.
 #[derive(PartialEq, Eq, Clone)]
 pub struct FieldsText<'a> {
-    /// What stands in front of the names.
+    /// The fields before the names.
     pub front: Front<'a>,
     /// The name, or the first of two: the mailbox that is responsible, of MINFO (RMAILBX) and RP (mbox-dname); the
     /// domain of RFC 822, of PX (MAP822); the host, of AFSDB, RT and KX; the replacement, of NAPTR; the signer, of SIG;
     /// the next name, of NXT and NSEC.
     pub first: Name,
-    /// The second name: the mailbox for errors, of MINFO (EMAILBX); where TXT records stand, of RP (txt-dname); the
-    /// domain of X.400, of PX (MAPX400).
+    /// The second name: of MINFO the mailbox for errors (EMAILBX), of RP the name that has the TXT records (txt-dname),
+    /// of PX the domain of X.400 (MAPX400).
     pub second: Option<Name>,
-    /// What stands behind the names.
+    /// The fields after the names.
     pub rest: Rest<'a>,
 }
 
@@ -52,7 +52,7 @@ impl fmt::Display for Fields<'_> {
     }
 }
 
-/// Each field, and a space behind it.
+/// Each field, and a space after it.
 impl fmt::Display for Front<'_> {
     fn fmt(&self, f: &mut fmt::Formatter<'_>) -> fmt::Result {
         match self {
@@ -88,7 +88,7 @@ impl fmt::Display for Signed {
     }
 }
 
-/// A space, and the signature in base64; or each type behind a space.
+/// A space, and the signature in base64; or each type after a space.
 impl fmt::Display for Rest<'_> {
     fn fmt(&self, f: &mut fmt::Formatter<'_>) -> fmt::Result {
         match self {
@@ -100,7 +100,7 @@ impl fmt::Display for Rest<'_> {
     }
 }
 
-// A second name behind a space, where there is one.
+// A second name after a space, where there is one.
 #[derive(Clone, Copy)]
 struct Second<'a>(&'a Option<Name>);
 
@@ -113,7 +113,7 @@ impl fmt::Display for Second<'_> {
     }
 }
 
-// Writes each type of the maps behind a space, up to where no whole map stands.
+// Writes each type of the maps after a space, up to where there is no whole map.
 fn fmt_maps(f: &mut fmt::Formatter<'_>, octets: &[u8]) -> fmt::Result {
     let mut left = octets;
     while let Some((upper, map, rest)) = split_map(left) {
@@ -123,7 +123,7 @@ fn fmt_maps(f: &mut fmt::Formatter<'_>, octets: &[u8]) -> fmt::Result {
     Ok(())
 }
 
-// Writes each type of a map behind a space. The first bit is of this type.
+// Writes each type of a map after a space. The first bit is of this type.
 fn fmt_map(f: &mut fmt::Formatter<'_>, first: u16, map: &[u8]) -> fmt::Result {
     let mut number = first;
     let mut left = map;
@@ -157,7 +157,7 @@ impl fmt::Display for Byte {
     }
 }
 
-// A type behind a space, where the least significant bit is set.
+// A type after a space, where the least significant bit is set.
 #[derive(Clone, Copy)]
 struct Bit(u8, u16);
 
@@ -172,7 +172,7 @@ impl fmt::Display for Bit {
 }
 
 impl<'a> Fields<'a> {
-    /// The fields with each name read. Refused where one does not read.
+    /// The fields with each name read. Refused where one can't be read.
     pub fn text<B: AsRef<[u8]> + ?Sized>(
         &self,
         packet: &Packet<&'a B>,

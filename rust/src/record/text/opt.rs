@@ -4,7 +4,7 @@
 use crate::record::edns::{Edns, EdnsOption, EdnsOptions, OptionRefusal};
 use core::{fmt, result};
 
-/// What an OPT record says, as a comment of a zone file, in the manner of dig.
+/// An OPT record as a comment of a zone file, in the manner of dig.
 #[derive(Clone, Copy)]
 pub(super) struct Comment<'a>(pub(super) Edns<'a>);
 
@@ -36,7 +36,7 @@ impl fmt::Display for FlagsWord {
     }
 }
 
-// Options, each behind a semicolon, up to one that is cut.
+// Options, each after a semicolon, up to one that is cut.
 #[derive(Clone, Copy)]
 struct Options<'a>(&'a [u8]);
 
@@ -46,7 +46,7 @@ impl fmt::Display for Options<'_> {
     }
 }
 
-// An option, or why none stands where it should.
+// An option, or why the octets do not begin with one.
 #[derive(Clone, Copy)]
 struct Answer<'a>(result::Result<EdnsOption<'a>, OptionRefusal>);
 

@@ -29,7 +29,7 @@ pub struct QuestionText {
 }
 
 impl<'a> Question<'a> {
-    /// The question with its name read. Refused where the name does not read.
+    /// The question with its name read. Refused where the name can't be read.
     pub fn text<B: AsRef<[u8]> + ?Sized>(
         &self,
         packet: &Packet<&'a B>,
@@ -37,7 +37,7 @@ impl<'a> Question<'a> {
         self.text_of_class(packet, self.class)
     }
 
-    /// The same of a question of multicast DNS: its class is without the top bit, which is a flag there (RFC 6762
+    /// The text of a question of multicast DNS: its class is without the top bit, which is a flag there (RFC 6762
     /// section 5.4). [`crate::record::Entry::text`] reads the entries of either kind of message.
     pub fn multicast_text<B: AsRef<[u8]> + ?Sized>(
         &self,
@@ -46,7 +46,7 @@ impl<'a> Question<'a> {
         self.text_of_class(packet, self.multicast_class())
     }
 
-    // The same of a question that is taken as one of this class.
+    // The text of a question whose class is taken as this one.
     pub(crate) fn text_of_class<B: AsRef<[u8]> + ?Sized>(
         &self,
         packet: &Packet<&'a B>,

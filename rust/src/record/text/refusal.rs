@@ -9,11 +9,11 @@ use core::fmt;
 #[derive(Debug, PartialEq, Eq, Clone, Copy)]
 #[non_exhaustive]
 pub enum TextRefusal {
-    /// The record's name does not read.
+    /// The record's name can't be read.
     Owner(NameRefusal),
     /// The data is not laid out as the record's type and class have it.
     Data(DataRefusal),
-    /// A name in the data does not read: of two, the first that does not.
+    /// A name in the data can't be read: of two, the first such.
     DataName(NameRefusal),
 }
 

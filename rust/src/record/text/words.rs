@@ -21,7 +21,7 @@ impl fmt::Display for Whole<'_> {
     }
 }
 
-/// Strings, each of which stands behind its length, in quotes and with spaces between them.
+/// Strings, each after its length, in quotes and with spaces between them.
 #[derive(Clone, Copy)]
 pub(super) struct Strings<'a>(pub(super) &'a [u8]);
 
@@ -36,7 +36,7 @@ impl fmt::Display for Strings<'_> {
     }
 }
 
-// Writes each string that is left behind a space.
+// Writes each string that is left after a space.
 fn fmt_behind_spaces(f: &mut fmt::Formatter<'_>, mut strings: TxtStrings<'_>) -> fmt::Result {
     while let Some(string) = strings.next() {
         write!(f, " {}", Quoted(string))?;
@@ -64,7 +64,7 @@ fn fmt_characters(f: &mut fmt::Formatter<'_>, string: &[u8]) -> fmt::Result {
     Ok(())
 }
 
-// A byte of a string: itself, behind a backslash where it has a meaning of its own, or its number behind one.
+// A byte of a string: itself, after a backslash where it has a meaning of its own, or its number after one.
 #[derive(Clone, Copy)]
 struct Character(u8);
 
@@ -168,7 +168,7 @@ fn fmt_last(f: &mut fmt::Formatter<'_>, left: &[u8]) -> fmt::Result {
     }
 }
 
-// What stands for `=` among six bits each.
+// The value that becomes `=`, among those of six bits.
 const PADDING: u8 = 64;
 
 // Writes a character for six bits each.
@@ -176,7 +176,7 @@ fn write_digits(f: &mut fmt::Formatter<'_>, a: u8, b: u8, c: u8, d: u8) -> fmt::
     write_piece(f, &[digit(a), digit(b), digit(c), digit(d)])
 }
 
-// The first three bytes, and those behind them.
+// The first three bytes, and those after them.
 fn split_group(bytes: &[u8]) -> Option<(u8, u8, u8, &[u8])> {
     match bytes {
         [a, b, c, rest @ ..] => Some((*a, *b, *c, rest)),
@@ -184,7 +184,7 @@ fn split_group(bytes: &[u8]) -> Option<(u8, u8, u8, &[u8])> {
     }
 }
 
-/// The first byte, and those behind it.
+/// The first byte, and those after it.
 pub(super) fn split_byte(bytes: &[u8]) -> Option<(u8, &[u8])> {
     match bytes {
         [byte, rest @ ..] => Some((*byte, rest)),

@@ -1,9 +1,9 @@
 // Made from crates/wirebase/src/ipv6/refusal.rt by rust/erase.
-//! Why octets are no packet of IPv6.
+//! Why octets are refused as a packet of IPv6.
 
 use core::fmt;
 
-/// Why octets are no packet that [`Ipv6Repr::parse`](crate::Ipv6Repr::parse) reads: the check that fails first.
+/// Why [`Ipv6Repr::parse`](crate::Ipv6Repr::parse) refuses octets: the first check that fails.
 #[derive(Debug, PartialEq, Eq, Clone, Copy)]
 #[non_exhaustive]
 pub enum Ipv6Refusal {
@@ -11,7 +11,7 @@ pub enum Ipv6Refusal {
     Short,
     /// The octets end before the payload does, by the length in the header.
     Cut,
-    /// Another version than 6.
+    /// A version other than 6.
     Version(u8),
 }
 

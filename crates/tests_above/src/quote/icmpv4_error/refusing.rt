@@ -6,8 +6,7 @@ use quote_wire::icmpv4_error::{Refusal, Repr};
 use quote_wire::quote;
 use quote_wire::quote::Ipv4Quote;
 use std::process::Abort;
-use wirebase::ChecksumCapabilities;
-use wirebase::capabilities::Checksum;
+use wirebase::{Checksum, ChecksumCapabilities};
 
 #[test]
 fn errors_that_are_refused(rt: HostRuntime) {

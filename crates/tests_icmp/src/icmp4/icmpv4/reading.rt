@@ -8,8 +8,7 @@ use icmp4_wire::icmpv4::{
     DstUnreachable, Message, Packet, ParamProblem, Redirect, Repr, TimeExceeded,
 };
 use std::process::Abort;
-use wirebase::capabilities::Checksum;
-use wirebase::{ChecksumCapabilities, IpProtocol, Ipv4Address, Ipv4Repr};
+use wirebase::{Checksum, ChecksumCapabilities, IpProtocol, Ipv4Address, Ipv4Repr};
 
 // Whether a message is read from the octets.
 fn is_read(octets: &[u8], capabilities: &ChecksumCapabilities) -> bool {

@@ -6,8 +6,7 @@ use super::{ALL, ECHO_REQUEST, PORT_UNREACHABLE, QUOTED_DATA, all, quoted, write
 use crate::testing::{same, same_of};
 use icmp4_wire::icmpv4::{Packet, Repr, TimeExceeded};
 use std::process::Abort;
-use wirebase::ChecksumCapabilities;
-use wirebase::capabilities::Checksum;
+use wirebase::{Checksum, ChecksumCapabilities};
 
 // The octets of a buffer before it is written into.
 const FILLS: [u8; 4] = [0x00, 0xff, 0x2a, 0xa5];

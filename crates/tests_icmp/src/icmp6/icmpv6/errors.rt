@@ -7,8 +7,7 @@ use super::{
 use crate::testing::{differ, holds_of, same, same_of};
 use icmp6_wire::icmpv6::{DstUnreachable, Packet, ParamProblem, Repr, TimeExceeded};
 use std::process::Abort;
-use wirebase::capabilities::Checksum;
-use wirebase::{IpProtocol, Ipv6Repr};
+use wirebase::{Checksum, IpProtocol, Ipv6Repr};
 
 // The header from fe80::1 to fe80::2 that the errors quote.
 fn quoted() -> Ipv6Repr

@@ -3,7 +3,7 @@ use crate::testing::{prints, same, same_of};
 use icmp6_wire::icmpv6::{Packet, Refusal, Repr};
 use icmp6_wire::ndisc;
 use std::process::Abort;
-use wirebase::capabilities::Checksum;
+use wirebase::Checksum;
 
 // Checks why these octets are refused, where their checksum is verified or not.
 fn check_refusal(rt: &impl Abort, octets: &[u8], checksum: Checksum, wanted: Option<Refusal>) {

@@ -4,7 +4,7 @@ use icmp6_wire::icmpv6::Repr;
 use icmp6_wire::{mld, ndisc};
 use std::alloc::Global;
 use std::process::Abort;
-use wirebase::capabilities::Checksum;
+use wirebase::Checksum;
 
 // Checks what the error prints that is read from these octets.
 fn check_error(rt: &impl Abort, alloc: Global, octets: &[u8], text: &str) {

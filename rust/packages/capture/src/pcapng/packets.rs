@@ -9,8 +9,8 @@ use crate::time::Time;
 use control_wire::Octets;
 
 /// The packet that a block of a kind holds, in a section with these interfaces. Refused where the block is too short
-/// (`Short`), is of no kind of packet (`Kind`), names an interface that is not described (`Interface`), or is shorter
-/// than its packet (`CapturedLength`).
+/// (`Short`), is of a kind that holds no packet (`Kind`), names an interface that is not described (`Interface`), or is
+/// shorter than its packet (`CapturedLength`).
 #[inline]
 pub fn parse_packet(
     order: Order,
@@ -35,7 +35,7 @@ pub fn parse_packet(
     }
 }
 
-// An enhanced or an obsolete packet, of the interface of a number.
+// An enhanced or an obsolete packet, of the interface of this number.
 #[inline]
 fn timed(
     order: Order,
@@ -92,7 +92,7 @@ fn simple(order: Order, interfaces: &[Interface], block: &[u8]) -> Result<Packet
     })
 }
 
-// How many bytes of a packet are kept, where so many are at most, or all for 0.
+// The number of bytes of a packet that are kept, where this many are at most, or all for 0.
 fn kept_len(most: u32, original: u32) -> u32 {
     if most == 0 {
         original

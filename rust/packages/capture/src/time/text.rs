@@ -54,7 +54,7 @@ impl fmt::Display for TwoDigits {
     }
 }
 
-// The first digits of nanoseconds behind a point, or nothing where there are none.
+// The first digits of nanoseconds after a point, or nothing where there are none.
 #[derive(Clone, Copy)]
 struct Fraction {
     digits: u8,
@@ -87,7 +87,7 @@ fn nine_digits(nanoseconds: u32) -> [u8; 9] {
     ]
 }
 
-// The first of nine digits, so many, or all where that is more.
+// The first of nine digits, this many, or all where that is more.
 fn first_digits(all: &[u8; 9], count: u8) -> &[u8] {
     &all[..(count as usize).min(9)]
 }

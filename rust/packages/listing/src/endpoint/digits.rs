@@ -22,26 +22,26 @@ const OCTETS: &[u8; 1024] = b"\
     224.225.226.227.228.229.230.231.232.233.234.235.236.237.238.239.\
     240.241.242.243.244.245.246.247.248.249.250.251.252.253.254.255.";
 
-/// Puts a number of one octet behind the first octets of a room, and a dot, and answers where they end. Four octets are
-/// copied, since a length that the compiler knows costs less: what stands behind the answer has no meaning.
+/// Puts a number of one octet and a dot after the first octets of a buffer, and returns the end. Four octets are
+/// copied, since a copy of constant length is cheaper: what follows the end has no meaning.
 #[inline(always)]
 pub fn put_octet(room: &mut [u8; ROOM], at: usize, number: u8) -> usize {
     room[at..at + 4].copy_from_slice(&digits_and_dots(number));
     at + count(number) + 1
 }
 
-// The digits of a number, and dots behind them.
+// The digits of a number, and dots after them.
 fn digits_and_dots(number: u8) -> [u8; 4] {
     let at = 4 * number as usize;
     [OCTETS[at], OCTETS[at + 1], OCTETS[at + 2], OCTETS[at + 3]]
 }
 
-// How many digits a number has, without a branch.
+// The number of digits of a number, without a branch.
 fn count(number: u8) -> usize {
     1 + (number >= 10) as usize + (number >= 100) as usize
 }
 
-/// Puts a port behind the first octets of a room, and answers where it ends.
+/// Puts a port after the first octets of a buffer, and returns the end.
 pub fn put_port(room: &mut [u8; ROOM], at: usize, port: u16) -> usize {
     room[at] = b'0' + (port / 10_000) as u8;
     let thousands = next_digit(room, at, port / 1_000);
@@ -51,8 +51,8 @@ pub fn put_port(room: &mut [u8; ROOM], at: usize, port: u16) -> usize {
     ones + 1
 }
 
-// Puts the last digit of a number behind that of its tenth, which stands at `at`, or over it where the tenth is 0.
-// Answers where the digit stands.
+// Puts the last digit of a number after that of its tenth, at `at`, or in its place where the tenth is 0. Returns the
+// place of the digit.
 #[inline(always)]
 fn next_digit(room: &mut [u8; ROOM], at: usize, number: u16) -> usize {
     let place = at + (number >= 10) as usize;

@@ -21,8 +21,8 @@ fn group(high: u8, low: u8) -> u16 {
     u16::from(high) * 256 + u16::from(low)
 }
 
-/// Puts the text of groups behind the first octets of a room, and answers where it ends: the first longest run of two
-/// zeros or more is `::`.
+/// Puts the text of groups after the first octets of a buffer, and returns its end: the first longest run of two zeros
+/// or more is `::`.
 pub fn put_address(room: &mut [u8; ROOM], at: usize, groups: &[u16; 8]) -> usize {
     let (start, len) = longest_run(groups);
     if len < 2 {
@@ -33,7 +33,7 @@ pub fn put_address(room: &mut [u8; ROOM], at: usize, groups: &[u16; 8]) -> usize
     put_groups(room, behind, &groups[start + len..])
 }
 
-// Where the first longest run of zeros starts, and how many they are.
+// The start and the length of the first longest run of zeros.
 fn longest_run(groups: &[u16; 8]) -> (usize, usize) {
     let mut start = 8;
     let mut len = 0;
@@ -56,7 +56,7 @@ fn put_groups(room: &mut [u8; ROOM], at: usize, groups: &[u16]) -> usize {
     for group in groups {
         end = put_group(room, end, *group);
     }
-    // The last colon has no group behind it.
+    // The last colon has no group after it.
     if groups.is_empty() { end } else { end - 1 }
 }
 
@@ -71,8 +71,8 @@ fn put_group(room: &mut [u8; ROOM], at: usize, group: u16) -> usize {
     last + 2
 }
 
-// Puts the last digit of a number behind that of its sixteenth, which stands at `at`, or over it where the sixteenth
-// is 0. Answers where the digit stands.
+// Puts the last digit of a number after that of its sixteenth, at `at`, or in its place where the sixteenth is 0.
+// Returns the place of the digit.
 #[inline(always)]
 fn next_digit(room: &mut [u8; ROOM], at: usize, number: u16) -> usize {
     let place = at + (number >= 16) as usize;

@@ -10,8 +10,8 @@ use control_wire::record::{FieldsText, NameRefusal};
 use rattle_std::io;
 use rattle_std::io::Write;
 
-/// Writes the line of a record up to its end, where the names in its data read; else nothing, and it answers why the
-/// first that does not read is refused.
+/// Writes the line of a record up to its end, where the names in its data read; else nothing, and returns why the first
+/// name that can't be read is refused.
 pub fn show_data<'a, W: Write>(
     output: &mut W,
     packet: &Packet<&'a [u8]>,
@@ -132,7 +132,7 @@ fn show_authority<'a, W: Write>(
     Ok(None)
 }
 
-// Prints by way of record_wire's text, which is slower, since these types are rare.
+// Printed as record_wire's text, which is slower, since these types are rare.
 fn show_fields<'a, W: Write>(
     output: &mut W,
     packet: &Packet<&'a [u8]>,
@@ -149,7 +149,7 @@ fn show_fields<'a, W: Write>(
     }
 }
 
-// Writes fields behind a space.
+// Writes fields after a space.
 fn write_fields<W: Write>(output: &mut W, text: &FieldsText<'_>) -> io::Result<()> {
     write!(output, " {text}")
 }

@@ -9,7 +9,7 @@ use control_wire::record::{Edns, EdnsOption, EdnsOptions, Record, TextRefusal};
 use rattle_std::io;
 use rattle_std::io::Write;
 
-/// Prints an OPT record, which says this, up to an option that is cut.
+/// Prints an OPT record with these fields, up to an option that is cut.
 pub fn show_opt<'a, W: Write>(
     output: &mut W,
     margin: &str,
@@ -25,7 +25,7 @@ pub fn show_opt<'a, W: Write>(
     show_options(output, margin, edns.options())
 }
 
-// Prints what the record says of its sender.
+// Prints the fields about the sender.
 fn show_sender<W: Write>(output: &mut W, margin: &str, edns: &Edns<'_>) -> io::Result<()> {
     opt_field(output, margin, "udp_size", edns.payload_size)?;
     opt_field(output, margin, "extended_rcode", edns.extended_rcode)?;
@@ -52,7 +52,7 @@ impl Value for EdnsOption<'_> {
     }
 }
 
-// Prints options up to one that is cut, and answers why it is.
+// Prints options up to one that is cut, and returns why it is.
 fn show_options<W: Write>(
     output: &mut W,
     margin: &str,

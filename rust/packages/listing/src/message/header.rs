@@ -28,7 +28,7 @@ pub fn show_header<W: Write>(output: &mut W, margin: &str, octets: &[u8]) -> io:
 #[derive(Clone, Copy)]
 struct FlagNames(u16);
 
-// The bytes of all names, each with a comma behind it.
+// The bytes of all names, each with a comma after it.
 const NAMES_LEN: usize = 21;
 
 impl Value for FlagNames {
@@ -42,7 +42,7 @@ impl Value for FlagNames {
     }
 }
 
-// Puts the names, each with a comma behind it, at the room's front, and answers where they end.
+// Puts the names, each with a comma after it, at the start of the buffer, and returns their end.
 fn put_names(word: u16, room: &mut [u8; NAMES_LEN]) -> usize {
     let mut len = put_name(word, 15, b"qr", room, 0);
     len = put_name(word, 10, b"aa", room, len);

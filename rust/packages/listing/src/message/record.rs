@@ -64,8 +64,8 @@ pub fn show_record<'a, W: Write>(
     Ok(None)
 }
 
-// Why the data of a record, taken as one of this class, is not what its type has; None where it is. It is read again
-// for that, so that where it reads no room is kept for a reason.
+// Why the data of a record, taken as one of this class, is not laid out as its type has it; None where it is. The data
+// is read again for that, so that a record that reads keeps no memory for a reason.
 #[inline(never)]
 fn why_no_data(record: &Record<'_>, class: u16) -> Option<Unread> {
     match RData::parse_update_or_refusal(record.type_, class, record.data) {
@@ -93,7 +93,7 @@ pub fn write_line<W: Write>(output: &mut W, line: &Line<'_>) -> io::Result<()> {
     type_word(output, line.kind)
 }
 
-// The front of a line, up to the name. Inlined, the name of a section that the caller knows is copied without a call.
+// The start of a line, up to the name. Inlined: the name of a section that the caller knows is copied without a call.
 #[inline(always)]
 fn write_front<W: Write>(
     output: &mut W,

@@ -1,21 +1,21 @@
 // Made from crates/listing/src/message/unread.rt by rust/erase.
-//! Why a message of DNS is not listed to its end.
+//! Why a DNS message is not listed to its end.
 
 use control_wire::record::{NameRefusal, OptionRefusal, Refusal, Section, TextRefusal};
 use std::fmt;
 
-/// Why a message is not listed to its end: what does not read first, and the check that it fails.
+/// Why a message is not listed to its end: the first item that can't be read, and the check that it fails.
 #[derive(Debug, PartialEq, Eq, Clone, Copy)]
 pub enum Unread {
     /// There are fewer bytes than the 12 of a header.
     Header,
-    /// No question or record begins where the next one of this section should.
+    /// The next question or record of this section does not begin.
     Entry(Section, Refusal),
-    /// The name of a question does not read.
+    /// The name of a question can't be read.
     Question(NameRefusal),
-    /// The name of a record does not read, or its data does not, or a name in this.
+    /// The name of a record, its data, or a name in its data can't be read.
     Record(TextRefusal),
-    /// No option begins where the next one of an OPT record should.
+    /// The next option of an OPT record does not begin.
     Option(OptionRefusal),
 }
 

@@ -7,7 +7,7 @@ use control_wire::record::classes;
 use rattle_std::io;
 use rattle_std::io::Write;
 
-/// Writes a type behind a space.
+/// Writes a type after a space.
 pub fn type_word<W: Write>(output: &mut W, type_: Type) -> io::Result<()> {
     match type_.mnemonic() {
         Some(mnemonic) => put_word(output, mnemonic),
@@ -15,7 +15,7 @@ pub fn type_word<W: Write>(output: &mut W, type_: Type) -> io::Result<()> {
     }
 }
 
-/// Writes a class behind a space.
+/// Writes a class after a space.
 pub fn class_word<W: Write>(output: &mut W, number: u16) -> io::Result<()> {
     match classes::mnemonic(number) {
         Some(mnemonic) => put_word(output, mnemonic),

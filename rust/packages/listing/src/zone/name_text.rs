@@ -7,10 +7,9 @@ use control_wire::record::{Name, NameRefusal};
 use rattle_std::io;
 use rattle_std::io::Write;
 
-/// The text of a name, with its last dot; the root is a dot. It is large, so it is made first and then filled where it
-/// stays.
+/// The text of a name, with its last dot; the root is a dot. It is large, so it is created empty and filled in place.
 pub struct NameText {
-    // Most names have no byte that needs a backslash, and their text stands at the front of this.
+    // Most names have no byte that needs a backslash; their text is at the start of this buffer.
     room: [u8; ROOM_LEN],
     len: usize,
     // A name of another text.
@@ -46,7 +45,7 @@ impl NameText {
         }
     }
 
-    // The same by the name's octets.
+    // Writes the name by its octets.
     #[inline(never)]
     fn read_other<'a>(
         &mut self,

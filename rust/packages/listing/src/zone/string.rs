@@ -4,8 +4,7 @@
 use rattle_std::io;
 use rattle_std::io::Write;
 
-/// Writes strings, each of which stands behind its length, in quotes and behind a space. Requires that the octets are
-/// strings.
+/// Writes strings, each stored after its length, in quotes and after a space. Requires that the octets are strings.
 pub fn strings<W: Write>(output: &mut W, octets: &[u8]) -> io::Result<()> {
     let mut left = octets;
     while let Some((string, rest)) = split_string(left) {
@@ -15,7 +14,7 @@ pub fn strings<W: Write>(output: &mut W, octets: &[u8]) -> io::Result<()> {
     Ok(())
 }
 
-// The string at the front of octets, and what stands behind it. None where no whole string stands.
+// The string at the start of octets, and what follows it. None where there is no whole string.
 fn split_string(octets: &[u8]) -> Option<(&[u8], &[u8])> {
     match octets {
         [len, rest @ ..] if *len as usize <= rest.len() => {
@@ -26,7 +25,7 @@ fn split_string(octets: &[u8]) -> Option<(&[u8], &[u8])> {
     }
 }
 
-// Writes a string in quotes behind a space.
+// Writes a string in quotes after a space.
 fn write_string<W: Write>(output: &mut W, string: &[u8]) -> io::Result<()> {
     output.write_all(b" \"")?;
     let mut left = string;
@@ -41,12 +40,12 @@ fn write_string<W: Write>(output: &mut W, string: &[u8]) -> io::Result<()> {
     }
 }
 
-// What stands behind the byte at a place.
+// What follows the byte at a place.
 fn behind(string: &[u8], place: usize) -> &[u8] {
     &string[place + 1..]
 }
 
-// How many bytes at the front are written as themselves.
+// The number of leading bytes that are written as themselves.
 fn plain_len(string: &[u8]) -> usize {
     let mut len = 0;
     while len < string.len() && is_plain(string[len]) {
@@ -64,7 +63,7 @@ fn is_special(byte: u8) -> bool {
     byte == b'"' || byte == b'\\'
 }
 
-// Writes a byte behind a backslash: itself where it has a meaning of its own, and else its number.
+// Writes a byte after a backslash: itself where it has a meaning of its own, and else its number.
 fn write_quoted<W: Write>(output: &mut W, byte: u8) -> io::Result<()> {
     if is_special(byte) {
         return output.write_all(&[b'\\', byte]);

@@ -19,7 +19,7 @@ const BLOCKS: usize = 400;
 
 const BLOCK_LEN: usize = 80;
 
-// The bytes of a buffer that only the shorter blocks fit.
+// The size of a buffer that holds only the shorter blocks.
 const BUFFER_LEN: usize = 64;
 
 /// Reads a frame with tags and headers that extend IPv6, whole and cut short.
@@ -73,7 +73,7 @@ fn parse_frame(octets: &[u8], digest: &mut Digest) {
     }
 }
 
-// Reads a datagram of UDP.
+// Reads a UDP datagram.
 fn parse_udp(octets: &[u8], digest: &mut Digest) {
     let Ok(packet) = UdpPacket::new_checked(octets) else {
         digest.add(2);
@@ -86,8 +86,8 @@ fn parse_udp(octets: &[u8], digest: &mut Digest) {
     digest.add_ends(packet.payload());
 }
 
-/// Reads a capture of blocks that are passed over, with a short packet behind each eighth of them; every other one
-/// through a buffer that the longer blocks do not fit.
+/// Reads a capture of blocks that are passed over, with a short packet after each eighth of them; every other capture
+/// through a buffer that is too small for the longer blocks.
 pub fn read_capture(number: u64, octets: &mut [u8], digest: &mut Digest) -> io::Result<()> {
     let len = write_capture(number, octets);
     let mut input = &octets[..len.min(octets.len())];
@@ -117,7 +117,7 @@ fn read_blocks<R: BufRead>(input: &mut R, digest: &mut Digest) {
     }
 }
 
-// Writes a capture, and says how many bytes it takes.
+// Writes a capture, and returns its length in bytes.
 #[allow(clippy::manual_memcpy)] // of this form the bounds need no proof file
 fn write_capture(number: u64, octets: &mut [u8]) -> usize {
     const FRONT: [u8; 48] = [
@@ -148,7 +148,7 @@ fn write_capture(number: u64, octets: &mut [u8]) -> usize {
     at
 }
 
-// Writes a block into just its octets.
+// Writes a block into octets of its length.
 fn write_block(kind: u32, number: u64, octets: &mut [u8]) {
     let len = octets.len();
     if len < 32 || len > BLOCK_LEN {

@@ -1,5 +1,5 @@
 // Made from crates/workloads/src/awkward/names.rt by rust/erase.
-//! Names in many pieces, and behind thousands of pointers.
+//! Names in many pieces, and after thousands of pointers.
 
 use crate::digest::Digest;
 use arrayvec::ArrayString;
@@ -11,7 +11,7 @@ use std::fmt::Write;
 // The bytes of a message's header.
 const HEADER_LEN: usize = 12;
 
-// The labels of a name of 255 octets, of one byte each, and the bytes of one and of the pointer behind it.
+// The labels of a name of 255 octets, of one byte each, and the bytes of one label and its pointer.
 const PIECES: usize = 127;
 
 const PIECE_LEN: usize = 4;
@@ -19,7 +19,7 @@ const PIECE_LEN: usize = 4;
 /// The bytes of a message with a name in pieces.
 pub const PIECES_LEN: usize = HEADER_LEN + PIECE_LEN * PIECES + 1;
 
-/// The bytes of a message of pointers, the most that a pointer reaches.
+/// The bytes of a message of pointers, the largest offset of a pointer.
 pub const CHAIN_LEN: usize = 16_384;
 
 // Adds the labels of the name that begins at a place of a message.
@@ -58,7 +58,7 @@ fn add_name(message: &[u8], place: usize, digest: &mut Digest) {
     }
 }
 
-/// Writes a name whose labels stand apart, each before a pointer to the next one, and reads it.
+/// Writes a name whose labels are apart, each before a pointer to the next one, and reads it.
 pub fn read_pieces(number: u64, message: &mut [u8; PIECES_LEN], digest: &mut Digest) {
     message[PIECES_LEN - 1] = 0;
     for piece in 0..PIECES {
@@ -89,7 +89,7 @@ pub fn write_chain(message: &mut [u8]) {
     }
 }
 
-/// Reads the labels of a name behind thousands of pointers, and a whole name behind 127 at most, as many as are
+/// Reads the labels of a name after thousands of pointers, and a whole name after at most 127, the most that are
 /// followed.
 pub fn read_chain(number: u64, message: &[u8], digest: &mut Digest) {
     let place = HEADER_LEN + 4 + 2 * (number % 8_000) as usize;

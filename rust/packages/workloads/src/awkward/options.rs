@@ -45,7 +45,7 @@ pub fn read_lease(number: u64, octets: &mut [u8; PACKET_LEN], digest: &mut Diges
     }
 }
 
-/// Reads a router's advertisement whose options are repeated, unknown, or in one of eight of no length.
+/// Reads a router's advertisement whose options are repeated, unknown, or, in one of eight cases, of length 0.
 pub fn read_neighbor(number: u64, octets: &mut [u8; PACKET_LEN], digest: &mut Digest) {
     octets[..16].copy_from_slice(&[134, 0, 0, 0, 64, 0, 7, 8, 0, 0, 0, 0, 0, 0, 0, 0]);
     let count = 8 + (number % 56) as usize;

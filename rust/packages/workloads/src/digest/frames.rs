@@ -50,7 +50,7 @@ pub fn add_datagram(datagram: &Datagram<'_>, digest: &mut Digest) {
         protocol,
         hop_limit,
         payload,
-        // The options of hop-by-hop headers, which the library of the start does not hand out.
+        // The options of hop-by-hop headers, which the library at the start does not return.
         ..
     } = datagram;
     match addresses {
@@ -70,7 +70,7 @@ pub fn add_datagram(datagram: &Datagram<'_>, digest: &mut Digest) {
     digest.add_ends(payload);
 }
 
-/// Adds the ports of a datagram of UDP.
+/// Adds the ports of a UDP datagram.
 pub fn add_ports(ports: &UdpRepr, digest: &mut Digest) {
     let UdpRepr { src_port, dst_port } = ports;
     digest.add(*src_port as u64);

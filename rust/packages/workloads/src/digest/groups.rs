@@ -6,7 +6,7 @@ use crate::digest::ip::{add_ipv4_address, add_ipv6_address};
 use control_wire::mld::{self, AddressRecordRepr, RecordType};
 use control_wire::{Duration, igmp};
 
-/// Adds what a message of IGMP says.
+/// Adds what an IGMP message says.
 pub fn add_igmp(message: &igmp::Repr, digest: &mut Digest) {
     match message {
         igmp::Repr::MembershipQuery {

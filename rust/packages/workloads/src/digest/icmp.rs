@@ -1,5 +1,5 @@
 // Made from crates/workloads/src/digest/icmp.rt by rust/erase.
-//! Adds messages of ICMP, of both families.
+//! Adds ICMP messages, of both families.
 
 use crate::digest::Digest;
 use crate::digest::groups::add_mld;
@@ -20,7 +20,7 @@ fn add_echo(type_: u64, ident: u16, seq_no: u16, data: &[u8], digest: &mut Diges
     digest.add_front(data);
 }
 
-/// Adds what a message of ICMPv4 says.
+/// Adds what an ICMPv4 message says.
 pub fn add_icmpv4(message: &icmpv4::Repr<'_>, digest: &mut Digest) {
     match message {
         icmpv4::Repr::EchoRequest {
@@ -59,7 +59,7 @@ pub fn add_icmpv4(message: &icmpv4::Repr<'_>, digest: &mut Digest) {
     }
 }
 
-/// Adds what a message of ICMPv6 says.
+/// Adds what an ICMPv6 message says.
 pub fn add_icmpv6(message: &icmpv6::Repr<'_>, digest: &mut Digest) {
     match message {
         icmpv6::Repr::EchoRequest {
@@ -125,7 +125,7 @@ pub fn add_icmpv6(message: &icmpv6::Repr<'_>, digest: &mut Digest) {
     }
 }
 
-/// Adds what an error of ICMPv4 says, and what it quotes.
+/// Adds what an ICMPv4 error says, and what it quotes.
 pub fn add_icmpv4_error(error: &icmpv4_error::Repr<'_>, digest: &mut Digest) {
     let icmpv4_error::Repr {
         kind,
@@ -139,7 +139,7 @@ pub fn add_icmpv4_error(error: &icmpv4_error::Repr<'_>, digest: &mut Digest) {
     digest.add_front(quoted);
 }
 
-/// The same of ICMPv6.
+/// Adds what an ICMPv6 error says, and what it quotes.
 pub fn add_icmpv6_error(error: &icmpv6_error::Repr<'_>, digest: &mut Digest) {
     let icmpv6_error::Repr {
         kind,
@@ -153,7 +153,7 @@ pub fn add_icmpv6_error(error: &icmpv6_error::Repr<'_>, digest: &mut Digest) {
     digest.add_front(quoted);
 }
 
-/// Adds the datagram that an error of ICMPv4 quotes.
+/// Adds the datagram that an ICMPv4 error quotes.
 pub fn add_ipv4_quote(quote: &Ipv4Quote<'_>, digest: &mut Digest) {
     let Ipv4Quote {
         type_of_service,
@@ -181,7 +181,7 @@ pub fn add_ipv4_quote(quote: &Ipv4Quote<'_>, digest: &mut Digest) {
     digest.add_ends(payload);
 }
 
-/// The same of ICMPv6.
+/// Adds the packet that an ICMPv6 error quotes.
 pub fn add_ipv6_quote(quote: &Ipv6Quote<'_>, digest: &mut Digest) {
     let Ipv6Quote {
         traffic_class,

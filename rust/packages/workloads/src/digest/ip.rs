@@ -5,13 +5,13 @@ use crate::digest::Digest;
 use byteorder::{ByteOrder, LittleEndian};
 use control_wire::{IpProtocol, Ipv4Address, Ipv4Repr, Ipv6Address, Ipv6Repr, RawHardwareAddress};
 
-/// Adds an address of IPv4.
+/// Adds an IPv4 address.
 #[inline(always)]
 pub fn add_ipv4_address(address: &Ipv4Address, digest: &mut Digest) {
     digest.add(u32::from_be_bytes(address.octets()) as u64);
 }
 
-/// Adds an address of IPv6.
+/// Adds an IPv6 address.
 #[inline(always)]
 pub fn add_ipv6_address(address: &Ipv6Address, digest: &mut Digest) {
     let octets = address.octets();
@@ -34,7 +34,7 @@ pub fn add_protocol(protocol: IpProtocol, digest: &mut Digest) {
     digest.add_numbered(u8::from(protocol) as u16, is_named);
 }
 
-/// Adds what a header of IPv4 says.
+/// Adds what an IPv4 header says.
 pub fn add_ipv4_header(header: &Ipv4Repr, digest: &mut Digest) {
     let Ipv4Repr {
         src_addr,
@@ -50,7 +50,7 @@ pub fn add_ipv4_header(header: &Ipv4Repr, digest: &mut Digest) {
     digest.add(*hop_limit as u64);
 }
 
-/// Adds what a header of IPv6 says.
+/// Adds what an IPv6 header says.
 pub fn add_ipv6_header(header: &Ipv6Repr, digest: &mut Digest) {
     let Ipv6Repr {
         src_addr,

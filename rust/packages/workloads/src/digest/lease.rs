@@ -1,5 +1,5 @@
 // Made from crates/workloads/src/digest/lease.rt by rust/erase.
-//! Adds what messages of DHCP say.
+//! Adds what DHCP messages say.
 
 use crate::digest::Digest;
 use crate::digest::ip::add_ipv4_address;
@@ -83,7 +83,7 @@ fn add_kinds(kinds: Option<&[u8]>, digest: &mut Digest) {
     }
 }
 
-// Adds the servers of DNS, where they are told.
+// Adds the servers of DNS, where the packet has them.
 fn add_servers(servers: &Option<ArrayVec<Ipv4Address, MAX_DNS_SERVER_COUNT>>, digest: &mut Digest) {
     let Some(servers) = servers else {
         digest.add_missing();
@@ -95,7 +95,7 @@ fn add_servers(servers: &Option<ArrayVec<Ipv4Address, MAX_DNS_SERVER_COUNT>>, di
     digest.add(servers.len() as u64);
 }
 
-// Adds the greatest packet that a client takes, where it is told.
+// Adds the largest packet that a client accepts, where the packet has it.
 fn add_size(size: Option<u16>, digest: &mut Digest) {
     match size {
         Some(size) => digest.add(size as u64),

@@ -66,7 +66,7 @@ pub fn add_ndisc(message: &Repr<'_>, digest: &mut Digest) {
     }
 }
 
-// Adds a prefix of the link, where one is told.
+// Adds a prefix of the link, where there is one.
 fn add_prefix(prefix: &Option<PrefixInformation>, digest: &mut Digest) {
     let Some(prefix) = prefix else {
         digest.add_missing();
@@ -86,7 +86,7 @@ fn add_prefix(prefix: &Option<PrefixInformation>, digest: &mut Digest) {
     add_ipv6_address(prefix, digest);
 }
 
-// Adds the packet that a redirect speaks of, where it does.
+// Adds the packet in a redirect, where there is one.
 fn add_redirected(packet: &Option<RedirectedHeader<'_>>, digest: &mut Digest) {
     let Some(packet) = packet else {
         digest.add_missing();

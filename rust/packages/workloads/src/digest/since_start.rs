@@ -1,6 +1,6 @@
 // Made from crates/workloads/src/digest/since_start.rt by rust/erase.
-//! What the library tells in other types than that of the start, which docs/PERF.md names. Where the jobs are built
-//! over the start, bench/since_start.txt stands in the place of this file.
+//! What the library gives in other types than the start did, which docs/PERF.md names. Where the jobs are built over
+//! the start, bench/since_start.txt takes the place of this file.
 
 use capture::{Ending, Time};
 use control_wire::frames::Refusal;

@@ -7,15 +7,15 @@ use rattle_std::io;
 #[allow(unused_imports)]
 use rattle_std::prelude::*;
 
-// The records of a file, at least, and how many more there may be.
+// The least number of records of a file, and how many more there may be.
 const LEAST_RECORDS: u32 = 100;
 
 const MORE_RECORDS: u32 = 101;
 
-// The bytes of a packet that a capture keeps, at least: of a few long packets fewer are kept than there were.
+// The least number of bytes of a packet that a capture keeps: a few long packets are cut.
 const LEAST_KEPT: u32 = 1_100;
 
-// How often a block stands between the packets that is passed over.
+// How often a block that is passed over comes between the packets.
 const OTHER_EVERY: u32 = 16;
 
 // The link type of Ethernet.
@@ -48,7 +48,7 @@ struct Lengths {
     original: u32,
 }
 
-// The lengths of a frame where so many bytes are kept at most.
+// The captured lengths of a frame, where at most this many bytes are kept.
 fn lengths_of(len: usize, most: u32) -> Lengths {
     let original = len.min(MOST_FRAME_LEN) as u32;
     Lengths {
@@ -73,7 +73,7 @@ pub fn write_pcap(octets: &mut Vec<u8>, sources: &Sources, random: &mut Random) 
     Ok(())
 }
 
-/// Adds a pcapng file of some packets, and of some blocks that say something else.
+/// Adds a pcapng file of some packets, and of some blocks of other kinds.
 pub fn write_pcapng(
     octets: &mut Vec<u8>,
     sources: &Sources,

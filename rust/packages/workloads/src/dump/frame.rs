@@ -11,7 +11,7 @@ use control_wire::{Ipv4Address, Ipv6Address, checksum};
 /// The bytes of the longest frame.
 pub const MOST_FRAME_LEN: usize = 1_514;
 
-// The bytes of the shortest frame, without the checksum behind it.
+// The bytes of the shortest frame, without its checksum.
 const LEAST_FRAME_LEN: usize = 60;
 
 // The bytes of the headers.
@@ -27,7 +27,7 @@ pub struct Sources {
     pub letters: Letters,
 }
 
-/// Writes a frame over the front of the octets, and says how many bytes it has.
+/// Writes a frame to the start of the octets, and returns its length in bytes.
 pub fn write(octets: &mut [u8], sources: &Sources, random: &mut Random) -> usize {
     let number = random.next();
     let is_v4 = upper::is_v4(number);
@@ -45,7 +45,7 @@ pub fn write(octets: &mut [u8], sources: &Sources, random: &mut Random) -> usize
     put(octets, end, &[0; LEAST_FRAME_LEN][end..])
 }
 
-// Writes the header of a frame, of which one of eight has a VLAN tag, and gives the place behind it.
+// Writes the header of a frame, of which one of eight has a VLAN tag, and returns the place after it.
 fn put_link(octets: &mut [u8], number: u64, is_v4: bool) -> usize {
     let place = put(octets, 0, &number.to_be_bytes());
     let place = put(octets, place, &[0x52, 0x54, 0, 1]);
@@ -63,7 +63,7 @@ fn hops(number: u64) -> u8 {
     (number >> 56) as u8
 }
 
-// Writes a datagram of IPv4, and says how many bytes it has.
+// Writes a datagram of IPv4, and returns its length in bytes.
 fn write_v4(octets: &mut [u8], number: u64, sources: &Sources, random: &mut Random) -> usize {
     if octets.len() < IPV4_HEADER_LEN {
         return 0;
@@ -105,7 +105,7 @@ fn host(number: u64) -> Ipv6Address {
     )
 }
 
-// Writes a packet of IPv6, behind a hop-by-hop header where that is wanted, and says how many bytes it has.
+// Writes an IPv6 packet, after a hop-by-hop header where that is wanted, and returns its length in bytes.
 fn write_v6(octets: &mut [u8], number: u64, sources: &Sources, random: &mut Random) -> usize {
     let extended = if upper::has_alert(number) {
         HOP_BY_HOP_LEN
@@ -134,7 +134,7 @@ fn write_v6(octets: &mut [u8], number: u64, sources: &Sources, random: &mut Rand
     start + len
 }
 
-// Writes the checksum of octets, with a sum of what else it counts, at a place of them.
+// Writes the checksum of octets, with the sum of what else it covers, at an offset in them.
 fn seal(octets: &mut [u8], place: usize, sum: u16) {
     if octets.len() >= 12 && place <= 10 {
         checksum::fill(octets, place..place + 2, sum);

@@ -16,7 +16,7 @@ use rattle_std::io::BufRead;
 // The port of servers of DNS.
 const DNS_PORT: u16 = 53;
 
-/// Reads a capture to its end, where it has at most so many records, and adds what it holds.
+/// Reads a capture to its end, where it has at most this many records, and adds what it holds.
 pub fn read<R: BufRead>(input: &mut R, most: usize, digest: &mut Digest) {
     let mut capture = Capture::new();
     for _ in 0..most {
@@ -76,7 +76,7 @@ fn read_datagram(datagram: &Datagram<'_>, digest: &mut Digest) {
     }
 }
 
-// Reads the message of a datagram of UDP: of DNS by the port of its server, and otherwise of DHCP.
+// Reads the message of a UDP datagram: of DNS by the port of its server, and otherwise of DHCP.
 fn read_udp(datagram: &Datagram<'_>, digest: &mut Digest) {
     let caps = ChecksumCapabilities::default();
     let Ok(packet) = UdpPacket::new_checked(datagram.payload) else {
@@ -96,7 +96,7 @@ fn read_udp(datagram: &Datagram<'_>, digest: &mut Digest) {
     }
 }
 
-// Reads a packet of DHCP.
+// Reads a DHCP packet.
 fn read_lease(octets: &[u8], digest: &mut Digest) {
     match dhcpv4::Repr::parse(&dhcpv4::Packet::new_unchecked(octets)) {
         Ok(lease) => add_lease(&lease, digest),
@@ -104,7 +104,7 @@ fn read_lease(octets: &[u8], digest: &mut Digest) {
     }
 }
 
-// Reads a message of ICMP.
+// Reads an ICMP message.
 fn read_icmpv4(octets: &[u8], digest: &mut Digest) {
     let packet = icmpv4::Packet::new_unchecked(octets);
     match icmpv4::Repr::parse(&packet, &ChecksumCapabilities::default()) {
@@ -116,7 +116,7 @@ fn read_icmpv4(octets: &[u8], digest: &mut Digest) {
     }
 }
 
-// Reads a message of ICMPv6.
+// Reads an ICMPv6 message.
 fn read_icmpv6(
     octets: &[u8],
     source: &Ipv6Address,
@@ -134,7 +134,7 @@ fn read_icmpv6(
     }
 }
 
-// Reads a message of IGMP.
+// Reads an IGMP message.
 fn read_igmp(octets: &[u8], digest: &mut Digest) {
     let Ok(packet) = igmp::Packet::new_checked(octets) else {
         digest.add(13);

@@ -1,5 +1,5 @@
 // Made from crates/workloads/src/responses/message.rt by rust/erase.
-//! Responses of DNS: they are written by hand, as a server does, and read by the library.
+//! DNS responses: they are written by hand, as a server does, and read by the library.
 
 use crate::digest::Digest;
 use crate::digest::ip::{add_ipv4_address, add_ipv6_address};
@@ -13,7 +13,7 @@ use rattle_std::io;
 use rattle_std::prelude::*;
 use std::fmt::Write;
 
-// The bytes of the header, behind which the question stands.
+// The bytes of the header, which the question follows.
 const HEADER_LEN: usize = 12;
 
 // The bytes of letters that are kept.
@@ -57,7 +57,7 @@ impl Letters {
         Ok(Letters { octets })
     }
 
-    /// So many letters, from a place on that the number gives.
+    /// This many letters, from a place on that the number determines.
     pub fn part(&self, number: u64, len: usize) -> &[u8] {
         let octets = self.octets.as_slice();
         let start = ((number % 65_000) as usize).min(octets.len());
@@ -66,7 +66,7 @@ impl Letters {
     }
 }
 
-// Where names stand to which pointers lead.
+// The places of names that pointers lead to.
 #[derive(Clone, Copy)]
 struct Places {
     // The second label of the question.
@@ -80,7 +80,7 @@ pub fn low(number: u64) -> u16 {
     (number % 65_536) as u16
 }
 
-/// Writes bytes at a place, where there is room for them, and gives the place behind them.
+/// Writes bytes at a place, where there is room for them, and returns the place after them.
 pub fn put(octets: &mut [u8], place: usize, bytes: &[u8]) -> usize {
     let place = place.min(octets.len());
     if bytes.len() > octets.len() - place {
@@ -108,13 +108,13 @@ fn put_pointer(octets: &mut [u8], place: usize, target: u16) -> usize {
     put_u16(octets, place, 0xc000 | (target % 0x4000))
 }
 
-/// Writes a name of 3 to 6 labels over the front of the octets, and says how many bytes it takes.
+/// Writes a name of 3 to 6 labels to the start of the octets, and returns its length in bytes.
 pub fn write_name(octets: &mut [u8], letters: &Letters, number: u64) -> usize {
     let place = put_label(octets, 0, letters, number);
     put_parent(octets, place, letters, number)
 }
 
-// Writes the further labels of a name at a place, and gives the place behind it.
+// Writes the further labels of a name at a place, and returns the place after it.
 fn put_parent(octets: &mut [u8], start: usize, letters: &Letters, number: u64) -> usize {
     let mut place = start;
     let mut rest = number >> 24;
@@ -125,7 +125,7 @@ fn put_parent(octets: &mut [u8], start: usize, letters: &Letters, number: u64) -
     put(octets, place, &[0])
 }
 
-// Writes a question behind the header, and gives the place behind it and that of its name's second label.
+// Writes a question after the header, and returns the place after it and that of its name's second label.
 fn put_question(octets: &mut [u8], letters: &Letters, number: u64) -> (usize, usize) {
     let parent = put_label(octets, HEADER_LEN, letters, number);
     let type_ = put_parent(octets, parent, letters, number);
@@ -133,7 +133,7 @@ fn put_question(octets: &mut [u8], letters: &Letters, number: u64) -> (usize, us
     (put_u16(octets, class, CLASS_IN), parent)
 }
 
-// Writes the data of a record and its length at a place, and gives its type, the place behind it, and that of the name
+// Writes the data of a record and its length at a place, and returns its type, the place after it, and that of the name
 // in it where there is one.
 fn put_data(
     octets: &mut [u8],
@@ -181,7 +181,7 @@ fn class_of(number: u64) -> u16 {
     }
 }
 
-// Writes a record at a place, and gives the place behind it.
+// Writes a record at a place, and returns the place after it.
 fn put_record(
     octets: &mut [u8],
     start: usize,
@@ -216,8 +216,8 @@ fn put_record(
     end
 }
 
-/// Writes a response of a number of records over the front of the octets, as far as they have room, and says how many
-/// bytes it takes.
+/// Writes a response of a number of records to the start of the octets, as far as they have room, and returns its
+/// length in bytes.
 pub fn write(octets: &mut [u8], letters: &Letters, random: &mut Random, records: u32) -> usize {
     let (mut end, parent) = put_question(octets, letters, random.next());
     let mut places = Places {
@@ -340,7 +340,7 @@ fn add_data<'a>(packet: &Packet<&'a [u8]>, data: &RData<'a>, digest: &mut Digest
         }
         RData::Soa(authority) => add_authority(packet, authority, digest),
         RData::Txt(strings) => digest.add_octets(strings),
-        // Others, and fields, which the library at the start does not have.
+        // Other data, and fields, which the library at the start does not have.
         _ => add_other(data, digest),
     }
 }

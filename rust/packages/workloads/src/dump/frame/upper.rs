@@ -1,5 +1,5 @@
 // Made from crates/workloads/src/dump/frame/upper.rt by rust/erase.
-//! The messages that stand behind the headers of IP.
+//! The messages after the headers of IP.
 
 use crate::dump::frame::Sources;
 use crate::random::Random;
@@ -7,7 +7,7 @@ use crate::responses::message::{self, low, put, put_u16};
 use control_wire::frames::Addresses;
 use control_wire::{IpProtocol, checksum};
 
-// The kinds of messages, of which the first three speak of DNS.
+// The kinds of messages, of which the first three are of DNS.
 const KINDS: u64 = 9;
 
 // The protocols above IP, by their numbers.
@@ -30,12 +30,12 @@ pub fn is_v4(number: u64) -> bool {
     matches!(number % KINDS, 0 | 1 | 3 | 4 | 5)
 }
 
-/// Whether a hop-by-hop header stands before the message of this number.
+/// Whether a hop-by-hop header precedes the message of this number.
 pub fn has_alert(number: u64) -> bool {
     number % KINDS == 8
 }
 
-/// Writes a message over the front of the octets, and gives its protocol and how many bytes it has.
+/// Writes a message to the start of the octets, and returns its protocol and how many bytes it has.
 pub fn write(
     octets: &mut [u8],
     number: u64,
@@ -71,7 +71,7 @@ fn seal(octets: &mut [u8], protocol: u8, addresses: &Addresses) {
     }
 }
 
-// Writes a datagram's header before a payload of so many bytes, and says how many both have.
+// Writes a datagram's header before a payload of this many bytes, and says how many both have.
 fn write_ports(octets: &mut [u8], from: u16, to: u16, payload_len: usize) -> usize {
     let room = octets.len().saturating_sub(UDP_HEADER_LEN);
     let len = UDP_HEADER_LEN + payload_len.min(room);
@@ -81,7 +81,7 @@ fn write_ports(octets: &mut [u8], from: u16, to: u16, payload_len: usize) -> usi
     len
 }
 
-// Writes a short response of DNS, and says how many bytes it has.
+// Writes a short response of DNS, and returns its length in bytes.
 fn write_names(octets: &mut [u8], sources: &Sources, random: &mut Random) -> usize {
     if octets.len() < UDP_HEADER_LEN {
         return 0;
@@ -92,7 +92,7 @@ fn write_names(octets: &mut [u8], sources: &Sources, random: &mut Random) -> usi
     write_ports(octets, 53, 33_000, len)
 }
 
-// Writes an acknowledgement of DHCP, and says how many bytes it has.
+// Writes an acknowledgement of DHCP, and returns its length in bytes.
 fn write_lease(octets: &mut [u8], number: u64) -> usize {
     let id = number.to_be_bytes();
     let place = put(octets, UDP_HEADER_LEN, &[2, 1, 6, 0]);
@@ -126,7 +126,7 @@ fn write_lease(octets: &mut [u8], number: u64) -> usize {
     write_ports(octets, 67, 68, end.saturating_sub(UDP_HEADER_LEN))
 }
 
-// Writes an echo of a type, and says how many bytes it has.
+// Writes an echo of a type, and returns its length in bytes.
 fn write_echo(octets: &mut [u8], type_: u8, number: u64, sources: &Sources) -> usize {
     let len = 32 + (number >> 20) % 1_400;
     let place = put(octets, 0, &[type_, 0, 0, 0]);
@@ -135,7 +135,7 @@ fn write_echo(octets: &mut [u8], type_: u8, number: u64, sources: &Sources) -> u
     put(octets, place, sources.pool.part(number >> 32, len as usize))
 }
 
-// Writes an error of ICMP about a datagram, and says how many bytes it has.
+// Writes an ICMP error about a datagram, and returns its length in bytes.
 fn write_error(octets: &mut [u8], number: u64, sources: &Sources) -> usize {
     let id = number.to_be_bytes();
     let len = 8 + (number >> 20) % 500;
@@ -147,14 +147,14 @@ fn write_error(octets: &mut [u8], number: u64, sources: &Sources) -> usize {
     put(octets, place, sources.pool.part(number >> 32, len as usize))
 }
 
-// Writes a query or a report of IGMP, and says how many bytes it has.
+// Writes a query or a report of IGMP, and returns its length in bytes.
 fn write_member(octets: &mut [u8], number: u64) -> usize {
     let id = number.to_be_bytes();
     let type_ = [0x11, 0x12, 0x16, 0x17][id[0] as usize % 4];
     put(octets, 0, &[type_, id[1] % 128, 0, 0, 224, 0, 1, id[2]])
 }
 
-// Writes a solicitation of a neighbor or its answer, and says how many bytes it has.
+// Writes a solicitation of a neighbor or its answer, and returns its length in bytes.
 fn write_neighbor(octets: &mut [u8], number: u64) -> usize {
     let id = number.to_be_bytes();
     let (type_, flags, option) = if id[0] % 2 == 0 {
@@ -172,7 +172,7 @@ fn write_neighbor(octets: &mut [u8], number: u64) -> usize {
     )
 }
 
-// Writes a report of groups that are listened to, and says how many bytes it has.
+// Writes a report of groups that are listened to, and returns its length in bytes.
 fn write_report(octets: &mut [u8], number: u64) -> usize {
     let id = number.to_be_bytes();
     let records = 1 + id[1] % 8;

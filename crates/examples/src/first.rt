@@ -1,0 +1,14 @@
+//! A first use of the library: prints what a packet of ICMPv4 holds.
+
+use control_wire::ChecksumCapabilities;
+use control_wire::icmpv4::{Packet, Repr};
+use std::io;
+
+/// Prints the message in a packet of ICMPv4, or that the packet is refused.
+pub fn print_message(rt: &impl Print, octets: &[u8]) -> io::Result<()> {
+    let packet = Packet::new_unchecked(octets);
+    match Repr::parse(&packet, &ChecksumCapabilities::default()) {
+        Ok(message) => println!(rt; "{message}"),
+        Err(_) => println!(rt; "refused"),
+    }
+}

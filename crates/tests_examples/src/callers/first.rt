@@ -1,0 +1,12 @@
+use examples::first::print_message;
+use std::io;
+
+#[test]
+fn a_message_is_printed(rt: HostRuntime) -> io::Result<()> {
+    print_message(&rt, b"\x08\x00\x8e\xfe\x12\x34\xab\xcd\xaa\x00\x00\xff")
+}
+
+#[test]
+fn what_is_no_message_is_refused(rt: HostRuntime) -> io::Result<()> {
+    print_message(&rt, b"\x08\x00\x8e\xff\x12\x34\xab\xcd\xaa\x00\x00\xff")
+}

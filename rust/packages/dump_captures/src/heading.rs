@@ -1,0 +1,117 @@
+// Made from crates/dump_captures/src/heading.rt by rust/erase.
+//! The heading of a control packet.
+
+use crate::sight::Headers;
+use crate::time::Clock;
+use capture::{Record, Time};
+use control_wire::frames::Addresses;
+use control_wire::{Field, Ipv4Address, Ipv6Address, Octets};
+use listing::endpoint::{write_v4, write_v6};
+use listing::printer::{Value, line};
+use rattle_std::io;
+use rattle_std::io::Write;
+
+// The length of a VLAN tag, and of its part with the VLAN's number, in bytes.
+const TAG_LEN: usize = 4;
+
+const VLAN: Field = 0..2;
+
+/// Prints the heading of a control packet. Requires that the packet's time, where it has one, is in order.
+pub fn show_heading<W: Write>(
+    output: &mut W,
+    clock: &mut Clock,
+    captured: &Record,
+    octets: &[u8],
+    headers: &Headers<'_>,
+) -> io::Result<()> {
+    captured.number.write_to(output)?;
+    output.write_all(b" ")?;
+    show_time(output, clock, captured.time)?;
+    show_addresses(output, headers.addresses, headers.ports)?;
+    show_tags(output, headers.tags)?;
+    show_hop_by_hop(output, headers.hop_by_hop)?;
+    output.write_all(b" ")?;
+    line(output, headers.kind.name())
+}
+
+// Prints the time at which a packet was captured, where it is known.
+fn show_time<W: Write>(output: &mut W, clock: &mut Clock, time: Option<Time>) -> io::Result<()> {
+    match time {
+        Some(time) => clock.write(output, time.seconds, time.nanoseconds),
+        None => output.write_all(b"-"),
+    }
+}
+
+// Prints the source and the destination of a packet, as far as they are known.
+fn show_addresses<W: Write>(
+    output: &mut W,
+    addresses: Option<Addresses>,
+    ports: Option<(u16, u16)>,
+) -> io::Result<()> {
+    match addresses {
+        Some(Addresses::V4(source, destination)) => show_v4(output, source, destination, ports),
+        Some(Addresses::V6(source, destination)) => show_v6(output, source, destination, ports),
+        None => Ok(()),
+    }
+}
+
+fn show_v4<W: Write>(
+    output: &mut W,
+    source: Ipv4Address,
+    destination: Ipv4Address,
+    ports: Option<(u16, u16)>,
+) -> io::Result<()> {
+    output.write_all(b" ")?;
+    write_v4(output, source, source_port(ports))?;
+    output.write_all(b" > ")?;
+    write_v4(output, destination, destination_port(ports))
+}
+
+fn show_v6<W: Write>(
+    output: &mut W,
+    source: Ipv6Address,
+    destination: Ipv6Address,
+    ports: Option<(u16, u16)>,
+) -> io::Result<()> {
+    output.write_all(b" ")?;
+    write_v6(output, source, source_port(ports))?;
+    output.write_all(b" > ")?;
+    write_v6(output, destination, destination_port(ports))
+}
+
+fn source_port(ports: Option<(u16, u16)>) -> Option<u16> {
+    match ports {
+        Some((source, _)) => Some(source),
+        None => None,
+    }
+}
+
+fn destination_port(ports: Option<(u16, u16)>) -> Option<u16> {
+    match ports {
+        Some((_, destination)) => Some(destination),
+        None => None,
+    }
+}
+
+// Prints the number of each VLAN.
+fn show_tags<W: Write>(output: &mut W, tags: &[u8]) -> io::Result<()> {
+    let mut left = tags;
+    while left.len() >= TAG_LEN {
+        let (tag, rest) = left.split_at(TAG_LEN);
+        show_tag(output, tag)?;
+        left = rest;
+    }
+    Ok(())
+}
+
+fn show_tag<W: Write>(output: &mut W, tag: &[u8]) -> io::Result<()> {
+    output.write_all(b" vlan=")?;
+    (tag.u16_at(VLAN) % 4096).write_to(output)
+}
+
+fn show_hop_by_hop<W: Write>(output: &mut W, options: Option<&[u8]>) -> io::Result<()> {
+    match options {
+        Some(_) => output.write_all(b" hbh"),
+        None => Ok(()),
+    }
+}

@@ -1,0 +1,53 @@
+// Made from crates/dump_captures/src/help.rt by rust/erase.
+//! The help of the program.
+
+/// The usage, for a wrong argument.
+pub const USAGE: &str = "usage: pcapdump [--only KIND,..] [--count] [--help] [FILE..]";
+
+/// The text for lists after `--only` that have an unknown item.
+pub const KINDS: &str = "icmp4, igmp, icmp6, dns, mdns, dhcp, frame and hbh";
+
+/// The text below the usage where help is asked for. The script `pcapdump` has a copy of it, since it answers before
+/// anything is built.
+pub const HELP: &str = "\
+Prints each control packet of capture files, pcap or pcapng: a heading with its number, its time, its addresses and
+its kind, and below it what it holds, a field a line. Without a file, and for -, it reads standard input.
+
+  --only KIND,..    prints the packets of these kinds alone; of several lists the last counts
+  --count           prints no packets but a table at the end: of each kind how many were listed and how many were
+                    refused for each reason, and their octets; on standard error it sums up the rest. The table comes
+                    where the input ends, and not where a signal ends the program
+
+The kinds:
+
+  icmp4             ICMP over IPv4
+  igmp              IGMP
+  icmp6             ICMP over IPv6, with multicast listener and neighbor discovery
+  dns               UDP, where either port is 53; DNS over TCP is not read
+  mdns              UDP, where either port is 5353
+  dhcp              UDP over IPv4, where either port is 67 or 68
+  frame             what can't be read so far that its kind could be told
+  hbh               with --only: those that have IPv6 hop-by-hop options, of any kind
+
+A packet that can't be read has the line `refused=PHRASE`, which tells the check that fails first. It is counted under
+one of these reasons:
+
+  cut               the capture kept less of it than it takes
+  fragment          it is a fragment of a datagram
+  short             it ends before its header or its own length does
+  checksum          its checksum is wrong; so is that of a packet which was captured on the host that sends it, where
+                    the network card fills it in
+  type              it has a type of ICMP or IGMP that is not read
+  quote             it is an ICMP error that does not quote the front of a datagram
+  name              it has a DNS name that does not read
+  malformed         its format refuses it otherwise
+
+Examples:
+
+  pcapdump trace.pcap
+  pcapdump --only dns,mdns --count trace.pcap more.pcapng
+  tcpdump --immediate-mode -U -w - | pcapdump --only icmp6
+
+The status is the greatest that holds: 0, 1 where a capture ends within a record or goes on with what is none, 2 where
+an argument is wrong, or a file can't be opened or is no capture, 3 where reading, writing or memory failed.
+The manual is crates/pcapdump/README.md.";

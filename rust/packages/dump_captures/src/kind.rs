@@ -1,0 +1,106 @@
+// Made from crates/dump_captures/src/kind.rt by rust/erase.
+//! The kinds of control packets, and the reasons for which one is refused.
+
+/// The number of kinds.
+pub const KINDS: usize = 7;
+
+/// The number of reasons.
+pub const REASONS: usize = 8;
+
+/// The kinds of control packets.
+#[derive(Debug, PartialEq, Eq, Clone, Copy)]
+pub enum Kind {
+    /// An ICMPv4 message.
+    Icmp4,
+    /// An IGMP message.
+    Igmp,
+    /// An ICMPv6 message, of which neighbor discovery and multicast listener discovery are parts.
+    Icmp6,
+    /// A DNS message.
+    Dns,
+    /// A message of multicast DNS.
+    Mdns,
+    /// A DHCP packet.
+    Dhcp,
+    /// A packet whose kind can't be told, since too little of it can be read.
+    Frame,
+}
+
+impl Kind {
+    /// The name.
+    pub fn name(self) -> &'static str {
+        match self {
+            Kind::Icmp4 => "icmp4",
+            Kind::Igmp => "igmp",
+            Kind::Icmp6 => "icmp6",
+            Kind::Dns => "dns",
+            Kind::Mdns => "mdns",
+            Kind::Dhcp => "dhcp",
+            Kind::Frame => "frame",
+        }
+    }
+
+    /// The index in tables, from 0 on.
+    pub fn place(self) -> usize {
+        match self {
+            Kind::Icmp4 => 0,
+            Kind::Igmp => 1,
+            Kind::Icmp6 => 2,
+            Kind::Dns => 3,
+            Kind::Mdns => 4,
+            Kind::Dhcp => 5,
+            Kind::Frame => 6,
+        }
+    }
+}
+
+/// Why a control packet is refused.
+#[derive(Debug, PartialEq, Eq, Clone, Copy)]
+pub enum Reason {
+    /// It ends too early, and the capture kept only a part of it.
+    Cut,
+    /// It is a fragment of a datagram.
+    Fragment,
+    /// Fewer bytes than a header's own length says, or than the message's header has.
+    Short,
+    /// Its checksum is wrong.
+    Checksum,
+    /// Its type is not supported.
+    UnknownType,
+    /// The quote in an ICMP error is not the start of a datagram.
+    Quote,
+    /// A name of a DNS message is malformed.
+    Name,
+    /// Its format refuses it for another reason.
+    Malformed,
+}
+
+impl Reason {
+    /// The name.
+    pub fn name(self) -> &'static str {
+        match self {
+            Reason::Cut => "cut",
+            Reason::Fragment => "fragment",
+            Reason::Short => "short",
+            Reason::Checksum => "checksum",
+            Reason::UnknownType => "type",
+            Reason::Quote => "quote",
+            Reason::Name => "name",
+            Reason::Malformed => "malformed",
+        }
+    }
+
+    /// The index in tables, from 0 on.
+    pub fn place(self) -> usize {
+        match self {
+            Reason::Cut => 0,
+            Reason::Fragment => 1,
+            Reason::Short => 2,
+            Reason::Checksum => 3,
+            Reason::UnknownType => 4,
+            Reason::Quote => 5,
+            Reason::Name => 6,
+            Reason::Malformed => 7,
+        }
+    }
+}

@@ -1,0 +1,22 @@
+// Made from crates/dump_captures/src/lib.rt by rust/erase.
+//! The texts of `pcapdump`: what the control packets of captures hold, and what is counted of them.
+
+pub mod arguments;
+mod fault;
+mod heading;
+mod help;
+pub mod kind;
+mod messages;
+pub mod options;
+mod packets;
+mod program;
+pub mod refusal;
+mod sight;
+pub mod summary;
+pub mod table;
+pub mod tally;
+pub mod time;
+
+pub use fault::Fault;
+pub use packets::{Report, dump, run_onto};
+pub use program::run_program;

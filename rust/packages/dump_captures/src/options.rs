@@ -1,0 +1,42 @@
+// Made from crates/dump_captures/src/options.rt by rust/erase.
+//! Options: what is printed of a capture.
+
+use crate::kind::KINDS;
+use crate::sight::Headers;
+
+/// Which control packets are chosen.
+#[derive(Debug, PartialEq, Eq, Clone, Copy)]
+pub struct Only {
+    /// Those of each kind, by its index.
+    pub kinds: [bool; KINDS],
+    /// Those that have hop-by-hop options.
+    pub hop_by_hop: bool,
+}
+
+impl Only {
+    /// All.
+    pub const ALL: Only = Only {
+        kinds: [true; KINDS],
+        hop_by_hop: true,
+    };
+
+    /// None.
+    pub const NONE: Only = Only {
+        kinds: [false; KINDS],
+        hop_by_hop: false,
+    };
+
+    /// Whether a control packet is chosen.
+    pub fn chooses(&self, headers: &Headers<'_>) -> bool {
+        self.kinds[headers.kind.place()] || (self.hop_by_hop && headers.hop_by_hop.is_some())
+    }
+}
+
+/// What is printed of a capture.
+#[derive(Debug, PartialEq, Eq, Clone, Copy)]
+pub struct Options {
+    /// The packets that are chosen.
+    pub only: Only,
+    /// Whether they are printed, and not only counted.
+    pub prints: bool,
+}

@@ -1,0 +1,157 @@
+// Made from crates/dump_captures/src/packets.rt by rust/erase.
+//! The packets of a capture, in one pass.
+
+use crate::Fault;
+use crate::heading::show_heading;
+use crate::kind::{Kind, Reason};
+use crate::messages::show_listing;
+use crate::options::Options;
+use crate::sight::{Headers, Sight, look};
+use crate::tally::{Outcome, Tally};
+use crate::time::Clock;
+use capture::{Capture, Ending, Next, Record};
+use listing::page::Page;
+use rattle_std::io;
+use rattle_std::io::{BufReader, BufWriter, Read, Write};
+
+// The bytes of the buffers of input and output.
+const BUFFER_LEN: usize = 65_536;
+
+/// The result of the dump of a capture.
+pub struct Report<W> {
+    /// What ends the capture.
+    pub ending: Ending,
+    /// The counts of its packets.
+    pub tally: Tally,
+    /// The output, with all that was printed written out.
+    pub output: W,
+}
+
+/// Prints the packets of a capture.
+///
+/// What was printed before a fault is written out first, as far as the output takes it.
+pub fn run_onto<R: Read, W: Write>(
+    options: &Options,
+    input: R,
+    output: W,
+) -> Result<Report<W>, Fault> {
+    let Ok(mut output) = BufWriter::with_capacity(BUFFER_LEN, output) else {
+        return Err(Fault::Memory);
+    };
+    let mut tally = Tally::new();
+    let ending = dump(options, input, &mut output, &mut tally)?;
+    match output.into_inner() {
+        Ok(output) => Ok(Report {
+            ending,
+            tally,
+            output,
+        }),
+        Err(_) => Err(Fault::Write),
+    }
+}
+
+/// Dumps to an output that has a buffer, and adds to the counts so far.
+pub fn dump<R: Read, W: Write>(
+    options: &Options,
+    input: R,
+    output: &mut W,
+    tally: &mut Tally,
+) -> Result<Ending, Fault> {
+    let Ok(mut input) = BufReader::with_capacity(BUFFER_LEN, input) else {
+        return Err(Fault::Memory);
+    };
+    let answer = show_packets(options, &mut input, output, tally);
+    let flushed = output.flush();
+    let ending = answer?;
+    flushed?;
+    Ok(ending)
+}
+
+// Prints the packets, and returns what ends them. What is printed is written out before the input is waited for.
+fn show_packets<R: Read, W: Write>(
+    options: &Options,
+    input: &mut BufReader<R>,
+    output: &mut W,
+    tally: &mut Tally,
+) -> Result<Ending, Fault> {
+    let mut capture = Capture::new();
+    let mut page = Page::new();
+    let mut clock = Clock::new();
+    for _ in 0..u64::MAX {
+        write_out_before_wait(&capture, input, output)?;
+        match capture.next(input)? {
+            Next::Record(record) => {
+                let octets = capture.octets();
+                let outcome = show_packet(options, output, &mut page, &mut clock, &record, octets)?;
+                tally.count(outcome, record.link_type, octets.len() as u64);
+            }
+            Next::Ended(ending) => return Ok(ending),
+        }
+    }
+    Err(Fault::Read)
+}
+
+// Writes out what was printed, where the reading of the next packet has to wait for more of the input.
+fn write_out_before_wait<R: Read, W: Write>(
+    capture: &Capture,
+    input: &BufReader<R>,
+    output: &mut W,
+) -> Result<(), Fault> {
+    if !capture.shows_next(input.buffer()) {
+        output.flush()?;
+    }
+    Ok(())
+}
+
+/// Prints a packet, and returns its outcome. Requires that the record's time is in order.
+pub fn show_packet<W: Write>(
+    options: &Options,
+    output: &mut W,
+    page: &mut Page,
+    clock: &mut Clock,
+    captured: &Record,
+    octets: &[u8],
+) -> Result<Outcome, Fault> {
+    match look(captured, octets) {
+        Sight::Unread => Ok(Outcome::Unread),
+        Sight::Other => Ok(Outcome::Other),
+        Sight::Control(headers) => {
+            show_control(options, output, page, clock, captured, octets, &headers)
+        }
+    }
+}
+
+// Prints a control packet that has these headers.
+fn show_control<W: Write>(
+    options: &Options,
+    output: &mut W,
+    page: &mut Page,
+    clock: &mut Clock,
+    captured: &Record,
+    octets: &[u8],
+    headers: &Headers<'_>,
+) -> Result<Outcome, Fault> {
+    if !options.only.chooses(headers) {
+        return Ok(Outcome::Passed);
+    }
+    if !options.prints {
+        return count_alone(page, headers);
+    }
+    show_heading(output, clock, captured, octets, headers)?;
+    let why = show_listing(output, page, headers)?;
+    Ok(outcome(headers.kind, why))
+}
+
+// Reads a control packet that is only counted.
+fn count_alone(page: &mut Page, headers: &Headers<'_>) -> Result<Outcome, Fault> {
+    let why = show_listing(&mut io::sink(), page, headers)?;
+    Ok(outcome(headers.kind, why))
+}
+
+// The outcome for a control packet.
+fn outcome(kind: Kind, why: Option<Reason>) -> Outcome {
+    match why {
+        Some(reason) => Outcome::Refused(kind, reason),
+        None => Outcome::Listed(kind),
+    }
+}

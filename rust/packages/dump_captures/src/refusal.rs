@@ -1,0 +1,164 @@
+// Made from crates/dump_captures/src/refusal.rt by rust/erase.
+//! Why a control packet is refused.
+
+use crate::kind::Reason;
+use control_wire::dhcpv4;
+use control_wire::frames::{link, udp};
+use control_wire::icmpv6;
+use control_wire::quotes::message::{Icmpv4Refusal, Icmpv6Refusal};
+use control_wire::quotes::{icmpv4_error, icmpv6_error};
+use control_wire::record::TextRefusal;
+use control_wire::{icmpv4, igmp};
+use listing::message::Unread;
+use std::fmt;
+
+/// Why a control packet is refused, as the library that reads it tells.
+#[derive(Debug, PartialEq, Eq, Clone, Copy)]
+pub enum Refusal {
+    /// The frame of the link is refused.
+    Frame(link::Refusal),
+    /// The IP datagram is refused.
+    Datagram(control_wire::frames::Refusal),
+    /// The UDP datagram is refused.
+    Udp(udp::Refusal),
+    /// The ICMPv4 message is refused.
+    Icmp4(Icmpv4Refusal),
+    /// The IGMP message is refused.
+    Igmp(igmp::Refusal),
+    /// The ICMPv6 message is refused.
+    Icmp6(Icmpv6Refusal),
+    /// The DHCP packet is refused.
+    Dhcp(dhcpv4::Refusal),
+    /// The DNS message is not listed to its end.
+    Dns(Unread),
+}
+
+impl Refusal {
+    /// The reason under which the packet is counted. A packet that ends too early counts as cut where the capture kept
+    /// only a part of it.
+    pub fn reason(self, is_cut: bool) -> Reason {
+        match self {
+            Refusal::Frame(refusal) => frame_reason(is_cut, refusal),
+            Refusal::Datagram(refusal) => datagram_reason(is_cut, refusal),
+            Refusal::Udp(refusal) => udp_reason(refusal),
+            Refusal::Icmp4(refusal) => icmp4_reason(refusal),
+            Refusal::Igmp(refusal) => igmp_reason(refusal),
+            Refusal::Icmp6(refusal) => icmp6_reason(refusal),
+            Refusal::Dhcp(refusal) => dhcp_reason(refusal),
+            Refusal::Dns(unread) => dns_reason(unread),
+        }
+    }
+}
+
+// The reason for a packet that ends too early.
+fn early(is_cut: bool) -> Reason {
+    if is_cut { Reason::Cut } else { Reason::Short }
+}
+
+fn frame_reason(is_cut: bool, refusal: link::Refusal) -> Reason {
+    match refusal {
+        link::Refusal::Short | link::Refusal::Tag | link::Refusal::Protocol => early(is_cut),
+        link::Refusal::SessionVersion(_)
+        | link::Refusal::SessionType(_)
+        | link::Refusal::SessionCode(_) => Reason::Malformed,
+        _ => unreachable!(),
+    }
+}
+
+fn datagram_reason(is_cut: bool, refusal: control_wire::frames::Refusal) -> Reason {
+    match refusal {
+        control_wire::frames::Refusal::Short | control_wire::frames::Refusal::Cut(_) => {
+            early(is_cut)
+        }
+        control_wire::frames::Refusal::Fragment(_) => Reason::Fragment,
+        control_wire::frames::Refusal::Version(_)
+        | control_wire::frames::Refusal::HeaderLen(_)
+        | control_wire::frames::Refusal::TotalLen(_)
+        | control_wire::frames::Refusal::Jumbogram
+        | control_wire::frames::Refusal::Extension(_) => Reason::Malformed,
+        _ => unreachable!(),
+    }
+}
+
+fn udp_reason(refusal: udp::Refusal) -> Reason {
+    match refusal {
+        udp::Refusal::Short | udp::Refusal::Length(_) | udp::Refusal::Cut(_) => Reason::Short,
+        udp::Refusal::NoChecksum | udp::Refusal::Checksum => Reason::Checksum,
+        udp::Refusal::Port => Reason::Malformed,
+        _ => unreachable!(),
+    }
+}
+
+fn icmp4_reason(refusal: Icmpv4Refusal) -> Reason {
+    match refusal {
+        Icmpv4Refusal::Error(icmpv4_error::Refusal::Short)
+        | Icmpv4Refusal::Message(icmpv4::Refusal::Short) => Reason::Short,
+        Icmpv4Refusal::Error(icmpv4_error::Refusal::Checksum)
+        | Icmpv4Refusal::Message(icmpv4::Refusal::Checksum) => Reason::Checksum,
+        Icmpv4Refusal::Error(icmpv4_error::Refusal::UnknownType(_))
+        | Icmpv4Refusal::Message(icmpv4::Refusal::UnknownType(_)) => Reason::UnknownType,
+        Icmpv4Refusal::Error(icmpv4_error::Refusal::Quote(_)) => Reason::Quote,
+        Icmpv4Refusal::Message(_) => Reason::Malformed,
+        _ => unreachable!(),
+    }
+}
+
+fn igmp_reason(refusal: igmp::Refusal) -> Reason {
+    match refusal {
+        igmp::Refusal::Short => Reason::Short,
+        igmp::Refusal::UnknownType(_) => Reason::UnknownType,
+        igmp::Refusal::Group(_) => Reason::Malformed,
+        _ => unreachable!(),
+    }
+}
+
+fn icmp6_reason(refusal: Icmpv6Refusal) -> Reason {
+    match refusal {
+        Icmpv6Refusal::Error(icmpv6_error::Refusal::Short)
+        | Icmpv6Refusal::Message(icmpv6::Refusal::Short)
+        | Icmpv6Refusal::Message(icmpv6::Refusal::Length) => Reason::Short,
+        Icmpv6Refusal::Error(icmpv6_error::Refusal::Checksum)
+        | Icmpv6Refusal::Message(icmpv6::Refusal::Checksum) => Reason::Checksum,
+        Icmpv6Refusal::Error(icmpv6_error::Refusal::UnknownType(_))
+        | Icmpv6Refusal::Message(icmpv6::Refusal::UnknownType(_)) => Reason::UnknownType,
+        Icmpv6Refusal::Error(icmpv6_error::Refusal::Quote(_)) => Reason::Quote,
+        Icmpv6Refusal::Message(_) => Reason::Malformed,
+        _ => unreachable!(),
+    }
+}
+
+fn dhcp_reason(refusal: dhcpv4::Refusal) -> Reason {
+    match refusal {
+        dhcpv4::Refusal::Short => Reason::Short,
+        _ => Reason::Malformed,
+    }
+}
+
+fn dns_reason(unread: Unread) -> Reason {
+    match unread {
+        Unread::Header => Reason::Short,
+        Unread::Question(_)
+        | Unread::Record(TextRefusal::Owner(_))
+        | Unread::Record(TextRefusal::DataName(_)) => Reason::Name,
+        Unread::Entry(..) | Unread::Record(TextRefusal::Data(_)) | Unread::Option(_) => {
+            Reason::Malformed
+        }
+        _ => unreachable!(),
+    }
+}
+
+/// The reason as a phrase.
+impl fmt::Display for Refusal {
+    fn fmt(&self, f: &mut fmt::Formatter<'_>) -> fmt::Result {
+        match self {
+            Refusal::Frame(refusal) => write!(f, "{refusal}"),
+            Refusal::Datagram(refusal) => write!(f, "{refusal}"),
+            Refusal::Udp(refusal) => write!(f, "{refusal}"),
+            Refusal::Icmp4(refusal) => write!(f, "{refusal}"),
+            Refusal::Igmp(refusal) => write!(f, "{refusal}"),
+            Refusal::Icmp6(refusal) => write!(f, "{refusal}"),
+            Refusal::Dhcp(refusal) => write!(f, "{refusal}"),
+            Refusal::Dns(unread) => write!(f, "{unread}"),
+        }
+    }
+}

@@ -1,0 +1,257 @@
+// Made from crates/dump_captures/src/sight.rt by rust/erase.
+//! What the headers of a packet tell.
+
+use crate::kind::{Kind, Reason};
+use crate::refusal::Refusal;
+use capture::Record;
+use control_wire::frames::{Addresses, Captured, Datagram, Frame, Head, Link, Network, udp};
+use control_wire::{IpProtocol, Ipv4Packet};
+use listing::ports::ports_of;
+
+/// What the headers of a packet tell.
+#[derive(Debug, PartialEq, Eq, Clone, Copy)]
+pub enum Sight<'a> {
+    /// The frame is of an unsupported link.
+    Unread,
+    /// The packet is of another protocol.
+    Other,
+    /// It is a control packet.
+    Control(Headers<'a>),
+}
+
+/// What the headers of a control packet tell.
+#[derive(Debug, PartialEq, Eq, Clone, Copy)]
+pub struct Headers<'a> {
+    /// The VLAN tags, four bytes each.
+    pub tags: &'a [u8],
+    /// The addresses of the datagram, where they are known.
+    pub addresses: Option<Addresses>,
+    /// The ports of the source and the destination, where there are any.
+    pub ports: Option<(u16, u16)>,
+    /// The hop-by-hop options, where there are any.
+    pub hop_by_hop: Option<&'a [u8]>,
+    /// The kind.
+    pub kind: Kind,
+    /// The payload to read.
+    pub content: Content<'a>,
+}
+
+/// The payload of a datagram, or why there is none to read.
+#[derive(Debug, PartialEq, Eq, Clone, Copy)]
+pub enum Content<'a> {
+    /// A payload, between two addresses.
+    Whole(Addresses, &'a [u8]),
+    /// No payload: the packet is refused and counted under this reason.
+    Refused(Reason, Refusal),
+}
+
+/// What the headers of a packet tell, of which the capture has these octets.
+pub fn look<'a>(captured: &Record, octets: &'a [u8]) -> Sight<'a> {
+    let Some(link) = Link::of(captured.link_type) else {
+        return Sight::Unread;
+    };
+    match link.frame_or_refusal(octets) {
+        Ok(frame) => look_into(captured, octets, &frame),
+        Err(refusal) => {
+            let refusal = Refusal::Frame(refusal);
+            untold(&[], refusal.reason(is_cut(captured, octets)), refusal)
+        }
+    }
+}
+
+// What the headers in a frame tell.
+fn look_into<'a>(captured: &Record, octets: &[u8], frame: &Frame<'a>) -> Sight<'a> {
+    match frame.network {
+        Network::Ipv4 => match Datagram::parse_v4(frame.payload) {
+            Ok(datagram) => whole(frame.tags, &datagram),
+            Err(refusal) => {
+                let refusal = Refusal::Datagram(refusal);
+                let reason = refusal.reason(is_cut(captured, octets));
+                refused_v4(frame.tags, frame.payload, reason, refusal)
+            }
+        },
+        Network::Ipv6 => match Datagram::parse_v6(frame.payload) {
+            Ok(datagram) => whole(frame.tags, &datagram),
+            Err(refusal) => {
+                let refusal = Refusal::Datagram(refusal);
+                let reason = refusal.reason(is_cut(captured, octets));
+                refused_v6(frame.tags, frame.payload, reason, refusal)
+            }
+        },
+        Network::Other(_) => Sight::Other,
+    }
+}
+
+// The kind of a datagram of this protocol, over IPv4 or not; None for other protocols.
+fn kind_of(is_v4: bool, protocol: IpProtocol, ports: Option<(u16, u16)>) -> Option<Kind> {
+    match protocol {
+        IpProtocol::Icmp if is_v4 => Some(Kind::Icmp4),
+        IpProtocol::Igmp if is_v4 => Some(Kind::Igmp),
+        IpProtocol::Icmpv6 if !is_v4 => Some(Kind::Icmp6),
+        IpProtocol::Udp => match ports {
+            Some((source, destination)) => kind_by_ports(is_v4, source, destination),
+            None => Some(Kind::Frame),
+        },
+        IpProtocol::HopByHop
+        | IpProtocol::Ipv6Route
+        | IpProtocol::Ipv6Frag
+        | IpProtocol::Ipv6Opts
+            if !is_v4 =>
+        {
+            Some(Kind::Frame)
+        }
+        _ => None,
+    }
+}
+
+// The kind of a UDP datagram between these ports.
+fn kind_by_ports(is_v4: bool, source: u16, destination: u16) -> Option<Kind> {
+    if source == 53 || destination == 53 {
+        Some(Kind::Dns)
+    } else if source == 5353 || destination == 5353 {
+        Some(Kind::Mdns)
+    } else if is_v4 && (source == 67 || destination == 67 || source == 68 || destination == 68) {
+        Some(Kind::Dhcp)
+    } else {
+        None
+    }
+}
+
+// What a whole datagram holds.
+fn whole<'a>(tags: &'a [u8], datagram: &Datagram<'a>) -> Sight<'a> {
+    let ports = ports_of(datagram.protocol, datagram.payload);
+    let Some(kind) = kind_of(datagram.addresses.is_v4(), datagram.protocol, ports) else {
+        return Sight::Other;
+    };
+    Sight::Control(Headers {
+        tags,
+        addresses: Some(datagram.addresses),
+        ports,
+        hop_by_hop: datagram.hop_by_hop,
+        kind,
+        content: content_by(kind, datagram),
+    })
+}
+
+// The payload to read in a whole datagram of a kind.
+fn content_by<'a>(kind: Kind, datagram: &Datagram<'a>) -> Content<'a> {
+    match kind {
+        Kind::Frame => Content::Refused(Reason::Short, Refusal::Udp(udp::Refusal::Short)),
+        _ => Content::Whole(datagram.addresses, datagram.payload),
+    }
+}
+
+// Whether the capture kept only a part of a packet.
+fn is_cut(captured: &Record, octets: &[u8]) -> bool {
+    (octets.len() as u64) < captured.original_len as u64
+}
+
+// A packet of which only the VLAN tags are known.
+fn untold(tags: &[u8], reason: Reason, refusal: Refusal) -> Sight<'_> {
+    Sight::Control(Headers {
+        tags,
+        addresses: None,
+        ports: None,
+        hop_by_hop: None,
+        kind: Kind::Frame,
+        content: Content::Refused(reason, refusal),
+    })
+}
+
+// A refused datagram, of which this is known.
+fn told<'a>(
+    tags: &'a [u8],
+    addresses: Addresses,
+    protocol: IpProtocol,
+    ports: Option<(u16, u16)>,
+    reason: Reason,
+    refusal: Refusal,
+) -> Sight<'a> {
+    let Some(kind) = kind_of(addresses.is_v4(), protocol, ports) else {
+        return Sight::Other;
+    };
+    Sight::Control(Headers {
+        tags,
+        addresses: Some(addresses),
+        ports,
+        hop_by_hop: None,
+        kind,
+        content: Content::Refused(reason, refusal),
+    })
+}
+
+// A refused datagram, of which the start is known.
+fn told_front<'a>(
+    tags: &'a [u8],
+    front: &Datagram<'_>,
+    reason: Reason,
+    refusal: Refusal,
+) -> Sight<'a> {
+    let ports = ports_of(front.protocol, front.payload);
+    told(
+        tags,
+        front.addresses,
+        front.protocol,
+        ports,
+        reason,
+        refusal,
+    )
+}
+
+// What is known of a refused IPv4 datagram, as far as it was captured.
+fn refused_v4<'a>(tags: &'a [u8], octets: &[u8], reason: Reason, refusal: Refusal) -> Sight<'a> {
+    match Captured::parse_v4(octets) {
+        Ok(front) => told_front(tags, &front.datagram, reason, refusal),
+        Err(other) => match head_of(other) {
+            Some(head) => {
+                let ports = ports_behind(octets, &head);
+                told(tags, head.addresses, head.protocol, ports, reason, refusal)
+            }
+            None => untold(tags, reason, refusal),
+        },
+    }
+}
+
+// The ports after an IPv4 header; a fragment that is not the first begins with none.
+fn ports_behind(octets: &[u8], head: &Head) -> Option<(u16, u16)> {
+    if head.frag_offset == 0 {
+        ports_of(head.protocol, behind_header(octets))
+    } else {
+        None
+    }
+}
+
+// What follows an IPv4 header, by the header's length.
+fn behind_header(octets: &[u8]) -> &[u8] {
+    if octets.is_empty() {
+        return octets;
+    }
+    let header_len = Ipv4Packet::new_unchecked(octets).header_len() as usize;
+    octets.get(header_len..).unwrap_or(&[])
+}
+
+// What is known of a refused IPv6 datagram, as far as it was captured.
+fn refused_v6<'a>(tags: &'a [u8], octets: &[u8], reason: Reason, refusal: Refusal) -> Sight<'a> {
+    match Captured::parse_v6(octets) {
+        Ok(front) => told_front(tags, &front.datagram, reason, refusal),
+        Err(other) => match head_of(other) {
+            Some(head) => told(tags, head.addresses, head.protocol, None, reason, refusal),
+            None => untold(tags, reason, refusal),
+        },
+    }
+}
+
+// What is known of a datagram whose start was not captured.
+fn head_of(refusal: control_wire::frames::Refusal) -> Option<Head> {
+    match refusal {
+        control_wire::frames::Refusal::Cut(head)
+        | control_wire::frames::Refusal::Fragment(head) => Some(head),
+        control_wire::frames::Refusal::Short
+        | control_wire::frames::Refusal::Version(_)
+        | control_wire::frames::Refusal::HeaderLen(_)
+        | control_wire::frames::Refusal::TotalLen(_)
+        | control_wire::frames::Refusal::Jumbogram
+        | control_wire::frames::Refusal::Extension(_) => None,
+        _ => unreachable!(),
+    }
+}

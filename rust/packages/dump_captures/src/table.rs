@@ -1,0 +1,52 @@
+// Made from crates/dump_captures/src/table.rt by rust/erase.
+//! The table of counts.
+
+use crate::kind::Kind;
+use crate::options::Only;
+use crate::tally::{Row, Tally};
+use listing::printer::Value;
+use rattle_std::io;
+use rattle_std::io::Write;
+
+// The names of the columns.
+const HEAD: &[u8] =
+    b"kind\tlisted\tcut\tfragment\tshort\tchecksum\ttype\tquote\tname\tmalformed\toctets\n";
+
+/// Prints the table of counts: a row for each kind of packets that may be chosen.
+pub fn show_table<W: Write>(output: &mut W, only: &Only, tally: &Tally) -> io::Result<()> {
+    output.write_all(HEAD)?;
+    show_chosen(output, only, tally, Kind::Icmp4)?;
+    show_chosen(output, only, tally, Kind::Igmp)?;
+    show_chosen(output, only, tally, Kind::Icmp6)?;
+    show_chosen(output, only, tally, Kind::Dns)?;
+    show_chosen(output, only, tally, Kind::Mdns)?;
+    show_chosen(output, only, tally, Kind::Dhcp)?;
+    show_chosen(output, only, tally, Kind::Frame)
+}
+
+// Prints the row of a kind, where packets of it may be chosen.
+fn show_chosen<W: Write>(output: &mut W, only: &Only, tally: &Tally, kind: Kind) -> io::Result<()> {
+    if !only.kinds[kind.place()] && !only.hop_by_hop {
+        return Ok(());
+    }
+    show_row(output, kind, &tally.rows[kind.place()])
+}
+
+fn show_row<W: Write>(output: &mut W, kind: Kind, row: &Row) -> io::Result<()> {
+    kind.name().write_to(output)?;
+    output.write_all(b"\t")?;
+    row.listed.write_to(output)?;
+    show_numbers(output, &row.refused)?;
+    output.write_all(b"\t")?;
+    row.octets.write_to(output)?;
+    output.write_all(b"\n")
+}
+
+// Prints numbers, each after a tab.
+fn show_numbers<W: Write>(output: &mut W, numbers: &[u64]) -> io::Result<()> {
+    for number in numbers {
+        output.write_all(b"\t")?;
+        number.write_to(output)?;
+    }
+    Ok(())
+}

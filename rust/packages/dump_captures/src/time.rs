@@ -1,0 +1,112 @@
+// Made from crates/dump_captures/src/time.rt by rust/erase.
+//! Times of packets, as RFC 3339 writes them in UTC.
+
+use capture::calendar::{Date, date_of};
+use listing::number::{two_digits, write_number};
+use rattle_std::io;
+use rattle_std::io::Write;
+
+const DAY_SECONDS: u64 = 86_400;
+
+// The length of the text of a date whose year has four digits, and of the time after it.
+const DATE_LEN: usize = 10;
+
+const TIME_LEN: usize = 20;
+
+/// Writes times, most of which are on the same day as the one before.
+pub struct Clock {
+    // A day, counted from 1970-01-01.
+    day: u64,
+    // The year without its last four digits.
+    ten_thousands: u64,
+    // The last four digits of the year, the month and the day.
+    date: [u8; DATE_LEN],
+}
+
+impl Clock {
+    /// A clock that has written nothing yet.
+    pub fn new() -> Clock {
+        Clock::at(0)
+    }
+
+    /// Writes the time this many seconds and nanoseconds after 1970-01-01T00:00:00Z, as
+    /// `2024-05-01T12:34:56.000000000Z`. A year above 9999 has more than four digits. Nanoseconds are written by their
+    /// last nine digits.
+    pub fn write<W: Write>(
+        &mut self,
+        output: &mut W,
+        seconds: u64,
+        nanoseconds: u32,
+    ) -> io::Result<()> {
+        self.turn_to(seconds / DAY_SECONDS);
+        let text = join(&self.date, &time_octets(seconds, nanoseconds));
+        if self.ten_thousands == 0 {
+            return output.write_all(&text);
+        }
+        write_number(output, self.ten_thousands)?;
+        output.write_all(&text)
+    }
+
+    // Keeps the date of this day instead of another's.
+    fn turn_to(&mut self, day: u64) {
+        if self.day != day {
+            *self = Clock::at(day);
+        }
+    }
+
+    // The clock that keeps the date of this day.
+    fn at(day: u64) -> Clock {
+        let date = date_of(day);
+        Clock {
+            day,
+            ten_thousands: date.year / 10_000,
+            date: date_octets(date),
+        }
+    }
+}
+
+// The last four digits of a year, the month and the day.
+fn date_octets(date: Date) -> [u8; DATE_LEN] {
+    let Date { year, month, day } = date;
+    [
+        digit(year / 10 / 10 / 10),
+        digit(year / 10 / 10),
+        digit(year / 10),
+        digit(year),
+        b'-',
+        digit(month / 10),
+        digit(month),
+        b'-',
+        digit(day / 10),
+        digit(day),
+    ]
+}
+
+// Hours, minutes and seconds, nine digits of nanoseconds, and the characters between them.
+fn time_octets(seconds: u64, nanoseconds: u32) -> [u8; TIME_LEN] {
+    let [h1, h0] = two_digits(seconds / 60 / 60 % 24);
+    let [m1, m0] = two_digits(seconds / 60 % 60);
+    let [s1, s0] = two_digits(seconds % 60);
+    let n = u64::from(nanoseconds);
+    let n8 = digit(n / 100 / 100 / 100 / 100);
+    let [n7, n6] = two_digits(n / 100 / 100 / 100);
+    let [n5, n4] = two_digits(n / 100 / 100);
+    let [n3, n2] = two_digits(n / 100);
+    let [n1, n0] = two_digits(n);
+    [
+        b'T', h1, h0, b':', m1, m0, b':', s1, s0, b'.', n8, n7, n6, n5, n4, n3, n2, n1, n0, b'Z',
+    ]
+}
+
+// The last digit of a number.
+fn digit(number: u64) -> u8 {
+    b'0' + (number % 10) as u8
+}
+
+// A date, and a time after it.
+fn join(date: &[u8; DATE_LEN], time: &[u8; TIME_LEN]) -> [u8; DATE_LEN + TIME_LEN] {
+    let mut text = [0; DATE_LEN + TIME_LEN];
+    text[..DATE_LEN].copy_from_slice(date);
+    text[DATE_LEN..].copy_from_slice(time);
+    text
+}

@@ -1,0 +1,18 @@
+// Made from crates/tests_pcapdump/src/pcapdump.rt by rust/erase.
+//! What captures print, what is counted of them, and what is said where reading or writing fails.
+
+mod arguments;
+mod counts;
+mod faults;
+mod live;
+mod packets;
+mod refusal;
+mod time;
+
+use dump_captures::options::{Only, Options};
+
+/// All packets are printed.
+const PRINTED: Options = Options {
+    only: Only::ALL,
+    prints: true,
+};

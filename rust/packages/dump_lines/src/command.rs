@@ -1,0 +1,97 @@
+// Made from crates/dump_lines/src/command.rt by rust/erase.
+//! The commands: how the word before a packet tells to read it.
+
+use crate::words::{is, read_address, read_offset};
+use listing::dhcp::show_dhcp;
+use listing::hbh::show_hbh;
+use listing::icmp4::show_icmp4;
+use listing::icmp6::show_icmp6;
+use listing::igmp::show_igmp;
+use listing::mld::show_mld;
+use listing::name::show_name;
+use listing::ndopt::show_ndopt;
+use listing::question::show_question;
+use rattle_std::io;
+use rattle_std::io::Write;
+
+/// The way in which a packet is read.
+#[derive(Clone, Copy)]
+pub enum Command {
+    /// As the options of a hop-by-hop header of IPv6.
+    Hbh,
+    /// As an ICMPv4 message.
+    Icmp4,
+    /// As an IGMP message.
+    Igmp,
+    /// As an ICMPv6 message from one address to another.
+    Icmp6([u8; 16], [u8; 16]),
+    /// As a message of multicast listener discovery.
+    Mld,
+    /// As an option of neighbor discovery.
+    Ndopt,
+    /// As a DHCP packet.
+    Dhcp,
+    /// As a question of DNS.
+    Question,
+    /// As a DNS message, by the walk over the name that begins at this offset.
+    Name(usize),
+}
+
+impl Command {
+    /// The command of a word and of the words between it and the packet; None where there is no such command.
+    pub fn of(word: &[u8], arguments: &[&[u8]]) -> Option<Command> {
+        match arguments {
+            [] => Command::alone(word),
+            [offset] if is(word, "name") => Some(Command::Name(read_offset(offset)?)),
+            [source, destination] if is(word, "icmp6") => Some(Command::Icmp6(
+                read_address(source)?,
+                read_address(destination)?,
+            )),
+            _ => None,
+        }
+    }
+
+    // The command of a word without further words.
+    fn alone(word: &[u8]) -> Option<Command> {
+        if is(word, "hbh") {
+            Some(Command::Hbh)
+        } else if is(word, "icmp4") {
+            Some(Command::Icmp4)
+        } else if is(word, "igmp") {
+            Some(Command::Igmp)
+        } else if is(word, "mld") {
+            Some(Command::Mld)
+        } else if is(word, "ndopt") {
+            Some(Command::Ndopt)
+        } else if is(word, "dhcp") {
+            Some(Command::Dhcp)
+        } else if is(word, "question") {
+            Some(Command::Question)
+        } else {
+            None
+        }
+    }
+
+    /// Whether the command can read these octets, even if it then refuses them: an offset may not be past their end.
+    pub fn reads(self, packet: &[u8]) -> bool {
+        match self {
+            Command::Name(offset) => offset <= packet.len(),
+            _ => true,
+        }
+    }
+
+    /// Prints what a packet holds, read by this command.
+    pub fn show<W: Write>(self, output: &mut W, packet: &[u8]) -> io::Result<()> {
+        match self {
+            Command::Hbh => show_hbh(output, packet),
+            Command::Icmp4 => show_icmp4(output, packet),
+            Command::Igmp => show_igmp(output, packet),
+            Command::Icmp6(source, destination) => show_icmp6(output, source, destination, packet),
+            Command::Mld => show_mld(output, packet),
+            Command::Ndopt => show_ndopt(output, packet),
+            Command::Dhcp => show_dhcp(output, packet),
+            Command::Question => show_question(output, packet),
+            Command::Name(offset) => show_name(output, offset, packet),
+        }
+    }
+}

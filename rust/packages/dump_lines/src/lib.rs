@@ -1,0 +1,16 @@
+// Made from crates/dump_lines/src/lib.rt by rust/erase.
+//! The lines of `wiredump`: what packets that are given in hexadecimal hold.
+
+mod buffered_line;
+mod command;
+mod fault;
+mod hex_digits;
+pub mod line;
+mod lines;
+pub mod partial_line;
+mod search;
+mod shape;
+pub mod words;
+
+pub use fault::Fault;
+pub use lines::{run, run_onto, status};

@@ -1,0 +1,12 @@
+// Made from crates/examples/src/lib.rt by rust/erase.
+//! Small proved programs, one for each kind of user, which call the library by its public contracts alone.
+
+pub mod first;
+pub mod lease;
+pub mod listener;
+pub mod member;
+pub mod neighbor;
+pub mod ping;
+pub mod resolver;
+pub mod router;
+pub mod unreachable;

@@ -1,0 +1,9 @@
+// Made from crates/tests_examples/src/callers.rt by rust/erase.
+mod first;
+mod lease;
+mod listener_version1;
+mod member;
+mod neighbor;
+mod ping;
+mod resolver;
+mod router;

@@ -1,0 +1,136 @@
+// Made from crates/dhcp_wire/src/dhcpv4/options_seen.rt by rust/erase.
+//! Collects the options of a packet, in one pass.
+
+use super::MAX_DNS_SERVER_COUNT;
+use super::option_kinds::{
+    OPT_CLIENT_ID, OPT_DHCP_MESSAGE_TYPE, OPT_DOMAIN_NAME_SERVER, OPT_IP_LEASE_TIME,
+    OPT_MAX_DHCP_MESSAGE_SIZE, OPT_PARAMETER_REQUEST_LIST, OPT_REBINDING_TIME_VALUE,
+    OPT_RENEWAL_TIME_VALUE, OPT_REQUESTED_IP, OPT_ROUTER, OPT_SERVER_IDENTIFIER, OPT_SUBNET_MASK,
+};
+use super::options::DhcpOption;
+use super::packet::Packet;
+use super::repr::Repr;
+use super::tables::MessageType;
+use crate::wirebase::{Error, EthernetAddress, Ipv4Address, Result};
+use arrayvec::ArrayVec;
+use byteorder::{BigEndian, ByteOrder};
+
+// The options seen so far: each field of the value from the last option of its kind and length, and the type of the
+// message, where an option gives it.
+pub(super) struct OptionsSeen<'a> {
+    pub(super) message_type: Option<MessageType>,
+    pub(super) repr: Repr<'a>,
+}
+
+impl<'a> OptionsSeen<'a> {
+    // Notes all options of a packet, where none was noted before. Refused where one is a client identifier of another
+    // hardware.
+    pub(super) fn note_all<B: AsRef<[u8]> + ?Sized>(
+        &mut self,
+        packet: &Packet<&'a B>,
+    ) -> Result<()> {
+        let op = packet.opcode().into();
+        for option in packet.into_options() {
+            if !is_of_ethernet(option) {
+                return Err(Error);
+            }
+            self.note(option.kind, option.data, op);
+        }
+        Ok(())
+    }
+
+    // Notes one more option, of a packet with this operation. Never inlined into the loop; by `&mut self`, so that the
+    // value is not copied.
+    #[inline(never)]
+    fn note(&mut self, kind: u8, body: &'a [u8], op: u8) {
+        match kind {
+            OPT_DHCP_MESSAGE_TYPE => set(&mut self.message_type, message_type(body, op)),
+            OPT_REQUESTED_IP => set(&mut self.repr.requested_ip, address(body)),
+            OPT_CLIENT_ID => set(&mut self.repr.client_identifier, identifier(body)),
+            OPT_SERVER_IDENTIFIER => set(&mut self.repr.server_identifier, address(body)),
+            OPT_ROUTER => set(&mut self.repr.router, address(body)),
+            OPT_SUBNET_MASK => set(&mut self.repr.subnet_mask, address(body)),
+            OPT_PARAMETER_REQUEST_LIST => self.repr.parameter_request_list = Some(body),
+            OPT_DOMAIN_NAME_SERVER => self.repr.dns_servers = Some(addresses(body)),
+            OPT_MAX_DHCP_MESSAGE_SIZE => set(&mut self.repr.max_size, size(body)),
+            OPT_IP_LEASE_TIME => set(&mut self.repr.lease_duration, seconds(body)),
+            OPT_RENEWAL_TIME_VALUE => set(&mut self.repr.renew_duration, seconds(body)),
+            OPT_REBINDING_TIME_VALUE => set(&mut self.repr.rebind_duration, seconds(body)),
+            _ => {}
+        }
+    }
+}
+
+// Sets a field to what an option says, where it says something.
+fn set<T: Copy>(field: &mut Option<T>, said: Option<T>) {
+    if said.is_some() {
+        *field = said;
+    }
+}
+
+// The length of a client identifier that is an address of Ethernet, and the number of that hardware, its first byte.
+pub(super) const IDENTIFIER_LEN: usize = 7;
+
+pub(super) const ETHERNET: u8 = 1;
+
+// Whether the option is not a client identifier of another hardware.
+fn is_of_ethernet(option: DhcpOption<'_>) -> bool {
+    let data = option.data;
+    option.kind != OPT_CLIENT_ID || data.len() != IDENTIFIER_LEN || data[0] == ETHERNET
+}
+
+// The type of a message whose operation is this one; None for other data.
+fn message_type(data: &[u8], op: u8) -> Option<MessageType> {
+    if data.len() != 1 {
+        return None;
+    }
+    let message_type = MessageType::from(data[0]);
+    let own: u8 = message_type.opcode().into();
+    if own == op { Some(message_type) } else { None }
+}
+
+// An address of four octets; None for other data.
+fn address(data: &[u8]) -> Option<Ipv4Address> {
+    if data.len() != 4 {
+        return None;
+    }
+    Some(Ipv4Address::from_octets(data.try_into().unwrap()))
+}
+
+// An address of Ethernet after the number of its hardware; None for other data.
+fn identifier(data: &[u8]) -> Option<EthernetAddress> {
+    if data.len() != IDENTIFIER_LEN {
+        return None;
+    }
+    Some(EthernetAddress::from_bytes(&data[1..]))
+}
+
+// A number of two bytes; None for other data.
+fn size(data: &[u8]) -> Option<u16> {
+    if data.len() != 2 {
+        return None;
+    }
+    Some(BigEndian::read_u16(data))
+}
+
+// A number of four bytes; None for other data.
+fn seconds(data: &[u8]) -> Option<u32> {
+    if data.len() != 4 {
+        return None;
+    }
+    Some(BigEndian::read_u32(data))
+}
+
+// The first whole addresses, at most `MAX_DNS_SERVER_COUNT`.
+fn addresses(data: &[u8]) -> ArrayVec<Ipv4Address, MAX_DNS_SERVER_COUNT> {
+    let mut addresses = ArrayVec::new();
+    let mut rest = data;
+    while !addresses.is_full() {
+        let Some((first, after)) = rest.split_first_chunk::<4>() else {
+            return addresses;
+        };
+        addresses.push(Ipv4Address::from_octets(*first));
+        rest = after;
+    }
+    addresses
+}

@@ -1,6 +1,0 @@
-// Made from rust/rattle_std/src/test.rs by rust/erase.
-//! Tests that may fail by `?`.
-
-use std::prelude::v1::*;
-/// Why a test failed.
-pub type Fail = Box<dyn std::error::Error>;

@@ -1,0 +1,354 @@
+// Made from crates/tests_above/src/frame/link.rt by rust/erase.
+use crate::testing::same_of;
+use control_wire::EthernetAddress;
+use control_wire::frames::link::{EthernetHeader, Frame, Link, Network, Refusal, VlanTag};
+
+// A frame of a link, and what it holds.
+type Row = (Link, &'static [u8], Network, &'static [u16], &'static [u8]);
+
+const ROWS: &[Row] = &[
+    (
+        Link::Ethernet,
+        &[
+            0xff, 0xff, 0xff, 0xff, 0xff, 0xff, 2, 0, 0, 0, 0, 1, 0x08, 0x00, 0x45, 0x00,
+        ],
+        Network::Ipv4,
+        &[],
+        &[0x45, 0x00],
+    ),
+    // A tag of a service around one of a customer, VLANs 100 and 4,095, with a priority.
+    (
+        Link::Ethernet,
+        &[
+            0x33, 0x33, 0, 0, 0, 1, 2, 0, 0, 0, 0, 1, 0x88, 0xa8, 0x00, 0x64, 0x81, 0x00, 0xef,
+            0xff, 0x86, 0xdd, 0x60,
+        ],
+        Network::Ipv6,
+        &[100, 4095],
+        &[0x60],
+    ),
+    // ARP.
+    (
+        Link::Ethernet,
+        &[
+            0xff, 0xff, 0xff, 0xff, 0xff, 0xff, 2, 0, 0, 0, 0, 1, 0x08, 0x06, 0x00, 0x01,
+        ],
+        Network::Other(0x0806),
+        &[],
+        &[0x00, 0x01],
+    ),
+    // A PPPoE session of IPv6, and a discovery, which is none.
+    (
+        Link::Ethernet,
+        &[
+            2, 0, 0, 0, 0, 2, 2, 0, 0, 0, 0, 1, 0x88, 0x64, 0x11, 0x00, 0x00, 0x07, 0x00, 0x03,
+            0x00, 0x57, 0x60,
+        ],
+        Network::Ipv6,
+        &[],
+        &[0x60],
+    ),
+    (
+        Link::Ethernet,
+        &[
+            2, 0, 0, 0, 0, 2, 2, 0, 0, 0, 0, 1, 0x88, 0x64, 0x11, 0xa7, 0x00, 0x07, 0x00, 0x00,
+        ],
+        Network::Other(0x8864),
+        &[],
+        &[0x11, 0xa7, 0x00, 0x07, 0x00, 0x00],
+    ),
+    (
+        Link::LinuxSll,
+        &[0, 0, 0, 1, 0, 6, 2, 0, 0, 0, 0, 1, 0, 0, 0x08, 0x00, 0x45],
+        Network::Ipv4,
+        &[],
+        &[0x45],
+    ),
+    (
+        Link::LinuxSll2,
+        &[
+            0x86, 0xdd, 0, 0, 0, 0, 0, 2, 0, 1, 0, 6, 2, 0, 0, 0, 0, 1, 0, 0, 0x60,
+        ],
+        Network::Ipv6,
+        &[],
+        &[0x60],
+    ),
+    (Link::Raw, &[0x45, 0x00], Network::Ipv4, &[], &[0x45, 0x00]),
+    (Link::Raw, &[0x6f], Network::Ipv6, &[], &[0x6f]),
+    (Link::Raw, &[0x00], Network::Other(0), &[], &[0x00]),
+    // The family of IPv4, in either order, and those of IPv6.
+    (Link::Null, &[2, 0, 0, 0, 0x45], Network::Ipv4, &[], &[0x45]),
+    (Link::Null, &[0, 0, 0, 2, 0x45], Network::Ipv4, &[], &[0x45]),
+    (
+        Link::Null,
+        &[30, 0, 0, 0, 0x60],
+        Network::Ipv6,
+        &[],
+        &[0x60],
+    ),
+    (
+        Link::Null,
+        &[0, 0, 0, 24, 0x60],
+        Network::Ipv6,
+        &[],
+        &[0x60],
+    ),
+    (
+        Link::Null,
+        &[10, 0, 0, 0, 0x60],
+        Network::Ipv6,
+        &[],
+        &[0x60],
+    ),
+    (
+        Link::Null,
+        &[0, 0, 0, 28, 0x60],
+        Network::Ipv6,
+        &[],
+        &[0x60],
+    ),
+    (
+        Link::Null,
+        &[7, 0, 0, 0, 0x60],
+        Network::Other(7),
+        &[],
+        &[0x60],
+    ),
+    // PPP with and without an address, and with a protocol of one byte.
+    (
+        Link::Ppp,
+        &[0xff, 0x03, 0x00, 0x21, 0x45],
+        Network::Ipv4,
+        &[],
+        &[0x45],
+    ),
+    (Link::Ppp, &[0x00, 0x57, 0x60], Network::Ipv6, &[], &[0x60]),
+    (Link::Ppp, &[0x21, 0x45], Network::Ipv4, &[], &[0x45]),
+    (
+        Link::Ppp,
+        &[0xc0, 0x21, 0x01],
+        Network::Other(0xc021),
+        &[],
+        &[0x01],
+    ),
+    (
+        Link::PppEther,
+        &[0x11, 0x00, 0x00, 0x07, 0x00, 0x03, 0x00, 0x21, 0x45],
+        Network::Ipv4,
+        &[],
+        &[0x45],
+    ),
+];
+
+// Compares a frame with a row.
+fn check_frame(of: &[u8], frame: &Frame<'_>, row: &Row) {
+    let &(_, _, network, vlans, payload) = row;
+    same_of(of, frame.network, network);
+    same_of(of, frame.payload, payload);
+    same_of(of, frame.vlans(), vlans.len());
+    let mut tags = frame.vlan_tags();
+    for &vlan in vlans {
+        let number = tags.next().map(|tag| tag.number);
+        same_of(of, number, Some(vlan));
+    }
+    same_of(of, tags.next(), None);
+    for (i, &vlan) in vlans.iter().enumerate() {
+        if i < frame.vlans() {
+            same_of(of, frame.vlan(i), vlan);
+        }
+    }
+}
+
+#[test]
+fn frames_of_each_link() {
+    for row in ROWS {
+        let &(link, octets, ..) = row;
+        same_of(
+            octets,
+            link.frame_or_refusal(octets).ok(),
+            link.frame(octets).ok(),
+        );
+        match link.frame(octets) {
+            Ok(frame) => check_frame(octets, &frame, row),
+            Err(_) => same_of(octets, false, true),
+        }
+    }
+}
+
+// Without its payload a frame is whole, and with less it is refused.
+#[test]
+fn frames_that_are_cut_short() {
+    for &(link, octets, _, _, payload) in ROWS {
+        let whole = octets.len().saturating_sub(payload.len());
+        let is_plain = matches!(
+            link,
+            Link::Ethernet | Link::LinuxSll | Link::LinuxSll2 | Link::Null
+        );
+        let is_session = octets.get(13) == Some(&0x64);
+        for len in 0..octets.len() {
+            let read = link.frame(&octets[..len]);
+            if is_plain && !is_session {
+                same_of((octets, len), read.is_ok(), len >= whole);
+            }
+        }
+    }
+}
+
+#[test]
+fn link_types() {
+    const TYPES: &[(u16, Option<Link>)] = &[
+        (0, Some(Link::Null)),
+        (1, Some(Link::Ethernet)),
+        (2, None),
+        (9, Some(Link::Ppp)),
+        (12, Some(Link::Raw)),
+        (14, Some(Link::Raw)),
+        (50, Some(Link::Ppp)),
+        (51, Some(Link::PppEther)),
+        (101, Some(Link::Raw)),
+        (105, None),
+        (108, Some(Link::Null)),
+        (113, Some(Link::LinuxSll)),
+        (228, Some(Link::Raw)),
+        (229, Some(Link::Raw)),
+        (276, Some(Link::LinuxSll2)),
+        (65535, None),
+    ];
+    for &(link_type, link) in TYPES {
+        same_of(link_type, Link::of(link_type), link);
+    }
+}
+
+// A reason is told exactly where a frame is refused: of each front of a frame, and with each of its bytes changed.
+#[test]
+fn refusals_of_damaged_frames() {
+    for &(link, octets, ..) in ROWS {
+        for len in 0..=octets.len() {
+            let front = &octets[..len];
+            same_of(
+                (octets, len),
+                link.refusal(front).is_none(),
+                link.frame(front).is_ok(),
+            );
+        }
+        let mut changed = [0; 32];
+        if octets.len() <= 32 {
+            changed[..octets.len()].copy_from_slice(octets);
+            for place in 0..octets.len() {
+                changed[place] ^= 0x55;
+                let frame = &changed[..octets.len()];
+                same_of(
+                    (octets, place),
+                    link.refusal(frame).is_none(),
+                    link.frame(frame).is_ok(),
+                );
+                changed[place] ^= 0x55;
+            }
+        }
+    }
+}
+
+#[test]
+fn refusals_of_frames() {
+    const REFUSED: &[(Link, &[u8], Option<Refusal>)] = &[
+        (Link::Null, &[2, 0, 0], Some(Refusal::Short)),
+        (Link::Raw, &[], Some(Refusal::Short)),
+        (Link::Raw, &[0x45], None),
+        (
+            Link::Ethernet,
+            &[2, 0, 0, 0, 0, 2, 2, 0, 0, 0, 0, 1, 8],
+            Some(Refusal::Short),
+        ),
+        // The second tag of two has three bytes.
+        (
+            Link::Ethernet,
+            &[
+                2, 0, 0, 0, 0, 2, 2, 0, 0, 0, 0, 1, 0x88, 0xa8, 0, 100, 0x81, 0, 0, 1, 8,
+            ],
+            Some(Refusal::Tag),
+        ),
+        // A session of PPPoE with one byte of an even protocol.
+        (
+            Link::LinuxSll,
+            &[
+                0, 0, 0, 1, 0, 6, 2, 0, 0, 0, 0, 1, 0, 0, 0x88, 0x64, 0x11, 0, 0, 7, 0, 1, 0,
+            ],
+            Some(Refusal::Protocol),
+        ),
+        (Link::LinuxSll2, &[0x86, 0xdd, 0], Some(Refusal::Short)),
+        (Link::Ppp, &[0xff, 0x03], Some(Refusal::Protocol)),
+        (Link::Ppp, &[], Some(Refusal::Protocol)),
+        (Link::Ppp, &[0x21], None),
+        (Link::PppEther, &[0x11, 0, 0, 7, 0], Some(Refusal::Short)),
+        (
+            Link::PppEther,
+            &[0x21, 0, 0, 7, 0, 0],
+            Some(Refusal::SessionVersion(2)),
+        ),
+        (
+            Link::PppEther,
+            &[0x13, 0, 0, 7, 0, 0],
+            Some(Refusal::SessionType(3)),
+        ),
+        (
+            Link::PppEther,
+            &[0x11, 0xa7, 0, 7, 0, 0],
+            Some(Refusal::SessionCode(0xa7)),
+        ),
+        (
+            Link::PppEther,
+            &[0x11, 0, 0, 7, 0, 0],
+            Some(Refusal::Protocol),
+        ),
+    ];
+    for &(link, octets, refusal) in REFUSED {
+        same_of((link, octets), link.refusal(octets), refusal);
+        same_of((link, octets), link.frame_or_refusal(octets).err(), refusal);
+    }
+}
+
+#[test]
+fn headers_of_ethernet() {
+    const OCTETS: &[u8] = &[
+        0x33, 0x33, 0, 0, 0, 0x16, 0x02, 0, 0x5e, 0x10, 0, 1, 0x81, 0x00, 0x00,
+    ];
+    let header = EthernetHeader {
+        destination: EthernetAddress([0x33, 0x33, 0, 0, 0, 0x16]),
+        source: EthernetAddress([0x02, 0, 0x5e, 0x10, 0, 1]),
+        kind: 0x8100,
+    };
+    // The tag behind the header may be cut.
+    same_of(15, Link::Ethernet.ethernet(OCTETS), Some(header));
+    same_of(14, Link::Ethernet.ethernet(&OCTETS[..14]), Some(header));
+    same_of(13, Link::Ethernet.ethernet(&OCTETS[..13]), None);
+    same_of(0, Link::LinuxSll.ethernet(OCTETS), None);
+}
+
+#[test]
+fn tags_by_their_bits() {
+    let rows = [
+        (0xe0, 0x00, 7, false, 0),
+        (0x1f, 0xff, 0, true, 4_095),
+        (0x61, 0x02, 3, false, 258),
+        (0x90, 0x01, 4, true, 1),
+    ];
+    for (high, low, priority, drop_eligible, number) in rows {
+        let octets = [
+            2, 0, 0, 0, 0, 2, 2, 0, 0, 0, 0, 1, 0x81, 0x00, high, low, 0x08, 0x00, 0x45,
+        ];
+        let tag = VlanTag {
+            priority,
+            drop_eligible,
+            number,
+        };
+        match Link::Ethernet.frame(&octets) {
+            Ok(frame) => {
+                let mut tags = frame.vlan_tags();
+                same_of((high, low), tags.next(), Some(tag));
+                same_of((high, low), tags.next(), None);
+                same_of((high, low), tags.next(), None);
+            }
+            Err(_) => same_of((high, low), false, true),
+        }
+    }
+}

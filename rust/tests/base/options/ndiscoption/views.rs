@@ -1,0 +1,103 @@
+// Made from crates/tests_base/src/options/ndiscoption/views.rt by rust/erase.
+use super::{MTU, PREFIX, UNKNOWN, here};
+use crate::testing::{prints, same, takes_writes};
+use control_wire::ndiscoption::{NdiscOption, PrefixInfoFlags, Type};
+use control_wire::{Duration, RawHardwareAddress};
+
+#[test]
+fn fields_of_a_prefix_are_written() {
+    let mut bytes = [0xff; 32];
+    let mut view = NdiscOption::new_unchecked(&mut bytes[..]);
+    view.set_option_type(Type::PrefixInformation);
+    view.set_data_len(4);
+    view.set_prefix_len(64);
+    view.set_prefix_flags(PrefixInfoFlags::all());
+    view.set_valid_lifetime(Duration::from_secs(900));
+    view.set_preferred_lifetime(Duration::from_secs(1_000));
+    view.clear_prefix_reserved();
+    view.set_prefix(here());
+    same(bytes, PREFIX);
+}
+
+#[test]
+fn fields_of_a_prefix_are_read() {
+    let view = NdiscOption::new_unchecked(PREFIX.as_slice());
+    same(view.option_type(), Type::PrefixInformation);
+    same([view.data_len(), view.prefix_len()], [4, 64]);
+    same(view.prefix_flags(), PrefixInfoFlags::all());
+    let times = [view.valid_lifetime(), view.preferred_lifetime()];
+    same(
+        times,
+        [Duration::from_secs(900), Duration::from_secs(1_000)],
+    );
+    same(view.prefix(), here());
+}
+
+#[test]
+fn fields_are_read_by_their_places_in_any_option() {
+    let view = NdiscOption::new_unchecked(PREFIX.as_slice());
+    same(view.data(), &PREFIX[2..]);
+    same(view.mtu(), 900);
+    same(view.link_layer_addr().as_bytes(), &PREFIX[2..10]);
+}
+
+#[test]
+fn an_mtu_is_written() {
+    let mut bytes = [0xff; 8];
+    let mut view = NdiscOption::new_unchecked(&mut bytes[..]);
+    view.clear_redirected_reserved();
+    view.set_mtu(0x0102_0304);
+    same(
+        view,
+        NdiscOption::new_unchecked(&mut [0xff, 0xff, 0, 0, 1, 2, 3, 4][..]),
+    );
+}
+
+#[test]
+fn an_address_is_written() {
+    let mut bytes = [0xff, 0xff, 0, 0, 1, 2, 3, 4];
+    let mut view = NdiscOption::new_unchecked(&mut bytes[..]);
+    view.set_data_len(1);
+    view.set_link_layer_addr(RawHardwareAddress::from_bytes(&[1, 2, 3]));
+    same(view.into_inner().len(), 8);
+    same(bytes.as_slice(), [0xff, 0x01, 1, 2, 3, 2, 3, 4].as_slice());
+}
+
+#[test]
+fn data_is_lent_for_writing() {
+    let mut octets = MTU;
+    let mut view = NdiscOption::new_unchecked(octets.as_mut_slice());
+    same(&*view.data_mut(), &MTU[2..]);
+}
+
+#[test]
+fn views_in_words() {
+    const ROWS: &[(&[u8], &str)] = &[
+        (
+            &[0x05, 0x01, 0, 0, 0, 0, 0x05, 0xdc],
+            "NDISC Option: MTU mtu=1500",
+        ),
+        (
+            &PREFIX,
+            "NDISC Option: PrefixInformation prefix=fe80::1/64 flags=on_link,addrconf \
+             valid_lifetime=900.000s preferred_lifetime=1000.000s",
+        ),
+        (
+            &[0x05, 0x02, 0, 0, 0, 0, 0x05, 0xdc],
+            "NDISC Option (wire::Error)",
+        ),
+        (&[], "NDISC Option (wire::Error)"),
+    ];
+    for &(bytes, text) in ROWS {
+        prints(&NdiscOption::new_unchecked(bytes), text);
+    }
+}
+
+#[test]
+fn printing_fails_only_with_its_writer() {
+    const ROWS: &[(&[u8], u32)] = &[(&MTU, 2), (&PREFIX, 22), (&UNKNOWN, 17), (&[], 3)];
+    for &(bytes, calls) in ROWS {
+        takes_writes(&NdiscOption::new_unchecked(bytes), calls);
+    }
+    takes_writes(&Type::Mtu, 1);
+}
