@@ -6,8 +6,8 @@
 
 Each function that is compiled stands in LLVM's text by a name of its own, so that methods of one name, of other types
 or of another instance, are told apart. A call through a table of methods or a function handed on counts too: what a
-function names, it may call. A generic function is seen where it is used; the tests use each. Functions of tests may
-call themselves. The last line says how many functions were looked at, and how many do.
+function names, it may call. A generic function is seen where it is used; the tests use each. Functions of tests, which are in
+crates of their own, may call themselves. The last line says how many functions were looked at, and how many do.
 """
 import collections
 import pathlib
@@ -15,7 +15,6 @@ import re
 import sys
 
 NAME = re.compile(r'@("[^"]*"|[\w.$-]+)')
-FOR_TESTS = {"tests", "testing"}
 
 
 def uses_of(text, file):
@@ -106,7 +105,7 @@ def recursions(texts, crates):
     own = {}
     for node in uses:
         path, name = path_of(node)
-        if path and path[0] in crates and not FOR_TESTS.intersection(path):
+        if path and path[0] in crates:
             own[node] = name
     found = (sorted({own[node] for node in cycle if node in own}) for cycle in cycles(uses))
     return len(own), sorted(paths for paths in set(map(tuple, found)) if paths)

@@ -8,10 +8,10 @@
 //! It is for Linux, as root. std can't bind a socket to an interface, so iproute2's `ip` makes a route to
 //! 255.255.255.255 there, and gives the interface its address while it is renewed or released. It deletes both again.
 
-use examples::lease::{self, Answer, Client, Lease, Message};
 use control_wire::dhcpv4::{CLIENT_PORT, SERVER_PORT};
 use control_wire::dhcpv4::{OPT_DOMAIN_NAME_SERVER, OPT_ROUTER, OPT_SUBNET_MASK};
 use control_wire::{EthernetAddress, Ipv4Address};
+use examples::lease::{self, Answer, Client, Lease, Message};
 use std::fmt::Display;
 use std::hash::{BuildHasher, Hasher, RandomState};
 use std::io::ErrorKind::{TimedOut, WouldBlock};

@@ -5,9 +5,9 @@
 //! The type is A, AAAA, CNAME, MX, NS, SOA, TXT or a number, and the server by default the first of /etc/resolv.conf.
 //! It prints each record of the answer; data of a type that has no text here stand in hexadecimal (RFC 3597 section 5).
 
-use examples::resolver::{self, Answers, Response};
 use control_wire::dns::{Packet, Rcode, RecordData, Type};
 use control_wire::record::{Name, Record};
+use examples::resolver::{self, Answers, Response};
 use std::hash::{BuildHasher, Hasher, RandomState};
 use std::io::ErrorKind::{TimedOut, WouldBlock};
 use std::io::{Read, Write};

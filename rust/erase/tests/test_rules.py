@@ -158,6 +158,8 @@ REFUSED = (
     ("impl Drop for S { fn drop(&mut self) { a(); } }", "a destructor"),
     ("type Drop = u8;", "Drop in another place"),
     ("#[quick] fn f() -> u8 { 1 }", "an attribute `quick`"),
+    ("#[cfg(test)] mod tests;", "an attribute `cfg`"),
+    ("#[test] fn f() { assert(); }", "an attribute `test`"),
     ("fn f() -> u8 { prove!(1) }", "`prove` is left"),
     ("fn f() -> u8 { told!(1) }", "a macro `told!`"),
     ("fn f() -> u8 { a ≤ b }", "`≤` is left"),
@@ -235,6 +237,19 @@ class Rules(unittest.TestCase):
         for comment in rules.COMMENTS:
             self.assertEqual(sum(comment in source for source in sources), 1, comment)
 
+    def test_tests_have_attributes_of_their_own_and_name_what_is_inside(self):
+        unit = unit_of("#[cfg(test)] mod a; use one_wire::octets::B; use one_wire::C; #[test] fn f() { g(); }", True)
+        unit.paths = {"one_wire": "control_wire::one", "one_wire::octets": "control_wire::inside"}
+        unit.files[pathlib.Path("one.rs")].tests = True
+        unit.root = "one_wire"
+        erase.erase([unit])
+        file = unit.files[pathlib.Path("one.rs")]
+        self.assertEqual(words_of(str(file)), words_of(
+            "#[cfg(test)] mod a; use control_wire::inside::octets::B; use control_wire::one::C; #[test] fn f() { g(); }"))
+        problems = []
+        audit.audit(file, problems)
+        self.assertEqual(problems, [])
+
     def test_an_enum_that_may_get_more_cases_goes_by_its_module(self):
         unit = unit_of("")
         file = File(pathlib.Path("crates/one_wire/src/icmpv4/repr.rt"), "pub enum Repr { A } pub enum Other { A }")
@@ -284,24 +299,32 @@ class Rules(unittest.TestCase):
 
 
 class Table(unittest.TestCase):
-    NEEDS = {"base": ["kit"], "root": ["base"], "above": ["base"], "program": ["root"]}
+    NEEDS = {"base": ["kit"], "root": ["base"], "above": ["base"], "program": ["root"], "tests_all": ["program"]}
 
     def kinds(self, rows):
         with mock.patch.object(erase, "table", lambda: [row.split() for row in rows]):
             return erase.kinds_of(self.NEEDS)
 
     def test_rows(self):
-        kinds, library = self.kinds(["root root", "module above parts", "package program", "package other x"])
+        kinds, library = self.kinds(["root root", "module above parts", "package program", "package other",
+                                     "tests tests_all program every"])
         self.assertEqual(library, ["base", "root", "above"])
-        self.assertEqual(kinds["module"], {"above": "parts"})
-        self.assertEqual(kinds["package"], {"program": "program"})
+        self.assertEqual(kinds["module"], {"above": ["parts"]})
+        self.assertEqual(kinds["package"], {"program": []})
+        self.assertEqual(kinds["tests"], {"tests_all": ["program", "every"]})
+        self.assertEqual(erase.folder_of(kinds, "program"), pathlib.Path("packages/program"))
+        self.assertEqual(erase.folder_of(kinds, "root"), pathlib.Path())
 
     def test_refused(self):
-        for rows, why in ((["root root", "module above"], "no row for the crate program"),
-                          (["root root", "modules above"], "a row of the kind `modules`")):
+        for rows, why in ((["root root", "module above parts"], "no row for the crate program"),
+                          (["root root", "modules above parts"], "a row `modules above`"),
+                          (["root root", "module above"], "a row `module above` with 0 more words")):
             with self.assertRaises(Refused) as refused:
                 self.kinds(rows)
             self.assertIn(why, str(refused.exception))
+        with self.assertRaises(Refused) as refused:
+            erase.folder_of({"root": {"root": []}, "package": {}}, "above")
+        self.assertIn("no package of the crate above", str(refused.exception))
 
 
 if __name__ == "__main__":
