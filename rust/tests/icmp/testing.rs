@@ -35,7 +35,7 @@ pub(crate) fn prints(value: &impl Display, text: &str) {
     same(printed.as_deref(), Some(text));
 }
 
-// Ends the test where the value of one of these numbers prints another text than stands beside it.
+// Ends the test where the value of one of these numbers prints another text than the one beside it.
 pub(crate) fn prints_each<T: From<u8> + Display>(rows: &[(u8, &str)]) {
     for &(number, text) in rows {
         prints(&T::from(number), text);

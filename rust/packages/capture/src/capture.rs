@@ -6,7 +6,7 @@ use crate::order::Order;
 use crate::packet::Packet;
 use crate::pcap::{self, FileHeader, RecordHeader};
 use crate::pcapng::{self, Head, Interface};
-use crate::reader::fill;
+use crate::reader::read_onto;
 use crate::time::Time;
 use crate::unit::{Taken, read_unit};
 use rattle_std::io::BufRead;
@@ -157,11 +157,11 @@ impl Capture {
 
     // Reads the header of a file, or the first block of one.
     fn read_first<R: BufRead>(&mut self, input: &mut R) -> Result<Step, Fault> {
-        fill(input, &mut self.octets, pcapng::KIND_LEN)?;
+        read_onto(input, &mut self.octets, pcapng::KIND_LEN)?;
         if pcapng::begins_section(self.octets.as_slice()) {
             return self.read_block(input, Order::Big);
         }
-        fill(input, &mut self.octets, pcap::FILE_HEADER_LEN)?;
+        read_onto(input, &mut self.octets, pcap::FILE_HEADER_LEN)?;
         match FileHeader::parse(self.octets.as_slice()) {
             Ok(header) => {
                 self.stage = Stage::File(header);

@@ -11,7 +11,11 @@ use rattle_std::prelude::*;
 /// # Panics
 ///
 /// May panic where what is asked for above does not hold.
-pub fn fill<R: BufRead>(input: &mut R, octets: &mut Vec<u8>, count: usize) -> Result<(), Fault> {
+pub fn read_onto<R: BufRead>(
+    input: &mut R,
+    octets: &mut Vec<u8>,
+    count: usize,
+) -> Result<(), Fault> {
     if octets.as_slice().len() == count {
         return Ok(());
     }

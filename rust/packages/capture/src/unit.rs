@@ -3,7 +3,7 @@
 
 use crate::ending::{Ending, Fault};
 use crate::order::Order;
-use crate::reader::{fill, look, skip};
+use crate::reader::{look, read_onto, skip};
 use rattle_std::io::BufRead;
 #[allow(unused_imports)]
 use rattle_std::prelude::*;
@@ -88,7 +88,7 @@ fn read_record_parts<R: BufRead, H: UnitHead>(
     octets: &mut Vec<u8>,
     order: Order,
 ) -> Result<Taken<H>, Fault> {
-    fill(input, octets, H::LEN)?;
+    read_onto(input, octets, H::LEN)?;
     match H::of(order, octets.as_slice()) {
         Ok(head) => read_rest(input, octets, head),
         Err(ending) => Ok(Taken::Ended(ending)),
@@ -109,7 +109,7 @@ fn read_rest<R: BufRead, H: UnitHead>(
         }
         return Ok(Taken::Passed(head));
     }
-    fill(input, octets, len)?;
+    read_onto(input, octets, len)?;
     if octets.as_slice().len() < len {
         return Ok(Taken::Ended(Ending::Cut));
     }

@@ -177,14 +177,10 @@ fn with_name(only: Only, name: &str) -> Option<Only> {
 
 // The kind of a name.
 fn kind_of(name: &str) -> Option<Kind> {
-    match name {
-        "icmp4" => Some(Kind::Icmp4),
-        "igmp" => Some(Kind::Igmp),
-        "icmp6" => Some(Kind::Icmp6),
-        "dns" => Some(Kind::Dns),
-        "mdns" => Some(Kind::Mdns),
-        "dhcp" => Some(Kind::Dhcp),
-        "frame" => Some(Kind::Frame),
-        _ => None,
+    for kind in &Kind::ALL {
+        if name == kind.name() {
+            return Some(*kind);
+        }
     }
+    None
 }

@@ -4,11 +4,11 @@
 /// The usage, for a wrong argument.
 pub const USAGE: &str = "usage: pcapdump [--only KIND,..] [--count] [--help] [FILE..]";
 
-/// The text for lists after `--only` that have an unknown item.
+/// The names after `--only`, for a list with an unknown one.
 pub const KINDS: &str = "icmp4, igmp, icmp6, dns, mdns, dhcp, frame and hbh";
 
-/// The text below the usage where help is asked for. The script `pcapdump` has a copy of it, since it answers before
-/// anything is built.
+/// The text below the usage where help is asked for. The script `pcapdump` prints it from this file, before anything is
+/// built.
 pub const HELP: &str = "\
 Prints each control packet of capture files, pcap or pcapng: a heading with its number, its time, its addresses and
 its kind, and below it what it holds, a field a line. Without a file, and for -, it reads standard input.

@@ -27,6 +27,17 @@ pub enum Kind {
 }
 
 impl Kind {
+    /// All kinds, in the order of tables.
+    pub const ALL: [Kind; KINDS] = [
+        Kind::Icmp4,
+        Kind::Igmp,
+        Kind::Icmp6,
+        Kind::Dns,
+        Kind::Mdns,
+        Kind::Dhcp,
+        Kind::Frame,
+    ];
+
     /// The name.
     pub fn name(self) -> &'static str {
         match self {
@@ -40,17 +51,9 @@ impl Kind {
         }
     }
 
-    /// The index in tables, from 0 on.
+    /// The index in `ALL`, from 0 on.
     pub fn place(self) -> usize {
-        match self {
-            Kind::Icmp4 => 0,
-            Kind::Igmp => 1,
-            Kind::Icmp6 => 2,
-            Kind::Dns => 3,
-            Kind::Mdns => 4,
-            Kind::Dhcp => 5,
-            Kind::Frame => 6,
-        }
+        self as usize
     }
 }
 
@@ -76,6 +79,18 @@ pub enum Reason {
 }
 
 impl Reason {
+    /// All reasons, in the order of tables.
+    pub const ALL: [Reason; REASONS] = [
+        Reason::Cut,
+        Reason::Fragment,
+        Reason::Short,
+        Reason::Checksum,
+        Reason::UnknownType,
+        Reason::Quote,
+        Reason::Name,
+        Reason::Malformed,
+    ];
+
     /// The name.
     pub fn name(self) -> &'static str {
         match self {
@@ -90,17 +105,8 @@ impl Reason {
         }
     }
 
-    /// The index in tables, from 0 on.
+    /// The index in `ALL`, from 0 on.
     pub fn place(self) -> usize {
-        match self {
-            Reason::Cut => 0,
-            Reason::Fragment => 1,
-            Reason::Short => 2,
-            Reason::Checksum => 3,
-            Reason::UnknownType => 4,
-            Reason::Quote => 5,
-            Reason::Name => 6,
-            Reason::Malformed => 7,
-        }
+        self as usize
     }
 }

@@ -1,23 +1,11 @@
 // Made from crates/dump_captures/src/summary.rt by rust/erase.
 //! The line that sums up a capture.
 
-use crate::kind::{REASONS, Reason};
+use crate::kind::Reason;
 use crate::tally::{Tally, UnreadLink};
 use listing::printer::Value;
 use rattle_std::io;
 use rattle_std::io::Write;
-
-// The reasons, in the order of their places.
-const EACH: [Reason; REASONS] = [
-    Reason::Cut,
-    Reason::Fragment,
-    Reason::Short,
-    Reason::Checksum,
-    Reason::UnknownType,
-    Reason::Quote,
-    Reason::Name,
-    Reason::Malformed,
-];
 
 /// Writes the line, without a line's end, as
 /// `5 packets, 2 listed, 1 refused (1 cut), 1 of other protocols, 3 of link 147`.
@@ -58,7 +46,7 @@ fn refused(tally: &Tally, reason: Reason) -> u64 {
 // The number of packets refused for any reason.
 fn all_refused(tally: &Tally) -> u64 {
     let mut count: u64 = 0;
-    for reason in &EACH {
+    for reason in &Reason::ALL {
         count = count.saturating_add(refused(tally, *reason));
     }
     count
@@ -67,7 +55,7 @@ fn all_refused(tally: &Tally) -> u64 {
 // The reasons for which packets were refused, in brackets.
 fn write_reasons<W: Write>(output: &mut W, tally: &Tally) -> io::Result<()> {
     let mut is_first = true;
-    for reason in &EACH {
+    for reason in &Reason::ALL {
         let count = refused(tally, *reason);
         if count == 0 {
             continue;

@@ -1,27 +1,41 @@
 // Made from crates/dump_captures/src/table.rt by rust/erase.
 //! The table of counts.
 
-use crate::kind::Kind;
+use crate::kind::{Kind, Reason};
 use crate::options::Only;
 use crate::tally::{Row, Tally};
 use listing::printer::Value;
 use rattle_std::io;
 use rattle_std::io::Write;
 
-// The names of the columns.
-const HEAD: &[u8] =
-    b"kind\tlisted\tcut\tfragment\tshort\tchecksum\ttype\tquote\tname\tmalformed\toctets\n";
-
 /// Prints the table of counts: a row for each kind of packets that may be chosen.
 pub fn show_table<W: Write>(output: &mut W, only: &Only, tally: &Tally) -> io::Result<()> {
-    output.write_all(HEAD)?;
-    show_chosen(output, only, tally, Kind::Icmp4)?;
-    show_chosen(output, only, tally, Kind::Igmp)?;
-    show_chosen(output, only, tally, Kind::Icmp6)?;
-    show_chosen(output, only, tally, Kind::Dns)?;
-    show_chosen(output, only, tally, Kind::Mdns)?;
-    show_chosen(output, only, tally, Kind::Dhcp)?;
-    show_chosen(output, only, tally, Kind::Frame)
+    show_head(output)?;
+    show_rows(output, only, tally)
+}
+
+// Prints the names of the columns.
+fn show_head<W: Write>(output: &mut W) -> io::Result<()> {
+    output.write_all(b"kind\tlisted")?;
+    show_reasons(output)?;
+    output.write_all(b"\toctets\n")
+}
+
+// Prints the names of the reasons, each after a tab.
+fn show_reasons<W: Write>(output: &mut W) -> io::Result<()> {
+    for reason in &Reason::ALL {
+        output.write_all(b"\t")?;
+        reason.name().write_to(output)?;
+    }
+    Ok(())
+}
+
+// Prints the rows of all kinds.
+fn show_rows<W: Write>(output: &mut W, only: &Only, tally: &Tally) -> io::Result<()> {
+    for kind in &Kind::ALL {
+        show_chosen(output, only, tally, *kind)?;
+    }
+    Ok(())
 }
 
 // Prints the row of a kind, where packets of it may be chosen.

@@ -11,7 +11,7 @@ use rattle_std::prelude::*;
 
 /// What a look at an input finds of its next line.
 #[derive(Clone, Copy)]
-pub enum Glance<'a> {
+pub enum BufferedLine<'a> {
     /// The line was buffered as a whole, has this shape, and is taken.
     Line(Shape<'a>),
     /// Not all of it is buffered, and nothing is taken.
@@ -22,15 +22,18 @@ pub enum Glance<'a> {
 
 /// Looks for the next line, whose packet goes to the buffer.
 #[inline]
-pub fn look<'a, R: BufRead>(room: &'a mut Vec<u8>, input: &mut R) -> Result<Glance<'a>, Fault> {
+pub fn look<'a, R: BufRead>(
+    packet_buffer: &'a mut Vec<u8>,
+    input: &mut R,
+) -> Result<BufferedLine<'a>, Fault> {
     let available = match input.fill_buf() {
         Ok(available) => available,
         Err(error) => {
             try_again(&error)?;
-            return Ok(Glance::Part);
+            return Ok(BufferedLine::Part);
         }
     };
-    let (count, glance) = look_at(room, available)?;
+    let (count, glance) = look_at(packet_buffer, available)?;
     input.consume(count);
     Ok(glance)
 }
@@ -38,14 +41,17 @@ pub fn look<'a, R: BufRead>(room: &'a mut Vec<u8>, input: &mut R) -> Result<Glan
 // `look` over the buffered octets, which are empty only at the input's end; also returns the number of octets that are
 // taken.
 #[inline]
-fn look_at<'a>(room: &'a mut Vec<u8>, shown: &[u8]) -> Result<(usize, Glance<'a>), Fault> {
+fn look_at<'a>(
+    packet_buffer: &'a mut Vec<u8>,
+    shown: &[u8],
+) -> Result<(usize, BufferedLine<'a>), Fault> {
     if shown.is_empty() {
-        return Ok((0, Glance::End));
+        return Ok((0, BufferedLine::End));
     }
     let end = len_before(shown, b'\n');
     if end == shown.len() {
-        return Ok((0, Glance::Part));
+        return Ok((0, BufferedLine::Part));
     }
-    let shape = Shape::of_line(room, &shown[..end])?;
-    Ok((end + 1, Glance::Line(shape)))
+    let shape = Shape::of_line(packet_buffer, &shown[..end])?;
+    Ok((end + 1, BufferedLine::Line(shape)))
 }

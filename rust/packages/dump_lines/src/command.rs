@@ -1,7 +1,7 @@
 // Made from crates/dump_lines/src/command.rt by rust/erase.
 //! The commands: how the word before a packet tells to read it.
 
-use crate::words::{is, read_address, read_offset};
+use crate::words::{is_word, read_address, read_offset};
 use listing::dhcp::show_dhcp;
 use listing::hbh::show_hbh;
 use listing::icmp4::show_icmp4;
@@ -42,8 +42,8 @@ impl Command {
     pub fn of(word: &[u8], arguments: &[&[u8]]) -> Option<Command> {
         match arguments {
             [] => Command::alone(word),
-            [offset] if is(word, "name") => Some(Command::Name(read_offset(offset)?)),
-            [source, destination] if is(word, "icmp6") => Some(Command::Icmp6(
+            [offset] if is_word(word, "name") => Some(Command::Name(read_offset(offset)?)),
+            [source, destination] if is_word(word, "icmp6") => Some(Command::Icmp6(
                 read_address(source)?,
                 read_address(destination)?,
             )),
@@ -53,19 +53,19 @@ impl Command {
 
     // The command of a word without further words.
     fn alone(word: &[u8]) -> Option<Command> {
-        if is(word, "hbh") {
+        if is_word(word, "hbh") {
             Some(Command::Hbh)
-        } else if is(word, "icmp4") {
+        } else if is_word(word, "icmp4") {
             Some(Command::Icmp4)
-        } else if is(word, "igmp") {
+        } else if is_word(word, "igmp") {
             Some(Command::Igmp)
-        } else if is(word, "mld") {
+        } else if is_word(word, "mld") {
             Some(Command::Mld)
-        } else if is(word, "ndopt") {
+        } else if is_word(word, "ndopt") {
             Some(Command::Ndopt)
-        } else if is(word, "dhcp") {
+        } else if is_word(word, "dhcp") {
             Some(Command::Dhcp)
-        } else if is(word, "question") {
+        } else if is_word(word, "question") {
             Some(Command::Question)
         } else {
             None

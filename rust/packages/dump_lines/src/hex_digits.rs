@@ -55,9 +55,9 @@ fn decode_word(digits: &[u8; 8]) -> [u8; 4] {
 }
 
 /// Writes the octets that digits spell into a buffer for them.
-pub fn decode_front(text: &[u8], room: &mut [u8]) {
+pub fn decode_front(text: &[u8], packet_buffer: &mut [u8]) {
     let count = text.len() / 2;
-    decode(text, &mut room[..count]);
+    decode(text, &mut packet_buffer[..count]);
 }
 
 // The value of a digit: its low four bits, and 9 more for a letter, which alone has the bit of 64.

@@ -12,8 +12,12 @@ use rattle_std::prelude::*;
 /// Prints what a line holds, and returns whether its shape is known.
 ///
 /// A line is a command, the command's further words, and a packet. A line without a word prints nothing.
-pub fn show_line<W: Write>(room: &mut Vec<u8>, output: &mut W, line: &Line) -> Result<bool, Fault> {
-    show_shape(output, line.shape(room)?)
+pub fn show_line<W: Write>(
+    packet_buffer: &mut Vec<u8>,
+    output: &mut W,
+    line: &Line,
+) -> Result<bool, Fault> {
+    show_shape(output, line.shape(packet_buffer)?)
 }
 
 /// Prints the output of a line of this shape.

@@ -2,7 +2,7 @@
 //! The lines of an input, in one pass.
 
 use crate::Fault;
-use crate::buffered_line::{Glance, look};
+use crate::buffered_line::{BufferedLine, look};
 use crate::line::{show_line, show_shape};
 use crate::partial_line::{Line, read_line};
 use rattle_std::io::{BufReader, BufWriter, Read, Write};
@@ -50,10 +50,10 @@ fn show_flushed<R: Read, W: Write>(
 // Prints what each line holds; returns true where each line had a known shape.
 fn show_lines<R: Read, W: Write>(input: &mut BufReader<R>, output: &mut W) -> Result<bool, Fault> {
     let mut line = Line::new();
-    let mut room = Vec::new();
+    let mut packet_buffer = Vec::new();
     let mut all_known = true;
     for _ in 0..u64::MAX {
-        match show_next(input, output, &mut line, &mut room)? {
+        match show_next(input, output, &mut line, &mut packet_buffer)? {
             Some(known) => {
                 all_known &= known;
             }
@@ -64,22 +64,22 @@ fn show_lines<R: Read, W: Write>(input: &mut BufReader<R>, output: &mut W) -> Re
 }
 
 // Prints what the next line holds, and returns whether its shape is known, or None where there is no line. `line` keeps
-// a line that is not buffered as a whole, and `room` the packet of one that is.
+// a line that is not buffered as a whole, and `packet_buffer` the packet of one that is.
 fn show_next<R: Read, W: Write>(
     input: &mut BufReader<R>,
     output: &mut W,
     line: &mut Line,
-    room: &mut Vec<u8>,
+    packet_buffer: &mut Vec<u8>,
 ) -> Result<Option<bool>, Fault> {
     write_out_before_wait(input, output)?;
-    let glance = look(room, input)?;
+    let glance = look(packet_buffer, input)?;
     match glance {
-        Glance::Line(shape) => {
+        BufferedLine::Line(shape) => {
             let known = show_shape(output, shape)?;
             Ok(Some(known))
         }
-        Glance::Part => show_part(input, output, line),
-        Glance::End => Ok(None),
+        BufferedLine::Part => show_part(input, output, line),
+        BufferedLine::End => Ok(None),
     }
 }
 

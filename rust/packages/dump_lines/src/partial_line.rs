@@ -44,11 +44,11 @@ impl Line {
     }
 
     /// The line's shape, once it is read. The packet is in the buffer.
-    pub fn shape<'a>(&self, room: &'a mut Vec<u8>) -> Result<Shape<'a>, Fault> {
+    pub fn shape<'a>(&self, packet_buffer: &'a mut Vec<u8>) -> Result<Shape<'a>, Fault> {
         if self.is_bad {
             return Ok(Shape::Bad);
         }
-        Shape::of_line(room, self.octets.as_slice())
+        Shape::of_line(packet_buffer, self.octets.as_slice())
     }
 
     // Takes spaces, of which one is kept after a word.

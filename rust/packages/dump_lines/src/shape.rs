@@ -21,18 +21,18 @@ pub enum Shape<'a> {
 
 impl<'a> Shape<'a> {
     /// The shape of a line without its LF. The packet goes to the buffer.
-    pub fn of_line(room: &'a mut Vec<u8>, line: &[u8]) -> Result<Shape<'a>, Fault> {
-        Shape::of_text(room, without_cr(line))
+    pub fn of_line(packet_buffer: &'a mut Vec<u8>, line: &[u8]) -> Result<Shape<'a>, Fault> {
+        Shape::of_text(packet_buffer, without_cr(line))
     }
 
     // The shape of a line without its end.
-    fn of_text(room: &'a mut Vec<u8>, text: &[u8]) -> Result<Shape<'a>, Fault> {
+    fn of_text(packet_buffer: &'a mut Vec<u8>, text: &[u8]) -> Result<Shape<'a>, Fault> {
         let mut words = ArrayVec::<&[u8], MOST_WORDS>::new();
         let mut rest = text;
         loop {
             let (word, behind) = next_word(rest);
             if word.is_empty() {
-                return Shape::of_words(room, words.as_slice());
+                return Shape::of_words(packet_buffer, words.as_slice());
             }
             if word.len() > MOST_OCTETS || words.try_push(word).is_err() {
                 return Ok(Shape::Bad);
@@ -42,14 +42,14 @@ impl<'a> Shape<'a> {
     }
 
     // The shape of a line of these words.
-    fn of_words(room: &'a mut Vec<u8>, words: &[&[u8]]) -> Result<Shape<'a>, Fault> {
+    fn of_words(packet_buffer: &'a mut Vec<u8>, words: &[&[u8]]) -> Result<Shape<'a>, Fault> {
         match words {
             [] => Ok(Shape::Blank),
             [word, arguments @ .., packet] => {
                 let Some(command) = Command::of(word, arguments) else {
                     return Ok(Shape::Bad);
                 };
-                match read_word(room, packet)? {
+                match read_word(packet_buffer, packet)? {
                     Some(packet) if command.reads(packet) => Ok(Shape::Packet(command, packet)),
                     _ => Ok(Shape::Bad),
                 }

@@ -30,7 +30,7 @@ pub fn next_word<'a>(text: &'a [u8]) -> (&'a [u8], &'a [u8]) {
 }
 
 /// Whether a word is this one.
-pub fn is(word: &[u8], name: &str) -> bool {
+pub fn is_word(word: &[u8], name: &str) -> bool {
     word == name.as_bytes()
 }
 
@@ -39,30 +39,33 @@ pub fn is(word: &[u8], name: &str) -> bool {
 ///
 /// `-` spells no octets, and an even number, 2 to 131,070, of hexadecimal digits of either case an octet for each two,
 /// the high digit first.
-pub fn read_word<'a>(room: &'a mut Vec<u8>, text: &[u8]) -> Result<Option<&'a [u8]>, Fault> {
-    if is(text, "-") {
+pub fn read_word<'a>(
+    packet_buffer: &'a mut Vec<u8>,
+    text: &[u8],
+) -> Result<Option<&'a [u8]>, Fault> {
+    if is_word(text, "-") {
         return Ok(Some(&[]));
     }
     if !are_pairs(text) {
         return Ok(None);
     }
     let count = text.len() / 2;
-    grow(room, count)?;
-    decode_front(text, room.as_mut_slice());
-    Ok(Some(&room.as_slice()[..count]))
+    grow(packet_buffer, count)?;
+    decode_front(text, packet_buffer.as_mut_slice());
+    Ok(Some(&packet_buffer.as_slice()[..count]))
 }
 
 // Makes the buffer at least this large. Its contents are lost where it was smaller.
-fn grow(room: &mut Vec<u8>, count: usize) -> Result<(), Fault> {
-    if room.len() >= count {
+fn grow(packet_buffer: &mut Vec<u8>, count: usize) -> Result<(), Fault> {
+    if packet_buffer.len() >= count {
         return Ok(());
     }
     // The old buffer is freed first.
-    *room = Vec::new();
+    *packet_buffer = Vec::new();
     let Ok(octets) = rattle_std::vec![ 0u8; count] else {
         return Err(Fault::Memory);
     };
-    *room = octets;
+    *packet_buffer = octets;
     Ok(())
 }
 

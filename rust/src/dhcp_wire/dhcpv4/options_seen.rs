@@ -25,7 +25,7 @@ pub(super) struct OptionsSeen<'a> {
 impl<'a> OptionsSeen<'a> {
     // Notes all options of a packet, where none was noted before. Refused where one is a client identifier of another
     // hardware.
-    pub(super) fn note_all<B: AsRef<[u8]> + ?Sized>(
+    pub(super) fn add_all<B: AsRef<[u8]> + ?Sized>(
         &mut self,
         packet: &Packet<&'a B>,
     ) -> Result<()> {
@@ -34,7 +34,7 @@ impl<'a> OptionsSeen<'a> {
             if !is_of_ethernet(option) {
                 return Err(Error);
             }
-            self.note(option.kind, option.data, op);
+            self.add(option.kind, option.data, op);
         }
         Ok(())
     }
@@ -42,7 +42,7 @@ impl<'a> OptionsSeen<'a> {
     // Notes one more option, of a packet with this operation. Never inlined into the loop; by `&mut self`, so that the
     // value is not copied.
     #[inline(never)]
-    fn note(&mut self, kind: u8, body: &'a [u8], op: u8) {
+    fn add(&mut self, kind: u8, body: &'a [u8], op: u8) {
         match kind {
             OPT_DHCP_MESSAGE_TYPE => set(&mut self.message_type, message_type(body, op)),
             OPT_REQUESTED_IP => set(&mut self.repr.requested_ip, address(body)),

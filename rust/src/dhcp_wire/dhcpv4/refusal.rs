@@ -69,7 +69,7 @@ impl<'a> Repr<'a> {
             message_type: None,
             repr: Repr::of(packet),
         };
-        if found.note_all(packet).is_err() {
+        if found.add_all(packet).is_err() {
             return identifier_refusal(packet);
         }
         if found.message_type.is_some() {

@@ -81,7 +81,7 @@ impl<'a> Repr<'a> {
             message_type: None,
             repr: Repr::of(packet),
         };
-        found.note_all(packet)?;
+        found.add_all(packet)?;
         let Some(message_type) = found.message_type else {
             return Err(Error);
         };

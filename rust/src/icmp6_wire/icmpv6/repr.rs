@@ -176,7 +176,7 @@ impl<'a> Repr<'a> {
             }
         }
         let mut found = OptionsSeen::nothing();
-        found.note_all(packet.behind(kind))?;
+        found.add_all(packet.behind(kind))?;
         match kind {
             Message::RouterSolicit => return Ok(Repr::Ndisc(router_solicit(packet, &found))),
             Message::RouterAdvert => return Ok(Repr::Ndisc(router_advert(packet, &found))),

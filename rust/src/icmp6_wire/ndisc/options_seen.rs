@@ -20,11 +20,11 @@ impl<'a> OptionsSeen<'a> {
     // Notes all options of a payload, where none was noted before. Refused where it isn't blocks one after another. By
     // `&mut self`, so that the value is not copied at each call.
     #[inline(never)]
-    pub(crate) fn note_all(&mut self, payload: &'a [u8]) -> Result<()> {
+    pub(crate) fn add_all(&mut self, payload: &'a [u8]) -> Result<()> {
         let mut rest = payload;
         while !rest.is_empty() {
             let (block, behind) = split_block(rest)?;
-            self.note_block(block);
+            self.add_block(block);
             rest = behind;
         }
         Ok(())
@@ -42,15 +42,15 @@ impl<'a> OptionsSeen<'a> {
     }
 
     // Notes the option in one more block, if there is one.
-    fn note_block(&mut self, block: &'a [u8]) {
+    fn add_block(&mut self, block: &'a [u8]) {
         match ndiscoption::Repr::parse(&NdiscOption::new_unchecked(block)) {
-            Ok(option) => self.note(&option),
+            Ok(option) => self.add(&option),
             Err(_) => {}
         }
     }
 
     // Notes one more option.
-    fn note(&mut self, option: &ndiscoption::Repr<'a>) {
+    fn add(&mut self, option: &ndiscoption::Repr<'a>) {
         match *option {
             ndiscoption::Repr::SourceLinkLayerAddr(addr) => self.source = Some(addr),
             ndiscoption::Repr::TargetLinkLayerAddr(addr) => self.target = Some(addr),

@@ -102,7 +102,7 @@ impl<'a> Repr<'a> {
     pub(super) fn read<B: AsRef<[u8]> + ?Sized>(packet: &Packet<&'a B>) -> Result<Repr<'a>> {
         let kind = packet.checked_type()?;
         let mut found = OptionsSeen::nothing();
-        found.note_all(packet.behind(kind))?;
+        found.add_all(packet.behind(kind))?;
         // Each arm returns, so that the value is written once, in the caller's slot.
         match kind {
             Message::RouterSolicit => {

@@ -123,7 +123,7 @@ fn head_v6() -> Head {
     }
 }
 
-// What the header of a fragment tells that stands behind the fixed one.
+// What the fragment header after the fixed header tells.
 fn fragment_v6(protocol: IpProtocol, ident: u32, frag_offset: u16, more_frags: bool) -> Head {
     Head {
         protocol,
@@ -227,7 +227,7 @@ fn headers_that_extend_ipv6() {
 }
 
 // An atomic fragment behind hop-by-hop options: at offset 0 with no more fragments, two reserved bits set, which do not
-// count, and a reserved byte that is no length. Behind it stand destination options, one byte of ICMPv6, and padding.
+// count, and a reserved byte that is no length. It is followed by destination options, one byte of ICMPv6, and padding.
 const ATOMIC: &[u8] = &[
     0x60, 0, 0, 0, 0x00, 0x19, 0x00, 0x40, //
     0x20, 0x01, 0x0d, 0xb8, 0, 0, 0, 0, 0, 0, 0, 0, 0, 0, 0, 1, //
@@ -287,7 +287,7 @@ const REPORT: &[u8] = &[
     0xff, 0x02, 0, 0, 0, 0, 0, 0, 0, 0, 0, 0, 0, 0, 0x0d, 0xb8,
 ];
 
-// Hop-by-hop options behind destination options, where they may not stand, and one byte of ICMPv6.
+// Hop-by-hop options after destination options, where they are not allowed, and one byte of ICMPv6.
 const MISPLACED: &[u8] = &[
     0x60, 0, 0, 0, 0x00, 0x11, 0x3c, 0x40, //
     0xfe, 0x80, 0, 0, 0, 0, 0, 0, 0, 0, 0, 0, 0, 0, 0, 1, //

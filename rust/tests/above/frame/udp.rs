@@ -97,7 +97,7 @@ fn datagrams_with_either_pseudo_header() {
     same_of((), ports.header_len(), 8);
 }
 
-// What stands behind the length is no part, and a checksum may be written.
+// What follows the length is no part, and a checksum may be written.
 #[test]
 fn a_datagram_that_is_written_by_its_setters() {
     let mut octets = [0xa5; 12];
@@ -118,7 +118,7 @@ fn a_datagram_that_is_written_by_its_setters() {
     );
 }
 
-// Behind a datagram what stood there stays. A checksum that comes to 0 is written as 0xffff.
+// The octets after a datagram stay. A checksum that comes to 0 is written as 0xffff.
 #[test]
 fn datagrams_that_are_written() {
     let both = ChecksumCapabilities::default();

@@ -68,7 +68,7 @@ fn what_opt_records_say() {
         &edns,
         "EDNS payload_size=1232 extended_rcode=1 version=0 dnssec_ok=true flags=32768 len=0",
     );
-    // The same fields with other bits set in each.
+    // These fields with other bits set in each.
     let other = opt_record(512, 0xff02_7fff);
     let says = Edns {
         payload_size: 512,

@@ -99,7 +99,7 @@ pub(crate) fn long_name(labels: usize, rest: &str) -> ArrayString<300> {
 
 #[test]
 fn names_of_255_octets_and_labels_of_63_bytes_at_the_most() {
-    // How many labels of 63 bytes, what stands behind them, and how many octets the name has.
+    // How many labels of 63 bytes, what follows them, and how many octets the name has.
     const ROWS: &[(usize, &str, Option<usize>)] = &[
         (1, "a", Some(67)),
         (1, "", Some(65)),
@@ -324,7 +324,7 @@ fn a_name_of_more_than_255_octets_is_refused() {
 
 #[test]
 fn what_stands_behind_255_octets_is_not_looked_at() {
-    // 126 labels of one byte have 252 octets. Behind them stands a label of one byte or of two, and then none.
+    // 126 labels of one byte have 252 octets. They are followed by a label of one byte or of two, and then none.
     let mut octets = [1; 256];
     octets[252..255].copy_from_slice(b"\x01\x01\x80");
     let other = NameRefusal::Part(PartRefusal::LabelType(0x80));

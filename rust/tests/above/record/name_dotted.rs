@@ -18,7 +18,7 @@ fn check_text(message: &[u8], place: usize, want: Option<&[u8]>) {
 
 #[test]
 fn texts_of_names_without_pointers() {
-    // Behind most names no sixteen bytes stand.
+    // Most names are followed by fewer than sixteen bytes.
     const ROWS: &[(&[u8], Option<&[u8]>)] = &[
         (b"\x01a\0", Some(b"a.")),
         (b"\x03www\x07example\x03com\0", Some(b"www.example.com.")),

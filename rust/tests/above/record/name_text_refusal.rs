@@ -38,7 +38,7 @@ fn texts_of_no_names() {
 
 #[test]
 fn labels_and_names_that_are_too_long() {
-    // How many labels of 63 bytes, and what stands behind them. With byte 0 the name of the third has 255 octets.
+    // How many labels of 63 bytes, and what follows them. With byte 0 the name of the third has 255 octets.
     const ROWS: &[(usize, &str, Option<NameTextRefusal>)] = &[
         (
             0,

@@ -15,7 +15,7 @@ use control_wire::record::text::{DataText, QuestionText, RecordText};
 use control_wire::record::{classes, types};
 use std::result;
 
-// The message that the records stand in: behind its header the name `example.com` at 12, and `.com` at 20.
+// The message of the records: after its header the name `example.com` at 12, and `.com` at 20.
 const MESSAGE: &[u8] = b"\0\0\x84\0\0\0\0\0\0\0\0\0\x07example\x03com\0";
 
 // A pointer to the first of these.
@@ -428,7 +428,7 @@ fn records_that_are_refused() {
     }
 }
 
-// No pointer is followed before the whole of the data stands there.
+// No pointer is followed before the whole of the data is there.
 #[test]
 fn fields_that_are_refused() {
     const AHEAD: NameRefusal = NameRefusal::Pointer(255);

@@ -13,7 +13,7 @@ use control_wire::record::text::EntryText;
 use control_wire::record::text::refusal::TextRefusal;
 use control_wire::record::types;
 
-// The message that the entries stand in: behind its header the name `example.com` at 12.
+// The message of the entries: after its header the name `example.com` at 12.
 const MESSAGE: &[u8] = b"\0\0\x84\0\0\0\0\0\0\0\0\0\x07example\x03com\0";
 
 const EXAMPLE: &[u8] = b"\xc0\x0c";

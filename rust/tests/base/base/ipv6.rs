@@ -95,7 +95,7 @@ fn whole_text(groups: &[u16]) -> Result<String, Fail> {
     Ok(text)
 }
 
-// What stands before and after the first of the longest runs.
+// What precedes and follows the first of the longest runs.
 fn parted_by_a_run(text: &str) -> Option<(&str, &str)> {
     for run in RUNS {
         if let Some(parts) = text.split_once(*run) {
@@ -175,7 +175,7 @@ fn addresses_by_their_octets() {
     holds_of("::", Ipv6Address::UNSPECIFIED.is_unspecified());
 }
 
-// The header from fe80::1 to fe80::2 of 12 bytes over UDP with hop limit 64, and what stands behind it (RFC 8200
+// The header from fe80::1 to fe80::2 of 12 bytes over UDP with hop limit 64, and what follows it (RFC 8200
 // section 3).
 const PACKET: [u8; 52] = [
     0x60, 0x00, 0x00, 0x00, 0x00, 0x0c, 0x11, 0x40, 0xfe, 0x80, 0x00, 0x00, 0x00, 0x00, 0x00, 0x00,

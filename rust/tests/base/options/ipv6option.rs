@@ -219,7 +219,7 @@ fn buffer_is_read_after_its_view() {
 
 #[test]
 fn options_in_turn() {
-    // The last counts 8 bytes of data where none stand.
+    // The last counts 8 bytes of data where there are none.
     const OCTETS: &[u8] = &[
         0x00, 0x01, 0x01, 0x00, 0x01, 0x02, 0x00, 0x00, 0x01, 0x00, 0x00, 0x11, 0x00, 0x05, 0x02,
         0x00, 0x01, 0x01, 0x08, 0x00,
@@ -278,7 +278,7 @@ fn options_refused() {
     const ROWS: &[&[u8]] = &[
         &[],
         &[0x01],
-        // Router alerts of 0, 1 and 3 bytes of data, and of 2 where 1 stands.
+        // Router alerts of 0, 1 and 3 bytes of data, and of 2 where there is 1.
         &[0x05, 0x00],
         &[0x05, 0x01, 0x00],
         &[0x05, 0x03, 0x00, 0x00, 0x00],

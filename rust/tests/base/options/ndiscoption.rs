@@ -38,7 +38,7 @@ fn prefix_information() -> PrefixInformation {
     }
 }
 
-// The same, valid for a part of a second more, which is not written.
+// That prefix, valid for a part of a second more, which is not written.
 fn longer_prefix_information() -> PrefixInformation {
     let mut info = prefix_information();
     info.valid_lifetime = Duration::from_micros(900_999_999);

@@ -13,7 +13,7 @@ use control_wire::dhcpv4::{DhcpOption, MAX_DNS_SERVER_COUNT, OptionsIter, Packet
 // The bytes before the options.
 const HEADER_LEN: usize = 240;
 
-// What stands at the front of the octets, an option or else padding, and the octets after it.
+// What the octets begin with, an option or else padding, and the octets after it.
 fn first_option(octets: &[u8]) -> Option<(Option<DhcpOption<'_>>, &[u8])> {
     match octets {
         [] | [255, ..] => None,
@@ -22,7 +22,7 @@ fn first_option(octets: &[u8]) -> Option<(Option<DhcpOption<'_>>, &[u8])> {
     }
 }
 
-// The option of this kind whose length stands at the front of the octets, and the octets after it.
+// The option of this kind whose length is at the front of the octets, and the octets after it.
 fn option_of(kind: u8, octets: &[u8]) -> Option<(Option<DhcpOption<'_>>, &[u8])> {
     let [length, rest @ ..] = octets else {
         return None;
@@ -186,7 +186,7 @@ pub(crate) fn compare_damaged(packet: &mut [u8]) {
     }
 }
 
-// The same over the packet in which the byte at this place is damaged.
+// `compare` over the packet in which the byte at this place is damaged.
 fn compare_damaged_at(packet: &mut [u8], at: usize) {
     let whole = *packet.get(at).unwrap_or(&0);
     for &value in DAMAGE {

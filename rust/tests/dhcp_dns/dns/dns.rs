@@ -365,7 +365,7 @@ fn fronts_of_parts_of_names() {
 
 #[test]
 fn pointers_lead_to_open_bytes_alone() {
-    // Where a pointer into these bytes leads, and what stands there and in front of it.
+    // Where a pointer into these bytes leads, and what is there and in front of it.
     const OPEN: &[u8] = b"abc";
     const ROWS: &[(usize, Option<(&[u8], &[u8])>)] = &[
         (0, Some((b"abc", b""))),

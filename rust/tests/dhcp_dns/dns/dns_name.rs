@@ -113,7 +113,7 @@ fn slices_outside_the_message() {
     check(&[], &[0], &[], false, 0);
 }
 
-// A copy gives what is still to come, and leaves the walk where it stands. The view may be of octets that are lent for
+// A copy gives what is still to come, and leaves the walk where it is. The view may be of octets that are lent for
 // writing.
 #[test]
 fn a_copy_of_a_walk() {

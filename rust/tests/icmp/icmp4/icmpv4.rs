@@ -18,7 +18,7 @@ const ALL: ChecksumCapabilities = ChecksumCapabilities {
     icmpv6: Checksum::Both,
 };
 
-// The same for every protocol.
+// The capabilities for every protocol.
 const fn all(checksum: Checksum) -> ChecksumCapabilities {
     ChecksumCapabilities {
         ipv4: checksum,

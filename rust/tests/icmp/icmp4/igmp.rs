@@ -61,7 +61,7 @@ fn durations_of_codes() {
     }
 }
 
-// The time that a code stands for, by the plain reader.
+// The time that a code means, by the plain reader.
 fn time_of(code: u8) -> Duration {
     Duration::from_millis(100 * damaged::tenths(code) as u64)
 }
@@ -364,7 +364,7 @@ fn check_refusal(octets: &[u8], refusal: Refusal, text: &str) {
 fn messages_that_are_refused() {
     const SHORT: &[u8] = &[0x22, 0, 0, 0, 0xe0, 0, 0x06];
     check_refusal(SHORT, Refusal::Short, "fewer than 8 bytes");
-    // A report of IGMPv3, whatever stands where the group of version 2 does: its reserved bytes and one record.
+    // A report of IGMPv3, whatever it has where the group of version 2 is: its reserved bytes and one record.
     let kind = Refusal::UnknownType(0x22);
     for octets in [
         [0x22, 0, 0, 0, 0, 0, 0, 1],

@@ -12,7 +12,7 @@ mod refusals;
 mod texts;
 mod times;
 
-// The octets that stand in a buffer before it is written into.
+// The octets of a buffer before it is written into.
 const FILLS: &[u8] = &[0x00, 0xff, 0x2a, 0xa5];
 
 // A query for ff02::1 with one source, ff02::2.

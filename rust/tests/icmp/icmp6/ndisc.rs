@@ -23,7 +23,7 @@ fn there() -> Ipv6Address {
     Ipv6Address::new(0xfe80, 0, 0, 0, 0, 0, 0, 2)
 }
 
-// The octets that stand in a buffer before it is written into.
+// The octets of a buffer before it is written into.
 const FILLS: &[u8] = &[0x00, 0xff, 0x2a];
 
 fn ethernet() -> RawHardwareAddress {
@@ -85,7 +85,7 @@ fn router_advert() -> Repr<'static> {
     router_advert_of(Duration::from_secs(900))
 }
 
-// The same with this lifetime.
+// The router advertisement with this lifetime.
 fn router_advert_of(router_lifetime: Duration) -> Repr<'static> {
     Repr::RouterAdvert {
         hop_limit: 64,
@@ -161,7 +161,7 @@ fn reads_icmpv6(bytes: &[u8], repr: &icmpv6::Repr<'_>, caps: &ChecksumCapabiliti
     found == *repr
 }
 
-// The same with the checksum that it has from fe80::1 to fe80::2.
+// `ROUTER_ADVERT` with the checksum that it has from fe80::1 to fe80::2.
 const SEALED_ADVERT: [u8; 24] = [
     0x86, 0x00, 0xa9, 0xde, 0x40, 0x80, 0x03, 0x84, 0x01, 0x00, 0x03, 0xe8, 0xfe, 0xff, 0x03, 0x20,
     0x01, 0x01, 0x52, 0x54, 0x00, 0x12, 0x34, 0x56,
@@ -205,7 +205,7 @@ fn a_turned_bit_and_another_code_of_an_advertisement_are_refused() {
     check_changed(1, 1, &ChecksumCapabilities::ignored());
 }
 
-// The same with an MTU of 1,500 and the prefix fe80::1/64, valid for 900 seconds and preferred for 1,000.
+// The advertisement with an MTU of 1,500 and the prefix fe80::1/64, valid for 900 seconds and preferred for 1,000.
 const FULL_ROUTER_ADVERT: [u8; 64] = [
     0x86, 0x00, 0x00, 0x00, 0x40, 0x80, 0x03, 0x84, 0x01, 0x00, 0x03, 0xe8, 0xfe, 0xff, 0x03, 0x20,
     0x01, 0x01, 0x52, 0x54, 0x00, 0x12, 0x34, 0x56, 0x05, 0x01, 0x00, 0x00, 0x00, 0x00, 0x05, 0xdc,
@@ -281,7 +281,7 @@ const BARE_ADVERT: [u8; 24] = [
     0, 0x01,
 ];
 
-// The same with the link-layer addresses of a target and of a source.
+// The message with the link-layer addresses of a target and of a source.
 const ADVERT_OF_BOTH: [u8; 40] = [
     0x88, 0x00, 0x00, 0x00, 0x60, 0x00, 0x00, 0x00, 0xfe, 0x80, 0, 0, 0, 0, 0, 0, 0, 0, 0, 0, 0, 0,
     0, 0x01, 0x02, 0x01, 0x52, 0x54, 0x00, 0x12, 0x34, 0x56, 0x01, 0x01, 1, 2, 3, 4, 5, 6,

@@ -29,13 +29,13 @@ fn header_len(kind: u8) -> Option<usize> {
     }
 }
 
-// The header of a message, by its type, and what stands behind it.
+// The header of a message, by its type, and what follows it.
 fn split_header(octets: &[u8]) -> Option<(&[u8], &[u8])> {
     let len = header_len(*octets.first()?)?;
     octets.split_at_checked(len)
 }
 
-// A header of any version (RFC 8200 section 3), and all that stands behind it.
+// A header of any version (RFC 8200 section 3), and all that follows it.
 fn split_ip_header(octets: &[u8]) -> Option<(Ipv6Repr, &[u8])> {
     let [_, _, _, _, high, low, next_header, hop_limit, rest @ ..] = octets else {
         return None;
@@ -66,7 +66,7 @@ pub(crate) fn compare_damaged<const N: usize>(message: &[u8; N]) {
     }
 }
 
-// The same over copies in which the byte at this place is another one.
+// `compare` over copies in which the byte at this place is another one.
 fn compare_changed<const N: usize>(message: &[u8; N], at: usize) {
     for &value in DAMAGE {
         let mut damaged = *message;

@@ -54,7 +54,7 @@ fn check(words: &str, rows: &[(&str, &str)]) {
     }
 }
 
-// The same, and of each packet cut and changed what the plain printer prints.
+// `check`, and of each packet cut and changed what the plain printer prints.
 fn check_changed(words: &str, rows: &[(&str, &str)]) {
     check(words, rows);
     for (packet, _) in rows {
@@ -69,7 +69,7 @@ fn check_packet(words: &str, packet: &str, want: &str) {
     check_line(line.as_str(), want);
 }
 
-// The same of headers with data behind each: they print this, and then what is printed of the data.
+// `check_changed` of headers with data after each: they print this, and then what is printed of the data.
 fn check_with_data(words: &str, rows: &[(&str, &str)], data: &str, printed: &str) {
     for (header, want) in rows {
         let line = joined(&[words, " ", header, data]);
@@ -108,7 +108,7 @@ fn print_lines(printed: &mut Vec<u8>, input: &[u8]) -> bool {
     all_known
 }
 
-// The same of one line, which may end with a CR.
+// `print_lines` of one line, which may end with a CR.
 fn print_line(printed: &mut Vec<u8>, line: &[u8]) -> bool {
     let mut text = Vec::new();
     let line = line.strip_suffix(b"\r").unwrap_or(line);
@@ -128,7 +128,7 @@ fn compare_changed(line: &[u8], start: usize) {
     }
 }
 
-// The same on a line with this octet there.
+// `compare` on a line with this octet there.
 fn compare_with(line: &[u8], at: usize, digit: u8) {
     let mut changed = Vec::new();
     holds_of(line, changed.extend_from_slice(line).is_ok());

@@ -99,13 +99,13 @@ fn mtu(data: &[u8]) -> Option<Repr<'_>> {
     Some(Repr::Mtu(number_at(data, 2)?))
 }
 
-// The number of four bytes that stands there.
+// The number of four bytes at that place.
 fn number_at(octets: &[u8], at: usize) -> Option<u32> {
     let number = octets.get(at..)?.first_chunk::<4>()?;
     Some(u32::from_be_bytes(*number))
 }
 
-// The address that stands there.
+// The address at that place.
 fn address_at(octets: &[u8], at: usize) -> Option<Ipv6Address> {
     let address = octets.get(at..)?.first_chunk::<16>()?;
     Some(Ipv6Address::from_octets(*address))

@@ -102,7 +102,7 @@ fn the_last_option_of_a_kind_and_of_its_length() {
             &[0x35, 1, 1, 6, 0, 0x37, 0, 0x3d, 2, 0, 1, 0xff],
             &[(61, None), (55, Some(0)), (6, Some(0))],
         ),
-        // Every option stands there twice, and then of another length.
+        // Every option is there twice, and then of another length.
         (
             2,
             &[

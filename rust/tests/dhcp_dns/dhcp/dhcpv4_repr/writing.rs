@@ -52,7 +52,7 @@ fn put(octets: &mut [u8], place: usize, bytes: &[u8]) {
     }
 }
 
-// What stands in 600 bytes of this value after a packet was written over so many of them: its first fields, zeros for
+// What 600 bytes of this value hold after a packet was written over so many of them: its first fields, zeros for
 // the names, the cookie, and the options for which there is room.
 fn written(fill: u8, first_fields: &[u8; 34], options: &[u8], len: usize) -> [u8; 600] {
     let mut octets = [fill; 600];
@@ -72,7 +72,7 @@ fn emitted(repr: &Repr<'_>, fill: u8, len: usize, fits: bool) -> [u8; 600] {
     octets
 }
 
-// Writes a value over buffers of every length and of three contents, and compares them with what is to stand there.
+// Writes a value over buffers of every length and of three contents, and compares them with what is expected.
 fn compare_written(repr: &Repr<'_>, first_fields: &[u8; 34], options: &[u8]) {
     for &fill in &[0x00, 0xff, 0x2a] {
         for len in 240..=340 {
@@ -196,7 +196,7 @@ fn a_request_over_buffers_of_every_length_and_of_three_contents() {
     compare_written(&request(), &REQUEST_FIRST_FIELDS, &REQUEST_OPTIONS);
 }
 
-// Writes a value over so many bytes 0x2a, where it fits or is refused; then these parts stand at their places.
+// Writes a value over so many bytes 0x2a, where it fits or is refused; then these parts are at their places.
 fn compare_parts(repr: &Repr<'_>, len: usize, fits: bool, parts: &[(usize, &[u8])]) {
     let octets = emitted(repr, 0x2a, len, fits);
     for &(place, part) in parts {

@@ -7,7 +7,7 @@ use crate::testing::{agree, fail, holds_of, same_of};
 use control_wire::dns::{Flags, Opcode, Packet, Question, Rcode, Record, RecordData, Type};
 use control_wire::{Ipv4Address, Ipv6Address};
 
-// What stands behind the part of a name at the front of the octets: labels after their lengths, and byte 0 or a
+// What follows the part of a name at the front of the octets: labels after their lengths, and byte 0 or a
 // pointer of two bytes.
 fn behind_name(octets: &[u8]) -> Option<&[u8]> {
     let mut rest = octets;
@@ -23,14 +23,14 @@ fn behind_name(octets: &[u8]) -> Option<&[u8]> {
     None
 }
 
-// The name at the front of the octets, and what stands behind it.
+// The name at the front of the octets, and what follows it.
 fn read_name(octets: &[u8]) -> Option<(&[u8], &[u8])> {
     let behind = behind_name(octets)?;
     let len = octets.len().checked_sub(behind.len())?;
     octets.split_at_checked(len)
 }
 
-// What stands behind the question at the front of the octets, and the question.
+// What follows the question at the front of the octets, and the question.
 fn read_question(octets: &[u8]) -> Option<(&[u8], Question<'_>)> {
     let (name, behind) = read_name(octets)?;
     let [t0, t1, 0, 1, rest @ ..] = behind else {
@@ -66,7 +66,7 @@ fn read_data(kind: u16, data: &[u8]) -> Option<RecordData<'_>> {
     }
 }
 
-// The numbers behind the name of a record, which are its type, its time to live and its length, and what stands behind
+// The numbers behind the name of a record, which are its type, its time to live and its length, and what follows
 // them.
 fn read_numbers(octets: &[u8]) -> Option<(u16, u32, usize, &[u8])> {
     let [k0, k1, 0, 1, t0, t1, t2, t3, n0, n1, behind @ ..] = octets else {
@@ -77,7 +77,7 @@ fn read_numbers(octets: &[u8]) -> Option<(u16, u32, usize, &[u8])> {
     Some((kind, ttl, u16::from_be_bytes([*n0, *n1]) as usize, behind))
 }
 
-// What stands behind the record at the front of the octets, and the record.
+// What follows the record at the front of the octets, and the record.
 fn read_record(octets: &[u8]) -> Option<(&[u8], Record<'_>)> {
     let (name, behind) = read_name(octets)?;
     let (kind, ttl, len, behind) = read_numbers(behind)?;

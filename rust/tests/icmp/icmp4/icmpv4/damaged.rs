@@ -32,7 +32,7 @@ fn read_addresses(header: &[u8]) -> Option<(Ipv4Address, Ipv4Address)> {
     Some((from, Ipv4Address::new(*d0, *d1, *d2, *d3)))
 }
 
-// The header that an error quotes, and what stands behind it. The version is not looked at, and the header's length
+// The header that an error quotes, and what follows it. The version is not looked at, and the header's length
 // may be too short for a header.
 fn read_quote(quote: &[u8]) -> Option<(Ipv4Repr, &[u8])> {
     let [first, _, high, low, _, _, _, _, hop_limit, protocol, ..] = quote else {

@@ -6,7 +6,7 @@ use crate::testing::{same, same_of};
 use control_wire::icmpv4::{Packet, Repr, TimeExceeded};
 use control_wire::{Checksum, ChecksumCapabilities};
 
-// The octets that stand in a buffer before it is written into.
+// The octets of a buffer before it is written into.
 const FILLS: [u8; 4] = [0x00, 0xff, 0x2a, 0xa5];
 
 // Writes an echo request over octets of this value, and compares them.

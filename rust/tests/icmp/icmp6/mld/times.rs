@@ -5,7 +5,7 @@ use control_wire::icmpv6::Packet;
 
 #[test]
 fn longest_times_to_answer_a_query_in() {
-    // Codes, and the milliseconds that they stand for.
+    // Codes, and the milliseconds that they mean.
     const ROWS: &[(u16, u64)] = &[
         (0x0000, 0),
         (0x0001, 1),

@@ -73,7 +73,7 @@ fn address(octets: &[u8]) -> Option<Ipv6Address> {
     Some(Ipv6Address::from_octets(*address))
 }
 
-// The option at the front and what stands behind it: one unit of 8 bytes or more, of a prefix 4, of a redirected header
+// The option at the front and what follows it: one unit of 8 bytes or more, of a prefix 4, of a redirected header
 // 6. Another refuses the message.
 fn split_option(octets: &[u8]) -> Option<(&[u8], &[u8])> {
     let [kind, units, ..] = octets else {
@@ -114,7 +114,7 @@ fn can_be_read(option: &[u8]) -> bool {
     }
 }
 
-// What stands behind type and length of the last option of a type that can be read.
+// What follows type and length of the last option of a type that can be read.
 fn last_option(options: &[u8], wanted: u8) -> Option<&[u8]> {
     let mut last = None;
     let mut rest = options;

@@ -98,7 +98,7 @@ const PARAMETER_PROBLEM_LISTING: &str = "  ParamProblem
   quoted.payload=9c4000
 ";
 
-// The same with nothing behind the header.
+// The error with nothing after the header.
 const HEADER_ALONE_LISTING: &str = "  ParamProblem
   code=2
   pointer=16909060

@@ -296,7 +296,7 @@ fn top_bit_of_a_class() {
 // The fields of the header of a message of number 1 without flags.
 const HEADER: &str = "  transaction_id=1\n  flags=-\n  opcode=0\n  rcode=0\n";
 
-// The same, and the lines of an OPT record whose sender takes 512 bytes.
+// These lines, and those of an OPT record whose sender takes 512 bytes.
 const OPT_OF_512: &str = "  transaction_id=1\n  flags=-\n  opcode=0\n  rcode=0\n\
      \x20 opt.udp_size=512\n  opt.extended_rcode=0\n  opt.version=0\n  opt.flags=0\n";
 
@@ -318,7 +318,7 @@ fn messages_that_do_not_read_to_their_end() {
             "  transaction_id=1\n  flags=-\n  opcode=0\n  rcode=0\n  question=. IN A\n",
             Some(Unread::Entry(Section::Question, Refusal::Name(PartRefusal::Cut))),
         ),
-        // A name that leads to itself; what stands behind it is not looked at.
+        // A name that leads to itself; what follows it is not looked at.
         (
             b"\0\x01\0\0\0\x02\0\0\0\0\0\0\xc0\x0c\0\x01\0\x01\0\0\x01\0\x01",
             false,

@@ -318,7 +318,7 @@ pub fn append_packet(octets: &mut Vec<u8>, interface: u32, seconds: u32, digits:
     let mut body = Vec::new();
     let time = u64::from(START.wrapping_add(seconds)).wrapping_mul(1_000_000);
     let length = length_of(digits);
-    // The upper half of the time stands before the lower one.
+    // The upper half of the time precedes the lower one.
     let [a, b, c, d, e, f, g, h] = time.to_le_bytes();
     append_numbers(&mut body, &[interface]);
     append(&mut body, &[e, f, g, h, a, b, c, d]);

@@ -5,7 +5,7 @@ use super::{append, check_line, compare_changed, joined};
 #[allow(unused_imports)]
 use rattle_std::prelude::*;
 
-// What stands in a packet between the client's hardware address and the cookie.
+// What a packet has between the client's hardware address and the cookie.
 const ZEROS: &str = "000000000000000000000000000000000000000000000000000000000000000000000000000000000000000000\
     000000000000000000000000000000000000000000000000000000000000000000000000000000000000000000\
     000000000000000000000000000000000000000000000000000000000000000000000000000000000000000000\
@@ -49,7 +49,7 @@ const FIELDS: &[(&str, &str)] = &[
     ("rebind_duration=", "none"),
 ];
 
-// What stands behind this name.
+// What follows this name.
 fn said_of<'a>(said: &'a str, name: &str) -> Option<&'a str> {
     for field in said.split(' ') {
         if let Some(value) = field.strip_prefix(name) {

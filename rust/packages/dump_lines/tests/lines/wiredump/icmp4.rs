@@ -72,7 +72,7 @@ fn errors_of_icmpv4_by_their_quote() {
              header.next_header=17\nheader.payload_len=8\nheader.hop_limit=64\n\
              data=0035003500080000\n",
         ),
-        // What stands behind the quoted datagram belongs to the data.
+        // What follows the quoted datagram belongs to the data.
         (
             "0303fc8e000000004500001800004000401126cf0a0000010a0000020035003500080000",
             "DstUnreachable\nreason=3\nheader.src_addr=10.0.0.1\nheader.dst_addr=10.0.0.2\n\

@@ -80,7 +80,7 @@ fn show_packet(text: &mut Vec<u8>, word: &[u8], packet: &[u8]) -> Option<bool> {
     Some(read)
 }
 
-// The same of a word, an offset and digits.
+// What a word, an offset and digits print.
 fn show_name(text: &mut Vec<u8>, word: &[u8], offset: &[u8], digits: &[u8]) -> Option<bool> {
     let message = spelled(digits)?;
     let offset = number(offset)?;
@@ -91,7 +91,7 @@ fn show_name(text: &mut Vec<u8>, word: &[u8], offset: &[u8], digits: &[u8]) -> O
     Some(true)
 }
 
-// The same of a word, two addresses and digits.
+// What a word, two addresses and digits print.
 fn show_icmp6(text: &mut Vec<u8>, words: &[&[u8]; 4]) -> Option<bool> {
     if !is(words[0], "icmp6") {
         return None;

@@ -36,7 +36,7 @@ fn words_and_the_octets_they_spell() {
         ("0g", None),
         (" 00", None),
     ];
-    // The room is kept, so that shorter words stand where longer ones did.
+    // The buffer is kept, so that shorter words are where longer ones were.
     let mut room = Vec::new();
     for &(text, octets) in ROWS {
         check_word(&mut room, text, octets);

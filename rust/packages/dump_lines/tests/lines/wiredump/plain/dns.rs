@@ -60,7 +60,7 @@ fn pointer(rest: &[u8]) -> Option<usize> {
     Some(usize::from(be16(rest, 0) & 0x3fff))
 }
 
-/// Writes the walk over the name that begins at an offset of a message. A pointer leads to what stands before the
+/// Writes the walk over the name that begins at an offset of a message. A pointer leads to what precedes the
 /// place that the last one led to, and the first one anywhere.
 pub fn show_name(text: &mut Vec<u8>, offset: usize, message: &[u8]) {
     let mut rest = behind(message, offset);

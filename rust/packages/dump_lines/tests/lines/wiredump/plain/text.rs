@@ -73,7 +73,7 @@ pub fn number(text: &mut Vec<u8>, name: &str, value: u64) {
 /// The length of a field that is all the octets from there on.
 pub const REST: usize = usize::MAX;
 
-/// Writes a field that stands there in a packet: the number of an octet, or of two or four, or else octets.
+/// Writes a field of a packet: the number of an octet, or of two or four, or else octets.
 pub fn field(text: &mut Vec<u8>, name: &str, packet: &[u8], at: usize, len: usize) {
     match len {
         1 => number(text, name, u64::from(octet(packet, at))),
@@ -83,7 +83,7 @@ pub fn field(text: &mut Vec<u8>, name: &str, packet: &[u8], at: usize, len: usiz
     }
 }
 
-/// Writes fields by their names, where they stand and how long they are, each behind the name of their part.
+/// Writes fields by their names, their places and lengths, each after the name of their part.
 pub fn fields(text: &mut Vec<u8>, part: &str, packet: &[u8], rows: &[(&str, usize, usize)]) {
     for (name, at, len) in rows {
         word(text, part);

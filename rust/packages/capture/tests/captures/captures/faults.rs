@@ -1,4 +1,4 @@
-// Made from crates/tests_capture/src/captures/capture/faults.rt by rust/erase.
+// Made from crates/tests_capture/src/captures/faults.rt by rust/erase.
 //! Readers that give few octets at a call, are interrupted, and fail.
 
 use super::{DAMAGE, FILES, File, Row, check_input, check_record, cut_at, damaged};

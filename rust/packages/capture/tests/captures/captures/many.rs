@@ -1,4 +1,4 @@
-// Made from crates/tests_capture/src/captures/capture/many.rt by rust/erase.
+// Made from crates/tests_capture/src/captures/many.rt by rust/erase.
 // Sections of many interfaces, and blocks of no packet.
 
 use crate::testing::same_of;

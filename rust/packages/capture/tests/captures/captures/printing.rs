@@ -1,4 +1,4 @@
-// Made from crates/tests_capture/src/captures/capture/printing.rt by rust/erase.
+// Made from crates/tests_capture/src/captures/printing.rt by rust/erase.
 // What endings, refusals, faults, times, dates, records and headers print.
 
 use crate::testing::prints;

@@ -1,4 +1,4 @@
-// Made from crates/tests_capture/src/captures/capture/shown.rt by rust/erase.
+// Made from crates/tests_capture/src/captures/shown.rt by rust/erase.
 // What a buffer shows of the packet that comes next.
 
 use super::{FILES, File};

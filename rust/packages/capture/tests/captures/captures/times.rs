@@ -1,4 +1,4 @@
-// Made from crates/tests_capture/src/captures/capture/times.rt by rust/erase.
+// Made from crates/tests_capture/src/captures/times.rt by rust/erase.
 // Times of each resolution, their order, and the spans that they are.
 
 use crate::testing::same_of;
@@ -39,7 +39,7 @@ fn times_are_ordered_as_they_follow_each_other() {
     same_of((), later > earlier, true);
     same_of((), later != earlier, true);
 
-    // The same time to other digits.
+    // That time to other digits.
     let finer = Time::of_ticks(2_000_000_000, 9);
     same_of((), finer.cmp(&later), Ordering::Equal);
     same_of((), finer, later);

@@ -1,4 +1,4 @@
-// Made from crates/tests_capture/src/captures/capture/offsets.rt by rust/erase.
+// Made from crates/tests_capture/src/captures/offsets.rt by rust/erase.
 // Interfaces whose times are told from another time than 1970 on.
 
 use crate::testing::same_of;
@@ -6,7 +6,7 @@ use capture::{Capture, Next, Time};
 #[allow(unused_imports)]
 use rattle_std::prelude::*;
 
-// The octets that stand around the options of a description, in either order: a section header and the description's
+// The octets around the options of a description, in either order: a section header and the description's
 // front, whose length is left out, and enhanced and obsolete packets of 10.25 s in microseconds, with a simple packet.
 type Around = (&'static [u8], &'static [u8], &'static [u8]);
 
