@@ -17,10 +17,9 @@ import sys
 import expected
 import fields
 import names
+from messages import KINDS, REASONS
 
-REASONS = ("cut", "fragment", "short", "checksum", "type", "quote", "name", "malformed")
 DHCP_OPTIONS = {0, 1, 3, 6, 50, 51, 53, 54, 55, 57, 58, 59, 61, 255}
-KINDS = ("icmp4", "igmp", "icmp6", "dns", "mdns", "dhcp", "frame")
 
 
 def printed(text):

@@ -1,9 +1,43 @@
-"""Listings of ICMP of both families, IGMP, DHCP and hop-by-hop options. Each function gives the lines of a listing, or
-raises the reason why there is none."""
-from frames import ICMP6, UDP, Refused, ports
+"""The kinds of control packets, and listings of ICMP of both families, IGMP, DHCP and hop-by-hop options. The function
+of a listing gives its lines, or raises the reason why there is none."""
+import dns
+from frames import EXTENSIONS, FRAGMENT, ICMP4, ICMP6, IGMP, UDP, Refused, ports, udp
 from text import be, dotted, field, hexadecimal, is_good, pseudo_sum, truth
 
 TCP = 6
+
+KINDS = ("icmp4", "igmp", "icmp6", "dns", "mdns", "dhcp", "frame")
+REASONS = ("cut", "fragment", "short", "checksum", "type", "quote", "name", "malformed")
+
+
+def kind_of(version, protocol, payload):
+    """The kind of a datagram, or None where it is of another protocol; `frame` where it can't be told."""
+    if (version, protocol) in ((4, ICMP4), (4, IGMP), (6, ICMP6)):
+        return {ICMP4: "icmp4", IGMP: "igmp", ICMP6: "icmp6"}[protocol]
+    if version == 6 and protocol in EXTENSIONS + (FRAGMENT,):
+        return "frame"
+    if protocol != UDP:
+        return None
+    both = ports(payload)
+    if both is None:
+        return "frame"
+    if 53 in both:
+        return "dns"
+    if 5353 in both:
+        return "mdns"
+    return "dhcp" if version == 4 and (67 in both or 68 in both) else None
+
+
+def show(kind, datagram, lines):
+    """Adds the lines of a message of a kind; of DNS those that precede a refusal too."""
+    if kind in ("icmp4", "igmp", "icmp6"):
+        lines += {"icmp4": icmp4, "igmp": igmp, "icmp6": icmp6}[kind](datagram)
+        return
+    data = udp(datagram)
+    if kind == "dhcp":
+        lines += dhcp(data)
+    else:
+        dns.listing(data, kind == "mdns", lines)
 
 
 BAD_CHECKSUM = "the checksum does not hold"

@@ -10,16 +10,14 @@ import sys
 sys.dont_write_bytecode = True
 sys.path.insert(0, os.path.dirname(os.path.abspath(__file__)))
 
-import dns  # noqa: E402
 import frames  # noqa: E402
 import messages  # noqa: E402
 import reading  # noqa: E402
 from frames import Refused  # noqa: E402
+from messages import KINDS, REASONS, kind_of  # noqa: E402
 from text import endpoint, time  # noqa: E402
 
-KINDS = ("icmp4", "igmp", "icmp6", "dns", "mdns", "dhcp", "frame")
 FILTERS = KINDS + ("hbh",)
-REASONS = ("cut", "fragment", "short", "checksum", "type", "quote", "name", "malformed")
 
 # The status of each ending of a capture, and what is told of it.
 ENDINGS = {
@@ -48,24 +46,6 @@ class Printed:
         heading = " ".join([str(number), when] + self.words + [self.kind])
         lines = self.lines + (["refused=" + self.phrase] if self.reason else [])
         return heading + "\n" + "".join("  %s\n" % line for line in lines)
-
-
-def kind_of(version, protocol, payload):
-    """The kind of a datagram, or None where it is of another protocol; `frame` where it can't be told."""
-    if (version, protocol) in ((4, frames.ICMP4), (4, frames.IGMP), (6, frames.ICMP6)):
-        return {frames.ICMP4: "icmp4", frames.IGMP: "igmp", frames.ICMP6: "icmp6"}[protocol]
-    if version == 6 and protocol in frames.EXTENSIONS + (frames.FRAGMENT,):
-        return "frame"
-    if protocol != frames.UDP:
-        return None
-    ports = frames.ports(payload)
-    if ports is None:
-        return "frame"
-    if 53 in ports:
-        return "dns"
-    if 5353 in ports:
-        return "mdns"
-    return "dhcp" if version == 4 and (67 in ports or 68 in ports) else None
 
 
 def show(packet):
@@ -106,7 +86,7 @@ def show_datagram(shown, frame, vlans):
         shown.has_options = True
         shown.words.append("hbh")
         shown.lines += hop_by_hop(datagram.hop_by_hop)
-    show_message(shown, datagram)
+    messages.show(shown.kind, datagram, shown.lines)
 
 
 def hop_by_hop(options):
@@ -126,17 +106,6 @@ def head(shown, version, datagram, vlans):
     ports = frames.ports(datagram.payload) if datagram.protocol == frames.UDP else None
     source, destination = ports or (None, None)
     shown.words = [endpoint(datagram.source, source), ">", endpoint(datagram.destination, destination)] + list(vlans)
-
-
-def show_message(shown, datagram):
-    if shown.kind in ("icmp4", "igmp", "icmp6"):
-        shown.lines += getattr(messages, shown.kind)(datagram)
-        return
-    data = frames.udp(datagram)
-    if shown.kind == "dhcp":
-        shown.lines += messages.dhcp(data)
-    else:
-        dns.listing(data, shown.kind == "mdns", shown.lines)
 
 
 class Counts:
