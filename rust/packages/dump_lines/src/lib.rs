@@ -8,9 +8,11 @@ mod hex_digits;
 pub mod line;
 mod lines;
 pub mod partial_line;
+mod program;
 mod search;
 mod shape;
 pub mod words;
 
 pub use fault::Fault;
 pub use lines::{run, run_onto, status};
+pub use program::run_program;
