@@ -10,16 +10,16 @@ use Rattle.dump_captures.proofs.arguments.kind_of.Goals as goal
 pub loop-kind-init : goal.loop-kind-init
 loop-kind-init c = refl
 
-pub returns-then-name-eq-name : goal.returns-then-name-eq-name
-returns-then-name-eq-name c =
-    sym (c.loop-kind.invariant ∙ first-named c.args.name.now kinds c.loop-kind.kind-index Icmp4 c.loop-kind-test.true
-    (sym c.eq.ensures ∙ c.if-name-eq-name.true))
+pub returns-then-eq : goal.returns-then-eq
+returns-then-eq c =
+    let is = rw c.name.ensures at (sym c.eq.ensures ∙ c.if-eq.true) in
+    sym (c.loop-kind.invariant ∙ first-named c.args.name.now kinds c.loop-kind.kind-index Icmp4 c.loop-kind-test.true is)
 
 pub loop-kind-preserved : goal.loop-kind-preserved
 loop-kind-preserved c =
+    let other = rw c.name.ensures at (sym c.eq.ensures ∙ c.if-eq.false) in
     rw (add-one c.loop-kind.kind-index)
-    (c.loop-kind.invariant ∙ first-other c.args.name.now kinds c.loop-kind.kind-index Icmp4 c.loop-kind-test.true
-    (sym c.eq.ensures ∙ c.if-name-eq-name.false))
+    (c.loop-kind.invariant ∙ first-other c.args.name.now kinds c.loop-kind.kind-index Icmp4 c.loop-kind-test.true other)
 
 pub returns : goal.returns
 returns c =

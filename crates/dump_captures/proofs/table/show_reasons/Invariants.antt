@@ -1,5 +1,5 @@
 -- The names so far.
-use Rattle.std.proofs.Common.{ℕ, List, ◌++◌, codes, take}
+use Rattle.std.proofs.Common.{◌++◌, codes, take}
 use Rattle.std.specs.Prelude.{flat_map}
 use Rattle.listing.specs.Output.{Gains}
 use Rattle.dump_captures.specs.Kinds.{reasons, reason_text}
