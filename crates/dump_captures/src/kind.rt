@@ -41,6 +41,7 @@ impl Kind {
     ];
 
     /// The name.
+    #[inline]
     pub fn name(self) -> &'static str
         ensures { result.now ≡ kind_text self }
     {
@@ -56,6 +57,7 @@ impl Kind {
     }
 
     /// The index in `ALL`, from 0 on.
+    #[inline]
     pub fn place(self) -> usize
         ensures value { result ≡ kind_place self }
         ensures bound { result < 7 }
@@ -99,6 +101,7 @@ impl Reason {
     ];
 
     /// The name.
+    #[inline]
     pub fn name(self) -> &'static str
         ensures { result.now ≡ reason_text self }
     {
@@ -115,6 +118,7 @@ impl Reason {
     }
 
     /// The index in `ALL`, from 0 on.
+    #[inline]
     pub fn place(self) -> usize
         ensures value { result ≡ reason_place self }
         ensures bound { result < 8 }

@@ -30,6 +30,7 @@ impl Only {
     };
 
     /// Whether a control packet is chosen.
+    #[inline]
     pub fn chooses(&self, headers: &Headers<'_>) -> bool
         ensures { result ≡ is_chosen self.now (headers_of headers.now) }
     {

@@ -40,6 +40,7 @@ pub enum Refusal {
 impl Refusal {
     /// The reason under which the packet is counted. A packet that ends too early counts as cut where the capture kept
     /// only a part of it.
+    #[inline]
     pub fn reason(self, is_cut: bool) -> Reason
         ensures { result ≡ reason_of is_cut self }
     {

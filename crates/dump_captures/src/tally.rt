@@ -103,6 +103,7 @@ pub struct Tally {
 
 impl Tally {
     /// No packets.
+    #[inline]
     pub fn new() -> Tally
         ensures { tally_of result ≡ empty }
     {
@@ -117,6 +118,7 @@ impl Tally {
     }
 
     /// Counts a packet of this link, of which this many bytes were captured.
+    #[inline]
     pub fn count(&mut self, outcome: Outcome, link_type: u16, octets: u64)
         ensures { tally_of self.new ≡ counted outcome link_type octets (tally_of self.old) }
     {

@@ -44,6 +44,7 @@ impl Command {
     ghost use Rattle.dump_lines.specs.Listing.{reads, PacketPrints};
 
     /// The command of a word and of the words between it and the packet; None where there is no such command.
+    #[inline]
     pub fn of(word: &[u8], arguments: &[&[u8]]) -> Option<Command>
         ensures { result ≡ command_of word.now (map (λ argument. argument.now) arguments.now) }
     {
@@ -58,6 +59,7 @@ impl Command {
     }
 
     // The command of a word without further words.
+    #[inline]
     fn alone(word: &[u8]) -> Option<Command>
         ensures { result ≡ command_alone word.now }
     {

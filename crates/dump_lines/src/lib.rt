@@ -1,5 +1,6 @@
 //! The lines of `wiredump`: what packets that are given in hexadecimal hold.
 #![tactic(auto)]
+// Public functions that each line goes through are `#[inline]`, since a function that others can call is inlined less.
 
 mod buffered_line;
 mod command;

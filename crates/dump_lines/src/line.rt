@@ -16,6 +16,7 @@ use std::io::Write;
 /// Prints what a line holds, and returns whether its shape is known.
 ///
 /// A line is a command, the command's further words, and a packet. A line without a word prints nothing.
+#[inline]
 pub fn show_line<W: Write>(
     alloc: Global,
     packet_buffer: &mut Vec<u8>,
@@ -31,6 +32,7 @@ pub fn show_line<W: Write>(
 }
 
 /// Prints the output of a line of this shape.
+#[inline]
 pub fn show_shape<W: Write>(output: &mut W, shape: Shape<'_>) -> Result<bool, Fault>
     ensures known { IfOk result (λ known. known ≡ is_known (seen shape.entry)) }
     ensures prints { OnOk result (GainsSome (W.contents output.old) (W.contents output.new)

@@ -33,6 +33,7 @@ pub struct Line {
 
 impl Line {
     /// A line of which nothing is read.
+    #[inline]
     pub fn new(alloc: Global) -> Line
         ensures kept { IsKept result }
         ensures fresh { IsFresh result }
@@ -56,6 +57,7 @@ impl Line {
     }
 
     /// The line's shape, once it is read. The packet is in the buffer.
+    #[inline]
     pub fn shape<'a>(
         &self,
         alloc: Global,
@@ -117,6 +119,7 @@ impl Line {
 }
 
 /// Reads the next line, and returns whether there was one.
+#[inline]
 pub fn read_line<R: BufRead>(input: &mut R, line: &mut Line) -> Result<bool, Fault>
     ensures next { IfOk result (λ more. IfSome (R.remaining input.old) (λ octets.
         NextLine octets (R.remaining input.new) line.new more)) }

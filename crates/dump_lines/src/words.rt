@@ -28,6 +28,7 @@ const FEWEST_DIGITS: usize = 2;
 const ADDRESS_DIGITS: usize = 32;
 
 /// The first word of a text, empty where there is none, and what follows it.
+#[inline]
 pub fn next_word<'a>(text: &'a [u8]) -> (&'a [u8], &'a [u8])
     ensures some { 0 < length result.0.now → words_in text.now ≡ result.0.now ∷ words_in result.1.now }
     ensures none { length result.0.now ≡ 0 → words_in text.now ≡ [] }
@@ -38,6 +39,7 @@ pub fn next_word<'a>(text: &'a [u8]) -> (&'a [u8], &'a [u8])
 }
 
 /// Whether a word is this one.
+#[inline]
 pub fn is_word(word: &[u8], name: &str) -> bool
     ensures { result ≡ bytes_eq word.now name.now }
 {
@@ -49,6 +51,7 @@ pub fn is_word(word: &[u8], name: &str) -> bool
 ///
 /// `-` spells no octets, and an even number, 2 to 131,070, of hexadecimal digits of either case an octet for each two,
 /// the high digit first.
+#[inline]
 pub fn read_word<'a>(
     alloc: Global,
     packet_buffer: &'a mut Vec<u8>,
@@ -70,6 +73,7 @@ pub fn read_word<'a>(
 }
 
 // Makes the buffer at least this large. Its contents are lost where it was smaller.
+#[inline]
 fn grow(alloc: Global, packet_buffer: &mut Vec<u8>, count: usize) -> Result<(), Fault>
     ensures packet_buffer { OnOk result (count ≤ vec_len packet_buffer.new) }
     ensures fault { IfErr result (λ fault. fault ≡ Fault.Memory) }
@@ -100,6 +104,7 @@ fn is_even_length(count: usize) -> bool
 }
 
 /// The 16 octets of an IPv6 address, from 32 hexadecimal digits of either case; None where a word is anything else.
+#[inline]
 pub fn read_address(text: &[u8]) -> Option<[u8; 16]>
     ensures { result ≡ address_of text.now }
 {
@@ -113,6 +118,7 @@ pub fn read_address(text: &[u8]) -> Option<[u8; 16]>
 
 /// An offset in a packet, in decimal digits, with or without leading zeros; None where a word is anything else, or
 /// where the offset is larger than the longest packet.
+#[inline]
 pub fn read_offset(text: &[u8]) -> Option<usize>
     ensures { result ≡ offset_of text.now }
 {

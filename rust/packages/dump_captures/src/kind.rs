@@ -39,6 +39,7 @@ impl Kind {
     ];
 
     /// The name.
+    #[inline]
     pub fn name(self) -> &'static str {
         match self {
             Kind::Icmp4 => "icmp4",
@@ -52,6 +53,7 @@ impl Kind {
     }
 
     /// The index in `ALL`, from 0 on.
+    #[inline]
     pub fn place(self) -> usize {
         self as usize
     }
@@ -92,6 +94,7 @@ impl Reason {
     ];
 
     /// The name.
+    #[inline]
     pub fn name(self) -> &'static str {
         match self {
             Reason::Cut => "cut",
@@ -106,6 +109,7 @@ impl Reason {
     }
 
     /// The index in `ALL`, from 0 on.
+    #[inline]
     pub fn place(self) -> usize {
         self as usize
     }

@@ -27,6 +27,7 @@ impl Only {
     };
 
     /// Whether a control packet is chosen.
+    #[inline]
     pub fn chooses(&self, headers: &Headers<'_>) -> bool {
         self.kinds[headers.kind.place()] || (self.hop_by_hop && headers.hop_by_hop.is_some())
     }

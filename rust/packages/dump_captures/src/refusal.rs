@@ -36,6 +36,7 @@ pub enum Refusal {
 impl Refusal {
     /// The reason under which the packet is counted. A packet that ends too early counts as cut where the capture kept
     /// only a part of it.
+    #[inline]
     pub fn reason(self, is_cut: bool) -> Reason {
         match self {
             Refusal::Frame(refusal) => frame_reason(is_cut, refusal),

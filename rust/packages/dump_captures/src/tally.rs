@@ -93,6 +93,7 @@ pub struct Tally {
 
 impl Tally {
     /// No packets.
+    #[inline]
     pub fn new() -> Tally {
         Tally {
             packets: 0,
@@ -105,6 +106,7 @@ impl Tally {
     }
 
     /// Counts a packet of this link, of which this many bytes were captured.
+    #[inline]
     pub fn count(&mut self, outcome: Outcome, link_type: u16, octets: u64) {
         self.packets = self.packets.saturating_add(1);
         match outcome {

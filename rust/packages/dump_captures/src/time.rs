@@ -25,6 +25,7 @@ pub struct Clock {
 
 impl Clock {
     /// A clock that has written nothing yet.
+    #[inline]
     pub fn new() -> Clock {
         Clock::at(0)
     }
@@ -32,6 +33,7 @@ impl Clock {
     /// Writes the time this many seconds and nanoseconds after 1970-01-01T00:00:00Z, as
     /// `2024-05-01T12:34:56.000000000Z`. A year above 9999 has more than four digits. Nanoseconds are written by their
     /// last nine digits.
+    #[inline]
     pub fn write<W: Write>(
         &mut self,
         output: &mut W,

@@ -39,6 +39,7 @@ pub enum Command {
 
 impl Command {
     /// The command of a word and of the words between it and the packet; None where there is no such command.
+    #[inline]
     pub fn of(word: &[u8], arguments: &[&[u8]]) -> Option<Command> {
         match arguments {
             [] => Command::alone(word),
@@ -52,6 +53,7 @@ impl Command {
     }
 
     // The command of a word without further words.
+    #[inline]
     fn alone(word: &[u8]) -> Option<Command> {
         if is_word(word, "hbh") {
             Some(Command::Hbh)

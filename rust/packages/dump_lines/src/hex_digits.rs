@@ -3,6 +3,7 @@
 //! once.
 
 /// Whether all are hexadecimal digits, of either case.
+#[inline]
 pub fn are_digits(text: &[u8]) -> bool {
     let mut are = true;
     for octet in text {
@@ -19,6 +20,8 @@ fn is_digit(octet: u8) -> bool {
 }
 
 /// The octets that digits spell.
+// Always inlined: as a call it costs a run of the program 5 % of its instructions.
+#[inline(always)]
 pub fn decode(text: &[u8], octets: &mut [u8]) {
     let words = octets.len() / 4;
     for i in 0..words {
@@ -55,6 +58,7 @@ fn decode_word(digits: &[u8; 8]) -> [u8; 4] {
 }
 
 /// Writes the octets that digits spell into a buffer for them.
+#[inline]
 pub fn decode_front(text: &[u8], packet_buffer: &mut [u8]) {
     let count = text.len() / 2;
     decode(text, &mut packet_buffer[..count]);

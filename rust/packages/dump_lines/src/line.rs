@@ -12,6 +12,7 @@ use rattle_std::prelude::*;
 /// Prints what a line holds, and returns whether its shape is known.
 ///
 /// A line is a command, the command's further words, and a packet. A line without a word prints nothing.
+#[inline]
 pub fn show_line<W: Write>(
     packet_buffer: &mut Vec<u8>,
     output: &mut W,
@@ -21,6 +22,7 @@ pub fn show_line<W: Write>(
 }
 
 /// Prints the output of a line of this shape.
+#[inline]
 pub fn show_shape<W: Write>(output: &mut W, shape: Shape<'_>) -> Result<bool, Fault> {
     let (shown, known) = match shape {
         Shape::Blank => (Ok(()), true),

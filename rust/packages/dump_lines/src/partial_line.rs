@@ -27,6 +27,7 @@ pub struct Line {
 
 impl Line {
     /// A line of which nothing is read.
+    #[inline]
     pub fn new() -> Line {
         Line {
             octets: Vec::new(),
@@ -44,6 +45,7 @@ impl Line {
     }
 
     /// The line's shape, once it is read. The packet is in the buffer.
+    #[inline]
     pub fn shape<'a>(&self, packet_buffer: &'a mut Vec<u8>) -> Result<Shape<'a>, Fault> {
         if self.is_bad {
             return Ok(Shape::Bad);
@@ -86,6 +88,7 @@ impl Line {
 }
 
 /// Reads the next line, and returns whether there was one.
+#[inline]
 pub fn read_line<R: BufRead>(input: &mut R, line: &mut Line) -> Result<bool, Fault> {
     line.clear();
     let mut begun = false;

@@ -23,6 +23,7 @@ const FEWEST_DIGITS: usize = 2;
 const ADDRESS_DIGITS: usize = 32;
 
 /// The first word of a text, empty where there is none, and what follows it.
+#[inline]
 pub fn next_word<'a>(text: &'a [u8]) -> (&'a [u8], &'a [u8]) {
     let rest = &text[spaces_len(text)..];
     let len = len_before(rest, b' ');
@@ -30,6 +31,7 @@ pub fn next_word<'a>(text: &'a [u8]) -> (&'a [u8], &'a [u8]) {
 }
 
 /// Whether a word is this one.
+#[inline]
 pub fn is_word(word: &[u8], name: &str) -> bool {
     word == name.as_bytes()
 }
@@ -39,6 +41,7 @@ pub fn is_word(word: &[u8], name: &str) -> bool {
 ///
 /// `-` spells no octets, and an even number, 2 to 131,070, of hexadecimal digits of either case an octet for each two,
 /// the high digit first.
+#[inline]
 pub fn read_word<'a>(
     packet_buffer: &'a mut Vec<u8>,
     text: &[u8],
@@ -56,6 +59,7 @@ pub fn read_word<'a>(
 }
 
 // Makes the buffer at least this large. Its contents are lost where it was smaller.
+#[inline]
 fn grow(packet_buffer: &mut Vec<u8>, count: usize) -> Result<(), Fault> {
     if packet_buffer.len() >= count {
         return Ok(());
@@ -79,6 +83,7 @@ fn is_even_length(count: usize) -> bool {
 }
 
 /// The 16 octets of an IPv6 address, from 32 hexadecimal digits of either case; None where a word is anything else.
+#[inline]
 pub fn read_address(text: &[u8]) -> Option<[u8; 16]> {
     if text.len() != ADDRESS_DIGITS || !are_digits(text) {
         return None;
@@ -90,6 +95,7 @@ pub fn read_address(text: &[u8]) -> Option<[u8; 16]> {
 
 /// An offset in a packet, in decimal digits, with or without leading zeros; None where a word is anything else, or
 /// where the offset is larger than the longest packet.
+#[inline]
 pub fn read_offset(text: &[u8]) -> Option<usize> {
     if text.is_empty() {
         return None;
