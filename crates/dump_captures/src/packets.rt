@@ -153,7 +153,9 @@ pub fn show_packet<W: Write>(
     }
 }
 
-// Prints a control packet that has these headers.
+// Prints a control packet that has these headers. Never inlined: a part of `show_packet` it costs a run of the program
+// 0.7 % of its instructions.
+#[inline(never)]
 fn show_control<W: Write>(
     options: &Options,
     output: &mut W,

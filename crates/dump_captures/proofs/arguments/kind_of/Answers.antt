@@ -1,5 +1,5 @@
 -- The first of the kinds that are left is compared, or none is left.
-use Rattle.std.proofs.Common.{refl, ap, sym, ◌∙◌, add-one, arith}
+use Rattle.std.proofs.Common.{refl, ap, sym, ◌∙◌, arith}
 use Rattle.std.proofs.lemmas.List.{drop_all}
 use Rattle.dump_captures.specs.Arguments.{first_named}
 use Rattle.dump_captures.specs.Kinds.{kinds}
@@ -18,8 +18,7 @@ returns-then-eq c =
 pub loop-kind-preserved : goal.loop-kind-preserved
 loop-kind-preserved c =
     let other = rw c.name.ensures at (sym c.eq.ensures ∙ c.if-eq.false) in
-    rw (add-one c.loop-kind.kind-index)
-    (c.loop-kind.invariant ∙ first-other c.args.name.now kinds c.loop-kind.kind-index Icmp4 c.loop-kind-test.true other)
+    c.loop-kind.invariant ∙ first-other c.args.name.now kinds c.loop-kind.kind-index Icmp4 c.loop-kind-test.true other
 
 pub returns : goal.returns
 returns c =
