@@ -11,8 +11,11 @@ fn group() -> Ipv4Address {
 }
 
 #[test]
-fn every_type_comes_back() {
+fn every_code_and_every_type_comes_back() {
     for number in 0..=255u8 {
+        let time = time_of(number);
+        check_time(number, time);
+        same(written(&timed_query(number, time), 0)[1], number);
         same(u8::from(Message::from(number)), number);
     }
     same(Message::from(0x22), Message::Unknown(0x22));
@@ -68,12 +71,17 @@ fn time_of(code: u8) -> Duration {
 
 // Ends the test where a query with this code has another time.
 fn check_time(code: u8, time: Duration) {
-    let message = Repr::MembershipQuery {
-        max_resp_time: time,
+    let message = timed_query(code, time);
+    check_read(&[0x11, code, 0, 0, 224, 0, 6, 150], Some(&message));
+}
+
+// A query of this time, of version 1 where its code is 0.
+fn timed_query(code: u8, max_resp_time: Duration) -> Repr {
+    Repr::MembershipQuery {
+        max_resp_time,
         group_addr: group(),
         version: if code == 0 { Version1 } else { Version2 },
-    };
-    check_read(&[0x11, code, 0, 0, 224, 0, 6, 150], Some(&message));
+    }
 }
 
 // The octets of a message that is written over eight of this value.
@@ -195,11 +203,7 @@ fn times_of_version_2_queries() {
 #[test]
 fn queries_of_each_code_are_read_and_written_as_they_were() {
     for code in 0..=255u8 {
-        let message = Repr::MembershipQuery {
-            max_resp_time: time_of(code),
-            group_addr: group(),
-            version: if code == 0 { Version1 } else { Version2 },
-        };
+        let message = timed_query(code, time_of(code));
         check_read(&[0x11, code, 0, 0, 224, 0, 6, 150], Some(&message));
         let octets = written(&message, 0xff);
         same(octets[1], code);
